@@ -1,0 +1,59 @@
+-- A text that has a token reading stops nowhere, and it has one reading at most.
+use Rattle.std.proofs.Common.{◌≡◌, ℕ, ◌+◌, ◌≤◌, List, [], ◌∷◌, ◌++◌, length, drop, subst, sym, append_assoc, append-nil, arith, length-drop}
+use Rattle.kx_lex.specs.Pieces.{piece}
+use Rattle.kx_lex.specs.Reading.{Reads, ended, skipped, taken, Stops, bad_byte, open_string, open_key_name, past_gap, past_token, token_of, mark_len, IsReading, StopsWith}
+use Rattle.kx_lex.specs.declared.scan.Piece.TheVariants as begins
+use Rattle.kx_lex.specs.declared.token.Token.{Token}
+use Rattle.kx_lex.specs.declared.token.TokenKind.{TokenKind}
+use Rattle.kx_lex.specs.declared.fault.Fault.{Fault}
+
+-- what follows a gap is the same for both
+stops_after : (offset n m : ℕ) (bs : List ℕ) (f : Fault) → n ≡ m → Stops (offset + m) (drop m bs) f → Stops (offset + n) (drop n bs) f
+stops_after offset n m bs f e s = subst (λ (k : ℕ). Stops (offset + k) (drop k bs) f) (sym e) s
+
+pub reads-never-stops : {offset : ℕ} {bs : List ℕ} {ts : List Token} {f : Fault} → Reads offset bs ts → Stops offset bs f → ⊥
+reads-never-stops (ended e) (bad_byte s) = cc
+reads-never-stops (ended e) (open_string n s) = cc
+reads-never-stops (ended e) (open_key_name n s) = cc
+reads-never-stops (ended e) (past_gap n s r) = cc
+reads-never-stops (ended e) (past_token k n s r) = cc
+reads-never-stops (skipped n e r) (bad_byte s) = cc
+reads-never-stops (skipped n e r) (open_string m s) = cc
+reads-never-stops (skipped n e r) (open_key_name m s) = cc
+reads-never-stops (skipped n e r) (past_gap m s t) = reads-never-stops r (stops_after _ n m _ _ (cc) t)
+reads-never-stops (skipped n e r) (past_token k m s t) = cc
+reads-never-stops (taken k n e r) (bad_byte s) = cc
+reads-never-stops (taken k n e r) (open_string m s) = cc
+reads-never-stops (taken k n e r) (open_key_name m s) = cc
+reads-never-stops (taken k n e r) (past_gap m s t) = cc
+reads-never-stops (taken k n e r) (past_token j m s t) = reads-never-stops r (stops_after _ n m _ _ (cc) t)
+
+-- where the text was read to, the tokens so far before what the rest reads are what the whole reads
+pub record SoFar (text rest : List ℕ) (offset : ℕ) (tokens : List Token) : Type 0 where
+  pub all : offset + length rest ≡ length text
+  pub reads : (ts : List Token) → Reads offset rest ts → Reads (mark_len text) (drop (mark_len text) text) (tokens ++ ts)
+  pub stops : (f : Fault) → Stops offset rest f → Stops (mark_len text) (drop (mark_len text) text) f
+
+
+pub SoFar-skipped : {text rest : List ℕ} {offset : ℕ} {tokens : List Token} → SoFar text rest offset tokens → (n : ℕ) → n ≤ length rest → piece rest ≡ begins.Gap n → SoFar text (drop n rest) (offset + n) tokens
+SoFar-skipped {text} {rest} {offset} {tokens} so n within e = record {
+  all = let before : offset + length rest ≡ length text = so.all in omega (arith, length-drop n rest);
+  reads = λ ts r. so.reads ts (skipped n e r);
+  stops = λ f s. so.stops f (past_gap n e s);
+}
+
+pub SoFar-taken : {text rest : List ℕ} {offset : ℕ} {tokens : List Token} → SoFar text rest offset tokens → (kind : TokenKind) (n : ℕ) → n ≤ length rest → piece rest ≡ begins.Lexeme kind n → SoFar text (drop n rest) (offset + n) (tokens ++ token_of kind offset n ∷ [])
+SoFar-taken {text} {rest} {offset} {tokens} so kind n within e = record {
+  all = let before : offset + length rest ≡ length text = so.all in omega (arith, length-drop n rest);
+  reads = λ ts r. rw append_assoc (so.reads (token_of kind offset n ∷ ts) (taken kind n e r));
+  stops = λ f s. so.stops f (past_token kind n e s);
+}
+
+pub SoFar-ended : {text rest : List ℕ} {offset : ℕ} {tokens : List Token} → SoFar text rest offset tokens → piece rest ≡ begins.End → IsReading text tokens
+SoFar-ended {text} {rest} {offset} {tokens} so e = record { reads = rw append-nil at (so.reads [] (ended e)) }
+
+pub SoFar-stopped : {text rest : List ℕ} {offset : ℕ} {tokens : List Token} → SoFar text rest offset tokens → (f : Fault) → Stops offset rest f → StopsWith text f
+SoFar-stopped so f s = record { stops = so.stops f s }
+
+pub stopped-has_no_reading : {text : List ℕ} {tokens : List Token} {f : Fault} → StopsWith text f → IsReading text tokens → ⊥
+stopped-has_no_reading s r = reads-never-stops r.reads s.stops

@@ -1,0 +1,36 @@
+use Rattle.std.proofs.Common.{◌≡◌, ◌⊎◌, sym, inl, inr, arith, ap, subst, ◌++◌, [], ◌∷◌, drop, List, ℕ}
+use Rattle.kx_lex.specs.Reading.{bad_byte, open_string, open_key_name, Stops, StopsWith, token_of}
+use Rattle.kx_lex.proofs.Readings.{SoFar, SoFar-skipped, SoFar-taken, SoFar-ended, SoFar-stopped, stopped-has_no_reading}
+use Rattle.kx_lex.specs.declared.fault.Fault.TheVariants as fault
+use Rattle.kx_lex.specs.declared.fault.At.{At}
+use Rattle.kx_lex.specs.declared.token.Token.{Token}
+use Rattle.kx_lex.proofs.scan.lex.Goals as goal
+
+pub returns-in-End-clause-read : goal.returns-in-End-clause-read
+returns-in-End-clause-read c = SoFar-ended c.pieces.invariant (sym c.in-End.ensures.exact)
+
+pub pieces-preserved-in-Gap : goal.pieces-preserved-in-Gap
+pieces-preserved-in-Gap c = rw c.after-rest-in-Gap.ensures (SoFar-skipped c.pieces.invariant c.in-Gap.len (omega (arith, c.in-Gap.ensures.within)) (sym c.in-Gap.ensures.exact))
+
+pub pieces-preserved : goal.pieces-preserved
+pieces-preserved c =
+    rw (c.after-rest-in-Lexeme.ensures, c.in_ok-push-in-Lexeme.ensures.items, c.place.ensures)
+    (SoFar-taken c.pieces.invariant c.in-Lexeme.kind c.in-Lexeme.len (omega (arith, c.in-Lexeme.ensures.within)) (sym c.in-Lexeme.ensures.exact))
+
+pub returns-in-BadByte-clause-stopped : goal.returns-in-BadByte-clause-stopped
+returns-in-BadByte-clause-stopped c _ = inr (rw c.place-in-BadByte.ensures (SoFar-stopped c.pieces.invariant _ (bad_byte (sym c.in-BadByte.ensures.exact))))
+
+pub returns-in-BadByte-clause-complete : goal.returns-in-BadByte-clause-complete
+returns-in-BadByte-clause-complete c ts r _ = absurd (stopped-has_no_reading (SoFar-stopped c.pieces.invariant _ (bad_byte (sym c.in-BadByte.ensures.exact))) r)
+
+pub returns-in-OpenString-clause-stopped : goal.returns-in-OpenString-clause-stopped
+returns-in-OpenString-clause-stopped c _ = inr (rw c.place-in-OpenString.ensures (SoFar-stopped c.pieces.invariant _ (open_string _ (sym c.in-OpenString.ensures.exact))))
+
+pub returns-in-OpenString-clause-complete : goal.returns-in-OpenString-clause-complete
+returns-in-OpenString-clause-complete c ts r _ = absurd (stopped-has_no_reading (SoFar-stopped c.pieces.invariant _ (open_string _ (sym c.in-OpenString.ensures.exact))) r)
+
+pub returns-in-OpenKeyName-clause-stopped : goal.returns-in-OpenKeyName-clause-stopped
+returns-in-OpenKeyName-clause-stopped c _ = inr (rw c.place-in-OpenKeyName.ensures (SoFar-stopped c.pieces.invariant _ (open_key_name _ (sym c.in-OpenKeyName.ensures.exact))))
+
+pub returns-in-OpenKeyName-clause-complete : goal.returns-in-OpenKeyName-clause-complete
+returns-in-OpenKeyName-clause-complete c ts r _ = absurd (stopped-has_no_reading (SoFar-stopped c.pieces.invariant _ (open_key_name _ (sym c.in-OpenKeyName.ensures.exact))) r)

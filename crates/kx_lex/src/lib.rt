@@ -1,0 +1,10 @@
+//! Keymap text as tokens with spans, and the faults that a compiler of keymap text answers.
+#![tactic(auto)]
+
+pub mod fault;
+pub mod scan;
+pub mod token;
+
+pub use fault::{At, Fault};
+pub use scan::{MOST_TEXT_BYTES, lex};
+pub use token::{Span, Token, TokenKind};

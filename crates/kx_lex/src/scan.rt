@@ -1,0 +1,308 @@
+ghost use Rattle.std.specs.Prelude.{◌≡◌, ◌≢◌, ℕ, List, IsTrue, ◌+◌, ◌<◌, ◌≤◌, ◌^◌, ◌⊎◌, slice_index, false, length, IfOk, IfErr, OnOk, drop};
+ghost use Rattle.std.specs.List.{prefix_len};
+ghost use Rattle.kx_lex.specs.Bytes.{is_word_start, is_word_byte, is_mark, is_blank, is_key_byte, is_not_line_feed};
+ghost use Rattle.kx_lex.specs.Pieces.{begins_comment, extent, extent_len, piece_len, string_piece, key_name_piece, number_piece, begins_hex, piece};
+ghost use Rattle.kx_lex.specs.Reading.{IsReading, StopsWith, mark_len, whole_of, place_of};
+ghost use Rattle.std.specs.Char.{is_ascii_digit, is_ascii_hexdigit};
+ghost use Rattle.kx_lex.specs.declared.fault.Fault.TheVariants.{Memory, TooLong};
+ghost use Rattle.kx_lex.specs.declared.scan.Piece.TheVariants.{End};
+ghost use Rattle.kx_lex.specs.declared.token.Token.{Token as TokenValue};
+
+use crate::fault::{At, Fault};
+use crate::token::{Span, Token, TokenKind};
+use std::alloc::Global;
+
+/// A text may have this many bytes.
+pub const MOST_TEXT_BYTES: usize = 1_048_576;
+
+/// What the front of a text begins, with its length in bytes.
+#[derive(Clone, Copy, Debug, PartialEq, Eq)]
+pub enum Piece {
+    /// Nothing is left.
+    End,
+    /// Blanks or a comment.
+    Gap(usize),
+    /// A token.
+    Lexeme(TokenKind, usize),
+    /// A byte that begins no token.
+    BadByte,
+    /// Text without its closing quote.
+    OpenString(usize),
+    /// A key name without its `>`.
+    OpenKeyName(usize),
+}
+
+fn is_word_start(byte: u8) -> bool
+    ensures { result ≡ is_word_start byte }
+{
+    byte.is_ascii_alphabetic() || byte == b'_'
+}
+
+fn is_word_byte(byte: u8) -> bool
+    ensures { result ≡ is_word_byte byte }
+{
+    byte.is_ascii_alphanumeric() || byte == b'_'
+}
+
+fn is_blank(byte: u8) -> bool
+    ensures { result ≡ is_blank byte }
+{
+    byte == b' ' || (9 <= byte && byte <= 13)
+}
+
+fn is_mark(byte: u8) -> bool
+    ensures { result ≡ is_mark byte }
+{
+    b"{}[]();,.=+-*/!~".contains(&byte)
+}
+
+fn is_key_byte(byte: u8) -> bool
+    ensures { result ≡ is_key_byte byte }
+{
+    0x21 <= byte && byte <= 0x7e && byte != b'>'
+}
+
+fn word_len(bytes: &[u8]) -> usize
+    ensures exact { result ≡ prefix_len is_word_byte bytes.now }
+    ensures within { result ≤ length bytes.now }
+{
+    bytes.iter().take_while(|b| is_word_byte(**b)).count()
+}
+
+fn blank_len(bytes: &[u8]) -> usize
+    ensures exact { result ≡ prefix_len is_blank bytes.now }
+    ensures within { result ≤ length bytes.now }
+{
+    bytes.iter().take_while(|b| is_blank(**b)).count()
+}
+
+fn digit_len(bytes: &[u8]) -> usize
+    ensures exact { result ≡ prefix_len is_ascii_digit bytes.now }
+    ensures within { result ≤ length bytes.now }
+{
+    bytes.iter().take_while(|b| b.is_ascii_digit()).count()
+}
+
+fn hex_len(bytes: &[u8]) -> usize
+    ensures exact { result ≡ prefix_len is_ascii_hexdigit bytes.now }
+    ensures within { result ≤ length bytes.now }
+{
+    bytes.iter().take_while(|b| b.is_ascii_hexdigit()).count()
+}
+
+fn line_len(bytes: &[u8]) -> usize
+    ensures exact { result ≡ prefix_len is_not_line_feed bytes.now }
+    ensures within { result ≤ length bytes.now }
+{
+    bytes.iter().take_while(|b| **b != b'\n').count()
+}
+
+fn key_len(bytes: &[u8]) -> usize
+    ensures exact { result ≡ prefix_len is_key_byte bytes.now }
+    ensures within { result ≤ length bytes.now }
+{
+    bytes.iter().take_while(|b| is_key_byte(**b)).count()
+}
+
+/// How far text goes behind its opening quote, in bytes.
+#[derive(Clone, Copy, Debug, PartialEq, Eq)]
+pub enum Extent {
+    /// To its closing quote, which counts.
+    Closed(usize),
+    /// To a line feed or the end, which does not.
+    Open(usize),
+}
+
+fn text_extent(bytes: &[u8]) -> Extent
+    ensures exact { result ≡ extent false bytes.now }
+    ensures within { extent_len result ≤ length bytes.now }
+{
+    let mut escaped = false;
+    for (i, byte) in bytes.iter().enumerate() {
+        if *byte == b'\n' {
+            return Extent::Open(i);
+        }
+        if *byte == b'"' && !escaped {
+            return Extent::Closed(i + 1);
+        }
+        escaped = *byte == b'\\' && !escaped;
+    }
+    Extent::Open(bytes.len())
+}
+
+fn byte_at(bytes: &[u8], i: usize) -> u8
+    ensures { result ≡ slice_index bytes.now i }
+{
+    bytes.get(i).copied().unwrap_or(0)
+}
+
+fn begins_comment(bytes: &[u8]) -> bool
+    ensures { result ≡ begins_comment bytes.now }
+{
+    byte_at(bytes, 0) == b'#' || (byte_at(bytes, 0) == b'/' && byte_at(bytes, 1) == b'/')
+}
+
+fn begins_hex(bytes: &[u8]) -> bool
+    ensures { result ≡ begins_hex bytes.now }
+{
+    let marker = byte_at(bytes, 1);
+    byte_at(bytes, 0) == b'0'
+        && (marker == b'x' || marker == b'X')
+        && byte_at(bytes, 2).is_ascii_hexdigit()
+}
+
+#[tactic(auto, unfolding(crate::specs::Pieces::number_piece))]
+fn number_piece(bytes: &[u8]) -> Piece
+    requires some { 0 < length bytes.now }
+    requires digit { IsTrue (is_ascii_digit (slice_index bytes.now 0)) }
+    requires small { length bytes.now ≤ 1048576 }
+    ensures exact { result ≡ number_piece bytes.now }
+    ensures within { piece_len result ≤ length bytes.now }
+    ensures some { 0 < piece_len result }
+{
+    if begins_hex(bytes) {
+        return Piece::Lexeme(TokenKind::Number, 2 + hex_len(after(bytes, 2)));
+    }
+    let whole = digit_len(bytes);
+    if byte_at(bytes, whole) != b'.' {
+        return Piece::Lexeme(TokenKind::Number, whole);
+    }
+    let fraction = digit_len(after(bytes, whole + 1));
+    Piece::Lexeme(TokenKind::Decimal, whole + 1 + fraction)
+}
+
+fn after(bytes: &[u8], n: usize) -> &[u8]
+    ensures { result.now ≡ drop n bytes.now }
+{
+    bytes.get(n..).unwrap_or(&[])
+}
+
+#[tactic(auto, unfolding(crate::specs::Pieces::key_name_piece))]
+fn key_name_piece(bytes: &[u8]) -> Piece
+    requires { length bytes.now < 1048576 }
+    ensures exact { result ≡ key_name_piece bytes.now }
+    ensures some { 0 < piece_len result }
+    ensures within { piece_len result ≤ length bytes.now + 1 }
+{
+    let len = key_len(bytes);
+    if byte_at(bytes, len) == b'>' {
+        Piece::Lexeme(TokenKind::KeyName, len + 2)
+    } else {
+        Piece::OpenKeyName(len + 1)
+    }
+}
+
+fn string_piece(bytes: &[u8]) -> Piece
+    requires { length bytes.now < 1048576 }
+    ensures exact { result ≡ string_piece (extent false bytes.now) }
+    ensures within { piece_len result ≤ length bytes.now + 1 }
+{
+    match text_extent(bytes) {
+        Extent::Closed(len) => Piece::Lexeme(TokenKind::Text, len + 1),
+        Extent::Open(len) => Piece::OpenString(len + 1),
+    }
+}
+
+#[tactic(auto, unfolding(crate::specs::Pieces::piece))]
+fn piece_at(bytes: &[u8]) -> Piece
+    requires { length bytes.now ≤ 1048576 }
+    ensures exact { result ≡ piece bytes.now }
+    ensures within { piece_len result ≤ length bytes.now }
+    ensures some { result ≢ End → 0 < piece_len result }
+{
+    let Some((first, rest)) = bytes.split_first() else {
+        return Piece::End;
+    };
+    let first = *first;
+    if is_blank(first) {
+        Piece::Gap(blank_len(bytes))
+    } else if begins_comment(bytes) {
+        Piece::Gap(line_len(bytes))
+    } else if is_word_start(first) {
+        Piece::Lexeme(TokenKind::Word, word_len(bytes))
+    } else if first.is_ascii_digit() {
+        number_piece(bytes)
+    } else if first == b'"' {
+        string_piece(rest)
+    } else if first == b'<' {
+        key_name_piece(rest)
+    } else if is_mark(first) {
+        Piece::Lexeme(TokenKind::Mark, 1)
+    } else {
+        Piece::BadByte
+    }
+}
+
+fn mark_len(text: &[u8]) -> usize
+    ensures { result ≡ mark_len text.now }
+{
+    if byte_at(text, 0) == 0xef && byte_at(text, 1) == 0xbb && byte_at(text, 2) == 0xbf {
+        3
+    } else {
+        0
+    }
+}
+
+fn place(offset: u32, len: usize) -> At
+    requires { offset + len < 2 ^ 32 }
+    ensures { result ≡ place_of offset len }
+{
+    At {
+        file: 0,
+        span: Span {
+            start: offset,
+            stop: offset + len as u32,
+        },
+    }
+}
+
+fn whole(text: &[u8]) -> At
+    ensures { result ≡ whole_of text.now }
+{
+    At {
+        file: 0,
+        span: Span {
+            start: 0,
+            stop: text.len().min(u32::MAX as usize) as u32,
+        },
+    }
+}
+
+/// The tokens of a text, read as the text format has them: blanks, comments and tokens in order,
+/// each token the longest of its kind. A text has one such reading at most.
+///
+/// # Errors
+/// `TooLong` for a text of more than [`MOST_TEXT_BYTES`]; `BadByte`, `OpenString` or `OpenKeyName`
+/// where the reading stops, in file 0; `Memory` where a growth is refused.
+pub fn lex(alloc: Global, text: &[u8]) -> Result<Vec<Token>, Fault>
+    ensures long { 1048576 < length text.now → result ≡ Err (TooLong (whole_of text.now)) }
+    ensures read { IfOk result (λ tokens. IsReading text.now tokens.items) }
+    ensures stopped { length text.now ≤ 1048576 → IfErr result (λ e. (e ≡ Memory) ⊎ StopsWith text.now e) }
+    ensures complete { (tokens : List TokenValue) → IsReading text.now tokens → length text.now ≤ 1048576 → IfErr result (λ e. e ≡ Memory) }
+{
+    if text.len() > MOST_TEXT_BYTES {
+        return Err(Fault::TooLong(whole(text)));
+    }
+    let mut tokens = Vec::new(alloc);
+    let mark = mark_len(text);
+    let mut offset = mark as u32;
+    let mut rest = after(text, mark);
+    'pieces: loop {
+        match piece_at(rest) {
+            Piece::End => return Ok(tokens),
+            Piece::Gap(len) => {
+                rest = after(rest, len);
+                offset += len as u32;
+            }
+            Piece::Lexeme(kind, len) => {
+                let span = place(offset, len).span;
+                tokens.push(Token { kind, span })?;
+                rest = after(rest, len);
+                offset += len as u32;
+            }
+            Piece::BadByte => return Err(Fault::BadByte(place(offset, 1))),
+            Piece::OpenString(len) => return Err(Fault::OpenString(place(offset, len))),
+            Piece::OpenKeyName(len) => return Err(Fault::OpenKeyName(place(offset, len))),
+        }
+    }
+}
