@@ -3,8 +3,10 @@
 
 pub mod fault;
 pub mod scan;
+pub mod string;
 pub mod token;
 
 pub use fault::{At, Fault};
-pub use scan::{MOST_TEXT_BYTES, lex};
+pub use string::text_bytes;
+pub use scan::{MOST_TEXT_BYTES, begins_hex, lex};
 pub use token::{Span, Token, TokenKind};

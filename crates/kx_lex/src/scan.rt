@@ -142,7 +142,8 @@ fn begins_comment(bytes: &[u8]) -> bool
     byte_at(bytes, 0) == b'#' || (byte_at(bytes, 0) == b'/' && byte_at(bytes, 1) == b'/')
 }
 
-fn begins_hex(bytes: &[u8]) -> bool
+/// Whether a number begins as `0x` or `0X` and a hexadecimal digit.
+pub fn begins_hex(bytes: &[u8]) -> bool
     ensures { result ≡ begins_hex bytes.now }
 {
     let marker = byte_at(bytes, 1);

@@ -1,13 +1,17 @@
-// A library with one function.
+//! Tokens as trees: the grammar of keymap text.
 #![tactic(auto)]
 
-ghost use Rattle.std.specs.Prelude.{◌≡◌};
-ghost use Rattle.kx_parse.specs.Echo.{echo_of};
+mod fields;
+mod repeated;
+mod sections;
+mod statements;
+mod tokens;
+mod tree;
+mod values;
 
-// The `ensures` clause is the contract: what `echo` returns is `echo_of` of its argument, a definition
-// in `specs/Echo.antt`, which a caller's clause can cite too.
-pub fn echo(x: usize) -> usize
-    ensures { result ≡ echo_of x }
-{
-    x
-}
+pub use sections::{one_tree, parse, parse_file};
+pub use tree::{
+    Argument, Braces, Call, Declaration, Element, Entry, Expression, Field, Flag, Index, Item,
+    KeyField, Kind, List, Mode, Name, Number, Operation, Part, Place, PlacedArgument, Predicate,
+    Row, Section, Setting, Sign, Signed, Statement, Symbol, Term, Tree, Value,
+};

@@ -1,0 +1,100 @@
+ghost use Rattle.std.specs.Prelude.{◌≡◌, ◌<◌, ℕ, List, Bool, length, suc, []};
+ghost use Rattle.kx_lex.specs.declared.token.Token.{Token as TokenValue};
+ghost use Rattle.kx_parse.specs.Gives.{Gives};
+ghost use Rattle.kx_parse.specs.Laws.{Read, done, many_read, then_read, prepend, which};
+ghost use Rattle.kx_parse.specs.Production.{one};
+ghost use Rattle.kx_parse.specs.Tokens.{front, mark, is_mark};
+ghost use Rattle.kx_parse.specs.Values.{comma, before_mark};
+ghost use Rattle.kx_parse.specs.Lists.{after_comma_read, sequence_read, listed_read};
+ghost use Rattle.kx_parse.specs.Shrinks.{after_mark-shrinks};
+
+use crate::tokens::{Reading, front_is_mark, is_mark, read_mark};
+use crate::tree::Row;
+use kx_lex::{Fault, Token};
+use std::alloc::Global;
+use std::marker::PhantomData;
+
+/// Something that stands many times in a row.
+pub trait Repeated {
+    type Value: Drop;
+
+    ghost test: { List ℕ → List TokenValue → Bool };
+
+    ghost reading: { List ℕ → List TokenValue → Read Self.Value };
+
+    /// Whether the tokens begin one more.
+    fn is_next(text: &[u8], tokens: &[Token]) -> bool
+        ensures { result ≡ test text.now tokens.now };
+
+    /// Reads one more.
+    fn read_next<'a>(alloc: Global, text: &[u8], tokens: &'a [Token]) -> Reading<'a, Self::Value>
+        ensures { Gives result (reading text.now tokens.now) };
+
+    ghost shrinks: { (text : List ℕ) (ts : List TokenValue) (x : Self.Value) (rest : List TokenValue) → reading text ts ≡ done x rest → length rest < length ts };
+}
+
+/// Reads as many as stand at the front.
+pub fn read_many<'a, R: Repeated>(alloc: Global, text: &[u8], tokens: &'a [Token]) -> Reading<'a, Row<R::Value>>
+    ensures { Gives result (many_read (R.test text.now) (R.reading text.now) (suc (length tokens.now)) tokens.now) }
+{
+    let mut items = Vec::new(alloc);
+    let mut rest = tokens;
+    'items: while R::is_next(text, rest) {
+        let (item, left) = R::read_next(alloc, text, rest)?;
+        items.push(item)?;
+        rest = left;
+    }
+    Ok((Row::of(items), rest))
+}
+
+/// A comma, and one more of what `R` reads.
+pub struct AfterComma<R>(PhantomData<R>);
+
+impl<R: Repeated> Repeated for AfterComma<R> {
+    type Value = R::Value;
+
+    ghost test = { λ text ts. front (is_mark text comma) ts };
+
+    ghost reading = { λ text. after_comma_read text (R.reading text) };
+
+    fn is_next(text: &[u8], tokens: &[Token]) -> bool {
+        front_is_mark(text, b',', tokens)
+    }
+
+    fn read_next<'a>(alloc: Global, text: &[u8], tokens: &'a [Token]) -> Reading<'a, R::Value> {
+        let (_, rest) = read_mark(text, b',', tokens)?;
+        R::read_next(alloc, text, rest)
+    }
+
+    ghost shrinks = { λ text. after_mark-shrinks text comma (R.reading text) (R.shrinks text) };
+}
+
+/// Reads one, and more behind commas.
+pub fn read_sequence<'a, R: Repeated>(alloc: Global, text: &[u8], tokens: &'a [Token]) -> Reading<'a, Row<R::Value>>
+    ensures { Gives result (sequence_read text.now (R.reading text.now) tokens.now) }
+{
+    let (first, rest) = R::read_next(alloc, text, tokens)?;
+    let (more, rest) = read_many::<AfterComma<R>>(alloc, text, rest)?;
+    let items = more.behind(first)?;
+    Ok((items, rest))
+}
+
+/// Reads none where the mark that closes the list stands, else one, and more behind commas.
+pub fn read_listed<'a, R: Repeated>(alloc: Global, text: &[u8], close: u8, tokens: &'a [Token]) -> Reading<'a, Row<R::Value>>
+    ensures { Gives result (listed_read text.now close (R.reading text.now) tokens.now) }
+{
+    if !is_before_mark(text, close, tokens) {
+        return Ok((Row::of(Vec::new(alloc)), tokens));
+    }
+    read_sequence::<R>(alloc, text, tokens)
+}
+
+/// Whether a token stands at the front that is not this mark.
+pub fn is_before_mark(text: &[u8], byte: u8, tokens: &[Token]) -> bool
+    ensures { result ≡ before_mark text.now byte tokens.now }
+{
+    match tokens.first() {
+        Some(token) => !is_mark(text, byte, token),
+        None => false,
+    }
+}

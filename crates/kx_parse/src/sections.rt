@@ -1,0 +1,515 @@
+ghost use Rattle.std.specs.Prelude.{◌≡◌, ◌⊎◌, ℕ, List, IfOk, IfErr, is_some, true};
+ghost use Rattle.kx_lex.specs.declared.fault.Fault.TheVariants.{Memory};
+ghost use Rattle.kx_lex.specs.declared.token.Token.{Token as TokenValue};
+ghost use Rattle.kx_parse.specs.declared.tree.Tree.{Tree as TreeValue};
+ghost use Rattle.kx_parse.specs.Geometry.{geometry, geometry_read};
+ghost use Rattle.kx_parse.specs.Gives.{Gives};
+ghost use Rattle.kx_parse.specs.Production.{optional, known, many, at_end};
+ghost use Rattle.kx_parse.specs.Shrinks.{production-shrinks};
+ghost use Rattle.kx_parse.specs.Tokens.{front, is_text, is_mark, text_name};
+ghost use Rattle.kx_parse.specs.Values.{before_mark, close_brace};
+ghost use Rattle.kx_parse.specs.Sections.{mode_of, join_of, begins_include, begins_moded, join, mode, include, moded, modal, own, item, item-least, kind_of, flag_of, kind, flag, flag-least, flags, optional_text, held_items, plain_section, geometry_body, geometry_section, flagged, section, whole_section, whole_section-least, held_sections, source, file, Spells, StopsWith, SpellsFile, FileStopsWith};
+
+use crate::repeated::{Repeated, is_before_mark, read_many};
+use crate::statements::read_statement;
+use crate::tokens::{
+    Reading, behind_front, front_is_key_name, front_is_keyword, front_is_mark, front_is_text,
+    front_is_word, front_span, is_keyword, is_mark, read_keyword, read_mark, read_text,
+    span_between, syntax,
+};
+use crate::tree::{Flag, Item, Kind, Mode, Name, Row, Section, Statement, Tree};
+use kx_lex::{Fault, Span, Token};
+use std::alloc::Global;
+
+#[tactic(auto, unfolding(crate::specs::Sections::mode_of))]
+fn mode_of(text: &[u8], token: &Token) -> Option<Mode>
+    ensures { result ≡ mode_of text.now token.now }
+{
+    if is_keyword(text, b"augment", token) {
+        Some(Mode::Augment)
+    } else if is_keyword(text, b"override", token) {
+        Some(Mode::Override)
+    } else if is_keyword(text, b"replace", token) {
+        Some(Mode::Replace)
+    } else if is_keyword(text, b"alternate", token) {
+        Some(Mode::Override)
+    } else {
+        None
+    }
+}
+
+#[tactic(auto, unfolding(crate::specs::Sections::join_of))]
+fn join_of(text: &[u8], token: &Token) -> Option<Mode>
+    ensures { result ≡ join_of text.now token.now }
+{
+    if is_keyword(text, b"include", token) {
+        Some(Mode::Override)
+    } else {
+        mode_of(text, token)
+    }
+}
+
+fn begins_include(text: &[u8], tokens: &[Token]) -> bool
+    ensures { result ≡ begins_include text.now tokens.now }
+{
+    match tokens.first() {
+        Some(token) => join_of(text, token).is_some() && front_is_text(behind_front(tokens)),
+        None => false,
+    }
+}
+
+fn begins_moded(text: &[u8], tokens: &[Token]) -> bool
+    ensures { result ≡ begins_moded text.now tokens.now }
+{
+    let behind = behind_front(tokens);
+    match tokens.first() {
+        Some(token) => {
+            mode_of(text, token).is_some()
+                && (front_is_word(behind) || front_is_key_name(behind) || front_is_mark(text, b'!', behind))
+        }
+        None => false,
+    }
+}
+
+#[tactic(auto, unfolding(crate::specs::Sections::join))]
+fn read_join<'a>(text: &[u8], tokens: &'a [Token]) -> Reading<'a, Mode>
+    ensures { Gives result ((join text.now).read tokens.now) }
+{
+    match tokens.split_first() {
+        Some((token, rest)) => match join_of(text, token) {
+            Some(mode) => Ok((mode, rest)),
+            None => Err(syntax(text, tokens)),
+        },
+        None => Err(syntax(text, tokens)),
+    }
+}
+
+#[tactic(auto, unfolding(crate::specs::Sections::mode))]
+fn read_mode<'a>(text: &[u8], tokens: &'a [Token]) -> Reading<'a, Mode>
+    ensures { Gives result ((mode text.now).read tokens.now) }
+{
+    match tokens.split_first() {
+        Some((token, rest)) => match mode_of(text, token) {
+            Some(mode) => Ok((mode, rest)),
+            None => Err(syntax(text, tokens)),
+        },
+        None => Err(syntax(text, tokens)),
+    }
+}
+
+#[tactic(auto, unfolding(crate::specs::Sections::include))]
+fn read_include<'a>(alloc: Global, text: &[u8], tokens: &'a [Token]) -> Reading<'a, Item>
+    ensures { Gives result ((include text.now).read tokens.now) }
+{
+    let (mode, rest) = read_join(text, tokens)?;
+    let (name, rest) = read_text(alloc, text, rest)?;
+    let span = span_between(tokens, rest);
+    Ok((
+        Item::Include {
+            mode,
+            text: name,
+            span,
+        },
+        rest,
+    ))
+}
+
+#[tactic(auto, unfolding(crate::specs::Sections::moded))]
+fn read_moded<'a>(alloc: Global, text: &[u8], mode: Mode, tokens: &'a [Token]) -> Reading<'a, (Mode, Statement, Span)>
+    ensures { Gives result ((moded text.now mode).read tokens.now) }
+{
+    let first = front_span(tokens);
+    let (statement, rest) = read_statement(alloc, text, tokens)?;
+    let (_, rest) = read_mark(text, b';', rest)?;
+    Ok(((mode, statement, first), rest))
+}
+
+#[tactic(auto, unfolding(crate::specs::Sections::modal))]
+fn read_modal<'a>(alloc: Global, text: &[u8], tokens: &'a [Token]) -> Reading<'a, (Mode, Statement, Span)>
+    ensures { Gives result ((modal text.now).read tokens.now) }
+{
+    let (mode, rest) = read_mode(text, tokens)?;
+    read_moded(alloc, text, mode, rest)
+}
+
+#[tactic(auto, unfolding(crate::specs::Sections::own))]
+fn read_own<'a>(alloc: Global, text: &[u8], tokens: &'a [Token]) -> Reading<'a, Item>
+    ensures { Gives result ((own text.now).read tokens.now) }
+{
+    let ((mode, statement, first), rest) = if begins_moded(text, tokens) {
+        read_modal(alloc, text, tokens)?
+    } else {
+        read_moded(alloc, text, Mode::Override, tokens)?
+    };
+    let span = span_between(tokens, rest);
+    Ok((
+        Item::Statement {
+            mode,
+            statement,
+            first,
+            span,
+        },
+        rest,
+    ))
+}
+
+#[tactic(auto, unfolding(crate::specs::Sections::item))]
+fn read_item<'a>(alloc: Global, text: &[u8], tokens: &'a [Token]) -> Reading<'a, Item>
+    ensures { Gives result ((item text.now).read tokens.now) }
+{
+    if begins_include(text, tokens) {
+        return read_include(alloc, text, tokens);
+    }
+    read_own(alloc, text, tokens)
+}
+
+struct Items;
+
+impl Repeated for Items {
+    type Value = Item;
+
+    ghost test = { λ text. before_mark text close_brace };
+
+    ghost reading = { λ text. (item text).read };
+
+    fn is_next(text: &[u8], tokens: &[Token]) -> bool {
+        is_before_mark(text, b'}', tokens)
+    }
+
+    fn read_next<'a>(alloc: Global, text: &[u8], tokens: &'a [Token]) -> Reading<'a, Item> {
+        read_item(alloc, text, tokens)
+    }
+
+    ghost shrinks = { λ text. production-shrinks (item text) (item-least text) };
+}
+
+#[tactic(auto, unfolding(crate::specs::Sections::kind_of))]
+fn kind_of(text: &[u8], token: &Token) -> Option<Kind>
+    ensures { result ≡ kind_of text.now token.now }
+{
+    if is_keyword(text, b"xkb_keycodes", token) {
+        Some(Kind::Keycodes)
+    } else if is_keyword(text, b"xkb_types", token) {
+        Some(Kind::Types)
+    } else if is_keyword(text, b"xkb_symbols", token) {
+        Some(Kind::Symbols)
+    } else if is_keyword(text, b"xkb_compatibility", token) {
+        Some(Kind::Compat)
+    } else if is_keyword(text, b"xkb_compat", token) {
+        Some(Kind::Compat)
+    } else if is_keyword(text, b"xkb_compat_map", token) {
+        Some(Kind::Compat)
+    } else if is_keyword(text, b"xkb_compatibility_map", token) {
+        Some(Kind::Compat)
+    } else {
+        None
+    }
+}
+
+#[tactic(auto, unfolding(crate::specs::Sections::flag_of))]
+fn flag_of(text: &[u8], token: &Token) -> Option<Flag>
+    ensures { result ≡ flag_of text.now token.now }
+{
+    if is_keyword(text, b"default", token) {
+        Some(Flag::Default)
+    } else if is_keyword(text, b"partial", token) {
+        Some(Flag::Partial)
+    } else if is_keyword(text, b"hidden", token) {
+        Some(Flag::Hidden)
+    } else if is_keyword(text, b"alphanumeric_keys", token) {
+        Some(Flag::AlphanumericKeys)
+    } else if is_keyword(text, b"modifier_keys", token) {
+        Some(Flag::ModifierKeys)
+    } else if is_keyword(text, b"keypad_keys", token) {
+        Some(Flag::KeypadKeys)
+    } else if is_keyword(text, b"function_keys", token) {
+        Some(Flag::FunctionKeys)
+    } else if is_keyword(text, b"alternate_group", token) {
+        Some(Flag::AlternateGroup)
+    } else {
+        None
+    }
+}
+
+#[tactic(auto, unfolding(crate::specs::Sections::kind))]
+fn read_kind<'a>(text: &[u8], tokens: &'a [Token]) -> Reading<'a, Kind>
+    ensures { Gives result ((kind text.now).read tokens.now) }
+{
+    match tokens.split_first() {
+        Some((token, rest)) => match kind_of(text, token) {
+            Some(kind) => Ok((kind, rest)),
+            None => Err(syntax(text, tokens)),
+        },
+        None => Err(syntax(text, tokens)),
+    }
+}
+
+#[tactic(auto, unfolding(crate::specs::Sections::flag))]
+fn read_flag<'a>(text: &[u8], tokens: &'a [Token]) -> Reading<'a, Flag>
+    ensures { Gives result ((flag text.now).read tokens.now) }
+{
+    match tokens.split_first() {
+        Some((token, rest)) => match flag_of(text, token) {
+            Some(flag) => Ok((flag, rest)),
+            None => Err(syntax(text, tokens)),
+        },
+        None => Err(syntax(text, tokens)),
+    }
+}
+
+struct Flags;
+
+impl Repeated for Flags {
+    type Value = Flag;
+
+    ghost test = { λ text. front (λ t. is_some (flag_of text t)) };
+
+    ghost reading = { λ text. (flag text).read };
+
+    fn is_next(text: &[u8], tokens: &[Token]) -> bool {
+        match tokens.first() {
+            Some(token) => flag_of(text, token).is_some(),
+            None => false,
+        }
+    }
+
+    fn read_next<'a>(alloc: Global, text: &[u8], tokens: &'a [Token]) -> Reading<'a, Flag> {
+        read_flag(text, tokens)
+    }
+
+    ghost shrinks = { λ text. production-shrinks (flag text) (flag-least text) };
+}
+
+#[tactic(auto, unfolding(crate::specs::Sections::flags))]
+fn read_flags<'a>(alloc: Global, text: &[u8], tokens: &'a [Token]) -> Reading<'a, Row<Flag>>
+    ensures { Gives result ((flags text.now).read tokens.now) }
+{
+    read_many::<Flags>(alloc, text, tokens)
+}
+
+#[tactic(auto, unfolding(crate::specs::Sections::optional_text))]
+fn read_optional_text<'a>(alloc: Global, text: &[u8], tokens: &'a [Token]) -> Reading<'a, Option<Name>>
+    ensures { Gives result ((optional_text text.now).read tokens.now) }
+{
+    if !front_is_text(tokens) {
+        return Ok((None, tokens));
+    }
+    let (name, rest) = read_text(alloc, text, tokens)?;
+    Ok((Some(name), rest))
+}
+
+#[tactic(auto, unfolding(crate::specs::Sections::held_items))]
+fn read_held_items<'a>(alloc: Global, text: &[u8], tokens: &'a [Token]) -> Reading<'a, Row<Item>>
+    ensures { Gives result ((held_items text.now).read tokens.now) }
+{
+    let (_, rest) = read_mark(text, b'{', tokens)?;
+    let (items, rest) = read_many::<Items>(alloc, text, rest)?;
+    let (_, rest) = read_mark(text, b'}', rest)?;
+    Ok((items, rest))
+}
+
+#[tactic(auto, unfolding(crate::specs::Sections::plain_section))]
+fn read_plain_section<'a>(alloc: Global, text: &[u8], flags: Row<Flag>, tokens: &'a [Token]) -> Reading<'a, Section>
+    ensures { Gives result ((plain_section text.now flags).read tokens.now) }
+{
+    let (kind, rest) = read_kind(text, tokens)?;
+    let (name, rest) = read_optional_text(alloc, text, rest)?;
+    let (items, rest) = read_held_items(alloc, text, rest)?;
+    Ok((
+        Section {
+            flags,
+            kind,
+            name,
+            items,
+        },
+        rest,
+    ))
+}
+
+/// Passes over geometry, up to the brace that closes it; braces are counted.
+#[tactic(auto, unfolding(crate::specs::Geometry::geometry))]
+fn read_geometry<'a>(text: &[u8], tokens: &'a [Token]) -> Reading<'a, ()>
+    ensures { Gives result ((geometry text.now).read tokens.now) }
+{
+    let mut depth: usize = 0;
+    for i in 0..tokens.len() {
+        let token = &tokens[i];
+        if is_mark(text, b'{', token) {
+            depth += 1;
+        } else if is_mark(text, b'}', token) {
+            if depth == 0 {
+                return Ok(((), &tokens[i..]));
+            }
+            depth -= 1;
+        }
+    }
+    Err(syntax(text, &[]))
+}
+
+#[tactic(auto, unfolding(crate::specs::Sections::geometry_body))]
+fn read_geometry_body<'a>(text: &[u8], tokens: &'a [Token]) -> Reading<'a, ()>
+    ensures { Gives result ((geometry_body text.now).read tokens.now) }
+{
+    let (_, rest) = read_mark(text, b'{', tokens)?;
+    let (_, rest) = read_geometry(text, rest)?;
+    let (_, rest) = read_mark(text, b'}', rest)?;
+    Ok(((), rest))
+}
+
+#[tactic(auto, unfolding(crate::specs::Sections::geometry_section))]
+fn read_geometry_section<'a>(alloc: Global, text: &[u8], flags: Row<Flag>, tokens: &'a [Token]) -> Reading<'a, Section>
+    ensures { Gives result ((geometry_section text.now flags).read tokens.now) }
+{
+    let (_, rest) = read_keyword(text, b"xkb_geometry", tokens)?;
+    let (name, rest) = read_optional_text(alloc, text, rest)?;
+    let (_, rest) = read_geometry_body(text, rest)?;
+    Ok((
+        Section {
+            flags,
+            kind: Kind::Geometry,
+            name,
+            items: Row::of(Vec::new(alloc)),
+        },
+        rest,
+    ))
+}
+
+#[tactic(auto, unfolding(crate::specs::Sections::flagged))]
+fn read_flagged<'a>(alloc: Global, text: &[u8], flags: Row<Flag>, tokens: &'a [Token]) -> Reading<'a, Section>
+    ensures { Gives result ((flagged text.now flags).read tokens.now) }
+{
+    if front_is_keyword(text, b"xkb_geometry", tokens) {
+        return read_geometry_section(alloc, text, flags, tokens);
+    }
+    read_plain_section(alloc, text, flags, tokens)
+}
+
+#[tactic(auto, unfolding(crate::specs::Sections::section))]
+fn read_section<'a>(alloc: Global, text: &[u8], tokens: &'a [Token]) -> Reading<'a, Section>
+    ensures { Gives result ((section text.now).read tokens.now) }
+{
+    let (flags, rest) = read_flags(alloc, text, tokens)?;
+    let (section, rest) = read_flagged(alloc, text, flags, rest)?;
+    let (_, rest) = read_mark(text, b';', rest)?;
+    Ok((section, rest))
+}
+
+struct HeldSections;
+
+impl Repeated for HeldSections {
+    type Value = Section;
+
+    ghost test = { λ text. before_mark text close_brace };
+
+    ghost reading = { λ text. (whole_section text).read };
+
+    fn is_next(text: &[u8], tokens: &[Token]) -> bool {
+        is_before_mark(text, b'}', tokens)
+    }
+
+    fn read_next<'a>(alloc: Global, text: &[u8], tokens: &'a [Token]) -> Reading<'a, Section> {
+        read_section(alloc, text, tokens)
+    }
+
+    ghost shrinks = { λ text. production-shrinks (whole_section text) (whole_section-least text) };
+}
+
+struct FileSections;
+
+impl Repeated for FileSections {
+    type Value = Section;
+
+    ghost test = { λ text. front (λ _. true) };
+
+    ghost reading = { λ text. (whole_section text).read };
+
+    fn is_next(text: &[u8], tokens: &[Token]) -> bool {
+        !tokens.is_empty()
+    }
+
+    fn read_next<'a>(alloc: Global, text: &[u8], tokens: &'a [Token]) -> Reading<'a, Section> {
+        read_section(alloc, text, tokens)
+    }
+
+    ghost shrinks = { λ text. production-shrinks (whole_section text) (whole_section-least text) };
+}
+
+#[tactic(auto, unfolding(crate::specs::Sections::held_sections))]
+fn read_held_sections<'a>(alloc: Global, text: &[u8], tokens: &'a [Token]) -> Reading<'a, Row<Section>>
+    ensures { Gives result ((held_sections text.now).read tokens.now) }
+{
+    let (_, rest) = read_mark(text, b'{', tokens)?;
+    let (sections, rest) = read_many::<HeldSections>(alloc, text, rest)?;
+    let (_, rest) = read_mark(text, b'}', rest)?;
+    Ok((sections, rest))
+}
+
+fn read_end<'a>(text: &[u8], tokens: &'a [Token]) -> Reading<'a, ()>
+    ensures { Gives result (at_end.read tokens.now) }
+{
+    if tokens.is_empty() {
+        Ok(((), tokens))
+    } else {
+        Err(syntax(text, tokens))
+    }
+}
+
+#[tactic(auto, unfolding(crate::specs::Sections::source))]
+fn read_source<'a>(alloc: Global, text: &[u8], tokens: &'a [Token]) -> Reading<'a, Tree>
+    ensures { Gives result ((source text.now).read tokens.now) }
+{
+    let (_, rest) = read_flags(alloc, text, tokens)?;
+    let (_, rest) = read_keyword(text, b"xkb_keymap", rest)?;
+    let (_, rest) = read_optional_text(alloc, text, rest)?;
+    let (sections, rest) = read_held_sections(alloc, text, rest)?;
+    let (_, rest) = read_mark(text, b';', rest)?;
+    let (_, rest) = read_end(text, rest)?;
+    Ok((Tree { sections }, rest))
+}
+
+#[tactic(auto, unfolding(crate::specs::Sections::file))]
+fn read_file<'a>(alloc: Global, text: &[u8], tokens: &'a [Token]) -> Reading<'a, Tree>
+    ensures { Gives result ((file text.now).read tokens.now) }
+{
+    let (sections, rest) = read_many::<FileSections>(alloc, text, tokens)?;
+    let (_, rest) = read_end(text, rest)?;
+    Ok((Tree { sections }, rest))
+}
+
+/// The tree of a source's tokens, which are those of `text`. Tokens spell one tree at most.
+///
+/// # Errors
+/// `Syntax` at the first token that may not stand where it does, or at the end; `NumberTooBig` at
+/// a number of 2^32 or more outside geometry; both in file 0. `Memory` where a growth is refused.
+pub fn parse(alloc: Global, text: &[u8], tokens: &[Token]) -> Result<Tree, Fault>
+    ensures spelled { IfOk result (λ tree. Spells text.now tokens.now tree) }
+    ensures stopped { IfErr result (λ e. (e ≡ Memory) ⊎ StopsWith text.now tokens.now e) }
+    ensures complete { (tree : TreeValue) → Spells text.now tokens.now tree → IfErr result (λ e. e ≡ Memory) }
+{
+    match read_source(alloc, text, tokens) {
+        Ok((tree, _rest)) => Ok(tree),
+        Err(fault) => Err(fault),
+    }
+}
+
+/// The tree of an include file's tokens, which are those of `text`: sections alone.
+///
+/// # Errors
+/// As those of [`parse`].
+pub fn parse_file(alloc: Global, text: &[u8], tokens: &[Token]) -> Result<Tree, Fault>
+    ensures spelled { IfOk result (λ tree. SpellsFile text.now tokens.now tree) }
+    ensures stopped { IfErr result (λ e. (e ≡ Memory) ⊎ FileStopsWith text.now tokens.now e) }
+    ensures complete { (tree : TreeValue) → SpellsFile text.now tokens.now tree → IfErr result (λ e. e ≡ Memory) }
+{
+    match read_file(alloc, text, tokens) {
+        Ok((tree, _rest)) => Ok(tree),
+        Err(fault) => Err(fault),
+    }
+}
+
+/// Tokens spell one tree of a source at most, and one of a file.
+pub fn one_tree()
+    ensures source { (text : List ℕ) (tokens : List TokenValue) (s t : TreeValue) → Spells text tokens s → Spells text tokens t → s ≡ t }
+    ensures file { (text : List ℕ) (tokens : List TokenValue) (s t : TreeValue) → SpellsFile text tokens s → SpellsFile text tokens t → s ≡ t }
+{
+}

@@ -1,0 +1,235 @@
+ghost use Rattle.std.specs.Prelude.{◌≡◌, ◌||◌, codes};
+ghost use Rattle.kx_parse.specs.Gives.{Gives};
+ghost use Rattle.kx_parse.specs.Production.{optional};
+ghost use Rattle.kx_parse.specs.Tokens.{front, is_mark, is_word, is_number, is_text, is_key_name, is_keyword};
+ghost use Rattle.kx_parse.specs.Statements.{begins, keycode, alias, indicator_name, virtual_indicator, virtual_modifiers, key_type, wanted_modifiers, interpretation, indicator, group, key, mapped_entries, modifier_map, field_statement, symbols_statement, types_statement, keycodes_statement, statement};
+ghost use Rattle.kx_parse.specs.Values.{plus};
+
+use crate::fields::{
+    Declarations, Entries, KeyFields, read_block, read_field, read_predicate,
+};
+use crate::repeated::{read_listed, read_sequence};
+use crate::tokens::{
+    Reading, behind_front, front_is_key_name, front_is_keyword, front_is_mark, front_is_number,
+    front_is_text, front_is_word, is_number, is_word, read_key_name, read_keyword, read_mark, read_number, read_text,
+    read_word,
+};
+use crate::tree::{Entry, Predicate, Row, Statement};
+use crate::values::{read_expression, read_symbol};
+use kx_lex::{Fault, Token};
+use std::alloc::Global;
+
+#[tactic(auto, unfolding(crate::specs::Statements::keycode))]
+fn read_keycode<'a>(alloc: Global, text: &[u8], tokens: &'a [Token]) -> Reading<'a, Statement>
+    ensures { Gives result ((keycode text.now).read tokens.now) }
+{
+    let (name, rest) = read_key_name(alloc, text, tokens)?;
+    let (_, rest) = read_mark(text, b'=', rest)?;
+    let (code, rest) = read_number(text, rest)?;
+    Ok((Statement::Keycode { name, code }, rest))
+}
+
+#[tactic(auto, unfolding(crate::specs::Statements::alias))]
+fn read_alias<'a>(alloc: Global, text: &[u8], tokens: &'a [Token]) -> Reading<'a, Statement>
+    ensures { Gives result ((alias text.now).read tokens.now) }
+{
+    let (_, rest) = read_keyword(text, b"alias", tokens)?;
+    let (name, rest) = read_key_name(alloc, text, rest)?;
+    let (_, rest) = read_mark(text, b'=', rest)?;
+    let (target, rest) = read_key_name(alloc, text, rest)?;
+    Ok((Statement::Alias { name, target }, rest))
+}
+
+#[tactic(auto, unfolding(crate::specs::Statements::indicator_name))]
+fn read_indicator_name<'a>(alloc: Global, text: &[u8], tokens: &'a [Token]) -> Reading<'a, Statement>
+    ensures { Gives result ((indicator_name text.now).read tokens.now) }
+{
+    let (_, rest) = read_keyword(text, b"indicator", tokens)?;
+    let (number, rest) = read_number(text, rest)?;
+    let (_, rest) = read_mark(text, b'=', rest)?;
+    let (name, rest) = read_text(alloc, text, rest)?;
+    Ok((Statement::IndicatorName { number, name }, rest))
+}
+
+#[tactic(auto, unfolding(crate::specs::Statements::virtual_indicator))]
+fn read_virtual_indicator<'a>(alloc: Global, text: &[u8], tokens: &'a [Token]) -> Reading<'a, Statement>
+    ensures { Gives result ((virtual_indicator text.now).read tokens.now) }
+{
+    let (_, rest) = read_keyword(text, b"virtual", tokens)?;
+    read_indicator_name(alloc, text, rest)
+}
+
+#[tactic(auto, unfolding(crate::specs::Statements::virtual_modifiers))]
+fn read_virtual_modifiers<'a>(alloc: Global, text: &[u8], tokens: &'a [Token]) -> Reading<'a, Statement>
+    ensures { Gives result ((virtual_modifiers text.now).read tokens.now) }
+{
+    let (_, rest) = read_keyword(text, b"virtual_modifiers", tokens)?;
+    let (declarations, rest) = read_sequence::<Declarations>(alloc, text, rest)?;
+    Ok((Statement::VirtualModifiers(declarations), rest))
+}
+
+#[tactic(auto, unfolding(crate::specs::Statements::key_type))]
+fn read_key_type<'a>(alloc: Global, text: &[u8], tokens: &'a [Token]) -> Reading<'a, Statement>
+    ensures { Gives result ((key_type text.now).read tokens.now) }
+{
+    let (_, rest) = read_keyword(text, b"type", tokens)?;
+    let (name, rest) = read_text(alloc, text, rest)?;
+    let (fields, rest) = read_block(alloc, text, rest)?;
+    Ok((Statement::KeyType { name, fields }, rest))
+}
+
+#[tactic(auto, unfolding(crate::specs::Statements::wanted_modifiers))]
+fn read_wanted_modifiers<'a>(alloc: Global, text: &[u8], tokens: &'a [Token]) -> Reading<'a, Option<Predicate>>
+    ensures { Gives result ((optional (front (is_mark text.now plus)) (wanted_modifiers text.now)).read tokens.now) }
+{
+    if !front_is_mark(text, b'+', tokens) {
+        return Ok((None, tokens));
+    }
+    let (_, rest) = read_mark(text, b'+', tokens)?;
+    let (predicate, rest) = read_predicate(alloc, text, rest)?;
+    Ok((Some(predicate), rest))
+}
+
+#[tactic(auto, unfolding(crate::specs::Statements::interpretation))]
+fn read_interpretation<'a>(alloc: Global, text: &[u8], tokens: &'a [Token]) -> Reading<'a, Statement>
+    ensures { Gives result ((interpretation text.now).read tokens.now) }
+{
+    let (_, rest) = read_keyword(text, b"interpret", tokens)?;
+    let (symbol, rest) = read_symbol(alloc, text, rest)?;
+    let (predicate, rest) = read_wanted_modifiers(alloc, text, rest)?;
+    let (fields, rest) = read_block(alloc, text, rest)?;
+    Ok((
+        Statement::Interpretation {
+            symbol,
+            predicate,
+            fields,
+        },
+        rest,
+    ))
+}
+
+#[tactic(auto, unfolding(crate::specs::Statements::indicator))]
+fn read_indicator<'a>(alloc: Global, text: &[u8], tokens: &'a [Token]) -> Reading<'a, Statement>
+    ensures { Gives result ((indicator text.now).read tokens.now) }
+{
+    let (_, rest) = read_keyword(text, b"indicator", tokens)?;
+    let (name, rest) = read_text(alloc, text, rest)?;
+    let (fields, rest) = read_block(alloc, text, rest)?;
+    Ok((Statement::Indicator { name, fields }, rest))
+}
+
+#[tactic(auto, unfolding(crate::specs::Statements::group))]
+fn read_group<'a>(alloc: Global, text: &[u8], tokens: &'a [Token]) -> Reading<'a, Statement>
+    ensures { Gives result ((group text.now).read tokens.now) }
+{
+    let (_, rest) = read_keyword(text, b"group", tokens)?;
+    let (number, rest) = read_number(text, rest)?;
+    let (_, rest) = read_mark(text, b'=', rest)?;
+    let (mask, rest) = read_expression(alloc, text, rest)?;
+    Ok((Statement::Group { number, mask }, rest))
+}
+
+#[tactic(auto, unfolding(crate::specs::Statements::key))]
+fn read_key<'a>(alloc: Global, text: &[u8], tokens: &'a [Token]) -> Reading<'a, Statement>
+    ensures { Gives result ((key text.now).read tokens.now) }
+{
+    let (_, rest) = read_keyword(text, b"key", tokens)?;
+    let (name, rest) = read_key_name(alloc, text, rest)?;
+    let (_, rest) = read_mark(text, b'{', rest)?;
+    let (fields, rest) = read_listed::<KeyFields>(alloc, text, b'}', rest)?;
+    let (_, rest) = read_mark(text, b'}', rest)?;
+    Ok((Statement::Key { name, fields }, rest))
+}
+
+#[tactic(auto, unfolding(crate::specs::Statements::mapped_entries))]
+fn read_mapped_entries<'a>(alloc: Global, text: &[u8], tokens: &'a [Token]) -> Reading<'a, Row<Entry>>
+    ensures { Gives result ((mapped_entries text.now).read tokens.now) }
+{
+    read_sequence::<Entries>(alloc, text, tokens)
+}
+
+#[tactic(auto, unfolding(crate::specs::Statements::modifier_map))]
+fn read_modifier_map<'a>(alloc: Global, text: &[u8], tokens: &'a [Token]) -> Reading<'a, Statement>
+    ensures { Gives result ((modifier_map text.now).read tokens.now) }
+{
+    let (_, rest) = read_keyword(text, b"modifier_map", tokens)?;
+    let (modifier, rest) = read_word(alloc, text, rest)?;
+    let (_, rest) = read_mark(text, b'{', rest)?;
+    let (entries, rest) = read_mapped_entries(alloc, text, rest)?;
+    let (_, rest) = read_mark(text, b'}', rest)?;
+    Ok((Statement::ModifierMap { modifier, entries }, rest))
+}
+
+#[tactic(auto, unfolding(crate::specs::Statements::field_statement))]
+fn read_field_statement<'a>(alloc: Global, text: &[u8], tokens: &'a [Token]) -> Reading<'a, Statement>
+    ensures { Gives result ((field_statement text.now).read tokens.now) }
+{
+    let (field, rest) = read_field(alloc, text, tokens)?;
+    Ok((Statement::Field(field), rest))
+}
+
+#[tactic(auto, unfolding(crate::specs::Statements::symbols_statement))]
+fn read_symbols_statement<'a>(alloc: Global, text: &[u8], tokens: &'a [Token]) -> Reading<'a, Statement>
+    ensures { Gives result ((symbols_statement text.now).read tokens.now) }
+{
+    let behind = behind_front(tokens);
+    if front_is_keyword(text, b"key", tokens) && front_is_key_name(behind) {
+        return read_key(alloc, text, tokens);
+    }
+    if front_is_keyword(text, b"modifier_map", tokens) && front_is_word(behind) {
+        return read_modifier_map(alloc, text, tokens);
+    }
+    read_field_statement(alloc, text, tokens)
+}
+
+fn front_is_symbol(tokens: &[Token]) -> bool
+    ensures { result ≡ front (λ t. is_word t || is_number t) tokens.now }
+{
+    match tokens.first() {
+        Some(token) => is_word(token) || is_number(token),
+        None => false,
+    }
+}
+
+#[tactic(auto, unfolding(crate::specs::Statements::types_statement))]
+fn read_types_statement<'a>(alloc: Global, text: &[u8], tokens: &'a [Token]) -> Reading<'a, Statement>
+    ensures { Gives result ((types_statement text.now (symbols_statement text.now)).read tokens.now) }
+{
+    let behind = behind_front(tokens);
+    if front_is_keyword(text, b"virtual_modifiers", tokens) && front_is_word(behind) {
+        return read_virtual_modifiers(alloc, text, tokens);
+    }
+    if front_is_keyword(text, b"type", tokens) && front_is_text(behind) {
+        return read_key_type(alloc, text, tokens);
+    }
+    if front_is_keyword(text, b"interpret", tokens) && front_is_symbol(behind) {
+        return read_interpretation(alloc, text, tokens);
+    }
+    if front_is_keyword(text, b"indicator", tokens) && front_is_text(behind) {
+        return read_indicator(alloc, text, tokens);
+    }
+    if front_is_keyword(text, b"group", tokens) && front_is_number(behind) {
+        return read_group(alloc, text, tokens);
+    }
+    read_symbols_statement(alloc, text, tokens)
+}
+
+#[tactic(auto, unfolding(crate::specs::Statements::statement, crate::specs::Statements::keycodes_statement))]
+pub fn read_statement<'a>(alloc: Global, text: &[u8], tokens: &'a [Token]) -> Reading<'a, Statement>
+    ensures { Gives result ((statement text.now).read tokens.now) }
+{
+    let behind = behind_front(tokens);
+    if front_is_key_name(tokens) {
+        return read_keycode(alloc, text, tokens);
+    }
+    if front_is_keyword(text, b"alias", tokens) && front_is_key_name(behind) {
+        return read_alias(alloc, text, tokens);
+    }
+    if front_is_keyword(text, b"virtual", tokens) && front_is_keyword(text, b"indicator", behind) {
+        return read_virtual_indicator(alloc, text, tokens);
+    }
+    if front_is_keyword(text, b"indicator", tokens) && front_is_number(behind) {
+        return read_indicator_name(alloc, text, tokens);
+    }
+    read_types_statement(alloc, text, tokens)
+}

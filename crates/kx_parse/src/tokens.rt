@@ -1,0 +1,303 @@
+ghost use Rattle.std.specs.Prelude.{◌≡◌, ◌<◌, ◌^◌, ◌-◌, List, IfOk, ◌≤◌, slice_range, drop};
+ghost use Rattle.std.specs.Char.{digit_value};
+ghost use Rattle.kx_parse.specs.Gives.{Gives};
+ghost use Rattle.kx_parse.specs.Production.{syntax_of, front_span, span_between};
+ghost use Rattle.kx_parse.specs.Tokens.{slice_of, inner_of, is_word, is_number, is_key_name, is_text, is_mark, is_keyword, front, second, mark, keyword, word, key_name, text_name, digits_value, number_value, measured, number};
+
+use crate::tree::{Name, Number, Row};
+use kx_lex::{At, Fault, Span, Token, TokenKind, begins_hex, text_bytes};
+use std::alloc::{AllocError, Global};
+
+/// The tokens that are left, or why there is no value.
+pub type Reading<'a, T> = Result<(T, &'a [Token]), Fault>;
+
+fn range(text: &[u8], start: usize, stop: usize) -> &[u8]
+    ensures { result.now ≡ slice_range text.now start stop }
+{
+    if start <= stop {
+        let rest = text.get(start..).unwrap_or(&[]);
+        rest.get(..stop - start).unwrap_or(rest)
+    } else {
+        &[]
+    }
+}
+
+fn slice_of<'t>(text: &'t [u8], token: &Token) -> &'t [u8]
+    ensures { result.now ≡ slice_of text.now token.now }
+{
+    range(text, token.span.start as usize, token.span.stop as usize)
+}
+
+/// A token's bytes without the first and the last.
+fn inner_of<'t>(text: &'t [u8], token: &Token) -> &'t [u8]
+    ensures { result.now ≡ inner_of text.now token.now }
+{
+    let start = token.span.start as usize + 1;
+    let stop = (token.span.stop as usize).saturating_sub(1);
+    range(text, start, stop)
+}
+
+pub fn is_word(token: &Token) -> bool
+    ensures { result ≡ is_word token.now }
+{
+    matches!(token.kind, TokenKind::Word)
+}
+
+pub fn is_number(token: &Token) -> bool
+    ensures { result ≡ is_number token.now }
+{
+    matches!(token.kind, TokenKind::Number)
+}
+
+pub fn is_key_name(token: &Token) -> bool
+    ensures { result ≡ is_key_name token.now }
+{
+    matches!(token.kind, TokenKind::KeyName)
+}
+
+pub fn is_text(token: &Token) -> bool
+    ensures { result ≡ is_text token.now }
+{
+    matches!(token.kind, TokenKind::Text)
+}
+
+pub fn is_mark(text: &[u8], byte: u8, token: &Token) -> bool
+    ensures { result ≡ is_mark text.now byte token.now }
+{
+    let first = text.get(token.span.start as usize).copied().unwrap_or(0);
+    matches!(token.kind, TokenKind::Mark) && first == byte
+}
+
+#[tactic(auto, unfolding(crate::specs::Tokens::is_keyword))]
+pub fn is_keyword(text: &[u8], keyword: &[u8], token: &Token) -> bool
+    ensures { result ≡ is_keyword text.now keyword.now token.now }
+{
+    matches!(token.kind, TokenKind::Word) && slice_of(text, token).eq_ignore_ascii_case(keyword)
+}
+
+/// The fault of a token that may not stand where it does, or of the end.
+pub fn syntax(text: &[u8], tokens: &[Token]) -> Fault
+    ensures { result ≡ syntax_of text.now tokens.now }
+{
+    let end = text.len().min(u32::MAX as usize) as u32;
+    let span = match tokens.first() {
+        Some(token) => token.span,
+        None => Span {
+            start: end,
+            stop: end,
+        },
+    };
+    Fault::Syntax(At { file: 0, span })
+}
+
+#[tactic(auto, unfolding(crate::specs::Tokens::mark))]
+pub fn read_mark<'a>(text: &[u8], byte: u8, tokens: &'a [Token]) -> Reading<'a, Token>
+    ensures { Gives result ((mark text.now byte).read tokens.now) }
+{
+    match tokens.split_first() {
+        Some((token, rest)) if is_mark(text, byte, token) => Ok((*token, rest)),
+        _ => Err(syntax(text, tokens)),
+    }
+}
+
+#[tactic(auto, unfolding(crate::specs::Tokens::keyword))]
+pub fn read_keyword<'a>(text: &[u8], wanted: &[u8], tokens: &'a [Token]) -> Reading<'a, Token>
+    ensures { Gives result ((keyword text.now wanted.now).read tokens.now) }
+{
+    match tokens.split_first() {
+        Some((token, rest)) if is_keyword(text, wanted, token) => Ok((*token, rest)),
+        _ => Err(syntax(text, tokens)),
+    }
+}
+
+fn name_of(alloc: Global, bytes: &[u8], span: Span) -> Result<Name, AllocError>
+    ensures { IfOk result (λ name. name ≡ record { bytes = bytes.now; span = span }) }
+{
+    Ok(Name {
+        bytes: Row::of(Vec::from_slice(alloc, bytes)?),
+        span,
+    })
+}
+
+#[tactic(auto, unfolding(crate::specs::Tokens::word))]
+pub fn read_word<'a>(alloc: Global, text: &[u8], tokens: &'a [Token]) -> Reading<'a, Name>
+    ensures { Gives result ((word text.now).read tokens.now) }
+{
+    match tokens.split_first() {
+        Some((token, rest)) if is_word(token) => Ok((name_of(alloc, slice_of(text, token), token.span)?, rest)),
+        _ => Err(syntax(text, tokens)),
+    }
+}
+
+#[tactic(auto, unfolding(crate::specs::Tokens::key_name))]
+pub fn read_key_name<'a>(alloc: Global, text: &[u8], tokens: &'a [Token]) -> Reading<'a, Name>
+    ensures { Gives result ((key_name text.now).read tokens.now) }
+{
+    match tokens.split_first() {
+        Some((token, rest)) if is_key_name(token) => Ok((name_of(alloc, inner_of(text, token), token.span)?, rest)),
+        _ => Err(syntax(text, tokens)),
+    }
+}
+
+#[tactic(auto, unfolding(crate::specs::Tokens::text_name))]
+pub fn read_text<'a>(alloc: Global, text: &[u8], tokens: &'a [Token]) -> Reading<'a, Name>
+    ensures { Gives result ((text_name text.now).read tokens.now) }
+{
+    match tokens.split_first() {
+        Some((token, rest)) if is_text(token) => {
+            let bytes = Row::of(text_bytes(alloc, inner_of(text, token))?);
+            let span = token.span;
+            Ok((Name { bytes, span }, rest))
+        }
+        _ => Err(syntax(text, tokens)),
+    }
+}
+
+/// A digit's value folded into the number before it; at most 2^32 in all.
+fn digits_value(digits: &[u8], base: u64) -> u64
+    requires some { 1 ≤ base }
+    requires small { base ≤ 16 }
+    ensures exact { result < 2 ^ 32 → result ≡ digits_value base digits.now }
+    ensures great { 2 ^ 32 ≤ result → 2 ^ 32 ≤ digits_value base digits.now }
+{
+    let mut value = 0;
+    for digit in digits {
+        if value >= 1 << 32 {
+            return value;
+        }
+        value = value * base + digit_of(*digit);
+    }
+    value
+}
+
+fn digit_of(byte: u8) -> u64
+    ensures value { result ≡ digit_value byte }
+    ensures small { result < 37 }
+{
+    match byte {
+        b'0'..=b'9' => u64::from(byte - b'0'),
+        b'A'..=b'Z' => u64::from(byte - b'A') + 10,
+        b'a'..=b'z' => u64::from(byte - b'a') + 10,
+        _ => 36,
+    }
+}
+
+fn measured(value: u64, span: Span) -> Result<Number, Fault>
+    requires { value < 2 ^ 64 }
+    ensures { result ≡ measured value span }
+{
+    match u32::try_from(value) {
+        Ok(value) => Ok(Number { value, span }),
+        Err(_) => Err(Fault::NumberTooBig(At { file: 0, span })),
+    }
+}
+
+/// The value of a number's bytes, or 2^32 where it is greater.
+#[tactic(auto, unfolding(crate::specs::Tokens::number_value))]
+fn number_value(digits: &[u8]) -> u64
+    ensures exact { result < 2 ^ 32 → result ≡ number_value digits.now }
+    ensures great { 2 ^ 32 ≤ result → 2 ^ 32 ≤ number_value digits.now }
+{
+    if begins_hex(digits) {
+        digits_value(digits.get(2..).unwrap_or(&[]), 16)
+    } else {
+        digits_value(digits, 10)
+    }
+}
+
+#[tactic(auto, unfolding(crate::specs::Tokens::number))]
+pub fn read_number<'a>(text: &[u8], tokens: &'a [Token]) -> Reading<'a, Number>
+    ensures { Gives result ((number text.now).read tokens.now) }
+{
+    match tokens.split_first() {
+        Some((token, rest)) if is_number(token) => {
+            let value = number_value(slice_of(text, token));
+            Ok((measured(value, token.span)?, rest))
+        }
+        _ => Err(syntax(text, tokens)),
+    }
+}
+
+/// Whether the first token is this mark.
+pub fn front_is_mark(text: &[u8], byte: u8, tokens: &[Token]) -> bool
+    ensures { result ≡ front (is_mark text.now byte) tokens.now }
+{
+    match tokens.first() {
+        Some(token) => is_mark(text, byte, token),
+        None => false,
+    }
+}
+
+/// Whether the first token is this word.
+pub fn front_is_keyword(text: &[u8], wanted: &[u8], tokens: &[Token]) -> bool
+    ensures { result ≡ front (is_keyword text.now wanted.now) tokens.now }
+{
+    match tokens.first() {
+        Some(token) => is_keyword(text, wanted, token),
+        None => false,
+    }
+}
+
+/// Where the first token stands; nowhere, at the end.
+pub fn front_span(tokens: &[Token]) -> Span
+    ensures { result ≡ front_span tokens.now }
+{
+    match tokens.first() {
+        Some(token) => token.span,
+        None => Span { start: 0, stop: 0 },
+    }
+}
+
+/// From the first of the tokens to the last before the rest of them.
+pub fn span_between(tokens: &[Token], rest: &[Token]) -> Span
+    ensures { result ≡ span_between tokens.now rest.now }
+{
+    let last = tokens.len().saturating_sub(rest.len()).saturating_sub(1);
+    Span {
+        start: front_span(tokens).start,
+        stop: front_span(tokens.get(last..).unwrap_or(&[])).stop,
+    }
+}
+
+/// The tokens behind the first.
+pub fn behind_front(tokens: &[Token]) -> &[Token]
+    ensures { result.now ≡ drop 1 tokens.now }
+{
+    tokens.get(1..).unwrap_or(&[])
+}
+
+pub fn front_is_word(tokens: &[Token]) -> bool
+    ensures { result ≡ front is_word tokens.now }
+{
+    match tokens.first() {
+        Some(token) => is_word(token),
+        None => false,
+    }
+}
+
+pub fn front_is_number(tokens: &[Token]) -> bool
+    ensures { result ≡ front is_number tokens.now }
+{
+    match tokens.first() {
+        Some(token) => is_number(token),
+        None => false,
+    }
+}
+
+pub fn front_is_text(tokens: &[Token]) -> bool
+    ensures { result ≡ front is_text tokens.now }
+{
+    match tokens.first() {
+        Some(token) => is_text(token),
+        None => false,
+    }
+}
+
+pub fn front_is_key_name(tokens: &[Token]) -> bool
+    ensures { result ≡ front is_key_name tokens.now }
+{
+    match tokens.first() {
+        Some(token) => is_key_name(token),
+        None => false,
+    }
+}

@@ -1,0 +1,327 @@
+use kx_lex::Span;
+use std::alloc::AllocError;
+use std::marker::Model;
+
+/// A list that a tree owns, seen as the list of its items.
+#[derive(Debug, Drop)]
+pub struct Row<T> {
+    items: Vec<T>,
+}
+
+impl<T> Model for Row<T> {
+    ghost use Rattle.std.specs.Prelude.{List};
+
+    ghost Value = { List T };
+
+    ghost view = { λ row. row.items.items };
+}
+
+impl<T> Row<T> {
+    ghost use Rattle.std.specs.Prelude.{◌≡◌, ◌∷◌, IfOk};
+
+    /// The row of these items.
+    pub fn of(items: Vec<T>) -> Row<T>
+        ensures { result ≡ items.items }
+    {
+        Row { items }
+    }
+
+    /// These items behind another.
+    ///
+    /// # Errors
+    /// Where a growth is refused.
+    pub fn behind(self, first: T) -> Result<Row<T>, AllocError>
+    where
+        T: Drop,
+        ensures { IfOk result (λ row. row ≡ first ∷ self) }
+    {
+        let mut items = self.items;
+        items.insert(0, first)?;
+        Ok(Row { items })
+    }
+
+    /// The items in order.
+    pub fn as_slice(&self) -> &[T]
+        ensures { result.now ≡ self.now }
+    {
+        self.items.as_slice()
+    }
+}
+
+/// A name, a word or text: its bytes, without what encloses it, and where it stands with it.
+#[derive(Debug, Drop)]
+pub struct Name {
+    pub bytes: Row<u8>,
+    pub span: Span,
+}
+
+/// A number and where it stands.
+#[derive(Clone, Copy, Debug, PartialEq, Eq)]
+pub struct Number {
+    pub value: u32,
+    pub span: Span,
+}
+
+/// A keysym as it is written: a name or a number.
+#[derive(Debug, Drop)]
+pub enum Symbol {
+    Word(Name),
+    Number(Number),
+}
+
+#[derive(Clone, Copy, Debug, PartialEq, Eq)]
+pub enum Sign {
+    Plus,
+    Minus,
+}
+
+/// A number with the sign before it; the span is from the sign on.
+#[derive(Clone, Copy, Debug, PartialEq, Eq)]
+pub struct Signed {
+    pub sign: Sign,
+    pub number: Number,
+    pub span: Span,
+}
+
+/// A part of an expression.
+#[derive(Debug, Drop)]
+pub enum Term {
+    Number(Number),
+    Signed(Signed),
+    Word(Name),
+    Text(Name),
+    KeyName(Name),
+}
+
+/// A term that is added or taken away.
+#[derive(Debug, Drop)]
+pub struct Operation {
+    pub sign: Sign,
+    pub term: Term,
+}
+
+/// Terms joined by `+` and `-`, read from the left.
+#[derive(Debug, Drop)]
+pub struct Expression {
+    pub first: Term,
+    pub rest: Row<Operation>,
+    pub span: Span,
+}
+
+/// What stands in brackets behind a word, with the brackets.
+#[derive(Debug, Drop)]
+pub struct Index {
+    pub value: Expression,
+    pub span: Span,
+}
+
+/// What a field sets: a word, or a word of another's defaults, with an index or without.
+#[derive(Debug, Drop)]
+pub struct Place {
+    pub word: Name,
+    pub member: Option<Name>,
+    pub index: Option<Index>,
+}
+
+/// What an argument of a call sets.
+#[derive(Debug, Drop)]
+pub enum Argument {
+    /// `!word`
+    Off(Name),
+    /// `word = value`, `word[index] = value`
+    Set {
+        word: Name,
+        index: Option<Index>,
+        value: Expression,
+    },
+    /// A value without a name.
+    Plain(Expression),
+}
+
+/// An argument with where it stands.
+#[derive(Debug, Drop)]
+pub struct PlacedArgument {
+    pub argument: Argument,
+    pub span: Span,
+}
+
+/// A word with arguments in parentheses.
+#[derive(Debug, Drop)]
+pub struct Call {
+    pub word: Name,
+    pub arguments: Row<PlacedArgument>,
+    pub span: Span,
+}
+
+/// What stands in braces of a list.
+#[derive(Debug, Drop)]
+pub enum Part {
+    Symbol(Symbol),
+    Call(Call),
+}
+
+/// One level of a list.
+#[derive(Debug, Drop)]
+pub enum Element {
+    Symbol(Symbol),
+    Call(Call),
+    Braces(Braces),
+}
+
+/// Parts in braces, with the braces.
+#[derive(Debug, Drop)]
+pub struct Braces {
+    pub parts: Row<Part>,
+    pub span: Span,
+}
+
+/// Levels in brackets, with the brackets.
+#[derive(Debug, Drop)]
+pub struct List {
+    pub elements: Row<Element>,
+    pub span: Span,
+}
+
+#[derive(Debug, Drop)]
+pub enum Value {
+    Expression(Expression),
+    Call(Call),
+    List(List),
+}
+
+/// What a field says of its place.
+#[derive(Debug, Drop)]
+pub enum Setting {
+    /// `!place`
+    Off,
+    /// `place`
+    On,
+    /// `place = value`
+    To(Value),
+}
+
+/// A field, from its first token to its last; a `;` behind it does not count.
+#[derive(Debug, Drop)]
+pub struct Field {
+    pub place: Place,
+    pub setting: Setting,
+    pub span: Span,
+}
+
+/// A field of a key.
+#[derive(Debug, Drop)]
+pub enum KeyField {
+    Field(Field),
+    List(List),
+}
+
+/// A virtual modifier that is declared.
+#[derive(Debug, Drop)]
+pub struct Declaration {
+    pub word: Name,
+    pub mask: Option<Expression>,
+}
+
+/// Which modifiers an interpretation wants.
+#[derive(Debug, Drop)]
+pub enum Predicate {
+    Call(Call),
+    Mask(Expression),
+}
+
+/// What a modifier map names.
+#[derive(Debug, Drop)]
+pub enum Entry {
+    KeyName(Name),
+    Symbol(Symbol),
+}
+
+#[derive(Debug, Drop)]
+pub enum Statement {
+    /// `<NAME> = CODE`
+    Keycode { name: Name, code: Number },
+    /// `alias <NAME> = <TARGET>`
+    Alias { name: Name, target: Name },
+    /// `indicator NUMBER = "NAME"`
+    IndicatorName { number: Number, name: Name },
+    /// `virtual_modifiers A, B = MASK`
+    VirtualModifiers(Row<Declaration>),
+    /// `type "NAME" { .. }`
+    KeyType { name: Name, fields: Row<Field> },
+    /// `interpret SYMBOL + PREDICATE { .. }`
+    Interpretation {
+        symbol: Symbol,
+        predicate: Option<Predicate>,
+        fields: Row<Field>,
+    },
+    /// `indicator "NAME" { .. }`
+    Indicator { name: Name, fields: Row<Field> },
+    /// `group NUMBER = MASK`
+    Group { number: Number, mask: Expression },
+    /// `key <NAME> { .. }`
+    Key { name: Name, fields: Row<KeyField> },
+    /// `modifier_map WORD { .. }`
+    ModifierMap { modifier: Name, entries: Row<Entry> },
+    /// A field that stands alone.
+    Field(Field),
+}
+
+/// How a statement or an include joins what stands before it.
+#[derive(Clone, Copy, Debug, PartialEq, Eq)]
+pub enum Mode {
+    Augment,
+    Override,
+    Replace,
+}
+
+/// What a section holds.
+#[derive(Debug, Drop)]
+pub enum Item {
+    /// An include; the span is from its word to its text.
+    Include { mode: Mode, text: Name, span: Span },
+    /// A statement; `first` is its first token behind the mode, `span` all of it with the mode and
+    /// its `;`.
+    Statement {
+        mode: Mode,
+        statement: Statement,
+        first: Span,
+        span: Span,
+    },
+}
+
+#[derive(Clone, Copy, Debug, PartialEq, Eq)]
+pub enum Kind {
+    Keycodes,
+    Types,
+    Compat,
+    Symbols,
+    Geometry,
+}
+
+/// A word before a section.
+#[derive(Clone, Copy, Debug, PartialEq, Eq)]
+pub enum Flag {
+    Default,
+    Partial,
+    Hidden,
+    AlphanumericKeys,
+    ModifierKeys,
+    KeypadKeys,
+    FunctionKeys,
+    AlternateGroup,
+}
+
+/// A section; one of geometry keeps none of its content.
+#[derive(Debug, Drop)]
+pub struct Section {
+    pub flags: Row<Flag>,
+    pub kind: Kind,
+    pub name: Option<Name>,
+    pub items: Row<Item>,
+}
+
+/// The sections of a source or of a file.
+#[derive(Debug, Drop)]
+pub struct Tree {
+    pub sections: Row<Section>,
+}
