@@ -1,5 +1,5 @@
 -- A text that has a token reading stops nowhere, and it has one reading at most.
-use Rattle.std.proofs.Common.{◌≡◌, ℕ, ◌+◌, ◌≤◌, List, [], ◌∷◌, ◌++◌, length, drop, subst, sym, append_assoc, append-nil, arith, length-drop}
+use Rattle.std.proofs.Common.{◌≡◌, ℕ, ◌+◌, ◌≤◌, List, [], ◌∷◌, ◌++◌, length, drop, subst, sym, refl, append_assoc, append-nil, arith, length-drop}
 use Rattle.kx_lex.specs.Pieces.{piece}
 use Rattle.kx_lex.specs.Reading.{Reads, ended, skipped, taken, Stops, bad_byte, open_string, open_key_name, past_gap, past_token, token_of, mark_len, IsReading, StopsWith}
 use Rattle.kx_lex.specs.declared.scan.Piece.TheVariants as begins
@@ -34,7 +34,6 @@ pub record SoFar (text rest : List ℕ) (offset : ℕ) (tokens : List Token) : T
   pub reads : (ts : List Token) → Reads offset rest ts → Reads (mark_len text) (drop (mark_len text) text) (tokens ++ ts)
   pub stops : (f : Fault) → Stops offset rest f → Stops (mark_len text) (drop (mark_len text) text) f
 
-
 pub SoFar-skipped : {text rest : List ℕ} {offset : ℕ} {tokens : List Token} → SoFar text rest offset tokens → (n : ℕ) → n ≤ length rest → piece rest ≡ begins.Gap n → SoFar text (drop n rest) (offset + n) tokens
 SoFar-skipped {text} {rest} {offset} {tokens} so n within e = record {
   all = let before : offset + length rest ≡ length text = so.all in omega (arith, length-drop n rest);
@@ -57,3 +56,24 @@ SoFar-stopped so f s = record { stops = so.stops f s }
 
 pub stopped-has_no_reading : {text : List ℕ} {tokens : List Token} {f : Fault} → StopsWith text f → IsReading text tokens → ⊥
 stopped-has_no_reading s r = reads-never-stops r.reads s.stops
+
+-- what follows a piece is the same for both
+reads_after : (offset n m : ℕ) (bs : List ℕ) (ts : List Token) → n ≡ m → Reads (offset + m) (drop m bs) ts → Reads (offset + n) (drop n bs) ts
+reads_after offset n m bs ts e r = subst (λ (k : ℕ). Reads (offset + k) (drop k bs) ts) (sym e) r
+
+same_token : (j k : TokenKind) (offset n m : ℕ) (ts us : List Token) → j ≡ k → n ≡ m → ts ≡ us → token_of j offset n ∷ ts ≡ token_of k offset m ∷ us
+same_token j k offset n m ts us p q r = rw (p, q, r) refl
+
+reads-one : {offset : ℕ} {bs : List ℕ} {ts us : List Token} → Reads offset bs ts → Reads offset bs us → ts ≡ us
+reads-one (ended e) (ended f) = refl
+reads-one (ended e) (skipped n f r) = cc
+reads-one (ended e) (taken k n f r) = cc
+reads-one (skipped n e r) (ended f) = cc
+reads-one (skipped n e r) (skipped m f s) = reads-one r (reads_after _ n m _ _ (cc) s)
+reads-one (skipped n e r) (taken k m f s) = cc
+reads-one (taken k n e r) (ended f) = cc
+reads-one (taken k n e r) (skipped m f s) = cc
+reads-one (taken k n e r) (taken j m f s) = same_token k j _ n m _ _ (cc) (cc) (reads-one r (reads_after _ n m _ _ (cc) s))
+
+pub IsReading-one : (text : List ℕ) (ts us : List Token) → IsReading text ts → IsReading text us → ts ≡ us
+IsReading-one text ts us a b = reads-one a.reads b.reads

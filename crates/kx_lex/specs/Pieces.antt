@@ -1,5 +1,5 @@
 -- What the front of a text begins: the tokens of the text format v1 of libxkbcommon, each the longest of its kind.
-use Rattle.std.specs.Prelude.{ℕ, Bool, true, false, List, [], ◌∷◌, ◌+◌, ◌==◌, ◌&&◌, ◌||◌, not, if◌then◌else◌, drop, slice_index}
+use Rattle.std.specs.Prelude.{ℕ, Bool, false, List, [], ◌∷◌, ◌+◌, ◌==◌, ◌&&◌, ◌||◌, not, if◌then◌else◌, drop, slice_index}
 use Rattle.std.specs.Char.{is_ascii_digit, is_ascii_hexdigit}
 use Rattle.std.specs.List.{prefix_len}
 use Rattle.kx_lex.specs.Bytes.{is_word_start, is_word_byte, is_mark, is_blank, is_key_byte, is_not_line_feed}
@@ -60,11 +60,11 @@ number_piece bs = if begins_hex bs then Lexeme Number (2 + prefix_len is_ascii_h
 unfoldable pub piece : List ℕ → Piece
 piece [] = End
 piece (b ∷ bs) =
-  if is_blank b then Gap (prefix_len is_blank (b ∷ bs))
-  else (if begins_comment (b ∷ bs) then Gap (prefix_len is_not_line_feed (b ∷ bs))
-  else (if is_word_start b then Lexeme Word (prefix_len is_word_byte (b ∷ bs))
-  else (if is_ascii_digit b then number_piece (b ∷ bs)
-  else (if b == 34 then string_piece (extent false bs)
-  else (if b == 60 then key_name_piece bs
-  else (if is_mark b then Lexeme Mark 1
-  else BadByte))))))
+    if is_blank b then Gap (prefix_len is_blank (b ∷ bs))
+    else (if begins_comment (b ∷ bs) then Gap (prefix_len is_not_line_feed (b ∷ bs))
+    else (if is_word_start b then Lexeme Word (prefix_len is_word_byte (b ∷ bs))
+    else (if is_ascii_digit b then number_piece (b ∷ bs)
+    else (if b == 34 then string_piece (extent false bs)
+    else (if b == 60 then key_name_piece bs
+    else (if is_mark b then Lexeme Mark 1
+    else BadByte))))))

@@ -1,6 +1,6 @@
 -- What text between quotes stands for: a backslash and n, t, r, b, f, v or e is a control byte; a backslash and one to
 -- three octal digits, as many as keep the value within a byte, is that byte; a backslash and another byte is that byte.
-use Rattle.std.specs.Prelude.{ℕ, Bool, true, false, List, [], ◌∷◌, ◌+◌, ◌*◌, ◌-◌, ◌==◌, ◌&&◌, nat_le, nat_lt, if◌then◌else◌}
+use Rattle.std.specs.Prelude.{ℕ, Bool, List, [], ◌∷◌, ◌+◌, ◌*◌, ◌-◌, ◌==◌, ◌&&◌, nat_le, nat_lt, if◌then◌else◌}
 use Rattle.kx_lex.specs.declared.string.Reading.{Reading}
 use Rattle.kx_lex.specs.declared.string.Reading.TheVariants.{Plain, Escaped, Octal}
 

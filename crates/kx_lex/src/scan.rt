@@ -7,6 +7,7 @@ ghost use Rattle.std.specs.Char.{is_ascii_digit, is_ascii_hexdigit};
 ghost use Rattle.kx_lex.specs.declared.fault.Fault.TheVariants.{Memory, TooLong};
 ghost use Rattle.kx_lex.specs.declared.scan.Piece.TheVariants.{End};
 ghost use Rattle.kx_lex.specs.declared.token.Token.{Token as TokenValue};
+ghost use Rattle.kx_lex.specs.declared.fault.Fault.{Fault as FaultValue};
 
 use crate::fault::{At, Fault};
 use crate::token::{Span, Token, TokenKind};
@@ -307,3 +308,9 @@ pub fn lex(alloc: Global, text: &[u8]) -> Result<Vec<Token>, Fault>
         }
     }
 }
+
+/// A text has one token reading at most, and one that has none stops.
+pub fn one_reading()
+    ensures one { (text : List ℕ) (ts us : List TokenValue) → IsReading text ts → IsReading text us → ts ≡ us }
+    ensures stopped { (text : List ℕ) (tokens : List TokenValue) (e : FaultValue) → StopsWith text e → IsReading text tokens → ⊥ }
+{}

@@ -1,9 +1,9 @@
 -- A loop that reads value after value: what was read, before what the rest reads, is what the whole reads.
-use Rattle.std.proofs.Common.{◌≡◌, ℕ, suc, ◌+◌, ◌<◌, ◌≤◌, Bool, true, false, List, [], ◌∷◌, ◌++◌, length, Result, Ok, Err, refl, sym, ap, ◌∙◌, arith, append-nil, append_assoc, ◌⊎◌, inl, inr}
+use Rattle.std.proofs.Common.{◌≡◌, suc, ◌<◌, Bool, true, false, List, [], ◌∷◌, ◌++◌, length, Ok, Err, refl, sym, ap, ◌∙◌, arith, append-nil, append_assoc, ◌⊎◌, inl, inr}
 use Rattle.kx_lex.specs.declared.token.Token.{Token}
 use Rattle.kx_lex.specs.declared.fault.Fault.{Fault}
 use Rattle.kx_lex.specs.declared.fault.Fault.TheVariants.{Memory}
-use Rattle.kx_parse.specs.Laws.{Read, done, then_read, prepend, which, many_read, many_read-round}
+use Rattle.kx_parse.specs.Laws.{Read, done, prepend, many_read, many_read-round}
 
 abbrev pub put_before : {A : Type 0} → List A → Read (List A) → Read (List A)
 put_before xs (Ok p) = Ok (xs ++ p.0, p.1)

@@ -1,11 +1,11 @@
 -- Geometry: any tokens, with their braces in pairs, up to the brace that closes the section.
-use Rattle.std.specs.Prelude.{ℕ, zero, suc, ◌+◌, ◌≤◌, ◌<◌, Bool, true, false, List, [], ◌∷◌, length, ◌≡◌, Result, Ok, Err, refl}
-use Rattle.std.proofs.Common.{arith, sym, ◌∙◌, ap, subst}
+use Rattle.std.specs.Prelude.{ℕ, zero, suc, ◌+◌, ◌≤◌, Bool, true, false, List, [], ◌∷◌, length, ◌≡◌, Err, refl}
+use Rattle.std.proofs.Common.{arith, sym, ◌∙◌, subst}
 use Rattle.kx_lex.specs.declared.token.Token.{Token}
 use Rattle.kx_lex.specs.declared.fault.Fault.{Fault}
 use Rattle.kx_parse.specs.Laws.{Read, done, which, done-same}
 use Rattle.kx_parse.specs.Production.{Production, syntax_end}
-use Rattle.kx_parse.specs.Tokens.{is_mark, front}
+use Rattle.kx_parse.specs.Tokens.{is_mark}
 use Rattle.kx_parse.specs.Values.{open_brace, close_brace}
 
 -- tokens whose braces stand in pairs, and the rest
@@ -59,6 +59,7 @@ geometry-deep text (t ∷ ts) d rest e = go (is_mark text open_brace t) refl (is
     closes : (k : ℕ) → is_mark text open_brace t ≡ false → is_mark text close_brace t ≡ true → closing_read k t ts (λ j. geometry_read text j ts) ≡ done tt rest → ((j : ℕ) → geometry_read text j ts ≡ done tt rest → Deep text j ts rest) → Deep text k (t ∷ ts) rest
     closes zero ho hc w ih = let same = done-same w in subst (λ (r : List Token). Balanced text (t ∷ ts) r × IsClosing text r) same.1 (nothing, (t, ts, refl, ho, hc))
     closes (suc j) ho hc w ih = (t, ts, nothing, ho, hc, ih j w)
+
     go : (o : Bool) → is_mark text open_brace t ≡ o → (c : Bool) → is_mark text close_brace t ≡ c → (k : ℕ) → which o (geometry_read text (suc k) ts) (which c (closing_read k t ts (λ j. geometry_read text j ts)) (geometry_read text k ts)) ≡ done tt rest → ((j : ℕ) → geometry_read text j ts ≡ done tt rest → Deep text j ts rest) → Deep text k (t ∷ ts) rest
     go true ho c hc k w ih = let below = ih (suc k) w in Deep-before text k (t ∷ ts) below.1 rest (λ r b. nested ho below.3 below.4 below.2 b) below.5
     go false ho true hc k w ih = closes k ho hc w ih
@@ -79,6 +80,7 @@ geometry-fault text (t ∷ ts) d e w = go (is_mark text open_brace t) (is_mark t
     closes : (k : ℕ) → closing_read k t ts (λ j. geometry_read text j ts) ≡ Err e → ((j : ℕ) → geometry_read text j ts ≡ Err e → e ≡ syntax_end text) → e ≡ syntax_end text
     closes zero w ih = cc
     closes (suc j) w ih = ih j w
+
     go : (o c : Bool) (k : ℕ) → which o (geometry_read text (suc k) ts) (which c (closing_read k t ts (λ j. geometry_read text j ts)) (geometry_read text k ts)) ≡ Err e → ((j : ℕ) → geometry_read text j ts ≡ Err e → e ≡ syntax_end text) → e ≡ syntax_end text
     go true c k w ih = ih (suc k) w
     go false true k w ih = closes k w ih

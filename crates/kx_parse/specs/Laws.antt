@@ -1,6 +1,6 @@
 -- What reading does at each way to build a production, and the laws of it.
 use Rattle.std.specs.Prelude.{ℕ, zero, suc, min, ◌+◌, ◌≤◌, ◌<◌, Bool, true, false, List, [], ◌∷◌, length, ◌≡◌, ◌⊎◌, Result, Ok, Err, refl}
-use Rattle.std.proofs.Common.{inl, inr, arith, sym, subst, ◌∙◌, ap}
+use Rattle.std.proofs.Common.{inl, inr, arith, sym, subst, ap}
 use Rattle.kx_lex.specs.declared.token.Token.{Token}
 use Rattle.kx_lex.specs.declared.fault.Fault.{Fault}
 use Rattle.kx_parse.specs.Spelling.{ThenSpells, ThenBlames, EitherSpells, EitherBlames, OneSpells, OneBlames, many_front, ManyBlames, EndBlames}

@@ -1,10 +1,9 @@
 -- A production of the grammar, with its three faces: which tokens spell which value, what is read, and where
 -- reading stops. A production carries the laws that join them, so that each grammar built of productions has them.
-use Rattle.std.specs.Prelude.{ℕ, ◌+◌, ◌≤◌, ◌<◌, min, suc, Bool, true, false, List, [], ◌∷◌, length, ◌≡◌, ◌⊎◌, ◌-◌, drop, Option, Some, None, is_some, Result, Ok, Err}
+use Rattle.std.specs.Prelude.{ℕ, ◌+◌, ◌≤◌, min, suc, Bool, false, List, [], ◌∷◌, length, ◌≡◌, ◌-◌, drop, Option, Some, None, is_some, Result, Ok, Err}
 use Rattle.std.specs.Option.{ok_or}
 use Rattle.kx_lex.specs.declared.token.Span.{Span}
 use Rattle.kx_lex.specs.declared.token.Token.{Token}
-use Rattle.kx_lex.specs.declared.fault.At.{At}
 use Rattle.kx_lex.specs.declared.fault.Fault.{Fault}
 use Rattle.kx_lex.specs.declared.fault.Fault.TheVariants.{Syntax}
 use Rattle.kx_parse.specs.Spelling.{ThenSpells, ThenBlames, EitherSpells, EitherBlames, OneSpells, OneBlames, many_front, ManyBlames, EndBlames}

@@ -1,5 +1,5 @@
 -- What sections hold, sections, and what a source and a file are.
-use Rattle.std.specs.Prelude.{ℕ, ◌+◌, ◌≤◌, Bool, true, false, ◌&&◌, ◌||◌, List, [], ◌∷◌, length, ◌≡◌, Option, Some, None, is_some, if◌then◌else◌, codes}
+use Rattle.std.specs.Prelude.{ℕ, ◌+◌, ◌≤◌, Bool, true, ◌&&◌, ◌||◌, List, [], length, ◌≡◌, Option, Some, None, is_some, if◌then◌else◌, codes}
 use Rattle.std.proofs.Common.{arith, sym, ◌∙◌, subst}
 use Rattle.kx_lex.specs.declared.token.Token.{Token}
 use Rattle.kx_lex.specs.declared.token.Span.{Span}
@@ -26,11 +26,11 @@ use Rattle.kx_parse.specs.declared.tree.Tree.{Tree}
 -- alternate is read as override
 unfoldable pub mode_of : List ℕ → Token → Option Mode
 mode_of text t =
-  if is_keyword text (codes "augment") t then Some Augment
-  else (if is_keyword text (codes "override") t then Some Override
-  else (if is_keyword text (codes "replace") t then Some Replace
-  else (if is_keyword text (codes "alternate") t then Some Override
-  else None)))
+    if is_keyword text (codes "augment") t then Some Augment
+    else (if is_keyword text (codes "override") t then Some Override
+    else (if is_keyword text (codes "replace") t then Some Replace
+    else (if is_keyword text (codes "alternate") t then Some Override
+    else None)))
 
 -- include means override
 unfoldable pub join_of : List ℕ → Token → Option Mode
@@ -84,26 +84,26 @@ item-least text = omega (arith, statement-least text)
 
 unfoldable pub kind_of : List ℕ → Token → Option Kind
 kind_of text t =
-  if is_keyword text (codes "xkb_keycodes") t then Some Keycodes
-  else (if is_keyword text (codes "xkb_types") t then Some Types
-  else (if is_keyword text (codes "xkb_symbols") t then Some Symbols
-  else (if is_keyword text (codes "xkb_compatibility") t then Some Compat
-  else (if is_keyword text (codes "xkb_compat") t then Some Compat
-  else (if is_keyword text (codes "xkb_compat_map") t then Some Compat
-  else (if is_keyword text (codes "xkb_compatibility_map") t then Some Compat
-  else None))))))
+    if is_keyword text (codes "xkb_keycodes") t then Some Keycodes
+    else (if is_keyword text (codes "xkb_types") t then Some Types
+    else (if is_keyword text (codes "xkb_symbols") t then Some Symbols
+    else (if is_keyword text (codes "xkb_compatibility") t then Some Compat
+    else (if is_keyword text (codes "xkb_compat") t then Some Compat
+    else (if is_keyword text (codes "xkb_compat_map") t then Some Compat
+    else (if is_keyword text (codes "xkb_compatibility_map") t then Some Compat
+    else None))))))
 
 unfoldable pub flag_of : List ℕ → Token → Option Flag
 flag_of text t =
-  if is_keyword text (codes "default") t then Some Default
-  else (if is_keyword text (codes "partial") t then Some Partial
-  else (if is_keyword text (codes "hidden") t then Some Hidden
-  else (if is_keyword text (codes "alphanumeric_keys") t then Some AlphanumericKeys
-  else (if is_keyword text (codes "modifier_keys") t then Some ModifierKeys
-  else (if is_keyword text (codes "keypad_keys") t then Some KeypadKeys
-  else (if is_keyword text (codes "function_keys") t then Some FunctionKeys
-  else (if is_keyword text (codes "alternate_group") t then Some AlternateGroup
-  else None)))))))
+    if is_keyword text (codes "default") t then Some Default
+    else (if is_keyword text (codes "partial") t then Some Partial
+    else (if is_keyword text (codes "hidden") t then Some Hidden
+    else (if is_keyword text (codes "alphanumeric_keys") t then Some AlphanumericKeys
+    else (if is_keyword text (codes "modifier_keys") t then Some ModifierKeys
+    else (if is_keyword text (codes "keypad_keys") t then Some KeypadKeys
+    else (if is_keyword text (codes "function_keys") t then Some FunctionKeys
+    else (if is_keyword text (codes "alternate_group") t then Some AlternateGroup
+    else None)))))))
 
 unfoldable pub kind : List ℕ → Production Kind
 kind text = known text (kind_of text)

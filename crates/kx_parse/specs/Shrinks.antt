@@ -1,5 +1,5 @@
 -- A production that takes a token at least leaves fewer tokens.
-use Rattle.std.specs.Prelude.{ℕ, ◌+◌, ◌≤◌, ◌<◌, List, length, ◌≡◌}
+use Rattle.std.specs.Prelude.{ℕ, ◌≤◌, ◌<◌, List, length, ◌≡◌}
 use Rattle.std.proofs.Common.{arith}
 use Rattle.kx_lex.specs.declared.token.Token.{Token}
 use Rattle.kx_parse.specs.Laws.{Read, done, then_read, then-first}

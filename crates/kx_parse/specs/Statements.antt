@@ -1,13 +1,10 @@
 -- Fields and statements; each without the ; that ends it.
-use Rattle.std.specs.Prelude.{ℕ, ◌≤◌, Bool, true, false, ◌&&◌, ◌||◌, List, [], ◌∷◌, Option, Some, None, codes}
+use Rattle.std.specs.Prelude.{ℕ, ◌≤◌, Bool, ◌&&◌, ◌||◌, List, Option, codes}
 use Rattle.std.proofs.Common.{arith}
 use Rattle.kx_lex.specs.declared.token.Token.{Token}
-use Rattle.kx_parse.specs.Laws.{Read}
 use Rattle.kx_parse.specs.Production.{Production, ◌>>=◌, give, many, either, optional, spanned}
 use Rattle.kx_parse.specs.Tokens.{is_word, is_number, is_key_name, is_text, is_mark, is_keyword, front, second, mark, keyword, word, key_name, text_name, number}
-use Rattle.kx_parse.specs.Values.{open_brace, close_brace, open_bracket, semicolon, equals, plus, bang, mark-least, before_mark, sequence, listed, symbol, expression, place, value, call, list, begins_call}
-use Rattle.kx_parse.specs.declared.tree.Name.{Name}
-use Rattle.kx_parse.specs.declared.tree.Number.{Number}
+use Rattle.kx_parse.specs.Values.{open_brace, close_brace, open_bracket, semicolon, equals, plus, bang, before_mark, sequence, listed, symbol, expression, place, value, call, list, begins_call}
 use Rattle.kx_parse.specs.declared.tree.Place.{Place}
 use Rattle.kx_parse.specs.declared.tree.Expression.{Expression}
 use Rattle.kx_parse.specs.declared.tree.Setting.{Setting}
@@ -25,11 +22,11 @@ use Rattle.kx_parse.specs.declared.tree.Statement.TheVariants as statements
 
 unfoldable pub setting : List ℕ → Production Setting
 setting text = either (front (is_mark text equals))
-  (do
-    _ ← mark text equals
-    v ← value text
-    give (settings.To v))
-  (give settings.On)
+    (do
+      _ ← mark text equals
+      v ← value text
+      give (settings.To v))
+    (give settings.On)
 
 abbrev pub off_field : List ℕ → Production (Place × Setting)
 off_field text = do
@@ -74,12 +71,12 @@ block text = do
 
 unfoldable pub key_field : List ℕ → Production KeyField
 key_field text = either (front (is_mark text open_bracket))
-  (do
-    l ← list text
-    give (key_fields.List l))
-  (do
-    f ← field text
-    give (key_fields.Field f))
+    (do
+      l ← list text
+      give (key_fields.List l))
+    (do
+      f ← field text
+      give (key_fields.Field f))
 
 pub key_field-least : (text : List ℕ) → 1 ≤ (key_field text).least
 unfolding key_field field list mark place word
@@ -102,21 +99,21 @@ declaration-least text = omega arith
 
 unfoldable pub predicate : List ℕ → Production Predicate
 predicate text = either (begins_call text)
-  (do
-    c ← call text
-    give (predicates.Call c))
-  (do
-    e ← expression text
-    give (predicates.Mask e))
+    (do
+      c ← call text
+      give (predicates.Call c))
+    (do
+      e ← expression text
+      give (predicates.Mask e))
 
 unfoldable pub entry : List ℕ → Production Entry
 entry text = either (front is_key_name)
-  (do
-    n ← key_name text
-    give (entries.KeyName n))
-  (do
-    s ← symbol text
-    give (entries.Symbol s))
+    (do
+      n ← key_name text
+      give (entries.KeyName n))
+    (do
+      s ← symbol text
+      give (entries.Symbol s))
 
 pub entry-least : (text : List ℕ) → 1 ≤ (entry text).least
 unfolding entry key_name symbol word number
@@ -224,22 +221,22 @@ field_statement text = do
 -- statements of keycodes sections
 unfoldable pub keycodes_statement : List ℕ → Production Statement → Production Statement
 keycodes_statement text other = either (front is_key_name) (keycode text)
-  (either (begins text (codes "alias") is_key_name) (alias text)
-  (either (begins text (codes "virtual") (is_keyword text (codes "indicator"))) (virtual_indicator text)
-  (either (begins text (codes "indicator") is_number) (indicator_name text) other)))
+    (either (begins text (codes "alias") is_key_name) (alias text)
+    (either (begins text (codes "virtual") (is_keyword text (codes "indicator"))) (virtual_indicator text)
+    (either (begins text (codes "indicator") is_number) (indicator_name text) other)))
 
 -- statements of types and compat sections
 unfoldable pub types_statement : List ℕ → Production Statement → Production Statement
 types_statement text other = either (begins text (codes "virtual_modifiers") is_word) (virtual_modifiers text)
-  (either (begins text (codes "type") is_text) (key_type text)
-  (either (begins text (codes "interpret") (λ t. is_word t || is_number t)) (interpretation text)
-  (either (begins text (codes "indicator") is_text) (indicator text)
-  (either (begins text (codes "group") is_number) (group text) other))))
+    (either (begins text (codes "type") is_text) (key_type text)
+    (either (begins text (codes "interpret") (λ t. is_word t || is_number t)) (interpretation text)
+    (either (begins text (codes "indicator") is_text) (indicator text)
+    (either (begins text (codes "group") is_number) (group text) other))))
 
 -- statements of symbols sections; a word that begins nothing else begins a field
 unfoldable pub symbols_statement : List ℕ → Production Statement
 symbols_statement text = either (begins text (codes "key") is_key_name) (key text)
-  (either (begins text (codes "modifier_map") is_word) (modifier_map text) (field_statement text))
+    (either (begins text (codes "modifier_map") is_word) (modifier_map text) (field_statement text))
 
 unfoldable pub statement : List ℕ → Production Statement
 statement text = keycodes_statement text (types_statement text (symbols_statement text))

@@ -1,5 +1,5 @@
 -- Tokens by their kind and their bytes in the text, and the productions that take one.
-use Rattle.std.specs.Prelude.{ℕ, Bool, true, false, List, [], ◌∷◌, ◌+◌, ◌-◌, ◌*◌, ◌^◌, ◌==◌, ◌&&◌, ◌||◌, nat_lt, Result, Ok, Err, slice_index, length, drop, if◌then◌else◌, codes, slice_range}
+use Rattle.std.specs.Prelude.{ℕ, Bool, true, false, List, [], ◌∷◌, ◌+◌, ◌-◌, ◌*◌, ◌^◌, ◌==◌, ◌&&◌, nat_lt, Result, Ok, Err, slice_index, drop, if◌then◌else◌, slice_range}
 use Rattle.std.specs.Char.{digit_value}
 use Rattle.std.specs.Str.{str_eq_ignore_ascii_case}
 use Rattle.kx_lex.specs.Pieces.{begins_hex}
@@ -8,7 +8,7 @@ use Rattle.kx_lex.specs.declared.string.Reading.TheVariants.{Plain}
 use Rattle.kx_lex.specs.declared.token.Token.{Token}
 use Rattle.kx_lex.specs.declared.token.Span.{Span}
 use Rattle.kx_lex.specs.declared.token.TokenKind.{TokenKind}
-use Rattle.kx_lex.specs.declared.token.TokenKind.TheVariants.{Word, Number, Decimal, KeyName, Text, Mark}
+use Rattle.kx_lex.specs.declared.token.TokenKind.TheVariants.{Word, Number, KeyName, Text, Mark}
 use Rattle.kx_lex.specs.declared.fault.Fault.{Fault}
 use Rattle.kx_lex.specs.declared.fault.Fault.TheVariants.{NumberTooBig}
 use Rattle.kx_parse.specs.Production.{Production, ◌>>=◌, give, one, settle}

@@ -1,10 +1,9 @@
 -- Symbols, expressions, calls and lists.
-use Rattle.std.specs.Prelude.{ℕ, ◌≤◌, Bool, true, false, not, ◌&&◌, ◌||◌, List, [], ◌∷◌, Option, Some, None, if◌then◌else◌}
+use Rattle.std.specs.Prelude.{ℕ, ◌≤◌, Bool, not, ◌&&◌, ◌||◌, List, [], ◌∷◌, Option, Some, None, if◌then◌else◌}
 use Rattle.std.proofs.Common.{arith}
 use Rattle.kx_lex.specs.declared.token.Token.{Token}
-use Rattle.kx_lex.specs.declared.token.Span.{Span}
 use Rattle.kx_parse.specs.Laws.{Read}
-use Rattle.kx_parse.specs.Production.{Production, ◌>>=◌, give, one, many, either, known, optional, spanned}
+use Rattle.kx_parse.specs.Production.{Production, ◌>>=◌, give, many, either, known, optional, spanned}
 use Rattle.kx_parse.specs.Tokens.{is_word, is_number, is_key_name, is_text, is_mark, front, second, mark, word, key_name, text_name, number}
 use Rattle.kx_parse.specs.declared.tree.Name.{Name}
 use Rattle.kx_parse.specs.declared.tree.Number.{Number}
@@ -35,28 +34,40 @@ use Rattle.kx_parse.specs.declared.tree.Value.TheVariants as values
 -- The marks that productions want, by their byte: { } [ ] ( ) ; , . = + - !
 abbrev pub open_brace : ℕ
 open_brace = 123
+
 abbrev pub close_brace : ℕ
 close_brace = 125
+
 abbrev pub open_bracket : ℕ
 open_bracket = 91
+
 abbrev pub close_bracket : ℕ
 close_bracket = 93
+
 abbrev pub open_paren : ℕ
 open_paren = 40
+
 abbrev pub close_paren : ℕ
 close_paren = 41
+
 abbrev pub semicolon : ℕ
 semicolon = 59
+
 abbrev pub comma : ℕ
 comma = 44
+
 abbrev pub point : ℕ
 point = 46
+
 abbrev pub equals : ℕ
 equals = 61
+
 abbrev pub plus : ℕ
 plus = 43
+
 abbrev pub minus : ℕ
 minus = 45
+
 abbrev pub bang : ℕ
 bang = 33
 
@@ -88,12 +99,12 @@ listed text close p = either (before_mark text close) (sequence text p) (give []
 
 unfoldable pub symbol : List ℕ → Production Symbol
 symbol text = either (front is_number)
-  (do
-    n ← number text
-    give (symbols.Number n))
-  (do
-    w ← word text
-    give (symbols.Word w))
+    (do
+      n ← number text
+      give (symbols.Number n))
+    (do
+      w ← word text
+      give (symbols.Word w))
 
 abbrev pub sign_of : List ℕ → Token → Option Sign
 sign_of text t = if is_mark text plus t then Some Plus else (if is_mark text minus t then Some Minus else None)
@@ -117,18 +128,18 @@ signed_read text = (signed text).read
 
 unfoldable pub term : List ℕ → Production Term
 term text = either (front (is_sign text))
-  (do
-    s ← signed text
-    give (terms.Signed s))
-  (either (front is_number)
+    (do
+      s ← signed text
+      give (terms.Signed s))
+    (either (front is_number)
     (do
       n ← number text
       give (terms.Number n))
-  (either (front is_text)
+    (either (front is_text)
     (do
       n ← text_name text
       give (terms.Text n))
-  (either (front is_key_name)
+    (either (front is_key_name)
     (do
       n ← key_name text
       give (terms.KeyName n))
@@ -195,10 +206,10 @@ off_argument text = do
 
 abbrev pub bare_argument : List ℕ → Production Argument
 bare_argument text = either (front (is_mark text bang)) (off_argument text)
-  (either (begins_set text) (set_argument text)
-  (do
-    e ← expression text
-    give (arguments.Plain e)))
+    (either (begins_set text) (set_argument text)
+    (do
+      e ← expression text
+      give (arguments.Plain e)))
 
 unfoldable pub argument : List ℕ → Production PlacedArgument
 argument text = do
@@ -225,12 +236,12 @@ call text = do
 
 unfoldable pub part : List ℕ → Production Part
 part text = either (begins_call text)
-  (do
-    c ← call text
-    give (parts.Call c))
-  (do
-    s ← symbol text
-    give (parts.Symbol s))
+    (do
+      c ← call text
+      give (parts.Call c))
+    (do
+      s ← symbol text
+      give (parts.Symbol s))
 
 pub part-least : (text : List ℕ) → 1 ≤ (part text).least
 unfolding part call symbol word number
@@ -247,10 +258,10 @@ braces text = do
 
 unfoldable pub element : List ℕ → Production Element
 element text = either (front (is_mark text open_brace))
-  (do
-    b ← braces text
-    give (elements.Braces b))
-  (either (begins_call text)
+    (do
+      b ← braces text
+      give (elements.Braces b))
+    (either (begins_call text)
     (do
       c ← call text
       give (elements.Call c))
@@ -273,10 +284,10 @@ list text = do
 
 unfoldable pub value : List ℕ → Production Value
 value text = either (front (is_mark text open_bracket))
-  (do
-    l ← list text
-    give (values.List l))
-  (either (begins_call text)
+    (do
+      l ← list text
+      give (values.List l))
+    (either (begins_call text)
     (do
       c ← call text
       give (values.Call c))

@@ -29,7 +29,11 @@ fn read_setting<'a>(alloc: Global, text: &[u8], tokens: &'a [Token]) -> Reading<
     Ok((Setting::To(value), rest))
 }
 
-fn read_bare_field<'a>(alloc: Global, text: &[u8], tokens: &'a [Token]) -> Reading<'a, (Place, Setting)>
+fn read_bare_field<'a>(
+    alloc: Global,
+    text: &[u8],
+    tokens: &'a [Token],
+) -> Reading<'a, (Place, Setting)>
     ensures { Gives result ((bare_field text.now).read tokens.now) }
 {
     if front_is_mark(text, b'!', tokens) {
@@ -130,7 +134,11 @@ impl Repeated for KeyFields {
     ghost shrinks = { λ text. production-shrinks (key_field text) (key_field-least text) };
 }
 
-fn read_declared_mask<'a>(alloc: Global, text: &[u8], tokens: &'a [Token]) -> Reading<'a, Option<Expression>>
+fn read_declared_mask<'a>(
+    alloc: Global,
+    text: &[u8],
+    tokens: &'a [Token],
+) -> Reading<'a, Option<Expression>>
     ensures { Gives result ((declared_mask text.now).read tokens.now) }
 {
     if !front_is_mark(text, b'=', tokens) {

@@ -5,6 +5,8 @@ mod fields;
 mod repeated;
 mod sections;
 mod statements;
+#[cfg(test)]
+mod tests;
 mod tokens;
 mod tree;
 mod values;

@@ -34,7 +34,11 @@ pub trait Repeated {
 }
 
 /// Reads as many as stand at the front.
-pub fn read_many<'a, R: Repeated>(alloc: Global, text: &[u8], tokens: &'a [Token]) -> Reading<'a, Row<R::Value>>
+pub fn read_many<'a, R: Repeated>(
+    alloc: Global,
+    text: &[u8],
+    tokens: &'a [Token],
+) -> Reading<'a, Row<R::Value>>
     ensures { Gives result (many_read (R.test text.now) (R.reading text.now) (suc (length tokens.now)) tokens.now) }
 {
     let mut items = Vec::new(alloc);
@@ -70,7 +74,11 @@ impl<R: Repeated> Repeated for AfterComma<R> {
 }
 
 /// Reads one, and more behind commas.
-pub fn read_sequence<'a, R: Repeated>(alloc: Global, text: &[u8], tokens: &'a [Token]) -> Reading<'a, Row<R::Value>>
+pub fn read_sequence<'a, R: Repeated>(
+    alloc: Global,
+    text: &[u8],
+    tokens: &'a [Token],
+) -> Reading<'a, Row<R::Value>>
     ensures { Gives result (sequence_read text.now (R.reading text.now) tokens.now) }
 {
     let (first, rest) = R::read_next(alloc, text, tokens)?;
@@ -80,7 +88,12 @@ pub fn read_sequence<'a, R: Repeated>(alloc: Global, text: &[u8], tokens: &'a [T
 }
 
 /// Reads none where the mark that closes the list stands, else one, and more behind commas.
-pub fn read_listed<'a, R: Repeated>(alloc: Global, text: &[u8], close: u8, tokens: &'a [Token]) -> Reading<'a, Row<R::Value>>
+pub fn read_listed<'a, R: Repeated>(
+    alloc: Global,
+    text: &[u8],
+    close: u8,
+    tokens: &'a [Token],
+) -> Reading<'a, Row<R::Value>>
     ensures { Gives result (listed_read text.now close (R.reading text.now) tokens.now) }
 {
     if !is_before_mark(text, close, tokens) {

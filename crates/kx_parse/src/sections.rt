@@ -65,7 +65,9 @@ fn begins_moded(text: &[u8], tokens: &[Token]) -> bool
     match tokens.first() {
         Some(token) => {
             mode_of(text, token).is_some()
-                && (front_is_word(behind) || front_is_key_name(behind) || front_is_mark(text, b'!', behind))
+                && (front_is_word(behind)
+                    || front_is_key_name(behind)
+                    || front_is_mark(text, b'!', behind))
         }
         None => false,
     }
@@ -115,7 +117,12 @@ fn read_include<'a>(alloc: Global, text: &[u8], tokens: &'a [Token]) -> Reading<
 }
 
 #[tactic(auto, unfolding(crate::specs::Sections::moded))]
-fn read_moded<'a>(alloc: Global, text: &[u8], mode: Mode, tokens: &'a [Token]) -> Reading<'a, (Mode, Statement, Span)>
+fn read_moded<'a>(
+    alloc: Global,
+    text: &[u8],
+    mode: Mode,
+    tokens: &'a [Token],
+) -> Reading<'a, (Mode, Statement, Span)>
     ensures { Gives result ((moded text.now mode).read tokens.now) }
 {
     let first = front_span(tokens);
@@ -125,7 +132,11 @@ fn read_moded<'a>(alloc: Global, text: &[u8], mode: Mode, tokens: &'a [Token]) -
 }
 
 #[tactic(auto, unfolding(crate::specs::Sections::modal))]
-fn read_modal<'a>(alloc: Global, text: &[u8], tokens: &'a [Token]) -> Reading<'a, (Mode, Statement, Span)>
+fn read_modal<'a>(
+    alloc: Global,
+    text: &[u8],
+    tokens: &'a [Token],
+) -> Reading<'a, (Mode, Statement, Span)>
     ensures { Gives result ((modal text.now).read tokens.now) }
 {
     let (mode, rest) = read_mode(text, tokens)?;
@@ -288,7 +299,11 @@ fn read_flags<'a>(alloc: Global, text: &[u8], tokens: &'a [Token]) -> Reading<'a
 }
 
 #[tactic(auto, unfolding(crate::specs::Sections::optional_text))]
-fn read_optional_text<'a>(alloc: Global, text: &[u8], tokens: &'a [Token]) -> Reading<'a, Option<Name>>
+fn read_optional_text<'a>(
+    alloc: Global,
+    text: &[u8],
+    tokens: &'a [Token],
+) -> Reading<'a, Option<Name>>
     ensures { Gives result ((optional_text text.now).read tokens.now) }
 {
     if !front_is_text(tokens) {
@@ -309,7 +324,12 @@ fn read_held_items<'a>(alloc: Global, text: &[u8], tokens: &'a [Token]) -> Readi
 }
 
 #[tactic(auto, unfolding(crate::specs::Sections::plain_section))]
-fn read_plain_section<'a>(alloc: Global, text: &[u8], flags: Row<Flag>, tokens: &'a [Token]) -> Reading<'a, Section>
+fn read_plain_section<'a>(
+    alloc: Global,
+    text: &[u8],
+    flags: Row<Flag>,
+    tokens: &'a [Token],
+) -> Reading<'a, Section>
     ensures { Gives result ((plain_section text.now flags).read tokens.now) }
 {
     let (kind, rest) = read_kind(text, tokens)?;
@@ -357,7 +377,12 @@ fn read_geometry_body<'a>(text: &[u8], tokens: &'a [Token]) -> Reading<'a, ()>
 }
 
 #[tactic(auto, unfolding(crate::specs::Sections::geometry_section))]
-fn read_geometry_section<'a>(alloc: Global, text: &[u8], flags: Row<Flag>, tokens: &'a [Token]) -> Reading<'a, Section>
+fn read_geometry_section<'a>(
+    alloc: Global,
+    text: &[u8],
+    flags: Row<Flag>,
+    tokens: &'a [Token],
+) -> Reading<'a, Section>
     ensures { Gives result ((geometry_section text.now flags).read tokens.now) }
 {
     let (_, rest) = read_keyword(text, b"xkb_geometry", tokens)?;
@@ -375,7 +400,12 @@ fn read_geometry_section<'a>(alloc: Global, text: &[u8], flags: Row<Flag>, token
 }
 
 #[tactic(auto, unfolding(crate::specs::Sections::flagged))]
-fn read_flagged<'a>(alloc: Global, text: &[u8], flags: Row<Flag>, tokens: &'a [Token]) -> Reading<'a, Section>
+fn read_flagged<'a>(
+    alloc: Global,
+    text: &[u8],
+    flags: Row<Flag>,
+    tokens: &'a [Token],
+) -> Reading<'a, Section>
     ensures { Gives result ((flagged text.now flags).read tokens.now) }
 {
     if front_is_keyword(text, b"xkb_geometry", tokens) {
@@ -435,7 +465,11 @@ impl Repeated for FileSections {
 }
 
 #[tactic(auto, unfolding(crate::specs::Sections::held_sections))]
-fn read_held_sections<'a>(alloc: Global, text: &[u8], tokens: &'a [Token]) -> Reading<'a, Row<Section>>
+fn read_held_sections<'a>(
+    alloc: Global,
+    text: &[u8],
+    tokens: &'a [Token],
+) -> Reading<'a, Row<Section>>
     ensures { Gives result ((held_sections text.now).read tokens.now) }
 {
     let (_, rest) = read_mark(text, b'{', tokens)?;
@@ -511,5 +545,4 @@ pub fn parse_file(alloc: Global, text: &[u8], tokens: &[Token]) -> Result<Tree, 
 pub fn one_tree()
     ensures source { (text : List ℕ) (tokens : List TokenValue) (s t : TreeValue) → Spells text tokens s → Spells text tokens t → s ≡ t }
     ensures file { (text : List ℕ) (tokens : List TokenValue) (s t : TreeValue) → SpellsFile text tokens s → SpellsFile text tokens t → s ≡ t }
-{
-}
+{}

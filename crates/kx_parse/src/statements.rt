@@ -5,14 +5,12 @@ ghost use Rattle.kx_parse.specs.Tokens.{front, is_mark, is_word, is_number, is_t
 ghost use Rattle.kx_parse.specs.Statements.{begins, keycode, alias, indicator_name, virtual_indicator, virtual_modifiers, key_type, wanted_modifiers, interpretation, indicator, group, key, mapped_entries, modifier_map, field_statement, symbols_statement, types_statement, keycodes_statement, statement};
 ghost use Rattle.kx_parse.specs.Values.{plus};
 
-use crate::fields::{
-    Declarations, Entries, KeyFields, read_block, read_field, read_predicate,
-};
+use crate::fields::{Declarations, Entries, KeyFields, read_block, read_field, read_predicate};
 use crate::repeated::{read_listed, read_sequence};
 use crate::tokens::{
     Reading, behind_front, front_is_key_name, front_is_keyword, front_is_mark, front_is_number,
-    front_is_text, front_is_word, is_number, is_word, read_key_name, read_keyword, read_mark, read_number, read_text,
-    read_word,
+    front_is_text, front_is_word, is_number, is_word, read_key_name, read_keyword, read_mark,
+    read_number, read_text, read_word,
 };
 use crate::tree::{Entry, Predicate, Row, Statement};
 use crate::values::{read_expression, read_symbol};
@@ -41,7 +39,11 @@ fn read_alias<'a>(alloc: Global, text: &[u8], tokens: &'a [Token]) -> Reading<'a
 }
 
 #[tactic(auto, unfolding(crate::specs::Statements::indicator_name))]
-fn read_indicator_name<'a>(alloc: Global, text: &[u8], tokens: &'a [Token]) -> Reading<'a, Statement>
+fn read_indicator_name<'a>(
+    alloc: Global,
+    text: &[u8],
+    tokens: &'a [Token],
+) -> Reading<'a, Statement>
     ensures { Gives result ((indicator_name text.now).read tokens.now) }
 {
     let (_, rest) = read_keyword(text, b"indicator", tokens)?;
@@ -52,7 +54,11 @@ fn read_indicator_name<'a>(alloc: Global, text: &[u8], tokens: &'a [Token]) -> R
 }
 
 #[tactic(auto, unfolding(crate::specs::Statements::virtual_indicator))]
-fn read_virtual_indicator<'a>(alloc: Global, text: &[u8], tokens: &'a [Token]) -> Reading<'a, Statement>
+fn read_virtual_indicator<'a>(
+    alloc: Global,
+    text: &[u8],
+    tokens: &'a [Token],
+) -> Reading<'a, Statement>
     ensures { Gives result ((virtual_indicator text.now).read tokens.now) }
 {
     let (_, rest) = read_keyword(text, b"virtual", tokens)?;
@@ -60,7 +66,11 @@ fn read_virtual_indicator<'a>(alloc: Global, text: &[u8], tokens: &'a [Token]) -
 }
 
 #[tactic(auto, unfolding(crate::specs::Statements::virtual_modifiers))]
-fn read_virtual_modifiers<'a>(alloc: Global, text: &[u8], tokens: &'a [Token]) -> Reading<'a, Statement>
+fn read_virtual_modifiers<'a>(
+    alloc: Global,
+    text: &[u8],
+    tokens: &'a [Token],
+) -> Reading<'a, Statement>
     ensures { Gives result ((virtual_modifiers text.now).read tokens.now) }
 {
     let (_, rest) = read_keyword(text, b"virtual_modifiers", tokens)?;
@@ -79,7 +89,11 @@ fn read_key_type<'a>(alloc: Global, text: &[u8], tokens: &'a [Token]) -> Reading
 }
 
 #[tactic(auto, unfolding(crate::specs::Statements::wanted_modifiers))]
-fn read_wanted_modifiers<'a>(alloc: Global, text: &[u8], tokens: &'a [Token]) -> Reading<'a, Option<Predicate>>
+fn read_wanted_modifiers<'a>(
+    alloc: Global,
+    text: &[u8],
+    tokens: &'a [Token],
+) -> Reading<'a, Option<Predicate>>
     ensures { Gives result ((optional (front (is_mark text.now plus)) (wanted_modifiers text.now)).read tokens.now) }
 {
     if !front_is_mark(text, b'+', tokens) {
@@ -91,7 +105,11 @@ fn read_wanted_modifiers<'a>(alloc: Global, text: &[u8], tokens: &'a [Token]) ->
 }
 
 #[tactic(auto, unfolding(crate::specs::Statements::interpretation))]
-fn read_interpretation<'a>(alloc: Global, text: &[u8], tokens: &'a [Token]) -> Reading<'a, Statement>
+fn read_interpretation<'a>(
+    alloc: Global,
+    text: &[u8],
+    tokens: &'a [Token],
+) -> Reading<'a, Statement>
     ensures { Gives result ((interpretation text.now).read tokens.now) }
 {
     let (_, rest) = read_keyword(text, b"interpret", tokens)?;
@@ -142,7 +160,11 @@ fn read_key<'a>(alloc: Global, text: &[u8], tokens: &'a [Token]) -> Reading<'a, 
 }
 
 #[tactic(auto, unfolding(crate::specs::Statements::mapped_entries))]
-fn read_mapped_entries<'a>(alloc: Global, text: &[u8], tokens: &'a [Token]) -> Reading<'a, Row<Entry>>
+fn read_mapped_entries<'a>(
+    alloc: Global,
+    text: &[u8],
+    tokens: &'a [Token],
+) -> Reading<'a, Row<Entry>>
     ensures { Gives result ((mapped_entries text.now).read tokens.now) }
 {
     read_sequence::<Entries>(alloc, text, tokens)
@@ -161,7 +183,11 @@ fn read_modifier_map<'a>(alloc: Global, text: &[u8], tokens: &'a [Token]) -> Rea
 }
 
 #[tactic(auto, unfolding(crate::specs::Statements::field_statement))]
-fn read_field_statement<'a>(alloc: Global, text: &[u8], tokens: &'a [Token]) -> Reading<'a, Statement>
+fn read_field_statement<'a>(
+    alloc: Global,
+    text: &[u8],
+    tokens: &'a [Token],
+) -> Reading<'a, Statement>
     ensures { Gives result ((field_statement text.now).read tokens.now) }
 {
     let (field, rest) = read_field(alloc, text, tokens)?;
@@ -169,7 +195,11 @@ fn read_field_statement<'a>(alloc: Global, text: &[u8], tokens: &'a [Token]) -> 
 }
 
 #[tactic(auto, unfolding(crate::specs::Statements::symbols_statement))]
-fn read_symbols_statement<'a>(alloc: Global, text: &[u8], tokens: &'a [Token]) -> Reading<'a, Statement>
+fn read_symbols_statement<'a>(
+    alloc: Global,
+    text: &[u8],
+    tokens: &'a [Token],
+) -> Reading<'a, Statement>
     ensures { Gives result ((symbols_statement text.now).read tokens.now) }
 {
     let behind = behind_front(tokens);
@@ -192,7 +222,11 @@ fn front_is_symbol(tokens: &[Token]) -> bool
 }
 
 #[tactic(auto, unfolding(crate::specs::Statements::types_statement))]
-fn read_types_statement<'a>(alloc: Global, text: &[u8], tokens: &'a [Token]) -> Reading<'a, Statement>
+fn read_types_statement<'a>(
+    alloc: Global,
+    text: &[u8],
+    tokens: &'a [Token],
+) -> Reading<'a, Statement>
     ensures { Gives result ((types_statement text.now (symbols_statement text.now)).read tokens.now) }
 {
     let behind = behind_front(tokens);

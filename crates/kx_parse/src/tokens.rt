@@ -124,7 +124,10 @@ pub fn read_word<'a>(alloc: Global, text: &[u8], tokens: &'a [Token]) -> Reading
     ensures { Gives result ((word text.now).read tokens.now) }
 {
     match tokens.split_first() {
-        Some((token, rest)) if is_word(token) => Ok((name_of(alloc, slice_of(text, token), token.span)?, rest)),
+        Some((token, rest)) if is_word(token) => Ok((
+            name_of(alloc, slice_of(text, token), token.span)?,
+            rest,
+        )),
         _ => Err(syntax(text, tokens)),
     }
 }
@@ -134,7 +137,10 @@ pub fn read_key_name<'a>(alloc: Global, text: &[u8], tokens: &'a [Token]) -> Rea
     ensures { Gives result ((key_name text.now).read tokens.now) }
 {
     match tokens.split_first() {
-        Some((token, rest)) if is_key_name(token) => Ok((name_of(alloc, inner_of(text, token), token.span)?, rest)),
+        Some((token, rest)) if is_key_name(token) => Ok((
+            name_of(alloc, inner_of(text, token), token.span)?,
+            rest,
+        )),
         _ => Err(syntax(text, tokens)),
     }
 }

@@ -239,15 +239,27 @@ pub enum Entry {
 #[derive(Debug, Drop)]
 pub enum Statement {
     /// `<NAME> = CODE`
-    Keycode { name: Name, code: Number },
+    Keycode {
+        name: Name,
+        code: Number,
+    },
     /// `alias <NAME> = <TARGET>`
-    Alias { name: Name, target: Name },
+    Alias {
+        name: Name,
+        target: Name,
+    },
     /// `indicator NUMBER = "NAME"`
-    IndicatorName { number: Number, name: Name },
+    IndicatorName {
+        number: Number,
+        name: Name,
+    },
     /// `virtual_modifiers A, B = MASK`
     VirtualModifiers(Row<Declaration>),
     /// `type "NAME" { .. }`
-    KeyType { name: Name, fields: Row<Field> },
+    KeyType {
+        name: Name,
+        fields: Row<Field>,
+    },
     /// `interpret SYMBOL + PREDICATE { .. }`
     Interpretation {
         symbol: Symbol,
@@ -255,13 +267,25 @@ pub enum Statement {
         fields: Row<Field>,
     },
     /// `indicator "NAME" { .. }`
-    Indicator { name: Name, fields: Row<Field> },
+    Indicator {
+        name: Name,
+        fields: Row<Field>,
+    },
     /// `group NUMBER = MASK`
-    Group { number: Number, mask: Expression },
+    Group {
+        number: Number,
+        mask: Expression,
+    },
     /// `key <NAME> { .. }`
-    Key { name: Name, fields: Row<KeyField> },
+    Key {
+        name: Name,
+        fields: Row<KeyField>,
+    },
     /// `modifier_map WORD { .. }`
-    ModifierMap { modifier: Name, entries: Row<Entry> },
+    ModifierMap {
+        modifier: Name,
+        entries: Row<Entry>,
+    },
     /// A field that stands alone.
     Field(Field),
 }
@@ -278,7 +302,11 @@ pub enum Mode {
 #[derive(Debug, Drop)]
 pub enum Item {
     /// An include; the span is from its word to its text.
-    Include { mode: Mode, text: Name, span: Span },
+    Include {
+        mode: Mode,
+        text: Name,
+        span: Span,
+    },
     /// A statement; `first` is its first token behind the mode, `span` all of it with the mode and
     /// its `;`.
     Statement {
@@ -324,4 +352,19 @@ pub struct Section {
 #[derive(Debug, Drop)]
 pub struct Tree {
     pub sections: Row<Section>,
+}
+
+impl Item {
+    /// The word that a fault of an unknown field names: a field's word, an include with its text,
+    /// and of another statement its first token.
+    pub fn word_span(&self) -> Span {
+        match self {
+            Item::Include { span, .. } => *span,
+            Item::Statement {
+                statement: Statement::Field(field),
+                ..
+            } => field.place.word.span,
+            Item::Statement { first, .. } => *first,
+        }
+    }
 }

@@ -127,7 +127,11 @@ impl Repeated for Operations {
 }
 
 #[tactic(auto, unfolding(crate::specs::Values::expression))]
-pub fn read_expression<'a>(alloc: Global, text: &[u8], tokens: &'a [Token]) -> Reading<'a, Expression>
+pub fn read_expression<'a>(
+    alloc: Global,
+    text: &[u8],
+    tokens: &'a [Token],
+) -> Reading<'a, Expression>
     ensures { Gives result ((expression text.now).read tokens.now) }
 {
     let (first, rest) = read_term(alloc, text, tokens)?;
@@ -154,7 +158,11 @@ fn read_index<'a>(alloc: Global, text: &[u8], tokens: &'a [Token]) -> Reading<'a
     Ok((Index { value, span }, rest))
 }
 
-fn read_optional_index<'a>(alloc: Global, text: &[u8], tokens: &'a [Token]) -> Reading<'a, Option<Index>>
+fn read_optional_index<'a>(
+    alloc: Global,
+    text: &[u8],
+    tokens: &'a [Token],
+) -> Reading<'a, Option<Index>>
     ensures { Gives result ((optional (front (is_mark text.now open_bracket)) (index text.now)).read tokens.now) }
 {
     if !front_is_mark(text, b'[', tokens) {
@@ -165,7 +173,11 @@ fn read_optional_index<'a>(alloc: Global, text: &[u8], tokens: &'a [Token]) -> R
 }
 
 #[tactic(auto, unfolding(crate::specs::Values::member))]
-fn read_optional_member<'a>(alloc: Global, text: &[u8], tokens: &'a [Token]) -> Reading<'a, Option<Name>>
+fn read_optional_member<'a>(
+    alloc: Global,
+    text: &[u8],
+    tokens: &'a [Token],
+) -> Reading<'a, Option<Name>>
     ensures { Gives result ((optional (front (is_mark text.now point)) (member text.now)).read tokens.now) }
 {
     if !front_is_mark(text, b'.', tokens) {
@@ -197,7 +209,8 @@ fn begins_set(text: &[u8], tokens: &[Token]) -> bool
     ensures { result ≡ begins_set text.now tokens.now }
 {
     let behind = behind_front(tokens);
-    front_is_word(tokens) && (front_is_mark(text, b'=', behind) || front_is_mark(text, b'[', behind))
+    front_is_word(tokens)
+        && (front_is_mark(text, b'=', behind) || front_is_mark(text, b'[', behind))
 }
 
 #[tactic(auto, unfolding(crate::specs::Values::set_argument))]
@@ -255,7 +268,11 @@ impl Repeated for Arguments {
         true
     }
 
-    fn read_next<'a>(alloc: Global, text: &[u8], tokens: &'a [Token]) -> Reading<'a, PlacedArgument> {
+    fn read_next<'a>(
+        alloc: Global,
+        text: &[u8],
+        tokens: &'a [Token],
+    ) -> Reading<'a, PlacedArgument> {
         read_argument(alloc, text, tokens)
     }
 

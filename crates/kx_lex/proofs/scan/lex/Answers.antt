@@ -1,9 +1,6 @@
-use Rattle.std.proofs.Common.{◌≡◌, ◌⊎◌, sym, inl, inr, arith, ap, subst, ◌++◌, [], ◌∷◌, drop, List, ℕ}
-use Rattle.kx_lex.specs.Reading.{bad_byte, open_string, open_key_name, Stops, StopsWith, token_of}
-use Rattle.kx_lex.proofs.Readings.{SoFar, SoFar-skipped, SoFar-taken, SoFar-ended, SoFar-stopped, stopped-has_no_reading}
-use Rattle.kx_lex.specs.declared.fault.Fault.TheVariants as fault
-use Rattle.kx_lex.specs.declared.fault.At.{At}
-use Rattle.kx_lex.specs.declared.token.Token.{Token}
+use Rattle.std.proofs.Common.{sym, inr, arith}
+use Rattle.kx_lex.specs.Reading.{bad_byte, open_string, open_key_name}
+use Rattle.kx_lex.proofs.Readings.{SoFar-skipped, SoFar-taken, SoFar-ended, SoFar-stopped, stopped-has_no_reading}
 use Rattle.kx_lex.proofs.scan.lex.Goals as goal
 
 pub returns-in-End-clause-read : goal.returns-in-End-clause-read

@@ -1,4 +1,4 @@
-use Rattle.std.proofs.Common.{ℕ, length}
+use Rattle.std.proofs.Common.{length}
 use Rattle.kx_lex.proofs.Readings.{SoFar}
 use Rattle.kx_lex.proofs.scan.lex.Given as goal
 

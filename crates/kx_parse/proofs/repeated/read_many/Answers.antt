@@ -1,4 +1,4 @@
-use Rattle.std.proofs.Common.{◌≡◌, sym, inl, inr, rules}
+use Rattle.std.proofs.Common.{rules}
 use Rattle.std.proofs.lemmas.Result.{err_from_is_err_and}
 use Rattle.kx_parse.proofs.Rounds.{SoFar-none, SoFar-more, SoFar-last, SoFar-blamed}
 use Rattle.kx_parse.proofs.repeated.read_many.Goals as goal

@@ -1,0 +1,50 @@
+-- What holds of each built-in name, by computing.
+use Rattle.std.proofs.Common.{◌≡◌, ℕ, ◌≤◌, Bool, true, false, not, ◌&&◌, ◌||◌, nat_le, List, length, Option, None, Some, is_some, refl, sym, ap, subst, ◌∙◌}
+use Rattle.std.proofs.lemmas.Bool.{and_parts, leb-true}
+use Rattle.std.specs.List.{list_all}
+use Rattle.ks_core.specs.BuiltIn.{built_in, built_in_runs, numbered, entries_of_run}
+use Rattle.ks_core.specs.Entry.{Entry, keysym_in, name_in}
+use Rattle.ks_core.specs.Name.{is_word, is_hex, is_u_form, is_hex_form, is_decimal}
+use Rattle.ks_core.specs.Names.{is_word_or_number}
+use Rattle.ks_core.proofs.IndexLemmas.{is_keysym, is_keysym-true, keysym_in-entry, name_in-entry}
+
+-- its name is of that keysym, has at most 64 bytes, is an identifier or a number, and of neither the U form nor the 0x form
+abbrev is_fine : Entry → Bool
+is_fine e = is_keysym (keysym_in built_in e.0) e.1 && (nat_le (length e.0) 64 && (is_word_or_number e.0 && not (is_u_form e.0 || is_hex_form e.0)))
+
+all_fine : list_all is_fine built_in ≡ true
+unfolding is_keysym built_in built_in_runs numbered entries_of_run is_word is_hex is_u_form is_hex_form is_decimal
+all_fine = refl
+
+pub built_in-named : (name : List ℕ) (keysym : ℕ) → name_in built_in keysym ≡ Some name → (keysym_in built_in name ≡ Some keysym) × (length name ≤ 64) × (is_word_or_number name ≡ true)
+built_in-named name keysym found =
+    let e = name_in-entry is_fine built_in name keysym all_fine found in
+    let one = and_parts (is_keysym (keysym_in built_in e.0.0) e.0.1) _ e.1 in
+    let two = and_parts (nat_le (length e.0.0) 64) _ one.1 in
+    let three = and_parts (is_word_or_number e.0.0) _ two.1 in (
+      ap (keysym_in built_in) (sym e.3) ∙ is_keysym-true (keysym_in built_in e.0.0) e.0.1 one.0 ∙ ap Some e.2,
+      subst (λ n. length n ≤ 64) e.3 (leb-true (length e.0.0) 64 two.0),
+      subst (λ n. is_word_or_number n ≡ true) e.3 three.0,
+    )
+
+no-true : (b : Bool) → not b ≡ true → b ≡ true → ⊥
+no-true true h k = cc
+no-true false h k = cc
+
+-- no built-in name is of the U form or the 0x form
+pub built_in-free : (name : List ℕ) → (is_u_form name || is_hex_form name) ≡ true → keysym_in built_in name ≡ None
+built_in-free name form = by (keysym_in built_in name) refl
+  where
+    by : (r : Option ℕ) → keysym_in built_in name ≡ r → keysym_in built_in name ≡ None
+    by None none = none
+    by (Some keysym) some =
+        let e = keysym_in-entry is_fine built_in name keysym all_fine some in
+        let one = and_parts (is_keysym (keysym_in built_in e.0.0) e.0.1) _ e.1 in
+        let two = and_parts (nat_le (length e.0.0) 64) _ one.1 in
+        let three = and_parts (is_word_or_number e.0.0) _ two.1 in
+        absurd (no-true (is_u_form e.0.0 || is_hex_form e.0.0) three.1 (subst (λ n. (is_u_form n || is_hex_form n) ≡ true) (sym e.2) form))
+
+-- the keysym 0 has a name
+pub built_in-zero : is_some (name_in built_in 0) ≡ true
+unfolding built_in built_in_runs numbered entries_of_run
+built_in-zero = refl

@@ -1,0 +1,145 @@
+-- Tests that compute, by which a list of rows is shown to be an index of the built-in names.
+use Rattle.std.proofs.Common.{◌≡◌, ℕ, zero, suc, Bool, true, false, not, ◌&&◌, ◌==◌, List, [], ◌∷◌, get_or, Option, None, Some, Err, refl, sym, ap, ◌∙◌, add-one, inl, inr, zero-le, eqb-true, cond, arith, find}
+use Rattle.std.proofs.lemmas.Bool.{cases_lt, and_parts}
+use Rattle.std.proofs.lemmas.Cmp.{tied_itself}
+use Rattle.std.proofs.lemmas.List.Folds.{Any-from_list_any}
+use Rattle.std.proofs.lemmas.List.Sorted.{searchable_from_sorted}
+use Rattle.std.proofs.lemmas.List.Sums.{AllPass-from_list_all}
+use Rattle.std.proofs.lemmas.Slice.Eq.{bytes_eq-Decides}
+use Rattle.std.specs.Cmp.{IsTotalOrder}
+use Rattle.std.specs.Cmp.Lexicographic.{slice_cmp}
+use Rattle.std.specs.List.{list_all, list_any, Any}
+use Rattle.std.specs.List.Sorted.{IsSortedBy, IsBinarySearchResult}
+use Rattle.std.specs.Option.{option_map}
+use Rattle.std.specs.Ordering.{is_lt, nat_cmp}
+use Rattle.std.specs.declared.cmp.Ordering.{Ordering}
+use Rattle.std.specs.declared.cmp.Ordering.TheVariants.{Equal}
+use Rattle.std.specs.Str.{bytes_eq}
+use Rattle.ks_core.specs.Entry.{Entry, keysym_in, name_in}
+use Rattle.ks_core.specs.BuiltIn.{built_in}
+use Rattle.ks_core.specs.Index.{Row, IsNameIndex, IsKeysymIndex}
+
+-- no row is less than the one before it
+unfoldable pub rises : {X : Type 0} → (X → X → Bool) → List X → Bool
+rises lt [] = true
+rises lt (a ∷ []) = true
+rises lt (a ∷ b ∷ rows) = not (lt b a) && rises lt (b ∷ rows)
+
+not-true : (b : Bool) → not b ≡ true → b ≡ false
+not-true true h = sym h
+not-true false h = refl
+
+sorted-rises : {X : Type 0} (lt : X → X → Bool) (rows : List X) → rises lt rows ≡ true → IsSortedBy lt rows
+unfolding rises
+sorted-rises lt [] h k d low within = absurd (omega arith)
+sorted-rises lt (a ∷ []) h k d low within = absurd (omega arith)
+sorted-rises lt (a ∷ b ∷ rows) h zero d low within = not-true (lt b a) (and_parts (not (lt b a)) (rises lt (b ∷ rows)) h).0
+sorted-rises lt (a ∷ b ∷ rows) h (suc k) d low within =
+    let rest = sorted-rises lt (b ∷ rows) (and_parts (not (lt b a)) (rises lt (b ∷ rows)) h).1 k d zero-le (omega arith) in rw add-one (rw add-one at rest)
+
+-- a search that ends at a place to insert means that no row has the key
+module _ {X K : Type 0} {R : K → K → Ordering} (o : IsTotalOrder R) (key : X → K) (rows : List X) (x : K) where
+  pub not_found : (i : ℕ) → IsSortedBy (λ a b. is_lt (R (key a) (key b))) rows → IsBinarySearchResult (λ y. R (key y) x) rows (Err i) → Any (λ row. key row ≡ x) rows → ⊥
+  not_found i sorted searched found =
+      let parts = searched (searchable_from_sorted o key rows x sorted) in
+      let equal : R (key (get_or rows found.0 found.1)) x ≡ Equal = ap (λ row. R (key row) x) found.3 ∙ ap (λ k. R k x) found.4 ∙ tied_itself o x in
+      elim (cases_lt found.0 i) [
+        | inl before ↦ let less = parts.0 found.0 found.1 zero-le before in cc
+        | inr after ↦ let greater = parts.1 found.0 found.1 after found.2 in cc
+      ]
+
+pub same_bytes : (xs ys : List ℕ) → bytes_eq xs ys ≡ true → xs ≡ ys
+same_bytes xs ys = (bytes_eq-Decides xs ys).0
+
+-- the entry that a look-up found, with what is known of each
+pub keysym_in-entry : (p : Entry → Bool) (es : List Entry) (name : List ℕ) (keysym : ℕ) → list_all p es ≡ true → keysym_in es name ≡ Some keysym → (e : Entry) × (p e ≡ true) × (e.0 ≡ name) × (e.1 ≡ keysym)
+keysym_in-entry p [] name keysym all found = cc
+keysym_in-entry p (e ∷ es) name keysym all found = by (keysym_in-entry p es name keysym parts.1) (bytes_eq name e.0) refl
+  where
+    parts : (p e ≡ true) × (list_all p es ≡ true)
+    parts = and_parts (p e) (list_all p es) all
+
+    by : (keysym_in es name ≡ Some keysym → (f : Entry) × (p f ≡ true) × (f.0 ≡ name) × (f.1 ≡ keysym)) → (b : Bool) → bytes_eq name e.0 ≡ b → (f : Entry) × (p f ≡ true) × (f.0 ≡ name) × (f.1 ≡ keysym)
+    by rest true here = (e, parts.0, sym (same_bytes name e.0 here), let is : Some e.1 ≡ Some keysym = sym (ap (λ b. cond b (Some e.1) (keysym_in es name)) here) ∙ found in cc)
+    by rest false later = rest (sym (ap (λ b. cond b (Some e.1) (keysym_in es name)) later) ∙ found)
+
+pub find-entry : (p : Entry → Bool) (test : Entry → Bool) (es : List Entry) (e : Entry) → list_all p es ≡ true → find test es ≡ Some e → (p e ≡ true) × (test e ≡ true)
+find-entry p test [] e all found = cc
+find-entry p test (f ∷ es) e all found = by (find-entry p test es e parts.1) (test f) refl
+  where
+    parts : (p f ≡ true) × (list_all p es ≡ true)
+    parts = and_parts (p f) (list_all p es) all
+
+    by : (find test es ≡ Some e → (p e ≡ true) × (test e ≡ true)) → (b : Bool) → test f ≡ b → (p e ≡ true) × (test e ≡ true)
+    by rest true here =
+        let is : f ≡ e = let some : Some f ≡ Some e = sym (ap (λ b. cond b (Some f) (find test es)) here) ∙ found in cc in
+        rw (← is) (parts.0, here)
+    by rest false later = rest (sym (ap (λ b. cond b (Some f) (find test es)) later) ∙ found)
+
+unfoldable pub is_keysym : Option ℕ → ℕ → Bool
+is_keysym None n = false
+is_keysym (Some m) n = m == n
+
+pub is_keysym-true : (o : Option ℕ) (n : ℕ) → is_keysym o n ≡ true → o ≡ Some n
+unfolding is_keysym
+is_keysym-true None n h = cc
+is_keysym-true (Some m) n h = ap Some (eqb-true m n h)
+
+unfoldable pub is_name : Option (List ℕ) → List ℕ → Bool
+is_name None n = false
+is_name (Some m) n = bytes_eq m n
+
+pub is_name-true : (o : Option (List ℕ)) (n : List ℕ) → is_name o n ≡ true → o ≡ Some n
+unfolding is_name
+is_name-true None n h = cc
+is_name-true (Some m) n h = ap Some (same_bytes m n h)
+
+-- rows by name
+abbrev pub name_less : Row → Row → Bool
+name_less a b = is_lt (slice_cmp nat_cmp a.0.now b.0.now)
+
+abbrev pub name_right : Row → Bool
+name_right row = is_keysym (keysym_in built_in row.0.now) row.1
+
+abbrev pub has_name : List Row → Entry → Bool
+has_name rows e = list_any (λ row. bytes_eq row.0.now e.0) rows
+
+pub name_index : (rows : List Row) → rises name_less rows ≡ true → list_all name_right rows ≡ true → list_all (has_name rows) built_in ≡ true → IsNameIndex rows
+name_index rows rise right whole =
+    record {
+      rising = sorted-rises name_less rows rise;
+      right = λ k d within. is_keysym-true _ _ (AllPass-from_list_all name_right rows right k d within);
+      whole = λ name keysym found.
+          let e = keysym_in-entry (has_name rows) built_in name keysym whole found in
+          let row = Any-from_list_any (λ (row : Row). bytes_eq row.0.now e.0.0) rows e.1 in (row.0, row.1, row.2, row.3, same_bytes row.1.0.now e.0.0 row.4 ∙ e.2);
+    }
+
+-- rows by keysym
+abbrev pub keysym_less : Row → Row → Bool
+keysym_less a b = is_lt (nat_cmp a.1 b.1)
+
+abbrev pub keysym_right : Row → Bool
+keysym_right row = is_name (name_in built_in row.1) row.0.now
+
+abbrev pub has_keysym : List Row → Entry → Bool
+has_keysym rows e = list_any (λ row. row.1 == e.1) rows
+
+pub name_in-entry : (p : Entry → Bool) (es : List Entry) (name : List ℕ) (keysym : ℕ) → list_all p es ≡ true → name_in es keysym ≡ Some name → (e : Entry) × (p e ≡ true) × (e.1 ≡ keysym) × (e.0 ≡ name)
+name_in-entry p es name keysym all found = by (find (λ (e : Entry). e.1 == keysym) es) refl
+  where
+    by : (r : Option Entry) → find (λ (e : Entry). e.1 == keysym) es ≡ r → (e : Entry) × (p e ≡ true) × (e.1 ≡ keysym) × (e.0 ≡ name)
+    by None none = let absent : name_in es keysym ≡ None = ap (λ r. option_map (λ (e : Entry). e.0) r) none in cc
+    by (Some e) some =
+        let known = find-entry p (λ (e : Entry). e.1 == keysym) es e all some in
+        let named : name_in es keysym ≡ Some e.0 = ap (λ r. option_map (λ (e : Entry). e.0) r) some in
+        (e, known.0, eqb-true e.1 keysym known.1, cc)
+
+pub keysym_index : (rows : List Row) → rises keysym_less rows ≡ true → list_all keysym_right rows ≡ true → list_all (has_keysym rows) built_in ≡ true → IsKeysymIndex rows
+keysym_index rows rise right whole =
+    record {
+      rising = sorted-rises keysym_less rows rise;
+      right = λ k d within. is_name-true _ _ (AllPass-from_list_all keysym_right rows right k d within);
+      whole = λ name keysym found.
+          let e = name_in-entry (has_keysym rows) built_in name keysym whole found in
+          let row = Any-from_list_any (λ (row : Row). row.1 == e.0.1) rows e.1 in (row.0, row.1, row.2, row.3, eqb-true row.1.1 e.0.1 row.4 ∙ e.2);
+    }

@@ -1,0 +1,12 @@
+pub mod DeviceLemmas
+pub mod PressLemmas
+pub mod IndexLemmas
+pub mod DigitsLemmas
+pub mod NameLemmas
+pub mod GivenLemmas
+pub mod LinesLemmas
+pub mod SplitLemmas
+pub mod ReadLemmas
+pub mod NumberLemmas
+pub mod BuiltInLemmas
+pub mod NamedLemmas

@@ -1,0 +1,98 @@
+-- Texts told to a press in turn are one text told.
+use Rattle.std.proofs.Common.{◌≡◌, ◌≢◌, ℕ, Bool, true, false, List, [], ◌++◌, Option, Result, Ok, Err, refl, sym, ap, subst, ◌∙◌, append_assoc, append-nil, true≢false}
+use Rattle.std.specs.Io.KnownBytes.{Appends}
+use Rattle.ks_core.specs.Device.{Begins, Puts}
+use Rattle.ks_core.specs.Press.{Gathered, Gathers, Tells, Finishes, nothing_gathered}
+use Rattle.ks_core.proofs.DeviceLemmas.{Appends-nothing, Appends-then, Begins-longer, Begins-after}
+
+pub Gathers-then : (a b c : Option (List ℕ)) (x y z s t : List ℕ) → Gathers a x b y s → Gathers b y c z t → Gathers a x c z (s ++ t)
+Gathers-then a b c x y z s t h k =
+    record {
+      sent = h.sent ++ k.sent;
+      put = Appends-then a b c h.sent k.sent h.put k.put;
+      joined = sym (append_assoc x s t) ∙ ap (λ l. l ++ t) h.joined ∙ append_assoc h.sent y t ∙ ap (λ l. h.sent ++ l) k.joined ∙ sym (append_assoc h.sent k.sent z);
+    }
+
+module _ {D : Type 0} (written : D → Option (List ℕ)) (failures : D → ℕ) where
+  -- nothing is told
+  pub tells_nothing : (d : D) (p : Gathered) → Tells written failures d p d p []
+  tells_nothing d p =
+      record {
+        still = λ _. (refl, refl);
+        gathers = λ fine. (fine, refl, record { sent = []; put = Appends-nothing (written d); joined = append-nil p.waiting });
+        begins = λ fine failed. absurd (true≢false (sym failed ∙ fine));
+      }
+
+  -- one text is told, and then another
+  pub tells_then : (d e f : D) (p q r : Gathered) (s t : List ℕ) → Tells written failures d p e q s → Tells written failures e q f r t → Tells written failures d p f r (s ++ t)
+  tells_then d e f p q r s t h k =
+      record {
+        still = λ failed.
+            let first = h.still failed in
+            let second = k.still (ap (λ (g : Gathered). g.failed) first.0 ∙ failed) in (second.0 ∙ first.0, second.1 ∙ first.1);
+        gathers = λ fine.
+            let second = k.gathers fine in
+            let first = h.gathers second.0 in (
+              first.0,
+              second.1 ∙ first.1,
+              Gathers-then (written d) (written e) (written f) p.waiting q.waiting r.waiting s t first.2 second.2,
+            );
+        begins = λ fine failed. by (q.failed) refl fine failed;
+      }
+    where
+      by : (b : Bool) → q.failed ≡ b → p.failed ≡ false → r.failed ≡ true → (failures f ≢ failures d) × Begins (written d) (written f) (p.waiting ++ (s ++ t))
+      by true q_failed fine failed =
+          let first = h.begins fine q_failed in
+          let second = k.still q_failed in
+          subst (λ g. (failures g ≢ failures d) × Begins (written d) (written g) (p.waiting ++ (s ++ t))) (sym second.1)
+          (first.0, rw (← append_assoc p.waiting s t) (Begins-longer (written d) (written e) (p.waiting ++ s) t first.1))
+      by false q_fine fine failed =
+          let first = h.gathers q_fine in
+          let second = k.begins q_fine failed in (
+            λ same. second.0 (same ∙ sym first.1),
+            subst (Begins (written d) (written f)) (sym (append_assoc first.2.sent q.waiting t) ∙ ap (λ l. l ++ t) (sym first.2.joined) ∙ append_assoc p.waiting s t)
+                (Begins-after (written d) (written e) (written f) first.2.sent (q.waiting ++ t) first.2.put second.1),
+          )
+
+  -- a piece joins what waits, and the device is left alone
+  pub tells_gathered : (d : D) (p q : Gathered) (piece : List ℕ) → (p.failed ≡ true → q ≡ p) → (p.failed ≡ false → q ≡ record { waiting = p.waiting ++ piece; failed = false }) → Tells written failures d p d q piece
+  tells_gathered d p q piece still gathered =
+      record {
+        still = λ failed. (still failed, refl);
+        gathers = λ fine. by (p.failed) refl fine;
+        begins = λ fine failed. absurd (true≢false (sym failed ∙ ap (λ (g : Gathered). g.failed) (gathered fine)));
+      }
+    where
+      by : (b : Bool) → p.failed ≡ b → q.failed ≡ false → (p.failed ≡ false) × (failures d ≡ failures d) × Gathers (written d) p.waiting (written d) q.waiting piece
+      by true failed fine = absurd (true≢false (sym failed ∙ ap (λ (g : Gathered). g.failed) (sym (still failed)) ∙ fine))
+      by false fine q_fine = (fine, refl, record { sent = []; put = Appends-nothing (written d); joined = sym (ap (λ (g : Gathered). g.waiting) (gathered fine)) })
+
+  -- a text that is told to a new press, which is then done with, is put
+  pub tells_finish : {A E : Type 0} (d e f : D) (q : Gathered) (r : Result A E) (text : List ℕ) → Tells written failures d nothing_gathered e q text → Finishes written failures e q f r → Puts written failures d f r text
+  tells_finish {A} {E} d e f q (Ok x) text h k =
+      let fine = k.all in
+      let told = h.gathers fine.0 in
+      record {
+        all = subst (Appends (written d) (written f)) (sym told.2.joined) (Appends-then (written d) (written e) (written f) told.2.sent q.waiting told.2.put fine.2);
+        begun = tt;
+        counted = fine.1 ∙ told.1;
+      }
+  tells_finish {A} {E} d e f q (Err x) text h k = by (q.failed) refl
+    where
+      by : (b : Bool) → q.failed ≡ b → Puts {A = A} {E = E} written failures d f (Err x) text
+      by true failed =
+          let told = h.begins refl failed in
+          let same = k.still failed in
+          record {
+            all = tt;
+            begun = subst (λ g. Begins (written d) (written g) text) (sym same) told.1;
+            counted = subst (λ g. failures g ≢ failures d) (sym same) told.0;
+          }
+      by false fine =
+          let told = h.gathers fine in
+          let broke = k.begun fine in
+          record {
+            all = tt;
+            begun = subst (Begins (written d) (written f)) (sym told.2.joined) (Begins-after (written d) (written e) (written f) told.2.sent q.waiting told.2.put broke.1);
+            counted = λ same. broke.0 (same ∙ sym told.1);
+          }

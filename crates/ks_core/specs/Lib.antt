@@ -1,0 +1,13 @@
+pub mod Device
+pub mod Memory
+pub mod Press
+pub mod Notes
+pub mod Keysym
+pub mod Entry
+pub mod BuiltIn
+pub mod Index
+pub mod Name
+pub mod Names
+pub mod Lines
+pub mod Digits
+pub mod Given

@@ -1,0 +1,160 @@
+//! The names that lines gave.
+ghost use Rattle.std.specs.Prelude.{◌≡◌, ◌==◌, ◌<◌, ℕ, None, Some, true, false, List, [], ◌∷◌, ◌++◌, IfErr, IfSome, OnOk, OnErr, ◌⊎◌, nat_eq, string_bytes, if◌then◌else◌};
+ghost use Rattle.std.specs.Option.{option_map, option_or};
+ghost use Rattle.indexmap.specs.IndexMap.{get, get_by_text, spare};
+ghost use Rattle.ks_core.specs.Entry.{keysym_in, name_in};
+ghost use Rattle.ks_core.specs.Lines.{known_keysym, is_another, with_entry, fault_of_line, given_after};
+
+use crate::builtin;
+use crate::fault::NameFault;
+use crate::line::read_line;
+use indexmap::IndexMap;
+use std::alloc::{AllocError, Global};
+use std::marker::Model;
+
+/// Names in the order in which lines first gave them, each with its keysym.
+#[derive(Drop)]
+pub(crate) struct Given {
+    keysyms: IndexMap<String, u32>,
+    /// Where the first name of each keysym stands.
+    first: IndexMap<u32, usize>,
+}
+
+impl Model for Given {
+    ghost use Rattle.std.specs.Prelude.{List};
+    ghost use Rattle.ks_core.specs.Entry.{Entry};
+    ghost use Rattle.ks_core.specs.Given.{entries_in, HasFirstPlaces};
+
+    ghost Value = { List Entry };
+
+    ghost view = { λ g. entries_in g.keysyms.entries };
+
+    ghost invariant = { λ g. HasFirstPlaces g.first g.keysyms.entries };
+}
+
+impl Given {
+    pub(crate) fn new(alloc: Global) -> Given
+        ensures { result ≡ [] }
+    {
+        Given {
+            keysyms: IndexMap::new(alloc),
+            first: IndexMap::new(alloc),
+        }
+    }
+
+    /// The keysym of the name.
+    pub(crate) fn keysym_of(&self, name: &str) -> Option<u32>
+        ensures { result ≡ keysym_in self.now name.now }
+    {
+        self.keysyms.get(name).copied()
+    }
+
+    /// The first name of the keysym.
+    pub(crate) fn name_of(&self, keysym: u32) -> Option<&str>
+        ensures first { option_map (λ name. name.now) result ≡ name_in self.now keysym }
+        ensures back { IfSome result (λ name. keysym_in self.now name.now ≡ Some keysym) }
+    {
+        match self.first.get(&keysym) {
+            Some(index) => match self.keysyms.get_index(*index) {
+                Some((name, _)) => Some(name.as_str()),
+                None => None,
+            },
+            None => None,
+        }
+    }
+
+    /// Reads the line with that number.
+    pub(crate) fn read(
+        &mut self,
+        alloc: Global,
+        line: &[u8],
+        number: usize,
+    ) -> Result<(), NameFault>
+        ensures fine { OnOk result (fault_of_line self.old number line.now ≡ None) }
+        ensures given { OnOk result (self.new ≡ given_after self.old line.now) }
+        ensures fault { IfErr result (λ fault. (fault ≡ NameFault.Memory) ⊎ (fault_of_line self.old number line.now ≡ Some fault)) }
+    {
+        match read_line(line, number) {
+            Ok(entry) => match entry {
+                Some((name, keysym)) => self.read_entry(alloc, name, keysym, number),
+                None => Ok(()),
+            },
+            Err(fault) => Err(fault),
+        }
+    }
+
+    /// Takes the name and the keysym of the line with that number.
+    #[tactic(auto, unfolding(crate::specs::Lines::with_entry))]
+    fn read_entry(
+        &mut self,
+        alloc: Global,
+        name: &str,
+        keysym: u32,
+        number: usize,
+    ) -> Result<(), NameFault>
+        ensures fine { OnOk result (is_another (known_keysym self.old name.now) keysym ≡ false) }
+        ensures given { OnOk result (self.new ≡ with_entry self.old (name.now, keysym)) }
+        ensures fault { IfErr result (λ fault. (fault ≡ NameFault.Memory)
+            ⊎ ((is_another (known_keysym self.old name.now) keysym ≡ true) × (fault ≡ NameFault.Twice number))) }
+    {
+        match self.known(name) {
+            Some(known) => {
+                if known == keysym {
+                    Ok(())
+                } else {
+                    Err(NameFault::Twice(number))
+                }
+            }
+            None => match self.add(alloc, name, keysym) {
+                Ok(()) => Ok(()),
+                Err(_) => Err(NameFault::Memory),
+            },
+        }
+    }
+
+    /// The keysym of the name, built in or given.
+    #[tactic(auto, unfolding(crate::specs::Lines::known_keysym))]
+    fn known(&self, name: &str) -> Option<u32>
+        ensures { result ≡ known_keysym self.now name.now }
+    {
+        match builtin::keysym_of(name) {
+            Some(keysym) => Some(keysym),
+            None => self.keysym_of(name),
+        }
+    }
+
+    /// Adds a name that is not there.
+    fn add(&mut self, alloc: Global, name: &str, keysym: u32) -> Result<(), AllocError>
+        requires { keysym_in self.old name.now ≡ None }
+        ensures ok { OnOk result (self.new ≡ self.old ++ (name.now, keysym) ∷ []) }
+        ensures err { OnErr result (self.new ≡ self.old) }
+    {
+        let name = String::from_str(alloc, name)?;
+        self.keysyms.reserve(1)?;
+        let index = self.keysyms.len();
+        note_first(&mut self.first, keysym, index)?;
+        push_name(&mut self.keysyms, name, keysym);
+        Ok(())
+    }
+}
+
+/// Notes where the first name of the keysym stands, unless it has one.
+fn note_first(first: &mut IndexMap<u32, usize>, keysym: u32, index: usize) -> Result<(), AllocError>
+    ensures ok { OnOk result ((other : ℕ) → get nat_eq first.new other
+        ≡ option_or (get nat_eq first.old other) (if keysym == other then Some index else None)) }
+    ensures err { OnErr result ((other : ℕ) → get nat_eq first.new other ≡ get nat_eq first.old other) }
+{
+    if !first.contains_key(&keysym) {
+        first.insert(keysym, index)?;
+    }
+    Ok(())
+}
+
+/// Adds a name that is not there, in the room that there is.
+fn push_name(keysyms: &mut IndexMap<String, u32>, name: String, keysym: u32)
+    requires new { get_by_text keysyms.old (string_bytes name) ≡ None }
+    requires room { 0 < spare keysyms.old }
+    ensures { keysyms.new.entries ≡ keysyms.old.entries ++ (name, keysym) ∷ [] }
+{
+    let _ = keysyms.insert(name, keysym);
+}

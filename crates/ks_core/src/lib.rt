@@ -1,0 +1,25 @@
+//! Keysyms and their names, the devices that a keymap is read from and written to, and the counts of what a compiler notes.
+#![tactic(auto)]
+
+mod builtin;
+mod device;
+mod digits;
+mod fault;
+mod given;
+mod keysym;
+mod line;
+mod memory;
+mod names;
+mod notes;
+mod press;
+mod table;
+#[cfg(test)]
+mod tests;
+
+pub use device::{Feed, Lent, Out};
+pub use fault::NameFault;
+pub use keysym::Keysym;
+pub use memory::{MemFeed, MemOut};
+pub use names::NameTable;
+pub use notes::{Note, Notes};
+pub use press::{Press, put_all};

@@ -1,0 +1,9 @@
+pub mod Again
+pub mod Counting
+pub mod Found
+pub mod Garbling
+pub mod Only
+pub mod Reading
+pub mod Refused
+pub mod Slicing
+pub mod Pressing

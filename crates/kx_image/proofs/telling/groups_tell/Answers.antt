@@ -1,0 +1,17 @@
+use Rattle.std.proofs.Common.{ap, ◌∙◌, ◌≡◌}
+use Rattle.kx_resolve.specs.declared.check.Part.TheVariants.{Group}
+use Rattle.kx_image.specs.Image.{Tells}
+use Rattle.kx_image.specs.Records.{group_bytes, group_of}
+use Rattle.kx_image.specs.Shape.{header_of, header_size, group_count, groups_start}
+use Rattle.kx_image.specs.declared.header.Header.{Header}
+use Rattle.kx_image.proofs.Garbling.{table_told, garbled_fault}
+use Rattle.kx_image.proofs.telling.groups_tell.Goals as goal
+
+pub returns : goal.returns
+returns c =
+    let count_is : c.args.groups ≡ (group_count (header_of c.args.bytes.now) c.args.bytes.now) = c.requires.groups in
+    let start_is : c.of-start.result.groups ≡ (groups_start (header_of c.args.bytes.now)) = ap (λ t. t.groups) c.of-start.ensures ∙ (ap groups_start c.requires.header) in
+    record {
+      ok = table_told (Tells group_bytes group_of) 8 c.args.groups c.of-start.result.groups (group_count (header_of c.args.bytes.now) c.args.bytes.now) (groups_start (header_of c.args.bytes.now)) c.args.bytes.now c.table_tells.result count_is start_is c.table_tells.ensures.ok;
+      fault = garbled_fault group_bytes group_of Group 8 c.args.groups c.of-start.result.groups (group_count (header_of c.args.bytes.now) c.args.bytes.now) (groups_start (header_of c.args.bytes.now)) c.args.bytes.now c.table_tells.result c.requires.whole (λ i g. g) count_is start_is c.table_tells.ensures.garbled;
+    }

@@ -1,0 +1,8 @@
+pub mod Cut
+pub mod Image
+pub mod LayoutHolds
+pub mod Records
+pub mod Shape
+pub mod Starts
+pub mod Telling
+pub mod Upgrade

@@ -1,0 +1,20 @@
+//! The image of a keymap: its bytes, how they are written, opened in place, and brought to the newest version.
+#![tactic(auto)]
+
+mod fault;
+mod header;
+mod layout;
+mod records;
+mod shape;
+mod telling;
+mod upgrading;
+mod view;
+mod writer;
+
+pub use fault::ImageFault;
+pub use upgrading::{UpgradeFault, upgrade};
+pub use view::{View, one_content};
+pub use writer::write;
+
+#[cfg(test)]
+mod tests;

@@ -1,0 +1,356 @@
+-- What a press and a release do to what is kept of the held keys.
+use Rattle.std.proofs.Common.{◌≡◌, ◌≢◌, ℕ, ◌+◌, ◌*◌, ◌<◌, ◌≤◌, ◌≤ℤ◌, Bool, true, false, cond, eqb, List, [], ◌∷◌, ◌++◌, ◌||◌, zero, suc, length, map, All, get_or, take, drop, sym, ◌∙◌, ap, refl, arith, ℤ, pos, negsuc, ◌+ℤ◌, bit_or, max}
+use Rattle.std.specs.Prelude.{fold, AllPairs}
+use Rattle.std.specs.Int.{bit_at}
+use Rattle.std.specs.Int.RustNames.{unsigned_abs}
+use Rattle.std.specs.List.{list_any, remove}
+use Rattle.std.proofs.lemmas.List.{length-take}
+use Rattle.std.proofs.Common.{length-append}
+use Rattle.std.proofs.lemmas.Option.{slice_get-get_or}
+use Rattle.std.proofs.lemmas.List.Sums.{sum_by-remove}
+use Rattle.std.proofs.Common.{SFits, w32, to_z, of_z}
+use Rattle.std.proofs.lemmas.Int.{ints, to_z-of_z, fits_signed_from_abs}
+use Rattle.std.proofs.lemmas.Grind.{common_steps}
+use Rattle.std.proofs.lemmas.List.Sums.{fold-append}
+use Rattle.std.proofs.lemmas.List.Folds.{fold-map}
+use Rattle.std.proofs.lemmas.List.Elements.{All-map, All-tail, All-head, All-cons, All-push, All-append, All-take, All-drop}
+use Rattle.std.proofs.lemmas.List.{get_or-map}
+use Rattle.std.proofs.lemmas.Bool.{cases_Bool, eqb-true, eq-eqb, ne_eqb}
+use borrow.Author.Tests.{ltb-false}
+use Rattle.std.proofs.lemmas.Nat.{or_of_8}
+use Rattle.std.proofs.lemmas.Bool.Decides.{Decides-eqb, nat_tests}
+use Rattle.std.proofs.lemmas.List.Sums.{fails_before_first}
+use Rattle.std.proofs.lemmas.List.Folds.{find_at, list_any_none}
+use Rattle.std.proofs.lemmas.Nat.Bits.{bit_at_or, bit_at-zero, bit_at-lt, same_from_bits_below}
+use Rattle.std.specs.List.{position, position_or_len, slice_get}
+use Rattle.std.proofs.Common.{inl, inr, Some, None, ltb}
+use Rattle.std.proofs.lemmas.Map.Steps.{length-le_from_distinct_below}
+use Rattle.std.proofs.lemmas.Map.Made.{IsDistinct-from_AllPairs}
+use Rattle.std.proofs.lemmas.List.Quantifiers.{position-Some, all_pairs_push, all_pairs_remove}
+use Rattle.kx_resolve.specs.declared.rows.Action.{Action}
+use Rattle.kx_resolve.specs.declared.rows.Action.TheVariants as actions
+use Rattle.kx_resolve.specs.declared.rows.GroupChange.{GroupChange}
+use Rattle.kx_resolve.specs.declared.rows.GroupChange.TheVariants.{Absolute, Relative}
+use Rattle.kx_run.specs.declared.held.HeldKey.{HeldKey}
+use Rattle.kx_run.specs.World.{World}
+use Rattle.kx_run.specs.Laws.{IsBounded}
+use Rattle.kx_run.specs.Held.{held_mods, base_mods, base_group, base_group_after, is_group_held, group_after, change_size, action_size, count_of, is_at, is_held, held_at, other_keys, disturbed, AreDistinct, AreSound}
+
+abbrev code_of : HeldKey → ℕ
+code_of key = key.code
+
+abbrev any_key : List HeldKey → HeldKey
+any_key keys = record { code = 0; action = actions.None; recorded = record { 0 = 0 }; disturbed = false }
+
+length-codes : (keys : List HeldKey) → length (map code_of keys) ≡ length keys
+length-codes keys = grind (arith, common_steps)
+
+or_false_left : (a b : Bool) → (a || b) ≡ false → a ≡ false
+or_false_left false b h = refl
+or_false_left true b h = absurd (cc)
+
+or_false_right : (a b : Bool) → (a || b) ≡ false → b ≡ false
+or_false_right false b h = h
+or_false_right true b h = absurd (cc)
+
+-- ---- the base group stays small
+
+abs_add : (a b : ℤ) → unsigned_abs (a +ℤ b) ≤ unsigned_abs a + unsigned_abs b
+abs_add (pos a) (pos b) = omega arith
+abs_add (pos a) (negsuc b) = omega (arith, ints)
+abs_add (negsuc a) (pos b) = omega (arith, ints)
+abs_add (negsuc a) (negsuc b) = omega arith
+
+group_after_size : (change : GroupChange) (old : ℤ) → unsigned_abs (group_after change old) ≤ unsigned_abs old + change_size change
+group_after_size (Absolute group) old = omega arith
+group_after_size (Relative by) old = abs_add old by
+
+base_group_after_size : (action : Action) (old : ℤ) → unsigned_abs (base_group_after action old) ≤ unsigned_abs old + action_size action
+base_group_after_size actions.None old = omega arith
+base_group_after_size (actions.SetMods m c) old = omega arith
+base_group_after_size (actions.LatchMods m c l) old = omega arith
+base_group_after_size (actions.LockMods m l u) old = omega arith
+base_group_after_size (actions.SetGroup change c) old = group_after_size change old
+base_group_after_size (actions.LatchGroup change c l) old = group_after_size change old
+base_group_after_size (actions.LockGroup change) old = omega arith
+
+fold_size : (old : ℤ) (keys : List HeldKey) → All (λ key. action_size key.action ≤ 32) keys → unsigned_abs (fold (λ z key. base_group_after key.action z) old keys) ≤ unsigned_abs old + 32 * length keys
+fold_size old [] small = omega arith
+fold_size old (key ∷ keys) small =
+    let rest = fold_size (base_group_after key.action old) keys (All-tail (λ k. action_size k.action ≤ 32) key keys small) in
+    let here = base_group_after_size key.action old in
+    let first = All-head (λ k. action_size k.action ≤ 32) key keys small in
+    omega arith
+
+-- ---- a disturbed key counts as before
+
+pub base_mods-disturbed : (keys : List HeldKey) → base_mods (map disturbed keys) ≡ base_mods keys
+base_mods-disturbed keys = fold-map (λ mods key. bit_or mods (held_mods key.action)) disturbed 0 keys
+
+pub base_group-disturbed : (keys : List HeldKey) → base_group (map disturbed keys) ≡ base_group keys
+base_group-disturbed keys = fold-map (λ z key. base_group_after key.action z) disturbed (pos 0) keys
+
+pub count_of-disturbed : (bit : ℕ) (keys : List HeldKey) → count_of bit (map disturbed keys) ≡ count_of bit keys
+count_of-disturbed bit keys = fold-map (λ n key. n + bit_at (held_mods key.action) bit) disturbed 0 keys
+
+pub length-disturbed : (keys : List HeldKey) → length (map disturbed keys) ≡ length keys
+length-disturbed keys = grind (arith, common_steps)
+
+pub is_held-disturbed : (code : ℕ) (keys : List HeldKey) → is_held code (map disturbed keys) ≡ is_held code keys
+is_held-disturbed code [] = refl
+is_held-disturbed code (key ∷ keys) = ap (λ b. is_at code key || b) (is_held-disturbed code keys)
+
+AreDistinct-disturbed : (keys : List HeldKey) → AreDistinct keys → AreDistinct (map disturbed keys)
+AreDistinct-disturbed keys apart = λ i j d before within.
+    let long = length-disturbed keys in
+    let inside : j < length keys = omega arith in
+    let outside : i < length keys = omega arith in
+    rw (get_or-map disturbed keys i d d outside, get_or-map disturbed keys j d d inside) (apart i j d before inside)
+
+pub AreSound-disturbed : (keys : List HeldKey) → AreSound keys → AreSound (map disturbed keys)
+AreSound-disturbed keys sound = record {
+  distinct = AreDistinct-disturbed keys sound.distinct;
+  codes = All-map (λ key. key.code < 4096) disturbed keys sound.codes;
+  sizes = All-map (λ key. action_size key.action ≤ 32) disturbed keys sound.sizes;
+  masks = All-map (λ key. held_mods key.action < 256) disturbed keys sound.masks;
+}
+
+-- ---- held keys are few
+
+member_below : (keys : List HeldKey) (q : ℕ) → All (λ key. key.code < 4096) keys → list_any (eqb q) (map code_of keys) ≡ true → q < 4096
+member_below [] q below is_in = absurd (cc)
+member_below (key ∷ keys) q below is_in =
+    let first = All-head (λ k. k.code < 4096) key keys below in
+    elim (cases_Bool (eqb q key.code)) [
+      | inl is_here ↦ let same = eqb-true q key.code is_here in omega arith
+      | inr is_there ↦ member_below keys q (All-tail (λ k. k.code < 4096) key keys below) (rw is_there at is_in)
+    ]
+
+AllPairs-codes : (keys : List HeldKey) → AreDistinct keys → AllPairs (λ a b. a ≢ b) (map code_of keys)
+AllPairs-codes keys apart = λ i j d before within.
+    let long = length-codes keys in
+    let inside : j < length keys = omega arith in
+    let outside : i < length keys = omega arith in
+    rw (get_or-map code_of keys i (any_key keys) d outside, get_or-map code_of keys j (any_key keys) d inside)
+    (apart i j (any_key keys) before inside)
+
+pub length-sound : (keys : List HeldKey) → AreSound keys → length keys ≤ 4096
+length-sound keys sound =
+    let few = length-le_from_distinct_below (map code_of keys) 4096
+    (IsDistinct-from_AllPairs Decides-eqb (map code_of keys) (AllPairs-codes keys sound.distinct))
+    (λ q is_in. member_below keys q sound.codes is_in) in
+    omega (arith, length-codes keys)
+
+-- ---- a key that isn't held
+
+none_held : (code : ℕ) (keys : List HeldKey) → is_held code keys ≡ false → All (λ key. key.code ≢ code) keys
+none_held code [] h = λ k d within. absurd (omega arith)
+none_held code (key ∷ keys) h =
+    All-cons (λ k. k.code ≢ code) key keys
+    (λ same. let yes = eq-eqb key.code code same in absurd (cc (rw yes at h)))
+    (none_held code keys (or_false_right (is_at code key) (is_held code keys) h))
+
+pub AreSound-push : (keys : List HeldKey) (key : HeldKey) → AreSound keys → key.code < 4096 → action_size key.action ≤ 32 → held_mods key.action < 256 → is_held key.code keys ≡ false → AreSound (keys ++ key ∷ [])
+AreSound-push keys key sound below size mask new = record {
+  distinct = all_pairs_push (λ a b. a.code ≢ b.code) keys key sound.distinct (λ k d within. none_held key.code keys new k d within);
+  codes = All-push (λ k. k.code < 4096) keys key sound.codes below;
+  sizes = All-push (λ k. action_size k.action ≤ 32) keys key sound.sizes size;
+  masks = All-push (λ k. held_mods k.action < 256) keys key sound.masks mask;
+}
+
+pub base_mods-push : (keys : List HeldKey) (key : HeldKey) → base_mods (keys ++ key ∷ []) ≡ bit_or (base_mods keys) (held_mods key.action)
+base_mods-push keys key = fold-append (λ mods k. bit_or mods (held_mods k.action)) 0 keys (key ∷ [])
+
+pub base_group-push : (keys : List HeldKey) (key : HeldKey) → base_group (keys ++ key ∷ []) ≡ base_group_after key.action (base_group keys)
+base_group-push keys key = fold-append (λ z k. base_group_after k.action z) (pos 0) keys (key ∷ [])
+
+pub count_of-push : (bit : ℕ) (keys : List HeldKey) (key : HeldKey) → count_of bit (keys ++ key ∷ []) ≡ count_of bit keys + bit_at (held_mods key.action) bit
+count_of-push bit keys key = fold-append (λ n k. n + bit_at (held_mods k.action) bit) 0 keys (key ∷ [])
+
+-- ---- a key that is let go
+
+pub AreSound-remove : (keys : List HeldKey) (place : ℕ) → place < length keys → AreSound keys → AreSound (remove keys place)
+AreSound-remove keys place within sound = record {
+  distinct = all_pairs_remove (λ a b. a.code ≢ b.code) keys place within sound.distinct;
+  codes = All-append (λ k. k.code < 4096) (take place keys) (drop (suc place) keys) (All-take (λ k. k.code < 4096) place keys sound.codes) (All-drop (λ k. k.code < 4096) (suc place) keys sound.codes);
+  sizes = All-append (λ k. action_size k.action ≤ 32) (take place keys) (drop (suc place) keys) (All-take (λ k. action_size k.action ≤ 32) place keys sound.sizes) (All-drop (λ k. action_size k.action ≤ 32) (suc place) keys sound.sizes);
+  masks = All-append (λ k. held_mods k.action < 256) (take place keys) (drop (suc place) keys) (All-take (λ k. held_mods k.action < 256) place keys sound.masks) (All-drop (λ k. held_mods k.action < 256) (suc place) keys sound.masks);
+}
+
+-- a key that changes no group leaves the base group as it is
+base_group_after-other : (action : Action) (old : ℤ) → is_group_held action ≡ false → base_group_after action old ≡ old
+base_group_after-other actions.None old h = refl
+base_group_after-other (actions.SetMods m c) old h = refl
+base_group_after-other (actions.LatchMods m c l) old h = refl
+base_group_after-other (actions.LockMods m l u) old h = refl
+base_group_after-other (actions.SetGroup change c) old h = absurd (cc)
+base_group_after-other (actions.LatchGroup change c l) old h = absurd (cc)
+base_group_after-other (actions.LockGroup change) old h = refl
+
+fold-remove : (old : ℤ) (keys : List HeldKey) (place : ℕ) (d : HeldKey) → place < length keys → is_group_held (get_or keys place d).action ≡ false → fold (λ z k. base_group_after k.action z) old (remove keys place) ≡ fold (λ z k. base_group_after k.action z) old keys
+fold-remove old [] place d within other = absurd (omega arith)
+fold-remove old (key ∷ keys) zero d within other = ap (λ z. fold (λ y k. base_group_after k.action y) z keys) (sym (base_group_after-other key.action old other))
+fold-remove old (key ∷ keys) (suc place) d within other = fold-remove (base_group_after key.action old) keys place d (omega arith) other
+
+pub base_group-remove : (keys : List HeldKey) (place : ℕ) (d : HeldKey) → place < length keys → is_group_held (get_or keys place d).action ≡ false → base_group (remove keys place) ≡ base_group keys
+base_group-remove keys place d within other = fold-remove (pos 0) keys place d within other
+
+-- ---- base modifiers by their counts
+
+abbrev pub some_count : ℕ → ℕ
+some_count n = cond (eqb n 0) 0 1
+
+max_some : (n b : ℕ) → b < 2 → max (some_count n) b ≡ some_count (n + b)
+max_some n b small = grind (arith, nat_tests)
+
+fold_bit : (bit mods n : ℕ) (keys : List HeldKey) → bit_at mods bit ≡ some_count n → bit_at (fold (λ m k. bit_or m (held_mods k.action)) mods keys) bit ≡ some_count (fold (λ n k. n + bit_at (held_mods k.action) bit) n keys)
+fold_bit bit mods n [] same = same
+fold_bit bit mods n (key ∷ keys) same =
+    fold_bit bit (bit_or mods (held_mods key.action)) (n + bit_at (held_mods key.action) bit) keys
+    (bit_at_or mods (held_mods key.action) bit ∙ ap (λ b. max b (bit_at (held_mods key.action) bit)) same ∙ max_some n (bit_at (held_mods key.action) bit) (bit_at-lt (held_mods key.action) bit))
+
+fold_below : (mods : ℕ) (keys : List HeldKey) → mods < 256 → All (λ k. held_mods k.action < 256) keys → fold (λ m k. bit_or m (held_mods k.action)) mods keys < 256
+fold_below mods [] small masks = small
+fold_below mods (key ∷ keys) small masks =
+    fold_below (bit_or mods (held_mods key.action)) keys
+    (or_of_8 mods (held_mods key.action) small (All-head (λ k. held_mods k.action < 256) key keys masks))
+    (All-tail (λ k. held_mods k.action < 256) key keys masks)
+
+-- a mask with the bits that some held key sets is the mask of the base modifiers
+pub base_mods_is : (mods : ℕ) (keys : List HeldKey) → mods < 256 → AreSound keys → ((bit : ℕ) → bit < 8 → bit_at mods bit ≡ some_count (count_of bit keys)) → mods ≡ base_mods keys
+base_mods_is mods keys small sound same =
+    same_from_bits_below 8 mods (base_mods keys) small (fold_below 0 keys (omega arith) sound.masks)
+    (λ bit within. same bit within ∙ sym (fold_bit bit 0 0 keys (bit_at-zero bit)))
+
+-- ---- what a look-up finds
+
+some_of : (b : Bool) (n place : ℕ) → cond b (Some n) None ≡ Some place → n ≡ place
+some_of true n place h = cc
+some_of false n place h = absurd (cc)
+
+none_of : (b : Bool) (n : ℕ) → cond b (Some n) None ≡ None → b ≡ false
+none_of true n h = absurd (cc)
+none_of false n h = refl
+
+find_place : (p : HeldKey → Bool) (keys : List HeldKey) (place : ℕ) → position p keys ≡ Some place → position_or_len p keys ≡ place
+find_place p keys place found = some_of (ltb (position_or_len p keys) (length keys)) (position_or_len p keys) place found
+
+pub held_at-place : (code : ℕ) (keys : List HeldKey) (place : ℕ) → position (is_at code) keys ≡ Some place → held_at code keys ≡ slice_get keys place
+held_at-place code keys place found = find_at (is_at code) keys ∙ ap (slice_get keys) (find_place (is_at code) keys place found)
+
+pub held_at-some : (code : ℕ) (keys : List HeldKey) (place : ℕ) (key : HeldKey) → position (is_at code) keys ≡ Some place → key ≡ get_or keys place key → Some key ≡ held_at code keys
+held_at-some code keys place key found read =
+    let within = (position-Some (is_at code) keys place key found).0 in
+    ap (λ k. Some k) read ∙ sym (slice_get-get_or keys place key within) ∙ sym (held_at-place code keys place found)
+
+pub code_at : (code : ℕ) (keys : List HeldKey) (place : ℕ) (key : HeldKey) → position (is_at code) keys ≡ Some place → (place < length keys) × ((get_or keys place key).code ≡ code)
+code_at code keys place key found =
+    let at = position-Some (is_at code) keys place key found in
+    (at.0, eqb-true (get_or keys place key).code code at.1)
+
+pub none_at : (code : ℕ) (keys : List HeldKey) → position (is_at code) keys ≡ None → is_held code keys ≡ false
+none_at code keys absent =
+    let past = none_of (ltb (position_or_len (is_at code) keys) (length keys)) (position_or_len (is_at code) keys) absent in
+    let long = ltb-false (position_or_len (is_at code) keys) (length keys) past in
+    list_any_none (is_at code) keys (λ k d within. fails_before_first (is_at code) keys k d (omega arith))
+
+pub held_at-none : (code : ℕ) (keys : List HeldKey) → is_held code keys ≡ false → held_at code keys ≡ None
+held_at-none code [] h = refl
+held_at-none code (key ∷ keys) h = rw (or_false_left (is_at code key) (is_held code keys) h) (held_at-none code keys (or_false_right (is_at code key) (is_held code keys) h))
+
+pub other_keys-none : (code : ℕ) (keys : List HeldKey) → is_held code keys ≡ false → other_keys code keys ≡ keys
+other_keys-none code [] h = refl
+other_keys-none code (key ∷ keys) h = rw (or_false_left (is_at code key) (is_held code keys) h) (ap (λ ks. key ∷ ks) (other_keys-none code keys (or_false_right (is_at code key) (is_held code keys) h)))
+
+-- the first of distinct keys isn't held among the others
+head_apart : (key : HeldKey) (keys : List HeldKey) → AreDistinct (key ∷ keys) → All (λ k. k.code ≢ key.code) keys
+head_apart key keys apart = λ k d within same. apart 0 (suc k) d (omega arith) (omega arith) (sym same)
+
+tail_apart : (key : HeldKey) (keys : List HeldKey) → AreDistinct (key ∷ keys) → AreDistinct keys
+tail_apart key keys apart = λ i j d before within. apart (suc i) (suc j) d (omega arith) (omega arith)
+
+other_keys-apart : (code : ℕ) (keys : List HeldKey) → All (λ k. k.code ≢ code) keys → other_keys code keys ≡ keys
+other_keys-apart code [] apart = refl
+other_keys-apart code (key ∷ keys) apart = rw (ne_eqb key.code code (All-head (λ k. k.code ≢ code) key keys apart)) (ap (λ ks. key ∷ ks) (other_keys-apart code keys (All-tail (λ k. k.code ≢ code) key keys apart)))
+
+pub remove_is : (code : ℕ) (keys : List HeldKey) (place : ℕ) (d : HeldKey) → AreDistinct keys → place < length keys → (get_or keys place d).code ≡ code → remove keys place ≡ other_keys code keys
+remove_is code [] place d apart within here = absurd (omega arith)
+remove_is code (key ∷ keys) zero d apart within here =
+    rw (eq-eqb key.code code here) (sym (other_keys-apart code keys (λ k e inside same. head_apart key keys apart k e inside (same ∙ sym here))))
+remove_is code (key ∷ keys) (suc place) d apart within here =
+    rw (ne_eqb key.code code (λ same. head_apart key keys apart place d (omega arith) (here ∙ sym same))) (ap (λ ks. key ∷ ks) (remove_is code keys place d (tail_apart key keys apart) (omega arith) here))
+
+-- ---- the base group as the code keeps it
+
+pub record IsSmall (z : ℤ) : Type 0 where
+  pub low : negsuc 131071 ≤ℤ z
+  pub high : z ≤ℤ pos 131072
+  pub fits : SFits w32 z
+
+small_abs : (z : ℤ) → unsigned_abs z ≤ 131072 → IsSmall z
+small_abs (pos n) h = record { low = omega (arith, ints); high = omega (arith, ints); fits = record { sfits = omega arith } }
+small_abs (negsuc n) h = record { low = omega (arith, ints); high = omega (arith, ints); fits = record { sfits = omega arith } }
+
+pub small_group : (keys : List HeldKey) → AreSound keys → IsSmall (base_group keys)
+small_group keys sound =
+    let few = length-sound keys sound in
+    let size = fold_size (pos 0) keys sound.sizes in
+    small_abs (base_group keys) (omega arith)
+
+pub small_more : (keys : List HeldKey) (action : Action) → AreSound keys → action_size action ≤ 32 → SFits w32 (base_group_after action (base_group keys))
+small_more keys action sound size =
+    let few = length-sound keys sound in
+    let before = fold_size (pos 0) keys sound.sizes in
+    let after = base_group_after_size action (base_group keys) in
+    fits_signed_from_abs w32 (base_group_after action (base_group keys)) (omega arith)
+
+pub kept_group : (keys : List HeldKey) (group : ℤ) → AreSound keys → group ≡ base_group keys → to_z w32 (of_z w32 group) ≡ base_group keys
+kept_group keys group sound same = rw same (to_z-of_z w32 (base_group keys) (small_group keys sound).fits)
+
+-- so is that of the first held keys
+pub small_front : (place : ℕ) (keys : List HeldKey) → AreSound keys → IsSmall (base_group (take place keys))
+small_front place keys sound =
+    let few = length-sound keys sound in
+    let part = length-take place keys in
+    let size = fold_size (pos 0) (take place keys) (All-take (λ k. action_size k.action ≤ 32) place keys sound.sizes) in
+    small_abs (base_group (take place keys)) (omega arith)
+
+-- ---- counts stay small
+
+fold_count : (bit n : ℕ) (keys : List HeldKey) → fold (λ n k. n + bit_at (held_mods k.action) bit) n keys ≤ n + length keys
+fold_count bit n [] = omega arith
+fold_count bit n (key ∷ keys) =
+    omega (arith, fold_count bit (n + bit_at (held_mods key.action) bit) keys, bit_at-lt (held_mods key.action) bit)
+
+pub count_of-le : (bit : ℕ) (keys : List HeldKey) → AreSound keys → count_of bit keys ≤ 4096
+count_of-le bit keys sound = omega (arith, fold_count bit 0 keys, length-sound keys sound)
+
+-- ---- one more key fits
+
+pub fits_more : (keys : List HeldKey) (key : HeldKey) → AreSound (keys ++ key ∷ []) → length keys < 4096
+fits_more keys key sound = omega (arith, length-sound (keys ++ key ∷ []) sound, length-append keys (key ∷ []))
+
+-- ---- what is left of the counts and the base group
+
+pub count_left : (bit : ℕ) (keys : List HeldKey) (place : ℕ) (key : HeldKey) (left old mods : ℕ) → place < length keys → key ≡ get_or keys place key → mods ≡ held_mods key.action → old ≡ count_of bit keys → left + bit_at mods bit ≡ old → left ≡ count_of bit (remove keys place)
+count_left bit keys place key left old mods within read mask before less =
+    let parts = sum_by-remove (λ k. bit_at (held_mods k.action) bit) keys place key within in
+    let same : bit_at mods bit ≡ bit_at (held_mods (get_or keys place key).action) bit = ap (λ m. bit_at m bit) (mask ∙ ap (λ k. held_mods k.action) read) in
+    omega arith
+
+pub group_left : (keys : List HeldKey) (place : ℕ) (key : HeldKey) → place < length keys → key ≡ get_or keys place key → is_group_held key.action ≡ false → base_group (remove keys place) ≡ base_group keys
+group_left keys place key within read other =
+    base_group-remove keys place key within (ap (λ k. is_group_held k.action) (sym read) ∙ other)
+
+-- ---- a state is bounded
+
+pub bounded_from : (world : World) → AreSound world.held → IsBounded world
+bounded_from world sound =
+    let small = small_group world.held sound in
+    record {
+      distinct = sound.distinct;
+      few = length-sound world.held sound;
+      counts = λ bit. count_of-le bit world.held sound;
+      low = small.low;
+      high = small.high;
+    }

@@ -1,0 +1,3 @@
+pub mod HeldLists
+pub mod Runs
+pub mod TableReads

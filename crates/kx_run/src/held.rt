@@ -1,0 +1,195 @@
+ghost use Rattle.std.specs.Prelude.{◌≡◌, ℕ, ◌^◌, ◌<◌, ◌≤◌, ◌≤ℤ◌, false, List, [], ◌∷◌, ◌++◌, length, slice_index_or, remove, position, map, IfOk, IfNone, pos, negsuc};
+ghost use Rattle.kx_mods.specs.Mods.{mask};
+ghost use Rattle.kx_run.specs.Held.{held_mods, base_mods, base_group, is_group_held, is_at, is_held, held_at, other_keys, disturbed, action_size, AreSound};
+
+use crate::counts::{Counts, counted, counted_mods, uncounted};
+use crate::group::base_group_with;
+use kx_mods::Mods;
+use kx_resolve::Action;
+use std::alloc::{AllocError, Global};
+use std::marker::Model;
+
+/// How many codes there are, so how many keys can be held at most.
+pub const CODES: usize = 4096;
+
+/// A key that is down, with what its press found.
+#[derive(Clone, Copy, PartialEq, Eq, Debug)]
+pub struct HeldKey {
+    /// The keycode.
+    pub code: u16,
+    /// The action found at the press.
+    pub action: Action,
+    /// Which modifiers of a locking action were locked at the press.
+    pub recorded: Mods,
+    /// Whether another key was pressed since.
+    pub disturbed: bool,
+}
+
+/// The modifiers that an action sets for as long as its key is down.
+pub fn mods_of(action: Action) -> Mods
+    ensures value { mask result ≡ held_mods action }
+    ensures in_range { mask result < 2 ^ 8 }
+{
+    match action {
+        Action::SetMods { mods, .. } => mods,
+        Action::LatchMods { mods, .. } => mods,
+        Action::LockMods { mods, .. } => mods,
+        _ => Mods::NONE,
+    }
+}
+
+/// The keys that are down, in the order of their presses.
+#[derive(Debug, Drop)]
+pub struct HeldKeys {
+    keys: Vec<HeldKey>,
+    counts: Counts,
+    mods: Mods,
+    group: i32,
+}
+
+impl Model for HeldKeys {
+    ghost use Rattle.std.specs.Prelude.{List};
+    ghost use Rattle.kx_run.specs.declared.held.HeldKey.{HeldKey};
+
+    ghost Value = { List HeldKey };
+
+    ghost use Rattle.kx_run.specs.HeldKeys.{AreKept};
+
+    ghost view = { λ h. h.keys.items };
+
+    ghost invariant = { AreKept };
+}
+
+impl HeldKeys {
+    /// No keys, with room for one of each code: no later call takes memory.
+    pub fn new(alloc: Global) -> Result<HeldKeys, AllocError>
+        ensures { IfOk result (λ keys. keys ≡ []) }
+    {
+        Ok(HeldKeys {
+            keys: Vec::with_capacity(alloc, CODES)?,
+            counts: [0; 8],
+            mods: Mods::NONE,
+            group: 0,
+        })
+    }
+
+    /// The modifiers that the keys set.
+    pub fn mods(&self) -> Mods
+        ensures { mask result ≡ base_mods self.now }
+    {
+        self.mods
+    }
+
+    /// The group that the keys set, or add up to.
+    pub fn group(&self) -> i32
+        ensures value { result ≡ base_group self.now }
+        ensures low { negsuc 131071 ≤ℤ result }
+        ensures high { result ≤ℤ pos 131072 }
+        ensures sound { AreSound self.now }
+    {
+        self.group
+    }
+
+    /// Whether a code's key is down.
+    pub fn is_held(&self, code: u16) -> bool
+        ensures value { result ≡ is_held code self.now }
+        ensures sound { AreSound self.now }
+    {
+        self.keys.iter().any(|key| key.code == code)
+    }
+
+    /// Tells each key that another one was pressed.
+    pub fn disturb(&mut self)
+        ensures { self.new ≡ map disturbed self.old }
+    {
+        disturb_all(&mut self.keys);
+    }
+
+    /// Adds a key that isn't held.
+    pub fn hold(&mut self, key: HeldKey)
+        requires code { key.code < 4096 }
+        requires size { action_size key.action ≤ 32 }
+        requires new_code { is_held key.code self.old ≡ false }
+        ensures { self.new ≡ self.old ++ key ∷ [] }
+    {
+        let mods = mods_of(key.action);
+        self.counts = counted(self.counts, mods);
+        self.mods = self.mods.with(mods);
+        self.group = base_group_with(key.action, self.group);
+        self.keys.push_reserved(key);
+    }
+
+    /// Lets go of a code's key, where it is held.
+    pub fn take(&mut self, code: u16) -> Option<HeldKey>
+        ensures found { result ≡ held_at code self.old }
+        ensures rest { self.new ≡ other_keys code self.old }
+        ensures none { IfNone result (self.new ≡ self.old) }
+    {
+        match place_of(&self.keys, code) {
+            Some(place) => Some(self.remove(place)),
+            None => None,
+        }
+    }
+
+    /// Lets go of the key at a place, counted from 0 in press order.
+    fn remove(&mut self, place: usize) -> HeldKey
+        requires { place < length self.old }
+        ensures key { result ≡ slice_index_or self.old place result }
+        ensures rest { self.new ≡ remove self.old place }
+        ensures sound { AreSound self.old }
+    {
+        let key = self.keys.remove(place);
+        self.counts = uncounted(self.counts, mods_of(key.action));
+        self.mods = counted_mods(&self.counts);
+        self.group = group_without(key.action, self.group, &self.keys);
+        key
+    }
+}
+
+/// Tells each of some keys that another one was pressed.
+fn disturb_all(keys: &mut [HeldKey])
+    ensures { keys.new ≡ map disturbed keys.old }
+{
+    for key in keys.iter_mut() {
+        key.disturbed = true;
+    }
+}
+
+/// The place of a code's key, counted from 0.
+fn place_of(keys: &[HeldKey], code: u16) -> Option<usize>
+    ensures { result ≡ position (is_at code) keys.now }
+{
+    keys.iter().position(|key| key.code == code)
+}
+
+/// Whether an action changes the base group while its key is down.
+fn changes_group(action: Action) -> bool
+    ensures { result ≡ is_group_held action }
+{
+    matches!(action, Action::SetGroup { .. } | Action::LatchGroup { .. })
+}
+
+/// The base group of the keys that are left when one with this action is let go, where `old` is the base group before.
+fn group_without(action: Action, old: i32, keys: &[HeldKey]) -> i32
+    requires sound { AreSound keys.now }
+    requires unchanged { is_group_held action ≡ false → old ≡ base_group keys.now }
+    ensures { result ≡ base_group keys.now }
+{
+    if changes_group(action) {
+        group_of(keys)
+    } else {
+        old
+    }
+}
+
+/// The base group of some held keys.
+fn group_of(keys: &[HeldKey]) -> i32
+    requires sound { AreSound keys.now }
+    ensures { result ≡ base_group keys.now }
+{
+    let mut group = 0;
+    for key in keys {
+        group = base_group_with(key.action, group);
+    }
+    group
+}

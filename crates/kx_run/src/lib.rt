@@ -1,0 +1,21 @@
+//! The running keyboard.
+#![tactic(auto)]
+
+mod counts;
+mod direction;
+mod follower;
+mod group;
+mod held;
+mod keyboard;
+mod lamps;
+mod lookup;
+mod player;
+mod reply;
+#[cfg(test)]
+mod tests;
+
+pub use direction::{Direction, Event};
+pub use follower::Follower;
+pub use held::HeldKey;
+pub use player::Player;
+pub use reply::{Components, Look, Reply};
