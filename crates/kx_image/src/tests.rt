@@ -1,3 +1,5 @@
+mod slow;
+
 use super::*;
 use crate::fault::ImageFault;
 use ks_core::MemOut;
@@ -172,4 +174,24 @@ fn opens_the_empty_image(rt: HostRuntime) {
     assert_eq!(rt; fault_of(&empty[..31]), Some(ImageFault::Truncated));
     empty[4] = 1;
     assert_eq!(rt; fault_of(&empty[..28]), None);
+}
+
+#[test]
+fn agrees_with_a_slow_reader(rt: HostRuntime) {
+    for image in [ONE.as_slice(), TWO.as_slice(), KEYS.as_slice()] {
+        let mut bytes = [0; 98];
+        let long = image.len();
+        assert!(rt; long <= 98);
+        for place in 0..long {
+            for byte in 0..=255 {
+                bytes[..long].copy_from_slice(image);
+                bytes[place] = byte;
+                let changed = &bytes[..long];
+                assert!(rt;
+                    slow::agrees(changed, fault_of(changed)),
+                    "byte {place} as {byte}"
+                );
+            }
+        }
+    }
 }
