@@ -1,5 +1,6 @@
 #!/usr/bin/env bash
 # Times of `View::open`. Marks: 4,096 keys and 65,535 types under hostile names in a few milliseconds each;
+# (names of 255 bytes that differ in their last four alone; nothing is hashed, so no names share a hash);
 # a desktop's image (250 keys of 3 groups, about 40 KB) in well under 100 microseconds.
 set -eu
 top=$(cd "$(dirname "$0")/.." && pwd)

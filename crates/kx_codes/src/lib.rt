@@ -1,8 +1,16 @@
 //! Keycodes and the names of keys.
 #![tactic(auto)]
 
+mod aliases;
+mod checks;
+mod gathered;
 mod pairs;
 mod reader;
+mod table;
+#[cfg(test)]
+mod tests;
+mod walking;
 
-pub use pairs::Codes;
-pub use reader::{GREATEST_CODE, MOST_NAME_BYTES, codes};
+pub use checks::{GREATEST_CODE, MOST_NAME_BYTES};
+pub use reader::codes;
+pub use table::Codes;

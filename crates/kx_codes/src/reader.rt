@@ -1,62 +1,28 @@
-ghost use Rattle.std.specs.Prelude.{◌≤◌, IfOk};
+ghost use Rattle.std.specs.Prelude.{◌≡◌, ◌∷◌, [], Contains, IfErr, IfOk, OnOk};
+ghost use Rattle.kx_include.specs.Expansion.{body_of};
+ghost use Rattle.kx_lex.specs.declared.fault.Fault.TheVariants.{Memory};
+ghost use Rattle.kx_parse.specs.declared.tree.Kind.TheVariants.{Keycodes};
+ghost use Rattle.kx_codes.specs.CodeFaults.{faults_of};
+ghost use Rattle.kx_codes.specs.Codes.{CodesShow};
 
-use crate::pairs::Codes;
-use kx_lex::{At, Fault, Span};
-use kx_parse::{Item, Kind, Name, Number, Statement, Tree};
+use crate::table::{Codes, codes_by_name, names_by_code};
+use crate::walking::gather;
+use kx_include::Library;
+use kx_lex::Fault;
 use std::alloc::Global;
 
-/// The greatest keycode.
-pub const GREATEST_CODE: u32 = 4095;
-
-/// A name may have this many bytes.
-pub const MOST_NAME_BYTES: usize = 255;
-
-fn at(span: Span) -> At {
-    At { file: 0, span }
-}
-
-/// The keycode of a pair, where name and code are within the limits; `statement` is the whole of it.
-fn checked_code(name: &Name, code: Number, statement: Span) -> Result<u16, Fault>
-    ensures { IfOk result (λ code. code ≤ 4095) }
-{
-    if name.bytes.as_slice().len() > MOST_NAME_BYTES {
-        return Err(Fault::TooMany(at(statement)));
-    }
-    if code.value > GREATEST_CODE {
-        return Err(Fault::CodeRange(at(code.span)));
-    }
-    Ok(code.value as u16)
-}
-
-fn take_item(codes: &mut Codes, alloc: Global, item: &Item) -> Result<(), Fault> {
-    match item {
-        Item::Statement {
-            mode,
-            statement: Statement::Keycode { name, code },
-            span,
-            ..
-        } => {
-            let code = checked_code(name, *code, *span)?;
-            codes.take(alloc, *mode, name.bytes.as_slice(), code)?;
-            Ok(())
-        }
-        other => Err(Fault::UnknownField(at(other.word_span()))),
-    }
-}
-
-/// The pairs that a source's keycodes sections leave at their end, in the order of the text.
+/// The pairs and the aliases that a source's keycodes leave at their end.
 ///
 /// # Errors
-/// `CodeRange` at a code above 4,095, `TooMany` at a statement whose name has over 255 bytes,
-/// `UnknownField` at what is no pair of a name and a code; `Memory`.
-pub fn codes(alloc: Global, tree: &Tree) -> Result<Codes, Fault> {
-    let mut codes = Codes::new(alloc);
-    for section in tree.sections.as_slice() {
-        if section.kind == Kind::Keycodes {
-            for item in section.items.as_slice() {
-                take_item(&mut codes, alloc, item)?;
-            }
-        }
-    }
-    Ok(codes)
+/// `CodeRange` at a code above 4,095, `TooMany` at a statement with a name of over 255 bytes, `UnknownField` at a
+/// statement that keycodes don't have; `Memory`.
+pub fn codes(alloc: Global, library: &Library) -> Result<Codes, Fault>
+    ensures shows { IfOk result (λ c. CodesShow c (body_of library.now Keycodes)) }
+    ensures faultless { OnOk result (faults_of (body_of library.now Keycodes) ≡ []) }
+    ensures fault { IfErr result (λ e. Contains (Memory ∷ faults_of (body_of library.now Keycodes)) e) }
+{
+    let gathered = gather(alloc, library)?;
+    let by_name = codes_by_name(alloc, gathered.pairs.as_slice())?;
+    let by_code = names_by_code(alloc, gathered.pairs.as_slice())?;
+    Ok(Codes::of(by_name, by_code, gathered.aliases))
 }

@@ -1,3 +1,4 @@
+mod full;
 mod slow;
 
 use super::*;
@@ -172,8 +173,13 @@ fn opens_the_empty_image(rt: HostRuntime) {
     empty[..5].copy_from_slice(&[0x4b, 0x58, 0x49, 0x0a, 2]);
     assert_eq!(rt; fault_of(&empty), None);
     assert_eq!(rt; fault_of(&empty[..31]), Some(ImageFault::Truncated));
-    empty[4] = 1;
-    assert_eq!(rt; fault_of(&empty[..28]), None);
+    let mut older = empty;
+    older[4] = 1;
+    assert_eq!(rt; fault_of(&older[..28]), None);
+    let mut room = [0; 33];
+    let mut out = MemOut::new(&mut room);
+    assert_eq!(rt; upgrade(&older[..28], &mut out), Ok(()));
+    assert!(rt; out.written() == empty.as_slice());
 }
 
 #[test]

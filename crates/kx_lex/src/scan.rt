@@ -16,6 +16,9 @@ use std::alloc::Global;
 /// A text may have this many bytes.
 pub const MOST_TEXT_BYTES: usize = 1_048_576;
 
+/// Most texts have a token for each four bytes or more, so that their list of tokens never moves.
+const USUAL_TOKEN_BYTES: usize = 4;
+
 /// What the front of a text begins, with its length in bytes.
 #[derive(Clone, Copy, Debug, PartialEq, Eq)]
 pub enum Piece {
@@ -285,7 +288,7 @@ pub fn lex(alloc: Global, text: &[u8]) -> Result<Vec<Token>, Fault>
     if text.len() > MOST_TEXT_BYTES {
         return Err(Fault::TooLong(whole(text)));
     }
-    let mut tokens = Vec::new(alloc);
+    let mut tokens = Vec::with_capacity(alloc, text.len() / USUAL_TOKEN_BYTES)?;
     let mark = mark_len(text);
     let mut offset = mark as u32;
     let mut rest = after(text, mark);

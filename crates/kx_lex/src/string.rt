@@ -86,9 +86,13 @@ fn read_byte(out: &mut Vec<u8>, state: Reading, byte: u8) -> Result<Reading, All
 ///
 /// # Errors
 /// Where a growth is refused.
+#[tactic(auto, using(crate::proofs::Strings::plain_texts))]
 pub fn text_bytes(alloc: Global, text: &[u8]) -> Result<Vec<u8>, AllocError>
     ensures { IfOk result (λ bytes. bytes.items ≡ text_value Plain text.now) }
 {
+    if !text.contains(&b'\\') {
+        return Vec::from_slice(alloc, text);
+    }
     let mut out = Vec::new(alloc);
     let mut state = Reading::Plain;
     for byte in text {

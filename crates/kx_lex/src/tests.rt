@@ -27,7 +27,7 @@ fn shown(rt: &(impl Abort + AllocGlobal), text: &[u8]) -> Result<String, Fail> {
 
 #[test]
 fn tokens_are_the_longest_of_their_kind(rt: HostRuntime) -> Result<(), Fail> {
-    let rows: [(&[u8], &str); 17] = [
+    let rows: [(&[u8], &str); 28] = [
         (b"", ""),
         (b" \t\n\x0b\x0c\r", ""),
         (b"a_1 b", "w0-3 w4-5 "),
@@ -45,6 +45,17 @@ fn tokens_are_the_longest_of_their_kind(rt: HostRuntime) -> Result<(), Fail> {
         (b"x \"ab\ncd\"", "F4 OpenString at 0:2-5"),
         (b"\"a\\\n\"", "F4 OpenString at 0:0-3"),
         (b"<A B>", "F5 OpenKeyName at 0:0-2"),
+        (b"<A", "F5 OpenKeyName at 0:0-2"),
+        (b"<!~><<>", "k0-4 k4-7 "),
+        (b"xkb_keymap { xkb_symbols \"x", "F4 OpenString at 0:25-27"),
+        (b"\"x\\", "F4 OpenString at 0:0-3"),
+        (b"\xef\xbb\xbf\xef\xbb\xbf", "F3 BadByte at 0:3-4"),
+        (b" \xef\xbb\xbf", "F3 BadByte at 0:1-2"),
+        (b"\xef\xbb", "F3 BadByte at 0:0-1"),
+        (b"0X1g 0xg", "n0-3 w3-4 n5-6 w6-8 "),
+        (b"4294967296 00", "n0-10 n11-13 "),
+        (b"a%", "F3 BadByte at 0:1-2"),
+        (b"a / b /* c", "w0-1 m2-3 w4-5 m6-7 m7-8 w9-10 "),
     ];
     for (text, wanted) in rows {
         assert_eq!(rt; shown(&rt, text)?.as_str(), wanted);
@@ -66,13 +77,16 @@ fn a_text_has_a_greatest_length(rt: HostRuntime) -> Result<(), Fail> {
 
 #[test]
 fn text_stands_for_bytes(rt: HostRuntime) -> Result<(), Fail> {
-    let rows: [(&[u8], &[u8]); 6] = [
+    let rows: [(&[u8], &[u8]); 9] = [
         (b"ab", b"ab"),
         (b"\\n\\t\\r\\b\\f\\v\\e", b"\n\t\r\x08\x0c\x0b\x1b"),
         (b"\\101\\1012\\7", b"AA2\x07"),
         (b"\\377\\400", b"\xff\x200"),
         (b"\\8\\\\\\\"", b"8\\\""),
         (b"\\0", b"\0"),
+        (b"\\00017", b"\x0017"),
+        (b"\\1a\\12\\123", b"\x01a\x0aS"),
+        (b"\\N\\x41\\9", b"Nx419"),
     ];
     for (text, wanted) in rows {
         let bytes = crate::text_bytes(rt.alloc(), text)?;

@@ -1,11 +1,13 @@
 -- Geometry: any tokens, with their braces in pairs, up to the brace that closes the section.
-use Rattle.std.specs.Prelude.{ℕ, zero, suc, ◌+◌, ◌≤◌, Bool, true, false, List, [], ◌∷◌, length, ◌≡◌, Err, refl}
-use Rattle.std.proofs.Common.{arith, sym, ◌∙◌, subst}
+use Rattle.std.specs.Prelude.{ℕ, zero, suc, ◌+◌, ◌≤◌, Bool, true, false, List, [], ◌∷◌, length, ◌≡◌, Ok, Err, refl}
+use Rattle.std.proofs.Common.{arith, sym, ◌∙◌, subst, append-nil}
 use Rattle.kx_lex.specs.declared.token.Token.{Token}
 use Rattle.kx_lex.specs.declared.fault.Fault.{Fault}
 use Rattle.kx_parse.specs.Laws.{Read, done, which, done-same}
-use Rattle.kx_parse.specs.Production.{Production, syntax_end}
-use Rattle.kx_parse.specs.Tokens.{is_mark}
+use Rattle.kx_parse.specs.Kinds.{is_mark}
+use Rattle.kx_parse.specs.Stops.{syntax_end, IsBehind, StopsWithin}
+use Rattle.kx_parse.specs.Reasons.{behind_self, behind_more, behind_first}
+use Rattle.kx_parse.specs.Production.{Production}
 use Rattle.kx_parse.specs.Values.{open_brace, close_brace}
 
 -- tokens whose braces stand in pairs, and the rest
@@ -89,6 +91,13 @@ geometry-fault text (t ∷ ts) d e w = go (is_mark text open_brace t) (is_mark t
 pub geometry-fails : (text : List ℕ) (ts : List Token) (e : Fault) → geometry_read text 0 ts ≡ Err e → GeometryBlames text ts e
 geometry-fails text ts e w = (geometry-fault text ts 0 e w, λ rest b c. let good : geometry_read text 0 ts ≡ done tt rest = geometry-again text ts tt rest (b, c) in cc)
 
+pub geometry-blamed : (text : List ℕ) (ts : List Token) (e : Fault) → GeometryBlames text ts e → geometry_read text 0 ts ≡ Err e
+geometry-blamed text ts e h = go (geometry_read text 0 ts) refl
+  where
+    go : (w : Read (Unit {0})) → geometry_read text 0 ts ≡ w → w ≡ Err e
+    go (Ok p) same = let s = geometry-takes text ts p.0 p.1 same in absurd (h.1 p.1 s.0 s.1)
+    go (Err f) same = rw (geometry-fault text ts 0 f same, h.0) refl
+
 Balanced-uses : (text : List ℕ) {ts rest : List Token} → Balanced text ts rest → length rest ≤ length ts
 Balanced-uses text nothing = omega arith
 Balanced-uses text (other h k b) = let less = Balanced-uses text b in omega arith
@@ -97,7 +106,15 @@ Balanced-uses text (nested ho hc hd b1 b2) = let one = Balanced-uses text b1 in 
 pub geometry-uses : (text : List ℕ) (ts : List Token) (x : Unit {0}) (rest : List Token) → Balanced text ts rest × IsClosing text rest → length rest + 0 ≤ length ts
 geometry-uses text ts x rest s = let less = Balanced-uses text s.0 in omega arith
 
-unfoldable pub geometry : List ℕ → Production (Unit {0})
+pub geometry-behind : (text : List ℕ) {ts rest : List Token} → Balanced text ts rest → IsBehind ts rest
+geometry-behind text nothing = behind_self refl
+geometry-behind text (other {t} {ts} h k b) = behind_more (behind_first t ts) (geometry-behind text b)
+geometry-behind text (nested {o} {c} {ts} {mid} ho hc hd b1 b2) = behind_more (behind_first o ts) (behind_more (geometry-behind text b1) (behind_more (behind_first c mid) (geometry-behind text b2)))
+
+pub geometry-stops : (text : List ℕ) (ts : List Token) (e : Fault) → GeometryBlames text ts e → StopsWithin text ts e
+geometry-stops text ts e h = record { rest = []; behind = record { before = ts; tokens = sym (append-nil ts) }; why = h.0 }
+
+unfoldable pub geometry : (text : List ℕ) → Production text (Unit {0})
 geometry text = record {
   spells = λ ts x rest. Balanced text ts rest × IsClosing text rest;
   read = geometry_read text 0;
@@ -106,5 +123,8 @@ geometry text = record {
   takes = geometry-takes text;
   again = geometry-again text;
   fails = geometry-fails text;
+  blamed = geometry-blamed text;
   uses = geometry-uses text;
+  behind = λ ts x rest s. geometry-behind text s.0;
+  stops = geometry-stops text;
 }

@@ -113,6 +113,14 @@ module _ {A : Type 0} (test : List Token → Bool) (spells : List Token → A �
   many-fails zero ts e enough w = absurd (omega arith)
   many-fails (suc n) ts e enough w = fails-round n (many-fails n) (test ts) ts e enough refl w
 
+  pub many-blamed : ((ts : List Token) (e : Fault) → blames ts e → read ts ≡ Err e) → (n : ℕ) (ts : List Token) (e : Fault) → length ts < n → (xs : List A) (mid : List Token) → many_front test spells xs ts mid → test mid ≡ true → blames mid e → many_read test read n ts ≡ Err e
+  many-blamed blamed zero ts e enough xs mid front h w = absurd (omega arith)
+  many-blamed blamed (suc n) ts e enough [] mid front h w = rw (subst (λ (r : List Token). test r ≡ true) (sym front) h, blamed ts e (subst (λ (r : List Token). blames r e) (sym front) w)) refl
+  many-blamed blamed (suc n) ts e enough (x ∷ xs) mid front h w =
+      let shorter = uses ts x front.1 front.2 in
+      let after = many-blamed blamed n front.1 e (omega arith) xs mid front.3 h w in
+      rw (front.0, again ts x front.1 front.2, after) refl
+
   pub many-uses : (xs : List A) (ts rest : List Token) → many_front test spells xs ts rest → length rest ≤ length ts
   many-uses [] ts rest front = let e : length ts ≡ length rest = ap (λ (r : List Token). length r) front in omega arith
   many-uses (x ∷ xs) ts rest front =
@@ -143,6 +151,10 @@ module _ {A B : Type 0} (spells : List Token → A → List Token → Type 0) (b
       go (inl here) = inl (fails ts e here)
       go (inr after) = inr (after.0, after.1, takes ts after.0 after.1 after.2, more after.0 after.1 e after.3)
 
+  pub then-blamed : ((ts : List Token) (e : Fault) → blames ts e → read ts ≡ Err e) → ((x : A) (ts : List Token) (e : Fault) → then_blames x ts e → later x ts ≡ Err e) → (ts : List Token) (e : Fault) → ThenBlames spells blames then_blames ts e → then_read (read ts) later ≡ Err e
+  then-blamed blamed more ts e (inl h) = rw (blamed ts e h) refl
+  then-blamed blamed more ts e (inr h) = rw (again ts h.0 h.1 h.2) (more h.0 h.1 e h.3)
+
   pub then-uses : (then_least : A → ℕ) → ((x : A) (ts : List Token) (y : B) (rest : List Token) → then_spells x ts y rest → length rest + then_least x ≤ length ts) → (ts : List Token) (y : B) (rest : List Token) → ThenSpells spells then_spells ts y rest → length rest + least ≤ length ts
   then-uses then_least more ts y rest s = let front = uses ts s.0 s.1 s.2 in let back = more s.0 s.1 y rest s.3 in omega arith
 
@@ -165,6 +177,10 @@ module _ {A : Type 0} (test : List Token → Bool) (spells other : List Token �
       go : (b : Bool) → test ts ≡ b → which b (read ts) (other_read ts) ≡ Err e → EitherBlames test blames other_blames ts e
       go true h v = inl (h, one ts e v)
       go false h v = inr (h, two ts e v)
+
+  pub either-blamed : ((ts : List Token) (e : Fault) → blames ts e → read ts ≡ Err e) → ((ts : List Token) (e : Fault) → other_blames ts e → other_read ts ≡ Err e) → (ts : List Token) (e : Fault) → EitherBlames test blames other_blames ts e → which (test ts) (read ts) (other_read ts) ≡ Err e
+  either-blamed one two ts e (inl h) = rw h.0 (one ts e h.1)
+  either-blamed one two ts e (inr h) = rw h.0 (two ts e h.1)
 
   pub either-uses : (m n : ℕ) → ((ts : List Token) (x : A) (rest : List Token) → spells ts x rest → length rest + m ≤ length ts) → ((ts : List Token) (x : A) (rest : List Token) → other ts x rest → length rest + n ≤ length ts) → (ts : List Token) (x : A) (rest : List Token) → EitherSpells test spells other ts x rest → length rest + min m n ≤ length ts
   either-uses m n one two ts x rest (inl s) = let h = one ts x rest s.1 in omega arith
@@ -191,6 +207,10 @@ module _ (test : Token → Bool) (fault_at : Token → Fault) (fault_end : Fault
       go true h v = cc
       go false h v = inr (u, ts, refl, h, (let k : fault_at u ≡ e = cc in sym k))
 
+  pub one-blamed : (ts : List Token) (e : Fault) → OneBlames test fault_at fault_end ts e → one_read test fault_at fault_end ts ≡ Err e
+  one-blamed ts e (inl h) = rw (h.0, h.1) refl
+  one-blamed ts e (inr h) = rw (h.2, h.3, h.4) refl
+
   pub one-uses : (ts : List Token) (t : Token) (rest : List Token) → OneSpells test ts t rest → length rest + 1 ≤ length ts
   one-uses ts t rest s = let same : length ts ≡ length (t ∷ rest) = ap (λ (r : List Token). length r) s.0 in omega arith
 
@@ -210,6 +230,33 @@ pub settle-fails : {A : Type 0} (outcome : Result A Fault) (ts : List Token) (e 
 settle-fails (Ok y) ts e w = cc
 settle-fails {A} (Err f) ts e w = let same : f ≡ e = cc in ap (λ (h : Fault). let r : Result A Fault = Err h in r) same
 
+-- one token that passes a test, and what it stands for
+module _ {A : Type 0} (test : Token → Bool) (fault_at : Token → Fault) (fault_end : Fault) (outcome : Token → Result A Fault) where
+  pub one_as-takes : (ts : List Token) (x : A) (rest : List Token) → then_read (one_read test fault_at fault_end ts) (λ t. settle_read (outcome t)) ≡ done x rest → ThenSpells (OneSpells test) (λ t ts x rest. (outcome t ≡ Ok x) × (ts ≡ rest)) ts x rest
+  one_as-takes ts x rest e =
+      let first = then-first (one_read test fault_at fault_end ts) (λ t. settle_read (outcome t)) x rest e in
+      (first.0, first.1, one-takes test fault_at fault_end ts first.0 first.1 first.2, settle-takes (outcome first.0) first.1 x rest first.3)
+
+  pub one_as-again : (ts : List Token) (x : A) (rest : List Token) → ThenSpells (OneSpells test) (λ t ts x rest. (outcome t ≡ Ok x) × (ts ≡ rest)) ts x rest → then_read (one_read test fault_at fault_end ts) (λ t. settle_read (outcome t)) ≡ done x rest
+  one_as-again ts x rest s = rw (one-again test fault_at fault_end ts s.0 s.1 s.2) (settle-again (outcome s.0) s.1 x rest s.3)
+
+  pub one_as-fails : (ts : List Token) (e : Fault) → then_read (one_read test fault_at fault_end ts) (λ t. settle_read (outcome t)) ≡ Err e → ThenBlames (OneSpells test) (OneBlames test fault_at fault_end) (λ t _ e. outcome t ≡ Err e) ts e
+  one_as-fails ts e w = go (then-failed (one_read test fault_at fault_end ts) (λ t. settle_read (outcome t)) e w)
+    where
+      go : (one_read test fault_at fault_end ts ≡ Err e) ⊎ ((t : Token) × (mid : List Token) × (one_read test fault_at fault_end ts ≡ done t mid) × (settle_read (outcome t) mid ≡ Err e)) → ThenBlames (OneSpells test) (OneBlames test fault_at fault_end) (λ t _ e. outcome t ≡ Err e) ts e
+      go (inl here) = inl (one-fails test fault_at fault_end ts e here)
+      go (inr after) = inr (after.0, after.1, one-takes test fault_at fault_end ts after.0 after.1 after.2, settle-fails (outcome after.0) after.1 e after.3)
+
+  pub one_as-blamed : (ts : List Token) (e : Fault) → ThenBlames (OneSpells test) (OneBlames test fault_at fault_end) (λ t _ e. outcome t ≡ Err e) ts e → then_read (one_read test fault_at fault_end ts) (λ t. settle_read (outcome t)) ≡ Err e
+  one_as-blamed ts e (inl h) = rw (one-blamed test fault_at fault_end ts e h) refl
+  one_as-blamed ts e (inr h) = rw (one-again test fault_at fault_end ts h.0 h.1 h.2, h.3) refl
+
+  pub one_as-uses : (ts : List Token) (x : A) (rest : List Token) → ThenSpells (OneSpells test) (λ t ts x rest. (outcome t ≡ Ok x) × (ts ≡ rest)) ts x rest → length rest + 1 ≤ length ts
+  one_as-uses ts x rest s =
+      let front = one-uses test fault_at fault_end ts s.0 s.1 s.2 in
+      let back = same-uses s.3.1 in
+      omega arith
+
 -- no token is left
 module _ (fault_at : Token → Fault) where
   pub end-takes : (ts : List Token) (x : Unit {0}) (rest : List Token) → end_read fault_at ts ≡ done x rest → (ts ≡ []) × (rest ≡ [])
@@ -222,6 +269,9 @@ module _ (fault_at : Token → Fault) where
   pub end-fails : (ts : List Token) (e : Fault) → end_read fault_at ts ≡ Err e → EndBlames fault_at ts e
   end-fails [] e w = cc
   end-fails (t ∷ ts) e w = (t, ts, refl, (let k : fault_at t ≡ e = cc in sym k))
+
+  pub end-blamed : (ts : List Token) (e : Fault) → EndBlames fault_at ts e → end_read fault_at ts ≡ Err e
+  end-blamed ts e h = rw (h.2, h.3) refl
 
   pub end-uses : (ts : List Token) (x : Unit {0}) (rest : List Token) → (ts ≡ []) × (rest ≡ []) → length rest + 0 ≤ length ts
   end-uses ts x rest s = let same : length rest ≡ length ts = rw (s.0, s.1) refl in omega arith
@@ -239,6 +289,9 @@ module _ {A : Type 0} (test : List Token → Bool) (spells : List Token → A �
 
   pub all-fails : (ts : List Token) (e : Fault) → many_read test read (suc (length ts)) ts ≡ Err e → ManyBlames test spells blames ts e
   all-fails ts e w = many-fails test spells blames read takes again fails shrinks (suc (length ts)) ts e (omega arith) w
+
+  pub all-blamed : ((ts : List Token) (e : Fault) → blames ts e → read ts ≡ Err e) → (ts : List Token) (e : Fault) → ManyBlames test spells blames ts e → many_read test read (suc (length ts)) ts ≡ Err e
+  all-blamed blamed ts e h = many-blamed test spells blames read takes again fails shrinks blamed (suc (length ts)) ts e (omega arith) h.0 h.1 h.2 h.3 h.4
 
   pub all-uses : (ts : List Token) (xs : List A) (rest : List Token) → many_front test spells xs ts rest × (test rest ≡ false) → length rest + 0 ≤ length ts
   all-uses ts xs rest s = let h = many-uses test spells blames read takes again fails shrinks xs ts rest s.0 in omega arith
@@ -272,3 +325,6 @@ module _ {A B : Type 0} (note : List Token → List Token → B) where
   pub noted-failed : (ts : List Token) (w : Read A) (f : Fault) → noted_read note ts w ≡ Err f → w ≡ Err f
   noted-failed ts (Ok p) f e = cc
   noted-failed ts (Err g) f e = let same : g ≡ f = cc in ap (λ (h : Fault). let w : Read A = Err h in w) same
+
+  pub noted-blamed : (ts : List Token) (w : Read A) (f : Fault) → w ≡ Err f → noted_read note ts w ≡ Err f
+  noted-blamed ts w f e = rw e refl

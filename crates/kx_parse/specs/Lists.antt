@@ -1,9 +1,16 @@
--- What is read of lists with commas, by what is read of one.
-use Rattle.std.specs.Prelude.{ℕ, suc, List, [], ◌∷◌, length}
+-- What is read of lists, by what is read of one.
+use Rattle.std.specs.Prelude.{ℕ, suc, List, [], ◌∷◌, length, ◌++◌, Ok, Err}
 use Rattle.kx_lex.specs.declared.token.Token.{Token}
 use Rattle.kx_parse.specs.Laws.{Read, done, then_read, which, many_read}
-use Rattle.kx_parse.specs.Tokens.{front, is_mark, mark}
-use Rattle.kx_parse.specs.Values.{comma, before_mark}
+use Rattle.kx_parse.specs.Kinds.{front, is_mark}
+use Rattle.kx_parse.specs.Tokens.{mark}
+use Rattle.kx_parse.specs.Values.{comma}
+use Rattle.kx_parse.specs.Others.{before_mark}
+
+-- values behind others
+abbrev pub put_before : {A : Type 0} → List A → Read (List A) → Read (List A)
+put_before xs (Ok p) = Ok (xs ++ p.0, p.1)
+put_before xs (Err e) = Err e
 
 abbrev pub after_comma_read : {A : Type 0} → List ℕ → (List Token → Read A) → List Token → Read A
 after_comma_read text read ts = then_read ((mark text comma).read ts) (λ _ rest. read rest)

@@ -1,17 +1,21 @@
 -- What sections hold, sections, and what a source and a file are.
-use Rattle.std.specs.Prelude.{ℕ, ◌+◌, ◌≤◌, Bool, true, ◌&&◌, ◌||◌, List, [], length, ◌≡◌, Option, Some, None, is_some, if◌then◌else◌, codes}
-use Rattle.std.proofs.Common.{arith, sym, ◌∙◌, subst}
+use Rattle.std.specs.Prelude.{ℕ, ◌+◌, ◌≤◌, Bool, true, false, ◌&&◌, ◌||◌, List, [], ◌∷◌, length, drop, ◌≡◌, Option, Some, None, is_some, if◌then◌else◌, codes}
+use Rattle.std.proofs.Common.{arith, inl, inr, refl, sym, ◌∙◌, subst}
 use Rattle.kx_lex.specs.declared.token.Token.{Token}
 use Rattle.kx_lex.specs.declared.token.Span.{Span}
 use Rattle.kx_lex.specs.declared.fault.Fault.{Fault}
 use Rattle.kx_parse.specs.Geometry.{geometry}
+use Rattle.kx_parse.specs.Spelling.{many_front}
 use Rattle.kx_parse.specs.Laws.{same-uses, done, done-same}
-use Rattle.kx_parse.specs.Production.{Production, ◌>>=◌, give, many, either, known, optional, spanned, fronted, at_least, at_end}
-use Rattle.kx_parse.specs.Tokens.{is_word, is_key_name, is_text, is_mark, is_keyword, front, second, mark, keyword, text_name}
-use Rattle.kx_parse.specs.Values.{open_brace, close_brace, semicolon, bang, before_mark}
-use Rattle.kx_parse.specs.Statements.{statement, statement-least}
+use Rattle.kx_parse.specs.Production.{Production, Admits, ◌>>=◌, give, many, either, known, optional, spanned, fronted, at_least, at_end}
+use Rattle.kx_parse.specs.Kinds.{is_word, is_key_name, is_text, is_mark, is_keyword, front, second}
+use Rattle.kx_parse.specs.Tokens.{mark, keyword, keyword-front, text_name, text_name-front}
+use Rattle.kx_parse.specs.Others.{before_mark, word-before, keyword-word}
+use Rattle.kx_parse.specs.Values.{open_brace, close_brace, semicolon, bang}
+use Rattle.kx_parse.specs.Statements.{starts, starts-before, statement, statement-least, statement-starts}
 use Rattle.kx_parse.specs.declared.tree.Name.{Name}
 use Rattle.kx_parse.specs.declared.tree.Statement.{Statement}
+use Rattle.kx_parse.specs.declared.tree.Statement.TheVariants as statements
 use Rattle.kx_parse.specs.declared.tree.Mode.{Mode}
 use Rattle.kx_parse.specs.declared.tree.Mode.TheVariants.{Augment, Override, Replace}
 use Rattle.kx_parse.specs.declared.tree.Item.{Item}
@@ -44,13 +48,51 @@ begins_include text ts = front (λ t. is_some (join_of text t)) ts && second is_
 abbrev pub begins_moded : List ℕ → List Token → Bool
 begins_moded text ts = front (λ t. is_some (mode_of text t)) ts && ((second is_word ts || second is_key_name ts) || second (is_mark text bang) ts)
 
-unfoldable pub join : List ℕ → Production Mode
+not_word : (text words : List ℕ) (t : Token) → is_word t ≡ false → is_keyword text words t ≡ false
+unfolding is_keyword
+not_word text words t h = rw h refl
+
+-- a word that joins is a word, and so are the others below
+mode-none : (text : List ℕ) (t : Token) → is_word t ≡ false → mode_of text t ≡ None
+unfolding mode_of
+mode-none text t h = rw (not_word text (codes "augment") t h, not_word text (codes "override") t h, not_word text (codes "replace") t h, not_word text (codes "alternate") t h) refl
+
+join-none : (text : List ℕ) (t : Token) → is_word t ≡ false → join_of text t ≡ None
+unfolding join_of
+join-none text t h = rw (not_word text (codes "include") t h) (mode-none text t h)
+
+-- what is known of no token but words is known of words
+only-words : {A : Type 0} (table : Token → Option A) → ((t : Token) → is_word t ≡ false → table t ≡ None) → (ts : List Token) → front (λ t. is_some (table t)) ts ≡ true → front is_word ts ≡ true
+only-words table none [] h = cc
+only-words table none (t ∷ ts) h = go (is_word t) refl
+  where
+    go : (b : Bool) → is_word t ≡ b → is_word t ≡ true
+    go true w = w
+    go false w = let unknown = none t w in let is : is_some (table t) ≡ false = rw unknown refl in cc
+
+unfoldable pub join : (text : List ℕ) → Production text Mode
 join text = known text (join_of text)
 
-unfoldable pub mode : List ℕ → Production Mode
+pub join-front : (text : List ℕ) → Admits (front (λ t. is_some (join_of text t))) (join text)
+unfolding join
+join-front text ts x rest s = rw s.2.0 s.2.1
+
+pub join-behind : (text : List ℕ) (ts : List Token) (x : Mode) (rest : List Token) → (join text).spells ts x rest → drop 1 ts ≡ rest
+unfolding join
+join-behind text ts x rest s = rw s.2.0 s.3.1
+
+unfoldable pub mode : (text : List ℕ) → Production text Mode
 mode text = known text (mode_of text)
 
-unfoldable pub include : List ℕ → Production Item
+pub mode-front : (text : List ℕ) → Admits (front (λ t. is_some (mode_of text t))) (mode text)
+unfolding mode
+mode-front text ts x rest s = rw s.2.0 s.2.1
+
+pub mode-behind : (text : List ℕ) (ts : List Token) (x : Mode) (rest : List Token) → (mode text).spells ts x rest → drop 1 ts ≡ rest
+unfolding mode
+mode-behind text ts x rest s = rw s.2.0 s.3.1
+
+unfoldable pub include : (text : List ℕ) → Production text Item
 include text = do
   i ← spanned {A = Mode × Name} (do
     m ← join text
@@ -58,29 +100,59 @@ include text = do
     give (m, n))
   give (items.Include i.0.0 i.0.1 i.1)
 
+pub include-begins : (text : List ℕ) → Admits (begins_include text) (include text)
+unfolding include
+include-begins text ts x rest s =
+    let i = s.2.0 in
+    rw (join-front text ts i.0 i.1 i.2, join-behind text ts i.0 i.1 i.2, text_name-front text i.1 i.3.0 i.3.1 i.3.2) refl
+
 -- a statement in a mode, with its first token and its ;
-unfoldable pub moded : List ℕ → Mode → Production (Mode × Statement × Span)
+unfoldable pub moded : (text : List ℕ) → Mode → Production text (Mode × Statement × Span)
 moded text m = do
   s ← fronted (statement text)
   _ ← mark text semicolon
   give (m, s.0, s.1)
 
-unfoldable pub modal : List ℕ → Production (Mode × Statement × Span)
+pub moded-starts : (text : List ℕ) (m : Mode) → Admits (starts text) (moded text m)
+unfolding moded
+moded-starts text m ts x rest s = statement-starts text ts s.0.0 s.1 s.2.0
+
+unfoldable pub modal : (text : List ℕ) → Production text (Mode × Statement × Span)
 modal text = do
   m ← mode text
   moded text m
 
-unfoldable pub own : List ℕ → Production Item
+pub modal-begins : (text : List ℕ) → Admits (begins_moded text) (modal text)
+unfolding modal
+modal-begins text ts x rest s = rw (mode-front text ts s.0 s.1 s.2, mode-behind text ts s.0 s.1 s.2, moded-starts text s.0 s.1 x rest s.3) refl
+
+unfoldable pub own : (text : List ℕ) → Production text Item
 own text = do
-  s ← spanned (either (begins_moded text) (modal text) (moded text Override))
+  s ← spanned (either (begins_moded text) (modal text) (modal-begins text) (moded text Override))
   give (items.Statement s.0.0 s.0.1 s.0.2 s.1)
 
-unfoldable pub item : List ℕ → Production Item
-item text = either (begins_include text) (include text) (own text)
+unfoldable pub item : (text : List ℕ) → Production text Item
+item text = either (begins_include text) (include text) (include-begins text) (own text)
+
+pub item-before : (text : List ℕ) → Admits (before_mark text close_brace) (item text)
+unfolding item include own modal
+item-before text ts x rest (inl s) = word-before text close_brace ts (only-words (join_of text) (join-none text) ts (join-front text ts s.1.2.0.0 s.1.2.0.1 s.1.2.0.2))
+item-before text ts x rest (inr s) = go s.1.0.0 s.1.2.0
+  where
+    go : (o : Mode × Statement × Span) → (either (begins_moded text) (modal text) (modal-begins text) (moded text Override)).spells ts o s.1.1 → before_mark text close_brace ts ≡ true
+    go o (inl w) = word-before text close_brace ts (only-words (mode_of text) (mode-none text) ts (mode-front text ts w.1.0 w.1.1 w.1.2))
+    go o (inr w) = starts-before text ts (moded-starts text Override ts o s.1.1 w.1)
 
 pub item-least : (text : List ℕ) → 1 ≤ (item text).least
 unfolding item include own modal moded join mode
 item-least text = omega (arith, statement-least text)
+
+-- the word that a fault of an unknown field names: a field's word, of another statement its first token, and an include
+-- with its text
+abbrev pub word_span : Item → Span
+word_span (items.Include mode name span) = span
+word_span (items.Statement mode (statements.Field f) first span) = f.place.word.span
+word_span (items.Statement mode _ first span) = first
 
 unfoldable pub kind_of : List ℕ → Token → Option Kind
 kind_of text t =
@@ -105,37 +177,45 @@ flag_of text t =
     else (if is_keyword text (codes "alternate_group") t then Some AlternateGroup
     else None)))))))
 
-unfoldable pub kind : List ℕ → Production Kind
+unfoldable pub kind : (text : List ℕ) → Production text Kind
 kind text = known text (kind_of text)
 
-unfoldable pub flag : List ℕ → Production Flag
+pub kind-front : (text : List ℕ) → Admits (front (λ t. is_some (kind_of text t))) (kind text)
+unfolding kind
+kind-front text ts x rest s = rw s.2.0 s.2.1
+
+unfoldable pub flag : (text : List ℕ) → Production text Flag
 flag text = known text (flag_of text)
+
+pub flag-front : (text : List ℕ) → Admits (front (λ t. is_some (flag_of text t))) (flag text)
+unfolding flag
+flag-front text ts x rest s = rw s.2.0 s.2.1
 
 pub flag-least : (text : List ℕ) → 1 ≤ (flag text).least
 unfolding flag
 flag-least text = omega arith
 
-unfoldable pub flags : List ℕ → Production (List Flag)
-flags text = many (front (λ t. is_some (flag_of text t))) (flag text) (flag-least text)
+unfoldable pub flags : (text : List ℕ) → Production text (List Flag)
+flags text = many (front (λ t. is_some (flag_of text t))) (flag text) (flag-front text) (flag-least text)
 
-unfoldable pub optional_text : List ℕ → Production (Option Name)
-optional_text text = optional (front is_text) (text_name text)
+unfoldable pub optional_text : (text : List ℕ) → Production text (Option Name)
+optional_text text = optional (front is_text) (text_name text) (text_name-front text)
 
-unfoldable pub held_items : List ℕ → Production (List Item)
+unfoldable pub held_items : (text : List ℕ) → Production text (List Item)
 held_items text = do
   _ ← mark text open_brace
-  is ← many (before_mark text close_brace) (item text) (item-least text)
+  is ← many (before_mark text close_brace) (item text) (item-before text) (item-least text)
   _ ← mark text close_brace
   give is
 
-unfoldable pub plain_section : List ℕ → List Flag → Production Section
+unfoldable pub plain_section : (text : List ℕ) → List Flag → Production text Section
 plain_section text fs = do
   k ← kind text
   n ← optional_text text
   is ← held_items text
   give (record { flags = fs; kind = k; name = n; items = is })
 
-unfoldable pub geometry_body : List ℕ → Production (Unit {0})
+unfoldable pub geometry_body : (text : List ℕ) → Production text (Unit {0})
 geometry_body text = do
   _ ← mark text open_brace
   _ ← geometry text
@@ -143,21 +223,25 @@ geometry_body text = do
   give tt
 
 -- geometry is read over, and kept as an empty section
-unfoldable pub geometry_section : List ℕ → List Flag → Production Section
+unfoldable pub geometry_section : (text : List ℕ) → List Flag → Production text Section
 geometry_section text fs = do
   _ ← keyword text (codes "xkb_geometry")
   n ← optional_text text
   _ ← geometry_body text
   give (record { flags = fs; kind = Geometry; name = n; items = [] })
 
-unfoldable pub flagged : List ℕ → List Flag → Production Section
-flagged text fs = either (front (is_keyword text (codes "xkb_geometry"))) (geometry_section text fs) (plain_section text fs)
+pub geometry_section-front : (text : List ℕ) (fs : List Flag) → Admits (front (is_keyword text (codes "xkb_geometry"))) (geometry_section text fs)
+unfolding geometry_section
+geometry_section-front text fs ts x rest s = keyword-front text (codes "xkb_geometry") ts s.0 s.1 s.2
+
+unfoldable pub flagged : (text : List ℕ) → List Flag → Production text Section
+flagged text fs = either (front (is_keyword text (codes "xkb_geometry"))) (geometry_section text fs) (geometry_section-front text fs) (plain_section text fs)
 
 pub flagged-least : (text : List ℕ) (fs : List Flag) → 1 ≤ (flagged text fs).least
 unfolding flagged geometry_section plain_section keyword kind
 flagged-least text fs = omega arith
 
-unfoldable pub section : List ℕ → Production Section
+unfoldable pub section : (text : List ℕ) → Production text Section
 section text = do
   fs ← flags text
   s ← flagged text fs
@@ -175,35 +259,67 @@ section-uses text ts x rest s =
     omega arith
 
 -- a section, which takes a token at least
-abbrev pub whole_section : List ℕ → Production Section
+abbrev pub whole_section : (text : List ℕ) → Production text Section
 whole_section text = at_least 1 (section text) (section-uses text)
+
+kind-none : (text : List ℕ) (t : Token) → is_word t ≡ false → kind_of text t ≡ None
+unfolding kind_of
+kind-none text t h = rw (not_word text (codes "xkb_keycodes") t h, not_word text (codes "xkb_types") t h, not_word text (codes "xkb_symbols") t h, not_word text (codes "xkb_compatibility") t h, not_word text (codes "xkb_compat") t h, not_word text (codes "xkb_compat_map") t h, not_word text (codes "xkb_compatibility_map") t h) refl
+
+flag-none : (text : List ℕ) (t : Token) → is_word t ≡ false → flag_of text t ≡ None
+unfolding flag_of
+flag-none text t h = rw (not_word text (codes "default") t h, not_word text (codes "partial") t h, not_word text (codes "hidden") t h, not_word text (codes "alphanumeric_keys") t h, not_word text (codes "modifier_keys") t h, not_word text (codes "keypad_keys") t h, not_word text (codes "function_keys") t h, not_word text (codes "alternate_group") t h) refl
+
+flagged-word : (text : List ℕ) (fs : List Flag) → Admits (front is_word) (flagged text fs)
+unfolding flagged plain_section
+flagged-word text fs ts x rest (inl s) = keyword-word text (codes "xkb_geometry") ts (geometry_section-front text fs ts x rest s.1)
+flagged-word text fs ts x rest (inr s) = only-words (kind_of text) (kind-none text) ts (kind-front text ts s.1.0 s.1.1 s.1.2)
+
+-- a section's first token is a word
+section-word : (text : List ℕ) → Admits (front is_word) (section text)
+unfolding section flags
+section-word text ts x rest s = go s.0 s.2.0 (flagged-word text s.0 s.1 s.3.0 s.3.1 s.3.2)
+  where
+    go : (fs : List Flag) → many_front (front (λ t. is_some (flag_of text t))) (flag text).spells fs ts s.1 → front is_word s.1 ≡ true → front is_word ts ≡ true
+    go [] same h = rw same h
+    go (f ∷ fs) more h = only-words (flag_of text) (flag-none text) ts more.0
+
+pub whole_section-before : (text : List ℕ) → Admits (before_mark text close_brace) (whole_section text)
+whole_section-before text ts x rest s = word-before text close_brace ts (section-word text ts x rest s)
+
+pub whole_section-some : (text : List ℕ) → Admits (front (λ _. true)) (whole_section text)
+whole_section-some text ts x rest s = go ts (section-word text ts x rest s)
+  where
+    go : (ts : List Token) → front is_word ts ≡ true → front (λ _. true) ts ≡ true
+    go [] h = cc
+    go (t ∷ ts) h = refl
 
 pub whole_section-least : (text : List ℕ) → 1 ≤ (whole_section text).least
 whole_section-least text = omega arith
 
-unfoldable pub held_sections : List ℕ → Production (List Section)
+unfoldable pub held_sections : (text : List ℕ) → Production text (List Section)
 held_sections text = do
   _ ← mark text open_brace
-  ss ← many (before_mark text close_brace) (whole_section text) (whole_section-least text)
+  ss ← many (before_mark text close_brace) (whole_section text) (whole_section-before text) (whole_section-least text)
   _ ← mark text close_brace
   give ss
 
 -- a keymap's source
-unfoldable pub source : List ℕ → Production Tree
+unfoldable pub source : (text : List ℕ) → Production text Tree
 source text = do
   _ ← flags text
   _ ← keyword text (codes "xkb_keymap")
   _ ← optional_text text
   ss ← held_sections text
   _ ← mark text semicolon
-  _ ← at_end
+  _ ← at_end text
   give (record { sections = ss })
 
 -- what an include's file holds
-unfoldable pub file : List ℕ → Production Tree
+unfoldable pub file : (text : List ℕ) → Production text Tree
 file text = do
-  ss ← many (front (λ _. true)) (whole_section text) (whole_section-least text)
-  _ ← at_end
+  ss ← many (front (λ _. true)) (whole_section text) (whole_section-some text) (whole_section-least text)
+  _ ← at_end text
   give (record { sections = ss })
 
 -- the tokens of a text spell a source's tree

@@ -7,7 +7,7 @@ use Rattle.kx_parse.specs.Production.{Production}
 use Rattle.kx_parse.specs.Tokens.{mark}
 use Rattle.kx_parse.specs.Values.{mark-least}
 
-pub production-shrinks : {A : Type 0} (p : Production A) → 1 ≤ p.least → (ts : List Token) (x : A) (rest : List Token) → p.read ts ≡ done x rest → length rest < length ts
+pub production-shrinks : {text : List ℕ} {A : Type 0} (p : Production text A) → 1 ≤ p.least → (ts : List Token) (x : A) (rest : List Token) → p.read ts ≡ done x rest → length rest < length ts
 production-shrinks p some ts x rest e = let h = p.uses ts x rest (p.takes ts x rest e) in omega arith
 
 pub after_mark-shrinks : {A : Type 0} (text : List ℕ) (byte : ℕ) (read : List Token → Read A) → ((ts : List Token) (x : A) (rest : List Token) → read ts ≡ done x rest → length rest < length ts) → (ts : List Token) (x : A) (rest : List Token) → then_read ((mark text byte).read ts) (λ _ left. read left) ≡ done x rest → length rest < length ts

@@ -2,7 +2,8 @@ ghost use Rattle.std.specs.Prelude.{◌≡◌, true};
 ghost use Rattle.kx_parse.specs.Gives.{Gives};
 ghost use Rattle.kx_parse.specs.Shrinks.{production-shrinks};
 ghost use Rattle.kx_parse.specs.Statements.{setting, bare_field, field, block_field, block_field-least, block, key_field, key_field-least, declared_mask, declaration, declaration-least, predicate, entry, entry-least};
-ghost use Rattle.kx_parse.specs.Values.{before_mark, close_brace};
+ghost use Rattle.kx_parse.specs.Others.{before_mark};
+ghost use Rattle.kx_parse.specs.Values.{close_brace};
 
 use crate::repeated::{Repeated, is_before_mark, read_many};
 use crate::tokens::{

@@ -11,7 +11,7 @@ mod tokens;
 mod tree;
 mod values;
 
-pub use sections::{one_tree, parse, parse_file};
+pub use sections::{one_stop, one_tree, parse, parse_file, stops};
 pub use tree::{
     Argument, Braces, Call, Declaration, Element, Entry, Expression, Field, Flag, Index, Item,
     KeyField, Kind, List, Mode, Name, Number, Operation, Part, Place, PlacedArgument, Predicate,

@@ -3,9 +3,11 @@ ghost use Rattle.kx_lex.specs.declared.token.Token.{Token as TokenValue};
 ghost use Rattle.kx_parse.specs.Gives.{Gives};
 ghost use Rattle.kx_parse.specs.Laws.{Read, done, many_read, then_read, prepend, which};
 ghost use Rattle.kx_parse.specs.Production.{one};
-ghost use Rattle.kx_parse.specs.Tokens.{front, mark, is_mark};
-ghost use Rattle.kx_parse.specs.Values.{comma, before_mark};
-ghost use Rattle.kx_parse.specs.Lists.{after_comma_read, sequence_read, listed_read};
+ghost use Rattle.kx_parse.specs.Kinds.{front, is_mark};
+ghost use Rattle.kx_parse.specs.Tokens.{mark};
+ghost use Rattle.kx_parse.specs.Others.{before_mark};
+ghost use Rattle.kx_parse.specs.Values.{comma};
+ghost use Rattle.kx_parse.specs.Lists.{put_before, after_comma_read, sequence_read, listed_read};
 ghost use Rattle.kx_parse.specs.Shrinks.{after_mark-shrinks};
 
 use crate::tokens::{Reading, front_is_mark, is_mark, read_mark};
@@ -33,7 +35,28 @@ pub trait Repeated {
     ghost shrinks: { (text : List ℕ) (ts : List TokenValue) (x : Self.Value) (rest : List TokenValue) → reading text ts ≡ done x rest → length rest < length ts };
 }
 
+/// Reads as many as stand at the front, behind those that were read already.
+fn read_behind<'a, R: Repeated>(
+    start: Vec<R::Value>,
+    alloc: Global,
+    text: &[u8],
+    tokens: &'a [Token],
+) -> Reading<'a, Row<R::Value>>
+    ensures { Gives result (put_before start.items (many_read (R.test text.now) (R.reading text.now) (suc (length tokens.now)) tokens.now)) }
+{
+    let mut items = start;
+    let mut rest = tokens;
+    'items: while R::is_next(text, rest) {
+        let (item, left) = R::read_next(alloc, text, rest)?;
+        items.push(item)?;
+        rest = left;
+    }
+    items.shrink_to_fit();
+    Ok((Row::of(items), rest))
+}
+
 /// Reads as many as stand at the front.
+#[tactic(auto, using(crate::proofs::Rounds::read_lists))]
 pub fn read_many<'a, R: Repeated>(
     alloc: Global,
     text: &[u8],
@@ -41,14 +64,7 @@ pub fn read_many<'a, R: Repeated>(
 ) -> Reading<'a, Row<R::Value>>
     ensures { Gives result (many_read (R.test text.now) (R.reading text.now) (suc (length tokens.now)) tokens.now) }
 {
-    let mut items = Vec::new(alloc);
-    let mut rest = tokens;
-    'items: while R::is_next(text, rest) {
-        let (item, left) = R::read_next(alloc, text, rest)?;
-        items.push(item)?;
-        rest = left;
-    }
-    Ok((Row::of(items), rest))
+    read_behind::<R>(Vec::new(alloc), alloc, text, tokens)
 }
 
 /// A comma, and one more of what `R` reads.
@@ -74,6 +90,7 @@ impl<R: Repeated> Repeated for AfterComma<R> {
 }
 
 /// Reads one, and more behind commas.
+#[tactic(auto, using(crate::proofs::Rounds::read_lists))]
 pub fn read_sequence<'a, R: Repeated>(
     alloc: Global,
     text: &[u8],
@@ -82,9 +99,9 @@ pub fn read_sequence<'a, R: Repeated>(
     ensures { Gives result (sequence_read text.now (R.reading text.now) tokens.now) }
 {
     let (first, rest) = R::read_next(alloc, text, tokens)?;
-    let (more, rest) = read_many::<AfterComma<R>>(alloc, text, rest)?;
-    let items = more.behind(first)?;
-    Ok((items, rest))
+    let mut items = Vec::new(alloc);
+    items.push(first)?;
+    read_behind::<AfterComma<R>>(items, alloc, text, rest)
 }
 
 /// Reads none where the mark that closes the list stands, else one, and more behind commas.

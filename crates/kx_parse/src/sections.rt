@@ -1,13 +1,19 @@
 ghost use Rattle.std.specs.Prelude.{◌≡◌, ◌⊎◌, ℕ, List, IfOk, IfErr, is_some, true};
-ghost use Rattle.kx_lex.specs.declared.fault.Fault.TheVariants.{Memory};
+ghost use Rattle.kx_lex.specs.declared.fault.At.{At as AtValue};
+ghost use Rattle.kx_lex.specs.declared.fault.Fault.{Fault as FaultValue};
+ghost use Rattle.kx_lex.specs.declared.fault.Fault.TheVariants.{Memory, NumberTooBig};
 ghost use Rattle.kx_lex.specs.declared.token.Token.{Token as TokenValue};
 ghost use Rattle.kx_parse.specs.declared.tree.Tree.{Tree as TreeValue};
 ghost use Rattle.kx_parse.specs.Geometry.{geometry, geometry_read};
 ghost use Rattle.kx_parse.specs.Gives.{Gives};
 ghost use Rattle.kx_parse.specs.Production.{optional, known, many, at_end};
+ghost use Rattle.kx_parse.specs.Refusals.{InSourceSection, InPlainSection};
+ghost use Rattle.kx_parse.specs.Stops.{StopsWithin};
 ghost use Rattle.kx_parse.specs.Shrinks.{production-shrinks};
-ghost use Rattle.kx_parse.specs.Tokens.{front, is_text, is_mark, text_name};
-ghost use Rattle.kx_parse.specs.Values.{before_mark, close_brace};
+ghost use Rattle.kx_parse.specs.Kinds.{front, is_text, is_mark};
+ghost use Rattle.kx_parse.specs.Tokens.{text_name};
+ghost use Rattle.kx_parse.specs.Others.{before_mark};
+ghost use Rattle.kx_parse.specs.Values.{close_brace};
 ghost use Rattle.kx_parse.specs.Sections.{mode_of, join_of, begins_include, begins_moded, join, mode, include, moded, modal, own, item, item-least, kind_of, flag_of, kind, flag, flag-least, flags, optional_text, held_items, plain_section, geometry_body, geometry_section, flagged, section, whole_section, whole_section-least, held_sections, source, file, Spells, StopsWith, SpellsFile, FileStopsWith};
 
 use crate::repeated::{Repeated, is_before_mark, read_many};
@@ -479,7 +485,7 @@ fn read_held_sections<'a>(
 }
 
 fn read_end<'a>(text: &[u8], tokens: &'a [Token]) -> Reading<'a, ()>
-    ensures { Gives result (at_end.read tokens.now) }
+    ensures { Gives result ((at_end text.now).read tokens.now) }
 {
     if tokens.is_empty() {
         Ok(((), tokens))
@@ -540,6 +546,25 @@ pub fn parse_file(alloc: Global, text: &[u8], tokens: &[Token]) -> Result<Tree, 
         Err(fault) => Err(fault),
     }
 }
+
+/// What a stop of [`parse`] and [`parse_file`] means. It stands at a token, or at the end: there the
+/// fault is `Syntax`, or `NumberTooBig` where that token is a number of 2^32 or more. Such a number
+/// stands in a section that is not geometry: behind whole sections, and behind the flags of one
+/// more, where `xkb_geometry` does not stand.
+pub fn stops()
+    ensures source { (text : List ℕ) (tokens : List TokenValue) (e : FaultValue) → StopsWith text tokens e → StopsWithin text tokens e }
+    ensures file { (text : List ℕ) (tokens : List TokenValue) (e : FaultValue) → FileStopsWith text tokens e → StopsWithin text tokens e }
+    ensures source_number { (text : List ℕ) (tokens : List TokenValue) (at : AtValue) → StopsWith text tokens (NumberTooBig at) → InSourceSection text tokens (NumberTooBig at) }
+    ensures file_number { (text : List ℕ) (tokens : List TokenValue) (at : AtValue) → FileStopsWith text tokens (NumberTooBig at) → InPlainSection text tokens (NumberTooBig at) }
+{}
+
+/// Tokens stop the reading with one fault at most, and those that do spell no tree.
+pub fn one_stop()
+    ensures source { (text : List ℕ) (tokens : List TokenValue) (e f : FaultValue) → StopsWith text tokens e → StopsWith text tokens f → e ≡ f }
+    ensures file { (text : List ℕ) (tokens : List TokenValue) (e f : FaultValue) → FileStopsWith text tokens e → FileStopsWith text tokens f → e ≡ f }
+    ensures source_spelled { (text : List ℕ) (tokens : List TokenValue) (e : FaultValue) (tree : TreeValue) → StopsWith text tokens e → Spells text tokens tree → ⊥ }
+    ensures file_spelled { (text : List ℕ) (tokens : List TokenValue) (e : FaultValue) (tree : TreeValue) → FileStopsWith text tokens e → SpellsFile text tokens tree → ⊥ }
+{}
 
 /// Tokens spell one tree of a source at most, and one of a file.
 pub fn one_tree()

@@ -1,9 +1,7 @@
 ghost use Rattle.std.specs.Prelude.{◌≡◌, ◌||◌, codes};
 ghost use Rattle.kx_parse.specs.Gives.{Gives};
-ghost use Rattle.kx_parse.specs.Production.{optional};
-ghost use Rattle.kx_parse.specs.Tokens.{front, is_mark, is_word, is_number, is_text, is_key_name, is_keyword};
-ghost use Rattle.kx_parse.specs.Statements.{begins, keycode, alias, indicator_name, virtual_indicator, virtual_modifiers, key_type, wanted_modifiers, interpretation, indicator, group, key, mapped_entries, modifier_map, field_statement, symbols_statement, types_statement, keycodes_statement, statement};
-ghost use Rattle.kx_parse.specs.Values.{plus};
+ghost use Rattle.kx_parse.specs.Kinds.{front, is_mark, is_word, is_number, is_text, is_key_name, is_keyword};
+ghost use Rattle.kx_parse.specs.Statements.{begins, keycode, alias, indicator_name, virtual_indicator, virtual_modifiers, key_type, optional_modifiers, interpretation, indicator, group, key, mapped_entries, modifier_map, field_statement, symbols_statement, types_statement, keycodes_statement, statement};
 
 use crate::fields::{Declarations, Entries, KeyFields, read_block, read_field, read_predicate};
 use crate::repeated::{read_listed, read_sequence};
@@ -94,7 +92,7 @@ fn read_wanted_modifiers<'a>(
     text: &[u8],
     tokens: &'a [Token],
 ) -> Reading<'a, Option<Predicate>>
-    ensures { Gives result ((optional (front (is_mark text.now plus)) (wanted_modifiers text.now)).read tokens.now) }
+    ensures { Gives result ((optional_modifiers text.now).read tokens.now) }
 {
     if !front_is_mark(text, b'+', tokens) {
         return Ok((None, tokens));

@@ -2,7 +2,8 @@ ghost use Rattle.std.specs.Prelude.{◌≡◌, ◌<◌, ◌^◌, ◌-◌, List, 
 ghost use Rattle.std.specs.Char.{digit_value};
 ghost use Rattle.kx_parse.specs.Gives.{Gives};
 ghost use Rattle.kx_parse.specs.Production.{syntax_of, front_span, span_between};
-ghost use Rattle.kx_parse.specs.Tokens.{slice_of, inner_of, is_word, is_number, is_key_name, is_text, is_mark, is_keyword, front, second, mark, keyword, word, key_name, text_name, digits_value, number_value, measured, number};
+ghost use Rattle.kx_parse.specs.Kinds.{slice_of, inner_of, is_word, is_number, is_key_name, is_text, is_mark, is_keyword, front, second, digits_value, number_value};
+ghost use Rattle.kx_parse.specs.Tokens.{mark, keyword, word, key_name, text_name, measured, number};
 
 use crate::tree::{Name, Number, Row};
 use kx_lex::{At, Fault, Span, Token, TokenKind, begins_hex, text_bytes};
@@ -68,7 +69,7 @@ pub fn is_mark(text: &[u8], byte: u8, token: &Token) -> bool
     matches!(token.kind, TokenKind::Mark) && first == byte
 }
 
-#[tactic(auto, unfolding(crate::specs::Tokens::is_keyword))]
+#[tactic(auto, unfolding(crate::specs::Kinds::is_keyword))]
 pub fn is_keyword(text: &[u8], keyword: &[u8], token: &Token) -> bool
     ensures { result ≡ is_keyword text.now keyword.now token.now }
 {
@@ -199,7 +200,7 @@ fn measured(value: u64, span: Span) -> Result<Number, Fault>
 }
 
 /// The value of a number's bytes, or 2^32 where it is greater.
-#[tactic(auto, unfolding(crate::specs::Tokens::number_value))]
+#[tactic(auto, unfolding(crate::specs::Kinds::number_value))]
 fn number_value(digits: &[u8]) -> u64
     ensures exact { result < 2 ^ 32 → result ≡ number_value digits.now }
     ensures great { 2 ^ 32 ≤ result → 2 ^ 32 ≤ number_value digits.now }

@@ -355,9 +355,14 @@ pub struct Tree {
 }
 
 impl Item {
+    ghost use Rattle.std.specs.Prelude.{◌≡◌};
+    ghost use Rattle.kx_parse.specs.Sections.{word_span};
+
     /// The word that a fault of an unknown field names: a field's word, an include with its text,
     /// and of another statement its first token.
-    pub fn word_span(&self) -> Span {
+    pub fn word_span(&self) -> Span
+        ensures { result ≡ word_span self.now }
+    {
         match self {
             Item::Include { span, .. } => *span,
             Item::Statement {

@@ -1,9 +1,8 @@
 ghost use Rattle.std.specs.Prelude.{◌≡◌, true};
 ghost use Rattle.kx_parse.specs.Gives.{Gives};
-ghost use Rattle.kx_parse.specs.Production.{optional};
 ghost use Rattle.kx_parse.specs.Shrinks.{production-shrinks};
-ghost use Rattle.kx_parse.specs.Tokens.{front, is_mark};
-ghost use Rattle.kx_parse.specs.Values.{symbol, sign_of, is_sign, sign, signed_read, term, operation, operation-least, argument-least, part-least, element-least, bare_argument, open_bracket, point, expression, index, member, place, begins_set, set_argument, off_argument, argument, begins_call, call, part, braces, element, list, value};
+ghost use Rattle.kx_parse.specs.Kinds.{front};
+ghost use Rattle.kx_parse.specs.Values.{symbol, sign_of, is_sign, sign, signed_read, term, operation, operation-least, argument-least, part-least, element-least, bare_argument, expression, optional_index, index, optional_member, place, begins_set, set_argument, off_argument, argument, begins_call, call, part, braces, element, list, value};
 
 use crate::repeated::{Repeated, read_listed, read_many};
 use crate::tokens::{
@@ -163,7 +162,7 @@ fn read_optional_index<'a>(
     text: &[u8],
     tokens: &'a [Token],
 ) -> Reading<'a, Option<Index>>
-    ensures { Gives result ((optional (front (is_mark text.now open_bracket)) (index text.now)).read tokens.now) }
+    ensures { Gives result ((optional_index text.now).read tokens.now) }
 {
     if !front_is_mark(text, b'[', tokens) {
         return Ok((None, tokens));
@@ -178,7 +177,7 @@ fn read_optional_member<'a>(
     text: &[u8],
     tokens: &'a [Token],
 ) -> Reading<'a, Option<Name>>
-    ensures { Gives result ((optional (front (is_mark text.now point)) (member text.now)).read tokens.now) }
+    ensures { Gives result ((optional_member text.now).read tokens.now) }
 {
     if !front_is_mark(text, b'.', tokens) {
         return Ok((None, tokens));

@@ -1,3 +1,5 @@
+pub mod HeldFlags
 pub mod HeldLists
 pub mod Runs
 pub mod TableReads
+pub mod TypeChoices

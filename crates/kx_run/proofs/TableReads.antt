@@ -6,6 +6,7 @@ use Rattle.std.proofs.lemmas.List.Sums.{sum_by-cons}
 use Rattle.kx_resolve.specs.declared.rows.EntryRow.{EntryRow}
 use Rattle.std.proofs.lemmas.Int.{ints}
 use Rattle.std.proofs.lemmas.Bool.{eqb-true}
+use Rattle.kx_resolve.specs.Bounds.{groups_within}
 use Rattle.kx_resolve.specs.Content.{Content, part, greatest_groups}
 use Rattle.kx_resolve.specs.Keymap.{key_with, level_of, keymap_of}
 use Rattle.kx_resolve.specs.Sound.{Sound, KeyHolds, ActionHolds, GroupChangeHolds, EntryHolds}
@@ -96,12 +97,35 @@ find_passes : {X : Type 0} (p : X → Bool) (xs : List X) (x : X) → find p xs 
 find_passes p [] x e = cc
 find_passes p (y ∷ ys) x e = by_test p (p y) (find p ys) x y (find_passes p ys x) refl e
 
+place_by : {X : Type 0} (p : X → Bool) (b : Bool) (y : X) (ys : List X) (x : X) → (find p ys ≡ Some x → (i : ℕ) × (slice_get ys i ≡ Some x)) → cond b (Some y) (find p ys) ≡ Some x → (i : ℕ) × (slice_get (y ∷ ys) i ≡ Some x)
+place_by p true y ys x later e = (0, e)
+place_by p false y ys x later e = let rest = later e in (suc rest.0, rest.1)
+
+find_place : {X : Type 0} (p : X → Bool) (xs : List X) (x : X) → find p xs ≡ Some x → (i : ℕ) × (slice_get xs i ≡ Some x)
+find_place p [] x e = cc
+find_place p (y ∷ ys) x e = place_by p (p y) y ys x (find_place p ys x) e
+
 -- a key that is found for a code has that code
-pub code_found : (c : Content) (code i : ℕ) (k : KeyRow) → Sound c → key_with c code ≡ slice_get c.keys i → slice_get c.keys i ≡ Some k → code < 4096
-code_found c code i k sound found at =
-    let holds : KeyHolds c i k = sound.keys i k at in
-    let same = eqb-true k.code code (find_passes (λ (l : KeyRow). l.code == code) c.keys k (found ∙ at)) in
+pub code_found : (c : Content) (code : ℕ) (k : KeyRow) → Sound c → key_with c code ≡ Some k → code < 4096
+code_found c code k sound found =
+    let at = find_place (λ (l : KeyRow). l.code == code) c.keys k found in
+    let holds : KeyHolds c at.0 k = sound.keys at.0 k at.1 in
+    let same = eqb-true k.code code (find_passes (λ (l : KeyRow). l.code == code) c.keys k found) in
     omega (arith, holds.code)
+
+-- its groups are among those of the tables
+pub key_groups : (c : Content) (code : ℕ) (k : KeyRow) → Sound c → key_with c code ≡ Some k → k.first_group + k.groups ≤ length c.groups
+key_groups c code k sound found =
+    let at = find_place (λ (l : KeyRow). l.code == code) c.keys k found in
+    groups_within c sound at.0 k at.1
+
+no_key : (c : Content) (code : ℕ) (found : Option KeyRow) → Sound c → key_with c code ≡ found → 4096 ≤ code → found ≡ None
+no_key c code None sound e high = refl
+no_key c code (Some k) sound e high = absurd (omega (arith, code_found c code k sound e))
+
+-- no key has a code of 4096 or more
+pub no_key_above : (c : Content) (code : ℕ) → Sound c → 4096 ≤ code → key_with c code ≡ None
+no_key_above c code sound high = no_key c code (key_with c code) sound refl high
 
 pub names_levels : (c : Content) (i : ℕ) (t : TypeRow) → Sound c → slice_get c.types i ≡ Some t → NamesLevels c t
 names_levels c i t sound at = record {

@@ -1,11 +1,27 @@
 -- A player and a follower as contracts see them: what their tables hold, and the state that they keep.
+use Rattle.std.specs.Prelude.{◌≡◌, ℕ, List, Option}
 use Rattle.kx_resolve.specs.Content.{Content}
+use Rattle.kx_resolve.specs.Keymap.{keymap_of}
+use Rattle.kx_resolve.specs.declared.rows.KeyRow.{KeyRow}
+use Rattle.kx_run.specs.Laws.{IsBounded}
+use Rattle.kx_run.specs.Lookup.{TellsChoices, TellsKeys}
+use Rattle.kx_run.specs.declared.choices.Choice.{Choice}
 use Rattle.kx_run.specs.World.{World}
-use Rattle.kx_run.specs.Replies.{Status}
+use Rattle.kx_run.specs.Replies.{Status, lit_in, status_in, told}
+use Rattle.kx_run.specs.declared.reply.Components.{Components}
 
 pub record Played : Type 0 where
   pub content : Content
   pub world : World
+
+-- what a player keeps beside its tables and its keyboard
+pub record IsKept (c : Content) (keys : List (Option KeyRow)) (choices : List Choice) (world : World) (groups : ℕ) (state : Components) (lit : ℕ) : Type 0 where
+  pub all_groups : groups ≡ (keymap_of c).groups
+  pub told_keys : TellsKeys keys c
+  pub told_choices : TellsChoices choices c
+  pub told_state : told state ≡ status_in (keymap_of c) world
+  pub lamps : lit ≡ lit_in (keymap_of c) (told state)
+  pub bounded : IsBounded world
 
 pub record Followed : Type 0 where
   pub content : Content

@@ -6,7 +6,7 @@ ghost use Rattle.kx_run.specs.declared.direction.Direction.{Direction};
 
 use crate::group::effective;
 use crate::lamps::lit;
-use crate::lookup::look_up;
+use crate::lookup::{key_of, look_up, read_keysyms};
 use crate::reply::{Components, Look};
 use arrayvec::ArrayVec;
 use kx_mods::Mods;
@@ -83,17 +83,23 @@ impl<T: Tables + Drop> Follower<T> {
             .base
             .with(self.state.latched)
             .with(self.state.locked);
-        match look_up(&self.tables, code, group, mods) {
+        let _sound = self.tables.key_count();
+        match key_of(&self.tables, code) {
             None => Look {
                 known: false,
                 syms: ArrayVec::new(),
                 consumed: Mods::NONE,
             },
-            Some(found) => Look {
-                known: true,
-                syms: found.syms,
-                consumed: found.consumed,
-            },
+            Some(key) => {
+                let found = look_up(&self.tables, key, group, mods);
+                let mut look = Look {
+                    known: true,
+                    syms: ArrayVec::new(),
+                    consumed: found.consumed,
+                };
+                read_keysyms(&self.tables, found.cell, &mut look.syms);
+                look
+            }
         }
     }
 

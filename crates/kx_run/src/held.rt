@@ -1,6 +1,6 @@
-ghost use Rattle.std.specs.Prelude.{◌≡◌, ℕ, ◌^◌, ◌<◌, ◌≤◌, ◌≤ℤ◌, false, List, [], ◌∷◌, ◌++◌, length, slice_index_or, remove, position, map, IfOk, IfNone, pos, negsuc};
+ghost use Rattle.std.specs.Prelude.{◌≡◌, ℕ, ◌^◌, ◌<◌, ◌≤◌, ◌≤ℤ◌, false, List, [], ◌∷◌, ◌++◌, length, slice_index, slice_index_or, remove, position, map, IfOk, IfNone, pos, negsuc};
 ghost use Rattle.kx_mods.specs.Mods.{mask};
-ghost use Rattle.kx_run.specs.Held.{held_mods, base_mods, base_group, is_group_held, is_at, is_held, held_at, other_keys, disturbed, action_size, AreSound};
+ghost use Rattle.kx_run.specs.Held.{held_mods, base_mods, base_group, count_of, is_group_held, is_at, is_held, held_at, other_keys, disturbed, action_size, AreSound, AreAllDisturbed, AreEarlierDisturbed};
 
 use crate::counts::{Counts, counted, counted_mods, uncounted};
 use crate::group::base_group_with;
@@ -42,6 +42,8 @@ pub fn mods_of(action: Action) -> Mods
 #[derive(Debug, Drop)]
 pub struct HeldKeys {
     keys: Vec<HeldKey>,
+    /// Whether each code's key is down.
+    down: Vec<bool>,
     counts: Counts,
     mods: Mods,
     group: i32,
@@ -67,6 +69,7 @@ impl HeldKeys {
     {
         Ok(HeldKeys {
             keys: Vec::with_capacity(alloc, CODES)?,
+            down: vec![in alloc; false; CODES]?,
             counts: [0; 8],
             mods: Mods::NONE,
             group: 0,
@@ -92,27 +95,30 @@ impl HeldKeys {
 
     /// Whether a code's key is down.
     pub fn is_held(&self, code: u16) -> bool
-        ensures value { result ≡ is_held code self.now }
-        ensures sound { AreSound self.now }
+        requires { code < 4096 }
+        ensures { result ≡ is_held code self.now }
     {
-        self.keys.iter().any(|key| key.code == code)
+        self.down[usize::from(code)]
     }
 
     /// Tells each key that another one was pressed.
     pub fn disturb(&mut self)
-        ensures { self.new ≡ map disturbed self.old }
+        ensures value { self.new ≡ map disturbed self.old }
+        ensures all { AreAllDisturbed self.new }
     {
-        disturb_all(&mut self.keys);
+        disturb_last(&mut self.keys);
     }
 
-    /// Adds a key that isn't held.
+    /// Adds a key that isn't held, where all others were told of its press.
     pub fn hold(&mut self, key: HeldKey)
         requires code { key.code < 4096 }
         requires size { action_size key.action ≤ 32 }
         requires new_code { is_held key.code self.old ≡ false }
+        requires others { AreAllDisturbed self.old }
         ensures { self.new ≡ self.old ++ key ∷ [] }
     {
         let mods = mods_of(key.action);
+        self.down[usize::from(key.code)] = true;
         self.counts = counted(self.counts, mods);
         self.mods = self.mods.with(mods);
         self.group = base_group_with(key.action, self.group);
@@ -121,10 +127,14 @@ impl HeldKeys {
 
     /// Lets go of a code's key, where it is held.
     pub fn take(&mut self, code: u16) -> Option<HeldKey>
+        requires { code < 4096 }
         ensures found { result ≡ held_at code self.old }
         ensures rest { self.new ≡ other_keys code self.old }
         ensures none { IfNone result (self.new ≡ self.old) }
     {
+        if !self.is_held(code) {
+            return None;
+        }
         match place_of(&self.keys, code) {
             Some(place) => Some(self.remove(place)),
             None => None,
@@ -139,23 +149,27 @@ impl HeldKeys {
         ensures sound { AreSound self.old }
     {
         let key = self.keys.remove(place);
+        self.down[usize::from(key.code)] = false;
         self.counts = uncounted(self.counts, mods_of(key.action));
-        self.mods = counted_mods(&self.counts);
+        self.mods = mods_without(key.action, self.mods, &self.counts, &self.keys);
         self.group = group_without(key.action, self.group, &self.keys);
         key
     }
 }
 
-/// Tells each of some keys that another one was pressed.
-fn disturb_all(keys: &mut [HeldKey])
+/// Tells each of some keys that another one was pressed. All but the last were told before.
+fn disturb_last(keys: &mut [HeldKey])
+    requires { AreEarlierDisturbed keys.old }
     ensures { keys.new ≡ map disturbed keys.old }
 {
-    for key in keys.iter_mut() {
-        key.disturbed = true;
+    let count = keys.len();
+    if count > 0 {
+        keys[count - 1].disturbed = true;
     }
 }
 
 /// The place of a code's key, counted from 0.
+#[inline(never)]
 fn place_of(keys: &[HeldKey], code: u16) -> Option<usize>
     ensures { result ≡ position (is_at code) keys.now }
 {
@@ -167,6 +181,21 @@ fn changes_group(action: Action) -> bool
     ensures { result ≡ is_group_held action }
 {
     matches!(action, Action::SetGroup { .. } | Action::LatchGroup { .. })
+}
+
+/// The base modifiers of the keys that are left when one with this action is let go, where `old` are the base
+/// modifiers before, and `counts` tell how many of the keys that are left set each modifier.
+fn mods_without(action: Action, old: Mods, counts: &Counts, keys: &[HeldKey]) -> Mods
+    requires sound { AreSound keys.now }
+    requires counts { (bit : ℕ) → bit < 8 → slice_index counts.now bit ≡ count_of bit keys.now }
+    requires unchanged { held_mods action ≡ 0 → mask old ≡ base_mods keys.now }
+    ensures { mask result ≡ base_mods keys.now }
+{
+    if mods_of(action).is_none() {
+        old
+    } else {
+        counted_mods(counts)
+    }
 }
 
 /// The base group of the keys that are left when one with this action is let go, where `old` is the base group before.

@@ -3,7 +3,7 @@ ghost use Rattle.std.specs.Int.RustNames.{bit_and};
 ghost use Rattle.kx_mods.specs.Mods.{mask};
 ghost use Rattle.kx_run.specs.Held.{is_held, action_size};
 ghost use Rattle.kx_run.specs.Laws.{IsBounded};
-ghost use Rattle.kx_run.specs.World.{opening, effective_mods, effective_group, press_effect, release_effect, latch_mods, latch_group, recorded_mods, pressed, released, moved};
+ghost use Rattle.kx_run.specs.World.{opening, effective_mods, effective_group, press_effect, release_effect, is_moved, latch_mods, latch_group, recorded_mods, pressed, released, moved};
 ghost use Rattle.kx_run.specs.Replies.{status_of, told};
 
 use crate::direction::Direction;
@@ -85,6 +85,18 @@ impl Keyboard {
         }
     }
 
+    /// Whether an event of a known key changes the held keys: a press of a held key and a release of one that is up
+    /// change nothing.
+    pub fn takes(&self, code: u16, direction: Direction) -> bool
+        requires { code < 4096 }
+        ensures { result ≡ is_moved self.now code direction }
+    {
+        match direction {
+            Direction::Down => !self.held.is_held(code),
+            Direction::Up => self.held.is_held(code),
+        }
+    }
+
     /// Applies an event of a known key, whose action in this state is the one given.
     pub fn apply(&mut self, code: u16, direction: Direction, action: Action, groups: u8)
         requires some_group { 1 ≤ groups }
@@ -123,7 +135,8 @@ impl Keyboard {
 
     /// Releases a key, where it is held.
     fn release(&mut self, code: u16, groups: u8)
-        requires { 1 ≤ groups }
+        requires some_group { 1 ≤ groups }
+        requires code { code < 4096 }
         ensures { self.new ≡ released groups code self.old }
     {
         if let Some(key) = self.held.take(code) {

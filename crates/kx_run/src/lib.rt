@@ -1,11 +1,13 @@
 //! The running keyboard.
 #![tactic(auto)]
 
+mod choices;
 mod counts;
 mod direction;
 mod follower;
 mod group;
 mod held;
+mod index;
 mod keyboard;
 mod lamps;
 mod lookup;

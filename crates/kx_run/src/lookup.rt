@@ -1,71 +1,122 @@
-ghost use Rattle.std.specs.Prelude.{◌≡◌, ◌+◌, ◌^◌, ◌<◌, ◌≤◌, length, slice_get, is_some, IfSome, OnSome};
+ghost use Rattle.std.specs.Prelude.{◌≡◌, ◌+◌, ◌^◌, ◌<◌, ◌≤◌, [], length, slice_get, Some, IfSome};
 ghost use Rattle.kx_mods.specs.Mods.{mask};
 ghost use Rattle.kx_resolve.specs.Content.{part};
-ghost use Rattle.kx_resolve.specs.Keymap.{keymap_of, entry_for, level_of, consumed_by, group_shows};
+ghost use Rattle.kx_resolve.specs.Keymap.{key_with, cell_shows, entry_for, level_of, consumed_by, group_shows, key_shows};
 ghost use Rattle.kx_resolve.specs.Sound.{Sound};
-ghost use Rattle.kx_run.specs.Held.{action_size};
-ghost use Rattle.kx_run.specs.Lookup.{found_shows, NamesLevels};
+ghost use Rattle.kx_run.specs.Lookup.{found_shows, IsReadable, NamesLevels, TellsChoices};
 
+use crate::choices::Choices;
 use arrayvec::ArrayVec;
 use kx_mods::Mods;
-use kx_resolve::{Action, CellRow, EntryRow, Tables, TypeRow, wrap_group};
+use kx_resolve::{Action, CellRow, EntryRow, GroupRow, KeyRow, Tables, TypeRow, wrap_group};
 
 /// What a key gives in a state.
-#[derive(Debug, Drop)]
+#[derive(Clone, Copy, Debug)]
 pub struct Found {
-    /// Its keysyms.
-    pub syms: ArrayVec<u32, 8>,
-    /// The modifiers that they use up.
+    /// The level, which has its keysyms and its action.
+    pub cell: CellRow,
+    /// The modifiers that the keysyms use up.
     pub consumed: Mods,
-    /// Its action.
-    pub action: Action,
 }
 
-/// What a code's key gives at an effective group, from 0, and effective modifiers; `None` for a code without a key.
-pub fn look_up<T: Tables>(tables: &T, code: u16, group: u8, mods: Mods) -> Option<Found>
-    ensures known { is_some result ≡ (keymap_of (T.content tables.now)).known code }
-    ensures value { IfSome result (λ f. found_shows f ≡ (keymap_of (T.content tables.now)).shown code group (mask mods)) }
-    ensures code { OnSome result (code < 4096) }
-    ensures size { IfSome result (λ f. action_size f.action ≤ 32) }
+impl Found {
+    /// What a key without groups gives.
+    const NOTHING: Found = Found {
+        cell: CellRow {
+            keysyms: 0,
+            action: Action::None,
+            first_keysym: 0,
+        },
+        consumed: Mods::NONE,
+    };
+}
+
+/// The key of a code.
+pub fn key_of<T: Tables>(tables: &T, code: u16) -> Option<KeyRow>
+    ensures { result ≡ key_with (T.content tables.now) code }
 {
-    let _sound = tables.key_count();
     match tables.key_of(code) {
         None => None,
-        Some(index) => {
-            let key = tables.key_row(index);
-            if key.groups == 0 {
-                return Some(Found {
-                    syms: ArrayVec::new(),
-                    consumed: Mods::NONE,
-                    action: Action::None,
-                });
-            }
-            let place = wrap_group(i64::from(group), key.groups, key.range);
-            Some(look_up_group(tables, key.first_group + u32::from(place), mods))
-        }
+        Some(index) => Some(tables.key_row(index)),
     }
+}
+
+/// What a key of the tables gives at an effective group, from 0, and effective modifiers.
+pub fn look_up<T: Tables>(tables: &T, key: KeyRow, group: u8, mods: Mods) -> Found
+    requires { key.first_group + key.groups ≤ length (T.content tables.now).groups }
+    ensures value { found_shows (T.content tables.now) result ≡ key_shows (T.content tables.now) group (mask mods) (Some key) }
+    ensures readable { IsReadable (T.content tables.now) result }
+{
+    let _sound = tables.key_count();
+    if key.groups == 0 {
+        return Found::NOTHING;
+    }
+    let place = wrap_group(i64::from(group), key.groups, key.range);
+    look_up_group(tables, key.first_group + u32::from(place), mods)
+}
+
+/// The same, where the choices of the types are kept.
+pub fn look_up_chosen<T: Tables>(
+    tables: &T,
+    choices: &mut Choices,
+    key: KeyRow,
+    group: u8,
+    mods: Mods,
+) -> Found
+    requires within { key.first_group + key.groups ≤ length (T.content tables.now).groups }
+    requires choices { TellsChoices choices.old (T.content tables.now) }
+    ensures value { found_shows (T.content tables.now) result ≡ key_shows (T.content tables.now) group (mask mods) (Some key) }
+    ensures readable { IsReadable (T.content tables.now) result }
+    ensures choices { TellsChoices choices.new (T.content tables.now) }
+{
+    let _sound = tables.key_count();
+    if key.groups == 0 {
+        return Found::NOTHING;
+    }
+    let place = wrap_group(i64::from(group), key.groups, key.range);
+    let group = tables.group_row(key.first_group + u32::from(place));
+    let row = tables.type_row(group.key_type);
+    let entry = choices.entry(tables, group.key_type, row, mods);
+    level_found(tables, group, row, entry)
 }
 
 /// What the group at a place of the table gives at effective modifiers.
 fn look_up_group<T: Tables>(tables: &T, place: u32, mods: Mods) -> Found
     requires sound { Sound (T.content tables.now) }
     requires within { place < length (T.content tables.now).groups }
-    ensures value { found_shows result ≡ group_shows (T.content tables.now) (mask mods) (slice_get (T.content tables.now).groups place) }
-    ensures size { action_size result.action ≤ 32 }
+    ensures value { found_shows (T.content tables.now) result ≡ group_shows (T.content tables.now) (mask mods) (slice_get (T.content tables.now).groups place) }
+    ensures readable { IsReadable (T.content tables.now) result }
 {
     let group = tables.group_row(place);
     let row = tables.type_row(group.key_type);
     let entry = find_entry(tables, row, mods);
+    level_found(tables, group, row, entry)
+}
+
+/// What a group gives at the level that an entry of its type names.
+fn level_found<T: Tables>(
+    tables: &T,
+    group: GroupRow,
+    row: TypeRow,
+    entry: Option<EntryRow>,
+) -> Found
+    requires sound { Sound (T.content tables.now) }
+    requires cells { group.first_cell + row.levels ≤ length (T.content tables.now).cells }
+    requires levels { 1 ≤ row.levels }
+    requires some { IfSome entry (λ e. 1 ≤ e.level) }
+    requires most { IfSome entry (λ e. e.level ≤ row.levels) }
+    ensures value { found_shows (T.content tables.now) result ≡ cell_shows (T.content tables.now) (consumed_by row entry) (slice_get (T.content tables.now).cells (group.first_cell + level_of entry)) }
+    ensures readable { IsReadable (T.content tables.now) result }
+{
     let cell = tables.cell_row(group.first_cell + u32::from(level(entry)));
     Found {
-        syms: read_keysyms(tables, cell),
+        cell,
         consumed: consumed(row, entry),
-        action: cell.action,
     }
 }
 
 /// The entry of a type that effective modifiers choose.
-fn find_entry<T: Tables>(tables: &T, row: TypeRow, mods: Mods) -> Option<EntryRow>
+pub fn find_entry<T: Tables>(tables: &T, row: TypeRow, mods: Mods) -> Option<EntryRow>
     requires within { row.first_entry + row.entries ≤ length (T.content tables.now).entries }
     requires fits { length (T.content tables.now).entries < 2 ^ 32 }
     requires levels { NamesLevels (T.content tables.now) row }
@@ -105,17 +156,16 @@ fn consumed(row: TypeRow, entry: Option<EntryRow>) -> Mods
     }
 }
 
-/// The keysyms of a level.
-fn read_keysyms<T: Tables>(tables: &T, cell: CellRow) -> ArrayVec<u32, 8>
+/// Puts the keysyms of a level into an empty list.
+pub fn read_keysyms<T: Tables>(tables: &T, cell: CellRow, syms: &mut ArrayVec<u32, 8>)
     requires few { cell.keysyms ≤ 8 }
     requires within { cell.first_keysym + cell.keysyms ≤ length (T.content tables.now).keysyms }
     requires fits { length (T.content tables.now).keysyms < 2 ^ 32 }
-    ensures { result.items ≡ part (T.content tables.now).keysyms cell.first_keysym cell.keysyms }
+    requires empty { syms.old.items ≡ [] }
+    ensures { syms.new.items ≡ part (T.content tables.now).keysyms cell.first_keysym cell.keysyms }
 {
-    let mut syms = ArrayVec::new();
     let last = cell.first_keysym + u32::from(cell.keysyms);
     for place in cell.first_keysym..last {
         syms.push(tables.keysym(place));
     }
-    syms
 }

@@ -1,17 +1,20 @@
-ghost use Rattle.std.specs.Prelude.{◌≡◌, [], map, IfOk, OnOk, OnErr};
+ghost use Rattle.std.specs.Prelude.{◌≡◌, ◌<◌, ◌≤◌, [], map, IfOk, OnOk, OnErr};
 ghost use Rattle.kx_resolve.specs.Keymap.{Keymap, keymap_of};
+ghost use Rattle.kx_run.specs.Held.{action_size};
 ghost use Rattle.kx_run.specs.Laws.{Agree, IsBounded, IsLetGo, ReleasesAll};
-ghost use Rattle.kx_run.specs.Replies.{answer, answered, lit_in, run, status_in, told, world_after};
-ghost use Rattle.kx_run.specs.World.{opening, step};
+ghost use Rattle.kx_run.specs.Replies.{answer, answered, lit_in, run, status_in, told, unknown, world_after};
+ghost use Rattle.kx_run.specs.World.{moved, opening, step};
 
+use crate::choices::Choices;
 use crate::direction::{Direction, Event};
+use crate::index::KeyIndex;
 use crate::keyboard::Keyboard;
 use crate::lamps::lit;
-use crate::lookup::look_up;
+use crate::lookup::{look_up_chosen, read_keysyms};
 use crate::reply::{Components, Reply};
 use arrayvec::ArrayVec;
 use kx_mods::Mods;
-use kx_resolve::Tables;
+use kx_resolve::{Action, Tables};
 use std::alloc::{AllocError, Global};
 use std::marker::Model;
 
@@ -19,20 +22,24 @@ use std::marker::Model;
 #[derive(Drop)]
 pub struct Player<T: Tables> {
     tables: T,
+    keys: KeyIndex,
+    choices: Choices,
     keyboard: Keyboard,
     groups: u8,
+    /// The keyboard's state, as it is shown.
+    state: Components,
+    /// The indicators that are lit in it.
+    lit: u32,
 }
 
 impl<T: Tables> Model for Player<T> {
-    ghost use Rattle.std.specs.Prelude.{◌≡◌};
-    ghost use Rattle.kx_resolve.specs.Keymap.{keymap_of};
-    ghost use Rattle.kx_run.specs.Player.{Played};
+    ghost use Rattle.kx_run.specs.Player.{IsKept, Played};
 
     ghost Value = { Played };
 
     ghost view = { λ p. record { content = T.content p.tables; world = p.keyboard } };
 
-    ghost invariant = { λ p. p.groups ≡ (keymap_of (T.content p.tables)).groups };
+    ghost invariant = { λ p. IsKept (T.content p.tables) p.keys p.choices p.keyboard p.groups p.state p.lit };
 }
 
 impl<T: Tables + Drop> Player<T> {
@@ -41,31 +48,39 @@ impl<T: Tables + Drop> Player<T> {
     pub fn start(alloc: Global, tables: T) -> Result<Player<T>, AllocError>
         ensures { IfOk result (λ player. player ≡ record { content = T.content tables; world = opening }) }
     {
+        let keys = KeyIndex::new(alloc, &tables)?;
+        let choices = Choices::new(alloc, &tables)?;
         let keyboard = Keyboard::new(alloc)?;
         let groups = tables.greatest_groups().max(1);
+        let state = keyboard.components(groups);
+        let lit = lit(&tables, state, groups);
         Ok(Player {
             tables,
+            keys,
+            choices,
             keyboard,
             groups,
+            state,
+            lit,
         })
     }
 
     /// Applies an event, and answers what the key gives in the state before it, and the state after it.
+    #[inline(always)]
     pub fn event(&mut self, code: u16, direction: Direction) -> Reply
         ensures world { self.new ≡ record self.old { world = step (keymap_of self.old.content) self.old.world code direction } }
         ensures reply { answered result ≡ answer (keymap_of self.old.content) self.old.world code direction }
         ensures bounded { IsBounded self.new.world }
     {
-        let group = self.keyboard.effective_group(self.groups);
-        let mods = self.keyboard.effective_mods();
-        match look_up(&self.tables, code, group, mods) {
-            None => self.reply(false, ArrayVec::new(), Mods::NONE),
-            Some(found) => {
-                self.keyboard
-                    .apply(code, direction, found.action, self.groups);
-                self.reply(true, found.syms, found.consumed)
-            }
-        }
+        let mut reply = Reply {
+            known: false,
+            syms: ArrayVec::new(),
+            consumed: Mods::NONE,
+            state: self.state,
+            lit: self.lit,
+        };
+        self.answer(code, direction, &mut reply);
+        reply
     }
 
     /// Applies events in order, and answers the reply to each. Where there is no memory for the replies, no event
@@ -101,32 +116,56 @@ impl<T: Tables + Drop> Player<T> {
         ensures value { told result ≡ status_in (keymap_of self.now.content) self.now.world }
         ensures bounded { IsBounded self.now.world }
     {
-        self.keyboard.components(self.groups)
+        self.state
     }
 
     /// The indicators that are lit in the state: bit i is indicator i of the tables, from 0.
     pub fn lit(&self) -> u32
         ensures { result ≡ lit_in (keymap_of self.now.content) (status_in (keymap_of self.now.content) self.now.world) }
     {
-        lit(&self.tables, self.components(), self.groups)
+        self.lit
     }
 
-    /// The reply with what a key gave, in the state as it is now.
-    fn reply(&self, known: bool, syms: ArrayVec<u32, 8>, consumed: Mods) -> Reply
-        ensures known { result.known ≡ known }
-        ensures syms { result.syms ≡ syms }
-        ensures consumed { result.consumed ≡ consumed }
-        ensures state { told result.state ≡ status_in (keymap_of self.now.content) self.now.world }
-        ensures lit { result.lit ≡ lit_in (keymap_of self.now.content) (status_in (keymap_of self.now.content) self.now.world) }
-        ensures bounded { IsBounded self.now.world }
+    /// Applies an event, and completes its reply, which has no keysyms yet, and the state before the event.
+    #[inline(never)]
+    fn answer(&mut self, code: u16, direction: Direction, reply: &mut Reply)
+        requires { answered reply.old ≡ record { look = unknown; state = status_in (keymap_of self.old.content) self.old.world; lit = lit_in (keymap_of self.old.content) (status_in (keymap_of self.old.content) self.old.world) } }
+        ensures world { self.new ≡ record self.old { world = step (keymap_of self.old.content) self.old.world code direction } }
+        ensures reply { answered reply.new ≡ answer (keymap_of self.old.content) self.old.world code direction }
+        ensures bounded { IsBounded self.new.world }
     {
-        let state = self.components();
-        Reply {
-            known,
-            syms,
-            consumed,
-            state,
-            lit: lit(&self.tables, state, self.groups),
+        let _sound = self.tables.key_count();
+        match self.keys.key(code) {
+            None => {}
+            Some(key) => {
+                let mods = self.keyboard.effective_mods();
+                let group = self.state.effective_group;
+                let found = look_up_chosen(&self.tables, &mut self.choices, key, group, mods);
+                read_keysyms(&self.tables, found.cell, &mut reply.syms);
+                reply.known = true;
+                reply.consumed = found.consumed;
+                if !self.keyboard.takes(code, direction) {
+                    return;
+                }
+                self.apply(code, direction, found.cell.action);
+                reply.state = self.state;
+                reply.lit = self.lit;
+            }
         }
+    }
+
+    /// Applies an event of a known key, whose action in this state is the one given.
+    fn apply(&mut self, code: u16, direction: Direction, action: Action)
+        requires code { code < 4096 }
+        requires size { action_size action ≤ 32 }
+        ensures { self.new ≡ record self.old { world = moved (keymap_of self.old.content).groups self.old.world code direction action } }
+    {
+        self.keyboard.apply(code, direction, action, self.groups);
+        let state = self.keyboard.components(self.groups);
+        if state == self.state {
+            return;
+        }
+        self.state = state;
+        self.lit = lit(&self.tables, state, self.groups);
     }
 }

@@ -16,7 +16,8 @@ use rows::{
     SHIFT_HELD, Step, THIRD_LEVEL, TWO_SHIFTS,
 };
 use sample::{
-    A_LOWER, A_UPPER, Built, desktop, desktop_with_two_groups, desktop_without_third_level, ranges,
+    A_LOWER, A_UPPER, Built, SHIFT_L, desktop, desktop_with_two_groups,
+    desktop_without_third_level, ranges,
 };
 use std::test::Fail;
 use steps::plays;
@@ -103,6 +104,37 @@ fn runs_a_list(rt: HostRuntime) -> Result<(), Fail> {
     assert_eq!(rt; replies[1].syms.as_slice(), [A_UPPER].as_slice());
     assert_eq!(rt; replies[1].state, player.components());
     assert_eq!(rt; player.components().base.mask(), SHIFT);
+    Ok(())
+}
+
+/// A growth that is refused gives the error, and the player answers as if it had not been asked. What a refusal
+/// gives is seen by `rt try --test --fail-alloc N`: this test fails in the making of the tables alone, and ends well
+/// where `start` or `run` is refused.
+#[test]
+fn changes_nothing_where_memory_is_refused(rt: HostRuntime) -> Result<(), Fail> {
+    let tables = desktop(rt.alloc())?.finish()?;
+    let Ok(mut player) = Player::start(rt.alloc(), tables) else {
+        return Ok(());
+    };
+    plays(&rt, &mut player, &SHIFT_HELD[..3]);
+    let before = player.components();
+    let lit = player.lit();
+    let release = Event {
+        code: 50,
+        direction: Direction::Up,
+    };
+    match player.run(rt.alloc(), &[release]) {
+        Ok(replies) => {
+            assert_eq!(rt; replies.len(), 1);
+            assert_eq!(rt; replies[0].syms.as_slice(), [SHIFT_L].as_slice());
+            assert_eq!(rt; player.components().base, Mods::NONE);
+        }
+        Err(_) => {
+            assert_eq!(rt; player.components(), before);
+            assert_eq!(rt; player.lit(), lit);
+            plays(&rt, &mut player, &SHIFT_HELD[3..]);
+        }
+    }
     Ok(())
 }
 

@@ -5,8 +5,9 @@ ghost use Rattle.kx_resolve.specs.Content.{Content};
 use crate::build::build;
 use ks_core::{Lent, NameTable, Notes};
 use kx_codes::codes;
-use kx_lex::{At, Fault, lex};
-use kx_parse::{Kind, Section, Tree, parse};
+use kx_include::{Files, Library};
+use kx_lex::{At, Fault, Span, lex};
+use kx_parse::{Kind, Section, parse};
 use kx_resolve::{Owned, Tables};
 use kx_symbols::symbols;
 use std::alloc::Global;
@@ -22,11 +23,19 @@ fn check_section(section: &Section) -> Result<(), Fault> {
     }
 }
 
-fn check_sections(tree: &Tree) -> Result<(), Fault> {
-    for section in tree.sections.as_slice() {
+fn check_sections(sections: &[Section]) -> Result<(), Fault> {
+    for section in sections {
         check_section(section)?;
     }
     Ok(())
+}
+
+/// The place of all of a source; it counts no further than 4,294,967,295 bytes.
+fn whole(source: &[u8]) -> Span {
+    Span {
+        start: 0,
+        stop: source.len().min(u32::MAX as usize) as u32,
+    }
 }
 
 /// The tables of a source, and what was passed over.
@@ -36,13 +45,16 @@ fn check_sections(tree: &Tree) -> Result<(), Fault> {
 pub fn compile_tables(
     alloc: Global,
     source: &[u8],
+    files: &Files,
     names: &NameTable,
 ) -> Result<(Owned, Notes), Fault> {
     let tokens = lex(alloc, source)?;
     let tree = parse(alloc, source, tokens.as_slice())?;
-    check_sections(&tree)?;
-    let codes = codes(alloc, &tree)?;
-    let (keys, notes) = symbols(alloc, &tree, &codes, names)?;
+    let library = Library::read(alloc, tree, whole(source), files)?;
+    library.check(alloc)?;
+    check_sections(library.sections_in(0))?;
+    let codes = codes(alloc, &library)?;
+    let (keys, notes) = symbols(alloc, &library, &codes, names)?;
     let parts = build(alloc, &codes, &keys)?;
     match Owned::new(parts) {
         Ok(tables) => Ok((tables, notes)),
@@ -66,10 +78,15 @@ fn image_of(alloc: Global, tables: &Owned) -> Result<Vec<u8>, Fault>
 ///
 /// # Errors
 /// A fault of the source with its place, or `Memory`.
-pub fn compile(alloc: Global, source: &[u8], names: &NameTable) -> Result<(Vec<u8>, Notes), Fault>
+pub fn compile(
+    alloc: Global,
+    source: &[u8],
+    files: &Files,
+    names: &NameTable,
+) -> Result<(Vec<u8>, Notes), Fault>
     ensures image { IfOk result (λ made. (content : Content) × IsImage content made.0.items) }
 {
-    let (tables, notes) = compile_tables(alloc, source, names)?;
+    let (tables, notes) = compile_tables(alloc, source, files, names)?;
     let image = image_of(alloc, &tables)?;
     Ok((image, notes))
 }

@@ -1,5 +1,13 @@
+//! Lines of event text.
+ghost use Rattle.std.specs.Prelude.{◌≡◌, ◌≤◌, ◌++◌, ◌∷◌, [], ℕ, List, true, length};
+ghost use Rattle.std.specs.Char.{is_ascii_digit};
+ghost use Rattle.std.specs.List.{list_all};
+ghost use Rattle.std.specs.Str.Parse.{digits_value};
+ghost use Rattle.kx_tool.specs.EventLines.{KeepsLine, Says, code_in, event_of, event_with, has_code_digits};
+
 use arrayvec::ArrayVec;
 use kx_run::{Direction, Event};
+use std::marker::Model;
 
 /// The longest line that is kept.
 pub const MOST_LINE_BYTES: usize = 64;
@@ -9,6 +17,14 @@ pub const MOST_LINE_BYTES: usize = 64;
 pub struct Line {
     bytes: ArrayVec<u8, MOST_LINE_BYTES>,
     too_long: bool,
+}
+
+impl Model for Line {
+    ghost use Rattle.kx_tool.specs.EventLines.{Kept};
+
+    ghost Value = { Kept };
+
+    ghost view = { λ l. record { bytes = l.bytes.items; is_long = l.too_long } };
 }
 
 /// What a line says.
@@ -24,7 +40,9 @@ pub enum Said {
 
 impl Line {
     /// A line with nothing read.
-    pub fn new() -> Line {
+    pub fn new() -> Line
+        ensures { KeepsLine result [] }
+    {
         Line {
             bytes: ArrayVec::new(),
             too_long: false,
@@ -32,7 +50,9 @@ impl Line {
     }
 
     /// Reads one more byte of the line.
-    pub fn push(&mut self, byte: u8) {
+    pub fn push(&mut self, byte: u8)
+        ensures { (line : List ℕ) → KeepsLine self.old line → KeepsLine self.new (line ++ byte ∷ []) }
+    {
         if self.bytes.is_full() {
             self.too_long = true;
         } else {
@@ -41,53 +61,99 @@ impl Line {
     }
 
     /// Forgets what was read.
-    pub fn clear(&mut self) {
+    pub fn clear(&mut self)
+        ensures { KeepsLine self.new [] }
+    {
         self.bytes.clear();
         self.too_long = false;
     }
 
     /// What the line says.
-    pub fn said(&self) -> Said {
+    pub fn said(&self) -> Said
+        ensures { (line : List ℕ) → KeepsLine self.now line → Says line result }
+    {
         if self.too_long {
             return Said::Other;
         }
-        let bytes = self.bytes.as_slice();
-        if bytes.is_empty() {
-            return Said::Nothing;
-        }
-        match event_of(bytes) {
-            Some(event) => Said::Event(event),
-            None => Said::Other,
-        }
+        said_by(self.bytes.as_slice())
+    }
+}
+
+/// What a line says.
+fn said_by(line: &[u8]) -> Said
+    ensures { Says line.now result }
+{
+    if line.is_empty() {
+        return Said::Nothing;
+    }
+    match event_of(line) {
+        Some(event) => Said::Event(event),
+        None => Said::Other,
     }
 }
 
 /// `down` or `up`, one space and a code.
-fn event_of(line: &[u8]) -> Option<Event> {
+#[tactic(auto, unfolding(crate::specs::EventLines::event_of))]
+fn event_of(line: &[u8]) -> Option<Event>
+    ensures { result ≡ event_of line.now }
+{
     if let Some(code) = line.strip_prefix(b"down ".as_slice()) {
-        return Some(Event {
-            code: code_of(code)?,
-            direction: Direction::Down,
-        });
+        return event_with(Direction::Down, code_in(code));
     }
-    let code = line.strip_prefix(b"up ".as_slice())?;
-    Some(Event {
-        code: code_of(code)?,
-        direction: Direction::Up,
-    })
+    if let Some(code) = line.strip_prefix(b"up ".as_slice()) {
+        return event_with(Direction::Up, code_in(code));
+    }
+    None
+}
+
+fn event_with(direction: Direction, code: Option<u16>) -> Option<Event>
+    ensures { result ≡ event_with direction code }
+{
+    match code {
+        Some(code) => Some(Event { code, direction }),
+        None => None,
+    }
 }
 
 /// A decimal code of 1 to 5 digits, at most 65,535.
-fn code_of(digits: &[u8]) -> Option<u16> {
-    if digits.is_empty() || digits.len() > 5 {
+#[tactic(auto, unfolding(crate::specs::EventLines::code_in))]
+fn code_in(digits: &[u8]) -> Option<u16>
+    ensures { result ≡ code_in digits.now }
+{
+    if !has_code_digits(digits) {
         return None;
     }
-    let mut code: u32 = 0;
-    for digit in digits {
-        if !digit.is_ascii_digit() || code > 65_535 {
-            return None;
-        }
-        code = code * 10 + u32::from(digit - b'0');
+    let code = value_of(digits);
+    if code < 65_536 {
+        Some(code as u16)
+    } else {
+        None
     }
-    u16::try_from(code).ok()
+}
+
+/// Whether these are 1 to 5 decimal digits.
+#[tactic(auto, unfolding(crate::specs::EventLines::has_code_digits))]
+fn has_code_digits(digits: &[u8]) -> bool
+    ensures { result ≡ has_code_digits digits.now }
+{
+    1 <= digits.len() && digits.len() <= 5 && are_digits(digits)
+}
+
+fn are_digits(digits: &[u8]) -> bool
+    ensures { result ≡ list_all is_ascii_digit digits.now }
+{
+    digits.iter().all(|byte| byte.is_ascii_digit())
+}
+
+/// The number of at most 5 decimal digits.
+fn value_of(digits: &[u8]) -> u32
+    requires few { length digits.now ≤ 5 }
+    requires digits { list_all is_ascii_digit digits.now ≡ true }
+    ensures { result ≡ digits_value 10 digits.now }
+{
+    let mut value = 0;
+    for digit in digits {
+        value = value * 10 + u32::from(*digit - b'0');
+    }
+    value
 }

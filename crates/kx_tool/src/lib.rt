@@ -4,13 +4,20 @@
 mod answer;
 mod build;
 mod compiler;
+mod dumping;
 mod event;
 mod fault;
 mod input;
-mod replay;
+mod listing;
+mod replaying;
+mod sessions;
+mod source;
 #[cfg(test)]
 mod tests;
 
 pub use compiler::{compile, compile_tables};
+pub use dumping::dump;
 pub use fault::{ReplayFault, SessionFault};
-pub use replay::session;
+pub use kx_include::Files;
+pub use replaying::replay;
+pub use sessions::session;

@@ -1,4 +1,7 @@
-use crate::{compile, session};
+mod devices;
+mod includes;
+
+use crate::{Files, compile, session};
 use ks_core::{MemFeed, MemOut, NameTable};
 use kx_image::View;
 use kx_resolve::Rows;
@@ -14,7 +17,13 @@ fn run(rt: &(impl Abort + AllocGlobal), input: &[u8], wanted: &[u8]) -> Result<S
     let mut room = [0u8; 1024];
     let mut out = MemOut::new(&mut room);
     let names = NameTable::builtin();
-    let ended = match session(rt.alloc(), &mut feed, &names, &mut out) {
+    let ended = match session(
+        rt.alloc(),
+        &mut feed,
+        &Files::new(rt.alloc()),
+        &names,
+        &mut out,
+    ) {
         Ok(()) => String::from_str(rt.alloc(), "")?,
         Err(fault) => format!(in rt.alloc(); "{fault}")?,
     };
@@ -48,11 +57,16 @@ fn the_sample_answers(rt: HostRuntime) -> Result<(), Fail> {
 #[test]
 fn the_sample_is_98_bytes(rt: HostRuntime) -> Result<(), Fail> {
     let names = NameTable::builtin();
-    let (image, _) = compile(rt.alloc(), SAMPLE, &names)?;
+    let (image, _) = compile(rt.alloc(), SAMPLE, &Files::new(rt.alloc()), &names)?;
     assert_eq!(rt; image.len(), 98);
     let view = View::open(image.as_slice())?;
     assert_eq!(rt; view.counts().keys, 1);
-    let (empty, _) = compile(rt.alloc(), b"xkb_keymap { };", &names)?;
+    let (empty, _) = compile(
+        rt.alloc(),
+        b"xkb_keymap { };",
+        &Files::new(rt.alloc()),
+        &names,
+    )?;
     assert_eq!(rt;
         empty.as_slice(),
         b"KXI\n\x02\0\0\0\0\0\0\0\0\0\0\0\0\0\0\0\0\0\0\0\0\0\0\0\0\0\0\0".as_slice()
@@ -65,7 +79,7 @@ fn unknown_names_are_noted(rt: HostRuntime) -> Result<(), Fail> {
     let names = NameTable::builtin();
     let source: &[u8] =
         b"xkb_keymap { xkb_keycodes { <A>=38; <B>=39; }; xkb_symbols { key <A> { [ U41 ] }; key <C> { [ b ] }; key <B> { [ frobnicate ] }; }; };";
-    let (_, notes) = compile(rt.alloc(), source, &names)?;
+    let (_, notes) = compile(rt.alloc(), source, &Files::new(rt.alloc()), &names)?;
     assert_eq!(rt; notes.keys, 1);
     assert_eq!(rt; notes.keysyms, 1);
     let ended = run_lines(
@@ -116,8 +130,14 @@ fn later_statements_count(rt: HostRuntime) -> Result<(), Fail> {
 
 #[test]
 fn pairs_of_names_and_codes(rt: HostRuntime) -> Result<(), Fail> {
-    let rows: [(&[u8], &[u8]); 3] = [
+    let rows: [(&[u8], &[u8]); 6] = [
         (b"<A>=38; <B>=39; <A>=39;", b"38 down ?"),
+        (b"<B>=38; alias <A>=<B>;", b"38 down a"),
+        (b"<C>=38; alias <B>=<C>; alias <A>=<B>;", b"38 down -"),
+        (
+            b"minimum = 8; maximum = 255; indicator 1 = \"Caps Lock\"; <A>=38;",
+            b"38 down a",
+        ),
         (b"<A>=38; augment <B>=38;", b"38 down a"),
         (b"<B>=38; <A>=38;", b"38 down a"),
     ];
@@ -147,12 +167,12 @@ fn refusals_name_their_place(rt: HostRuntime) -> Result<(), Fail> {
             "F18 CodeRange at 0:32-36",
         ),
         (
-            b"xkb_keymap { xkb_keycodes { alias <A>=<B>; }; };",
-            "F14 UnknownField at 0:28-33",
+            b"xkb_keymap { xkb_keycodes { virtual_modifiers X; }; };",
+            "F14 UnknownField at 0:28-45",
         ),
         (
-            b"xkb_keymap { xkb_keycodes { minimum = 8; }; };",
-            "F14 UnknownField at 0:28-35",
+            b"xkb_keymap { xkb_keycodes { minimum = 8; least = 8; }; };",
+            "F14 UnknownField at 0:41-46",
         ),
         (
             b"xkb_keymap { xkb_types { type \"A\" { }; }; };",
@@ -160,7 +180,7 @@ fn refusals_name_their_place(rt: HostRuntime) -> Result<(), Fail> {
         ),
         (
             b"xkb_keymap { xkb_symbols { include \"us\" }; };",
-            "F14 UnknownField at 0:27-39",
+            "F9 FileMissing at 0:35-39",
         ),
         (
             b"xkb_keymap { xkb_symbols { key <A> { [ a, A ] }; }; };",
@@ -203,30 +223,5 @@ fn bad_lines_are_counted(rt: HostRuntime) -> Result<(), Fail> {
             wanted
         );
     }
-    Ok(())
-}
-
-#[test]
-fn devices_that_fail_are_told(rt: HostRuntime) -> Result<(), Fail> {
-    let names = NameTable::builtin();
-    let input = [SAMPLE, b"%%\ndown 38\n".as_slice()].concat(rt.alloc())?;
-    let mut feed = MemFeed::new(input.as_slice()).failing_after(20);
-    let mut room = [0u8; 128];
-    let mut out = MemOut::new(&mut room);
-    let ended = session(rt.alloc(), &mut feed, &names, &mut out);
-    assert_eq!(rt; out.written().len(), 0);
-    assert_eq!(rt;
-        format!(in rt.alloc(); "{ended:?}")?.as_str(),
-        "Err(Replay(Read))"
-    );
-    let mut feed = MemFeed::new(input.as_slice());
-    let mut room = [0u8; 128];
-    let mut out = MemOut::new(&mut room).failing_after(5);
-    let ended = session(rt.alloc(), &mut feed, &names, &mut out);
-    assert_eq!(rt; out.written(), b"38 do".as_slice());
-    assert_eq!(rt;
-        format!(in rt.alloc(); "{ended:?}")?.as_str(),
-        "Err(Replay(Write))"
-    );
     Ok(())
 }

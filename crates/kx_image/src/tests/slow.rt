@@ -198,6 +198,41 @@ impl<'a> Slow<'a> {
             || self.name_breaks(TYPES, index, true)
     }
 
+    /// The type that an entry belongs to, counting the entries of the types before it.
+    fn type_of_entry(&self, index: u64) -> Option<u64> {
+        let mut before = 0u64;
+        for key_type in 0..self.count(TYPES) {
+            let entries = self.field(TYPES, key_type, 2, 2);
+            if index < before.wrapping_add(entries) {
+                return Some(key_type);
+            }
+            before = before.wrapping_add(entries);
+        }
+        None
+    }
+
+    fn entry_breaks(&self, index: u64) -> bool {
+        if self.field(ENTRIES, index, 3, 1) != 0 {
+            return true;
+        }
+        let Some(key_type) = self.type_of_entry(index) else {
+            return false;
+        };
+        let mask = self.field(ENTRIES, index, 0, 1);
+        let level = self.field(ENTRIES, index, 1, 1);
+        let preserve = self.field(ENTRIES, index, 2, 1);
+        let first = self.sum(TYPES, key_type, 2, 2);
+        for earlier in first..index {
+            if self.field(ENTRIES, earlier, 0, 1) == mask {
+                return true;
+            }
+        }
+        mask & !self.field(TYPES, key_type, 0, 1) != 0
+            || preserve & !mask != 0
+            || level == 0
+            || level > self.field(TYPES, key_type, 1, 1)
+    }
+
     fn key_breaks(&self, index: u64) -> bool {
         let range = self.field(KEYS, index, 3, 1);
         let redirect = self.field(KEYS, index, 4, 1);
@@ -252,7 +287,24 @@ impl<'a> Slow<'a> {
             || self.field(CELLS, index, 8, 4) != self.sum(CELLS, index, 0, 1)
     }
 
-    /// Whether a record breaks a rule. Images with entries, indicators and group names are not read.
+    fn indicator_breaks(&self, index: u64) -> bool {
+        index > 31
+            || self.field(INDICATORS, index, 1, 1) > 15
+            || self.field(INDICATORS, index, 2, 1) > 15
+            || self.field(INDICATORS, index, 3, 1) != 0
+            || self.field(INDICATORS, index, 10, 2) != 0
+            || self.name_breaks(INDICATORS, index, true)
+    }
+
+    fn group_name_breaks(&self, index: u64) -> bool {
+        let is_last = index.wrapping_add(1) == self.count(GROUP_NAMES);
+        index > 31
+            || (is_last && self.field(GROUP_NAMES, index, 0, 2) == 0)
+            || self.field(GROUP_NAMES, index, 2, 2) != 0
+            || self.name_breaks(GROUP_NAMES, index, false)
+    }
+
+    /// Whether a record breaks a rule.
     pub fn breaks(&self, part: Part, index: u64) -> bool {
         match part {
             Part::Header => self.header_breaks(),
@@ -270,9 +322,9 @@ impl<'a> Slow<'a> {
                 let byte = self.field(NAMES, index, 0, 1);
                 start <= index && index < end && (byte < 0x21 || byte > 0x7e || byte == 0x3e)
             }
-            Part::Entry => false,
-            Part::Indicator => false,
-            Part::GroupName => false,
+            Part::Entry => self.entry_breaks(index),
+            Part::Indicator => self.indicator_breaks(index),
+            Part::GroupName => self.group_name_breaks(index),
         }
     }
 
@@ -280,10 +332,13 @@ impl<'a> Slow<'a> {
     fn any_breaks(&self) -> bool {
         let tables = [
             (TYPES, Part::KeyType),
+            (ENTRIES, Part::Entry),
             (KEYS, Part::Key),
             (GROUPS, Part::Group),
             (CELLS, Part::Cell),
             (KEYSYMS, Part::Keysym),
+            (INDICATORS, Part::Indicator),
+            (GROUP_NAMES, Part::GroupName),
             (NAMES, Part::Name),
         ];
         for (table, part) in tables {

@@ -1,5 +1,5 @@
 use Rattle.std.proofs.Common.{◌≡◌, ◌<◌, ◌^◌, drop}
-use Rattle.kx_parse.specs.Tokens.{digits_from}
+use Rattle.kx_parse.specs.Kinds.{digits_from}
 use Rattle.kx_parse.proofs.tokens.digits_value.Given as goal
 
 -- the digits that are left, behind the value so far, give the whole number

@@ -1,10 +1,11 @@
-use Rattle.std.proofs.Common.{◌≡◌, ℕ, ◌+◌, ◌<◌, ◌≤◌, ◌∙◌, sym, ap, subst, false, arith}
+use Rattle.std.proofs.Common.{◌≡◌, ℕ, ◌+◌, ◌<◌, ◌≤◌, ◌∙◌, sym, ap, subst, false, true, arith, set, get_or, length-set}
 use Rattle.std.proofs.lemmas.Int.{ints}
 use Rattle.std.specs.Int.{bit_at}
 use Rattle.std.specs.Int.RustNames.{bit_or}
 use Rattle.kx_mods.specs.Mods.{mask}
-use Rattle.kx_run.specs.Held.{AreSound, base_group, base_group_after, base_mods, count_of, is_held, held_mods}
+use Rattle.kx_run.specs.Held.{AreAllDisturbed, AreEarlierDisturbed, AreSound, base_group, base_group_after, base_mods, count_of, is_held, held_mods}
 use Rattle.kx_run.proofs.HeldLists.{AreSound-push, base_mods-push, base_group-push, count_of-push, count_of-le, fits_more, kept_group, small_group}
+use Rattle.kx_run.proofs.HeldFlags.{down-push, earlier-push}
 use Rattle.kx_run.proofs.held.HeldKeys.hold.Goals as goal
 
 pub counted-self-inside-requires : goal.counted-self-inside-requires
@@ -33,6 +34,7 @@ push_reserved-requires c =
 pub invariant_of-self : goal.invariant_of-self
 invariant_of-self c =
     let keys = c.self.inside.keys.items in
+    let flags = c.self.inside.down.items in
     let view : keys ≡ c.args.self.now = c.self.view_is in
     let new : is_held c.args.key.code keys ≡ false = ap (is_held c.args.key.code) view ∙ c.requires.new_code in
     let within : held_mods c.args.key.action < 256 = subst (λ (n : ℕ). n < 256) c.mods_of-mods.ensures.value c.mods_of-mods.ensures.in_range in
@@ -55,5 +57,11 @@ invariant_of-self c =
           ∙ ap base_mods (sym items);
       group = kept_group c.push_reserved.new.self.items _ sound
           (c.base_group_with-self-inside.ensures ∙ ap (base_group_after c.args.key.action) old ∙ sym (base_group-push keys c.args.key) ∙ ap base_group (sym items));
+      flags = length-set flags c.from.result true ∙ c.self.invariant.flags;
+      down = λ code d within.
+          ap (λ n. get_or (set flags n true) code d) c.from.ensures
+          ∙ down-push flags keys c.args.key code d (omega (arith, c.self.invariant.flags, c.requires.code)) (c.self.invariant.down code d within)
+          ∙ ap (is_held code) (sym items);
+      earlier = subst AreEarlierDisturbed (sym items) (earlier-push keys c.args.key (subst AreAllDisturbed (sym view) c.requires.others));
       room = subst (λ (n : ℕ). 4096 ≤ n) (sym c.push_reserved.ensures.capacity) c.self.invariant.room;
     }

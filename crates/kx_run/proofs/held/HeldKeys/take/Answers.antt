@@ -24,3 +24,11 @@ returns-in-Some-clause-rest c =
     let found : position (is_at c.args.code) c.args.self.now ≡ Some c.in-Some.place = cc in
     let at = code_at c.args.code c.args.self.now c.in-Some.place c.remove.result found in
     c.remove.ensures.rest ∙ remove_is c.args.code c.args.self.now c.in-Some.place c.remove.result c.remove.ensures.sound.distinct at.0 at.1
+
+pub returns-then-not-is_held-clause-found : goal.returns-then-not-is_held-clause-found
+returns-then-not-is_held-clause-found c =
+    sym (held_at-none c.args.code c.args.self.now (sym c.is_held.ensures ∙ c.if-not-is_held.true))
+
+pub returns-then-not-is_held-clause-rest : goal.returns-then-not-is_held-clause-rest
+returns-then-not-is_held-clause-rest c =
+    sym (other_keys-none c.args.code c.args.self.now (sym c.is_held.ensures ∙ c.if-not-is_held.true))

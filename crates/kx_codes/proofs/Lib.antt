@@ -1,0 +1,4 @@
+mod Behind
+mod Putting
+mod Sharing
+mod Tables

@@ -1,0 +1,48 @@
+ghost use Rattle.std.specs.Prelude.{◌≡◌, ◌⊎◌, ◌≤◌, ◌++◌, ◌∷◌, [], Contains, IfErr, IfOk, OnOk};
+ghost use Rattle.kx_lex.specs.declared.fault.Fault.TheVariants.{Memory};
+ghost use Rattle.kx_codes.specs.CodeFaults.{name_faults, code_faults, is_limit};
+
+use kx_lex::{At, Fault, Span};
+use kx_parse::{Name, Number, Place};
+
+/// The greatest keycode.
+pub const GREATEST_CODE: u32 = 4095;
+
+/// A name may have this many bytes.
+pub const MOST_NAME_BYTES: usize = 255;
+
+/// `whole` is the statement in which the name stands.
+pub(crate) fn check_name(file: u32, whole: Span, name: &Name) -> Result<(), Fault>
+    ensures faultless { OnOk result (name_faults file whole name.now ≡ []) }
+    ensures fault { IfErr result (λ e. Contains (Memory ∷ name_faults file whole name.now) e) }
+{
+    if name.bytes.as_slice().len() > MOST_NAME_BYTES {
+        return Err(Fault::TooMany(At { file, span: whole }));
+    }
+    Ok(())
+}
+
+pub(crate) fn check_code(file: u32, code: Number) -> Result<u16, Fault>
+    ensures value { IfOk result (λ c. c ≡ code.value) }
+    ensures faultless { OnOk result (code_faults file code ≡ []) }
+    ensures fault { IfErr result (λ e. Contains (Memory ∷ code_faults file code) e) }
+{
+    if code.value > GREATEST_CODE {
+        return Err(Fault::CodeRange(At {
+            file,
+            span: code.span,
+        }));
+    }
+    Ok(code.value as u16)
+}
+
+/// Whether a field is one that is read and not used.
+pub(crate) fn is_limit(place: &Place) -> bool
+    ensures { result ≡ is_limit place.now }
+{
+    if place.member.is_some() {
+        return false;
+    }
+    let word = place.word.bytes.as_slice();
+    word.eq_ignore_ascii_case(b"minimum") || word.eq_ignore_ascii_case(b"maximum")
+}

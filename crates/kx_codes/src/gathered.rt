@@ -1,0 +1,92 @@
+ghost use Rattle.std.specs.Prelude.{◌≡◌, ◌∷◌, [], Contains, IfErr, OnOk};
+ghost use Rattle.kx_lex.specs.declared.fault.Fault.TheVariants.{Memory};
+ghost use Rattle.kx_codes.specs.Aliases.{aliases_taken, said_aliases};
+ghost use Rattle.kx_codes.specs.CodeFaults.{said_faults};
+ghost use Rattle.kx_codes.specs.Pairs.{all_taken, said_pairs};
+
+use crate::aliases::Aliases;
+use crate::checks::{check_code, check_name, is_limit};
+use crate::pairs::Pairs;
+use kx_lex::{At, Fault, Span};
+use kx_parse::{Mode, Statement};
+use std::alloc::Global;
+
+/// What a keycodes body leaves.
+#[derive(Drop)]
+pub(crate) struct Gathered {
+    pub(crate) pairs: Pairs,
+    pub(crate) aliases: Aliases,
+}
+
+impl Gathered {
+    pub(crate) fn new(alloc: Global) -> Gathered
+        ensures pairs { result.pairs ≡ [] }
+        ensures aliases { result.aliases ≡ [] }
+    {
+        Gathered {
+            pairs: Pairs::new(alloc),
+            aliases: Aliases::new(alloc),
+        }
+    }
+
+    /// Takes what a body leaves.
+    pub(crate) fn take_all(
+        &mut self,
+        alloc: Global,
+        mode: Mode,
+        given: &Gathered,
+    ) -> Result<(), Fault>
+        ensures pairs { OnOk result (self.new.pairs ≡ all_taken mode self.old.pairs given.now.pairs) }
+        ensures aliases { OnOk result (self.new.aliases ≡ aliases_taken mode self.old.aliases given.now.aliases) }
+        ensures err { IfErr result (λ e. e ≡ Memory) }
+    {
+        self.pairs.take_all(alloc, mode, &given.pairs)?;
+        self.aliases.take_all(alloc, mode, &given.aliases)
+    }
+
+    /// Takes what a statement says; `whole` is all of it, and `first` its first token.
+    pub(crate) fn take_said(
+        &mut self,
+        alloc: Global,
+        file: u32,
+        mode: Mode,
+        statement: &Statement,
+        first: Span,
+        whole: Span,
+    ) -> Result<(), Fault>
+        ensures pairs { OnOk result (self.new.pairs ≡ said_pairs mode statement.now self.old.pairs) }
+        ensures aliases { OnOk result (self.new.aliases ≡ said_aliases mode statement.now self.old.aliases) }
+        ensures faultless { OnOk result (said_faults file statement.now first whole ≡ []) }
+        ensures fault { IfErr result (λ e. Contains (Memory ∷ said_faults file statement.now first whole) e) }
+    {
+        match statement {
+            Statement::Keycode { name, code } => {
+                check_name(file, whole, name)?;
+                let code = check_code(file, *code)?;
+                self.pairs.take(alloc, mode, name.bytes.as_slice(), code)
+            }
+            Statement::Alias { name, target } => {
+                check_name(file, whole, name)?;
+                check_name(file, whole, target)?;
+                self.aliases.take(alloc, mode, name.bytes.as_slice(), target.bytes.as_slice())
+            }
+            Statement::IndicatorName { .. } => Ok(()),
+            Statement::Field(field) => {
+                if is_limit(&field.place) {
+                    return Ok(());
+                }
+                Err(Fault::UnknownField(At {
+                    file,
+                    span: field.place.word.span,
+                }))
+            }
+            Statement::VirtualModifiers(_)
+            | Statement::KeyType { .. }
+            | Statement::Interpretation { .. }
+            | Statement::Indicator { .. }
+            | Statement::Group { .. }
+            | Statement::Key { .. }
+            | Statement::ModifierMap { .. } => Err(Fault::UnknownField(At { file, span: first })),
+        }
+    }
+}

@@ -1,0 +1,4 @@
+pub mod Cutting
+pub mod TextLists
+pub mod Numbers
+pub mod Progress

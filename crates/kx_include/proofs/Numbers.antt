@@ -1,0 +1,40 @@
+-- The number of a file's name, as its place among the keys of a map.
+use Rattle.std.proofs.Common.{◌≡◌, ◌⊎◌, ℕ, ◌+◌, suc, Bool, true, false, not, cond, List, [], ◌∷◌, length, map, Option, refl, sym, ap, ◌∙◌, inl, inr}
+use Rattle.std.specs.List.{position, prefix_len}
+use Rattle.std.specs.Str.{bytes_eq}
+use Rattle.std.specs.Option.{option_map}
+use Rattle.kx_include.specs.Library.{number_of, with_file}
+use Rattle.indexmap.specs.IndexMap.{insert_entry}
+
+prefix_len-map : {X Y : Type 0} (f : X → Y) (p : Y → Bool) (xs : List X) → prefix_len p (map f xs) ≡ prefix_len (λ x. p (f x)) xs
+prefix_len-map f p [] = refl
+prefix_len-map f p (x ∷ xs) = ap (λ n. cond (p (f x)) (1 + n) 0) (prefix_len-map f p xs)
+
+pub length-mapped : {X Y : Type 0} (f : X → Y) (xs : List X) → length (map f xs) ≡ length xs
+length-mapped f [] = refl
+length-mapped f (x ∷ xs) = ap suc (length-mapped f xs)
+
+position-map : {X Y : Type 0} (f : X → Y) (p : Y → Bool) (xs : List X) → position p (map f xs) ≡ position (λ x. p (f x)) xs
+position-map f p xs = rw (prefix_len-map f (λ y. not (p y)) xs, length-mapped f xs) refl
+
+pub number_of-at : {K V : Type 0} (f : K → List ℕ) (g : V → List ℕ) (es : List (K × V)) (files : List (List ℕ × List ℕ)) (name : List ℕ) (o : Option ℕ) → map {B = List ℕ × List ℕ} (λ e. (f e.0, g e.1)) es ≡ files → o ≡ position (λ k. bytes_eq name (f k)) (map {A = K × V} (λ e. e.0) es) → option_map (λ n. n + 1) o ≡ number_of (map {A = List ℕ × List ℕ} (λ p. p.0) files) name
+number_of-at {K = K} {V = V} f g es files name o same found =
+    ap (option_map (λ n. n + 1)) (found ∙ position-map {X = K × V} (λ e. e.0) (λ k. bytes_eq name (f k)) es ∙ sym (position-map {Y = List ℕ × List ℕ} (λ e. (f e.0, g e.1)) (λ p. bytes_eq name p.0) es) ∙ sym (position-map (λ p. p.0) (bytes_eq name) (map {B = List ℕ × List ℕ} (λ e. (f e.0, g e.1)) es)))
+    ∙ ap (λ fs. number_of (map {A = List ℕ × List ℕ} (λ p. p.0) fs) name) same
+
+pub not_left : {A B : Type 0} → A ⊎ B → (A → ⊥) → B
+not_left (inl a) refuted = absurd (refuted a)
+not_left (inr b) refuted = b
+
+-- files where one is put into a map
+pub put-file : {K V : Type 0} (f : K → List ℕ) (g : V → List ℕ) (es : List (K × V)) (key : K) (value : V) → map {B = List ℕ × List ℕ} (λ e. (f e.0, g e.1)) (insert_entry (λ a b. bytes_eq (f a) (f b)) es key value) ≡ with_file (map {B = List ℕ × List ℕ} (λ e. (f e.0, g e.1)) es) (f key) (g value)
+put-file f g [] key value = refl
+put-file f g (e ∷ es) key value = by (bytes_eq (f key) (f e.0)) (put-file f g es key value)
+  where
+    by : (b : Bool) → map {B = List ℕ × List ℕ} (λ e. (f e.0, g e.1)) (insert_entry (λ a b. bytes_eq (f a) (f b)) es key value) ≡ with_file (map {B = List ℕ × List ℕ} (λ e. (f e.0, g e.1)) es) (f key) (g value)
+        → map {B = List ℕ × List ℕ} (λ e. (f e.0, g e.1)) (cond b ((e.0, value) ∷ es) (e ∷ insert_entry (λ a b. bytes_eq (f a) (f b)) es key value)) ≡ cond b ((f e.0, g value) ∷ map {B = List ℕ × List ℕ} (λ e. (f e.0, g e.1)) es) ((f e.0, g e.1) ∷ with_file (map {B = List ℕ × List ℕ} (λ e. (f e.0, g e.1)) es) (f key) (g value))
+    by true rest = refl
+    by false rest = ap (λ fs. (f e.0, g e.1) ∷ fs) rest
+
+pub put-files : {K V : Type 0} (f : K → List ℕ) (g : V → List ℕ) (es new : List (K × V)) (files made : List (List ℕ × List ℕ)) (key : K) (value : V) → map {B = List ℕ × List ℕ} (λ e. (f e.0, g e.1)) es ≡ files → map {B = List ℕ × List ℕ} (λ e. (f e.0, g e.1)) new ≡ made → new ≡ insert_entry (λ a b. bytes_eq (f a) (f b)) es key value → made ≡ with_file files (f key) (g value)
+put-files f g es new files made key value before after is = sym after ∙ ap (map (λ e. (f e.0, g e.1))) is ∙ put-file f g es key value ∙ ap (λ fs. with_file fs (f key) (g value)) before

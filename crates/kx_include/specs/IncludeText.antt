@@ -1,0 +1,79 @@
+-- The text of an include, as libxkbcommon's format has it: parts joined by + and |, each the name of a file, then a map's
+-- in parentheses where one is named, then a colon and a group where the map is moved to one.
+use Rattle.std.specs.Prelude.{ℕ, ◌+◌, ◌-◌, ◌*◌, Bool, not, ◌==◌, ◌&&◌, nat_le, List, [], ◌∷◌, length, take, drop, Option, None, Some, codes, if◌then◌else◌}
+use Rattle.std.specs.Char.{is_ascii_digit}
+use Rattle.std.specs.List.{list_any, prefix_len}
+use Rattle.std.specs.Option.{option_map}
+use Rattle.kx_parse.specs.declared.tree.Mode.{Mode}
+use Rattle.kx_parse.specs.declared.tree.Mode.TheVariants.{Augment, Override}
+
+-- one part: how it joins what stands before it, the file, the map, and the group that the map's first group becomes
+pub record Part : Type 0 where
+  pub mode : Mode
+  pub file : List ℕ
+  pub map : Option (List ℕ)
+  pub group : Option ℕ
+
+-- a name has any bytes but + | ( ) : % ^
+abbrev pub is_name_byte : ℕ → Bool
+is_name_byte b = not (list_any (λ m. m == b) (codes "+|():%^"))
+
+abbrev pub name_len : List ℕ → ℕ
+name_len = prefix_len is_name_byte
+
+abbrev pub in_groups : ℕ → Option ℕ
+in_groups n = if nat_le 1 n && nat_le n 32 then Some n else None
+
+-- a group from 1 to 32, of one digit or two
+unfoldable pub group_of : List ℕ → Option ℕ
+group_of [] = None
+group_of (a ∷ []) = if is_ascii_digit a then in_groups (a - 48) else None
+group_of (a ∷ b ∷ []) = if is_ascii_digit a && is_ascii_digit b then in_groups ((a - 48) * 10 + (b - 48)) else None
+group_of (a ∷ b ∷ c ∷ bs) = None
+
+-- what may stand behind the names of a file and a map: nothing, or a colon and a group
+unfoldable pub ending : Mode → List ℕ → Option (List ℕ) → List ℕ → Option Part
+ending mode file map [] = Some (record { mode = mode; file = file; map = map; group = None })
+ending mode file map (b ∷ bs) = if b == 58 then option_map (λ n. record { mode = mode; file = file; map = map; group = Some n }) (group_of bs) else None
+
+-- a map's name and its closing parenthesis, and what stands behind
+unfoldable pub closing : Mode → List ℕ → List ℕ → List ℕ → Option Part
+closing mode file map [] = None
+closing mode file map (b ∷ bs) = if (b == 41) && nat_le 1 (length map) then ending mode file (Some map) bs else None
+
+-- what stands behind the name of a file
+unfoldable pub behind_file : Mode → List ℕ → List ℕ → Option Part
+behind_file mode file [] = ending mode file None []
+behind_file mode file (b ∷ bs) = if b == 40 then closing mode file (take (name_len bs) bs) (drop (name_len bs) bs) else ending mode file None (b ∷ bs)
+
+unfoldable pub part_of : Mode → List ℕ → Option Part
+part_of mode bs = if nat_le 1 (name_len bs) then behind_file mode (take (name_len bs) bs) (drop (name_len bs) bs) else None
+
+-- + joins by override, | by augment
+abbrev pub join_of : ℕ → Option Mode
+join_of b = if b == 43 then Some Override else (if b == 124 then Some Augment else None)
+
+abbrev pub split_by : Option Mode → ℕ → List ℕ × List (Mode × List ℕ) → List ℕ × List (Mode × List ℕ)
+split_by None b rest = (b ∷ rest.0, rest.1)
+split_by (Some mode) b rest = ([], (mode, rest.0) ∷ rest.1)
+
+-- the text of the first part, and those behind it, each with its join
+abbrev pub split : List ℕ → List ℕ × List (Mode × List ℕ)
+split [] = ([], [])
+split (b ∷ bs) = split_by (join_of b) b (split bs)
+
+abbrev pub joined : Mode → List ℕ × List (Mode × List ℕ) → List (Mode × List ℕ)
+joined mode texts = (mode, texts.0) ∷ texts.1
+
+abbrev pub all_parts : List (Mode × List ℕ) → Option (List Part)
+all_parts [] = Some []
+all_parts (t ∷ ts) = with_part (part_of t.0 t.1) (all_parts ts)
+  where
+    with_part : Option Part → Option (List Part) → Option (List Part)
+    with_part (Some p) (Some ps) = Some (p ∷ ps)
+    with_part (Some p) None = None
+    with_part None ps = None
+
+-- the parts of an include's text, the first of which is joined by override; none where it names no files
+abbrev pub parts_of : List ℕ → Option (List Part)
+parts_of text = all_parts (joined Override (split text))

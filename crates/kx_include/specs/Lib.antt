@@ -1,0 +1,6 @@
+pub mod IncludeText
+pub mod Library
+pub mod Expansion
+pub mod IncludeFaults
+pub mod Splits
+pub mod Texts

@@ -1,0 +1,75 @@
+ghost use Rattle.std.specs.Prelude.{◌≡◌, ◌++◌, [], ◌≤◌, List, ℕ, IfOk, OnOk, OnErr, IfErr, IfSome, length, slice_get, map, Some, position};
+ghost use Rattle.std.specs.Option.{option_map};
+ghost use Rattle.kx_lex.specs.declared.fault.Fault.TheVariants.{Memory};
+ghost use Rattle.kx_include.specs.Library.{number_of, with_file};
+
+use indexmap::IndexMap;
+use kx_lex::Fault;
+use std::alloc::Global;
+use std::marker::Model;
+
+/// The files handed in, by name; includes find them. The n-th has the number n, counted from 1.
+#[derive(Drop)]
+pub struct Files {
+    files: IndexMap<Vec<u8>, Vec<u8>>,
+}
+
+impl Model for Files {
+    ghost use Rattle.std.specs.Prelude.{ℕ, List, map};
+
+    ghost Value = { List (List ℕ × List ℕ) };
+
+    ghost view = { λ f. map (λ e. (e.0.items, e.1.items)) f.files.entries };
+}
+
+impl Files {
+    /// No files.
+    pub fn new(alloc: Global) -> Files
+        ensures { result ≡ [] }
+    {
+        Files {
+            files: IndexMap::new(alloc),
+        }
+    }
+
+    /// Hands in a file. One that has its name already is replaced, and keeps its number.
+    ///
+    /// # Errors
+    /// `Memory`; then nothing is handed in.
+    pub fn insert(&mut self, name: Vec<u8>, bytes: Vec<u8>) -> Result<(), Fault>
+        ensures file { OnOk result (self.new ≡ with_file self.old name.items bytes.items) }
+        ensures err { IfErr result (λ e. e ≡ Memory) }
+        ensures unchanged { OnErr result (self.new ≡ self.old) }
+    {
+        self.files.insert(name, bytes)?;
+        Ok(())
+    }
+
+    /// How many there are.
+    pub fn len(&self) -> usize
+        ensures { result ≡ length self.now }
+    {
+        self.files.len()
+    }
+
+    /// The number of the file of a name, counted from 1.
+    pub(crate) fn number_of(&self, name: &[u8]) -> Option<u32>
+        requires { length self.now ≤ 65535 }
+        ensures { result ≡ number_of (map (λ f. f.0) self.now) name.now }
+    {
+        match self.files.get_index_of(name) {
+            None => None,
+            Some(place) => Some(place as u32 + 1),
+        }
+    }
+
+    /// The bytes of the file at a place, counted from 0; none behind the last.
+    pub(crate) fn bytes_at(&self, place: usize) -> &[u8]
+        ensures { IfSome (slice_get self.now place) (λ f. result.now ≡ f.1) }
+    {
+        match self.files.get_index(place) {
+            None => &[],
+            Some((_name, bytes)) => bytes.as_slice(),
+        }
+    }
+}

@@ -1,0 +1,16 @@
+//! Includes: what their texts name among the files handed in, and the body of each section kind.
+#![tactic(auto)]
+
+mod checking;
+mod files;
+mod part;
+mod place;
+mod sources;
+#[cfg(test)]
+mod tests;
+mod text;
+
+pub use files::Files;
+pub use part::{Part, include_parts};
+pub use place::Place;
+pub use sources::{Library, is_of};

@@ -1,0 +1,80 @@
+-- Precedence: what the items of a body offer to records, and the value that a cell has by them, as libxkbcommon's merge
+-- modes have it.
+use Rattle.std.specs.Prelude.{ℕ, Bool, true, false, not, ◌&&◌, max, List, [], ◌∷◌, ◌++◌, Option, None, Some, if◌then◌else◌}
+use Rattle.std.specs.List.{list_any}
+use Rattle.kx_parse.specs.declared.tree.Mode.{Mode}
+use Rattle.kx_parse.specs.declared.tree.Mode.TheVariants.{Augment, Override, Replace}
+
+-- what an item offers to a record that it is about: the values of the cells that it defines, and how wide its groups are
+pub record Offer (K C V : Type 0) : Type 0 where
+  pub mode : Mode
+  pub name : K
+  pub value : C → Option V
+  pub width : ℕ → ℕ
+
+abbrev pub is_replace : Mode → Bool
+is_replace Replace = true
+is_replace _ = false
+
+abbrev pub is_strong : Mode → Bool
+is_strong Augment = false
+is_strong _ = true
+
+abbrev pub or_else : {X : Type 0} → Option X → Option X → Option X
+or_else (Some x) y = Some x
+or_else None y = y
+
+abbrev pub with_name : {K : Type 0} → (K → K → Bool) → List K → K → List K
+with_name eq ks k = if list_any (eq k) ks then ks else ks ++ k ∷ []
+
+module _ {K C V : Type 0} where
+  abbrev pub last_strong : C → List (Offer K C V) → Option V
+  last_strong c [] = None
+  last_strong c (o ∷ os) = or_else (last_strong c os) (if is_strong o.mode then o.value c else None)
+
+  abbrev pub first_weak : C → List (Offer K C V) → Option V
+  first_weak c [] = None
+  first_weak c (o ∷ os) = or_else (if is_strong o.mode then None else o.value c) (first_weak c os)
+
+  abbrev pub greatest : ℕ → List (Offer K C V) → ℕ
+  greatest g [] = 0
+  greatest g (o ∷ os) = max (o.width g) (greatest g os)
+
+module _ {K C V : Type 0} (eq : K → K → Bool) where
+  abbrev pub is_about : K → Offer K C V → Bool
+  is_about k o = eq k o.name
+
+  -- a later item that is about the record under replace hides those before it
+  abbrev pub is_hidden : K → List (Offer K C V) → Bool
+  is_hidden k later = list_any (λ o. is_about k o && is_replace o.mode) later
+
+  -- what is offered to a record and isn't hidden
+  abbrev pub seen : K → List (Offer K C V) → List (Offer K C V)
+  seen k [] = []
+  seen k (o ∷ os) = if is_about k o && not (is_hidden k os) then o ∷ seen k os else seen k os
+
+  -- of those that define the cell the last under override or replace gives the value, else the first under augment
+  abbrev pub value_of : List (Offer K C V) → K → C → Option V
+  value_of os k c = or_else (last_strong c (seen k os)) (first_weak c (seen k os))
+
+  abbrev pub width_of : List (Offer K C V) → K → ℕ → ℕ
+  width_of os k g = greatest g (seen k os)
+
+  abbrev pub names_behind : List K → List (Offer K C V) → List K
+  names_behind ks [] = ks
+  names_behind ks (o ∷ os) = names_behind (with_name eq ks o.name) os
+
+  -- the records that are offered something, each once, in the order of first appearance
+  abbrev pub names_of : List (Offer K C V) → List K
+  names_of os = names_behind [] os
+
+-- what a later value makes of the one before it
+abbrev pub taken : {X : Type 0} → Mode → Option X → Option X → Option X
+taken Augment old new = or_else old new
+taken Override old new = or_else new old
+taken Replace old new = new
+
+abbrev pub widened : Mode → ℕ → ℕ → ℕ
+widened Augment old new = max old new
+widened Override old new = max old new
+widened Replace old new = new

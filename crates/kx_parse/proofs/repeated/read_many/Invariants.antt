@@ -1,9 +1,0 @@
-use Rattle.std.proofs.Common.{length}
-use Rattle.kx_parse.proofs.Rounds.{SoFar}
-use Rattle.kx_parse.proofs.repeated.read_many.Given as goal
-
-abbrev pub invariant-items : goal.invariant-items
-invariant-items g l = SoFar (g.R.Repeated.test l.text) (g.R.Repeated.reading l.text) l.tokens l.rest l.items.items
-
-abbrev pub decreases-items : goal.decreases-items
-decreases-items g l = length l.rest

@@ -1,0 +1,76 @@
+-- Tokens by their kind and their bytes in the text.
+use Rattle.std.specs.Prelude.{ℕ, Bool, true, false, List, [], ◌∷◌, ◌+◌, ◌-◌, ◌*◌, ◌==◌, ◌&&◌, slice_index, drop, if◌then◌else◌, slice_range}
+use Rattle.std.specs.Char.{digit_value}
+use Rattle.std.specs.Str.{str_eq_ignore_ascii_case}
+use Rattle.kx_lex.specs.Pieces.{begins_hex}
+use Rattle.kx_lex.specs.declared.token.Token.{Token}
+use Rattle.kx_lex.specs.declared.token.TokenKind.{TokenKind}
+use Rattle.kx_lex.specs.declared.token.TokenKind.TheVariants.{Word, Number, KeyName, Text, Mark}
+
+abbrev pub slice_of : List ℕ → Token → List ℕ
+slice_of text t = slice_range text t.span.start t.span.stop
+
+-- without the bytes that enclose it
+abbrev pub inner_of : List ℕ → Token → List ℕ
+inner_of text t = slice_range text (t.span.start + 1) (t.span.stop - 1)
+
+abbrev pub is_word_kind : TokenKind → Bool
+is_word_kind Word = true
+is_word_kind _ = false
+
+abbrev pub is_number_kind : TokenKind → Bool
+is_number_kind Number = true
+is_number_kind _ = false
+
+abbrev pub is_key_name_kind : TokenKind → Bool
+is_key_name_kind KeyName = true
+is_key_name_kind _ = false
+
+abbrev pub is_text_kind : TokenKind → Bool
+is_text_kind Text = true
+is_text_kind _ = false
+
+abbrev pub is_mark_kind : TokenKind → Bool
+is_mark_kind Mark = true
+is_mark_kind _ = false
+
+abbrev pub is_word : Token → Bool
+is_word t = is_word_kind t.kind
+
+abbrev pub is_number : Token → Bool
+is_number t = is_number_kind t.kind
+
+abbrev pub is_key_name : Token → Bool
+is_key_name t = is_key_name_kind t.kind
+
+abbrev pub is_text : Token → Bool
+is_text t = is_text_kind t.kind
+
+-- the mark of this byte
+abbrev pub is_mark : List ℕ → ℕ → Token → Bool
+is_mark text byte t = is_mark_kind t.kind && (slice_index text t.span.start == byte)
+
+-- this word, in capital letters or small
+unfoldable pub is_keyword : List ℕ → List ℕ → Token → Bool
+is_keyword text keyword t = is_word_kind t.kind && str_eq_ignore_ascii_case (slice_of text t) keyword
+
+-- the first token passes the test
+abbrev pub front : (Token → Bool) → List Token → Bool
+front test [] = false
+front test (t ∷ ts) = test t
+
+-- the second token does
+abbrev pub second : (Token → Bool) → List Token → Bool
+second test ts = front test (drop 1 ts)
+
+-- digits behind a number, whose value so far is given
+abbrev pub digits_from : ℕ → ℕ → List ℕ → ℕ
+digits_from base value [] = value
+digits_from base value (digit ∷ digits) = digits_from base (value * base + digit_value digit) digits
+
+abbrev pub digits_value : ℕ → List ℕ → ℕ
+digits_value base digits = digits_from base 0 digits
+
+-- hexadecimal behind 0x, else decimal
+unfoldable pub number_value : List ℕ → ℕ
+number_value digits = if begins_hex digits then digits_value 16 (drop 2 digits) else digits_value 10 digits

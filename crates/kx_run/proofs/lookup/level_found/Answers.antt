@@ -1,0 +1,26 @@
+use Rattle.std.proofs.Common.{arith}
+use Rattle.kx_resolve.specs.Bounds.{keysyms_within}
+use Rattle.kx_resolve.specs.Sound.{CellHolds}
+use Rattle.kx_run.proofs.TableReads.{action_size-holds, level_within}
+use Rattle.kx_run.proofs.lookup.level_found.Goals as goal
+
+pub overflow_add-group : goal.overflow_add-group
+overflow_add-group g c =
+    let level = level_within c.args.entry c.args.row.levels c.requires.levels c.requires.some c.requires.most in
+    record { fits = omega (arith, c.from.ensures, c.level.ensures, c.requires.cells, c.requires.sound.counts.cells_fit) }
+
+pub cell_row-cell-requires : goal.cell_row-cell-requires
+cell_row-cell-requires g c =
+    let level = level_within c.args.entry c.args.row.levels c.requires.levels c.requires.some c.requires.most in
+    omega (arith, c.from.ensures, c.level.ensures, c.requires.cells)
+
+pub returns-clause-readable : goal.returns-clause-readable
+returns-clause-readable g c =
+    let content = g.T.Rows.content c.args.tables.now in
+    let holds : CellHolds content _ c.cell_row-cell.result = c.requires.sound.cells _ c.cell_row-cell.result c.cell_row-cell.ensures in
+    record {
+      few = holds.keysyms;
+      within = keysyms_within content c.requires.sound _ c.cell_row-cell.result c.cell_row-cell.ensures;
+      fits = c.requires.sound.counts.keysyms_fit;
+      size = action_size-holds c.cell_row-cell.result.action holds.action;
+    }

@@ -1,0 +1,8 @@
+pub mod Answering
+pub mod Ends
+pub mod EventLemmas
+pub mod Lines
+pub mod Listings
+pub mod Reading
+pub mod ReadingSources
+pub mod SessionLemmas

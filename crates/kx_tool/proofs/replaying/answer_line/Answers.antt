@@ -1,0 +1,18 @@
+use Rattle.std.proofs.Common.{sym, ap, subst}
+use Rattle.ks_core.specs.Press.{Tells}
+use Rattle.ks_core.proofs.PressLemmas.{tells_nothing}
+use Rattle.kx_resolve.specs.Keymap.{keymap_of}
+use Rattle.kx_run.specs.Player.{Played}
+use Rattle.kx_run.specs.Replies.{world_after}
+use Rattle.kx_tool.specs.Answer.{answers_from}
+use Rattle.kx_tool.proofs.Answering.{no_event}
+use Rattle.kx_tool.proofs.replaying.answer_line.Goals as goal
+
+pub returns-in-Nothing-clause-told : goal.returns-in-Nothing-clause-told
+returns-in-Nothing-clause-told g c = λ text keeps.
+    subst (λ es. Tells g.O.Out.written g.O.Out.failures c.args.out.now c.args.press.now c.args.out.now c.args.press.now (answers_from c.args.player.now.content c.args.names.now c.args.player.now.world es))
+    (sym (no_event text (c.in-Nothing.ensures text keeps))) (tells_nothing g.O.Out.written g.O.Out.failures c.args.out.now c.args.press.now)
+
+pub returns-in-Nothing-clause-world : goal.returns-in-Nothing-clause-world
+returns-in-Nothing-clause-world g c = λ text keeps.
+    ap (λ es. let p : Played = c.args.player.now in let q : Played = record p { world = world_after (keymap_of p.content) p.world es } in q) (sym (no_event text (c.in-Nothing.ensures text keeps)))

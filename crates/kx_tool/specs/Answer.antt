@@ -1,0 +1,68 @@
+-- The lines that answer events.
+use Rattle.std.specs.Prelude.{ℕ, ◌+◌, ◌==◌, List, [], ◌∷◌, ◌++◌, codes, decimal, length, map, if◌then◌else◌}
+use Rattle.ks_core.specs.Entry.{Entry}
+use Rattle.ks_core.specs.Names.{name_of_keysym}
+use Rattle.kx_resolve.specs.Content.{Content, indicator_name}
+use Rattle.kx_resolve.specs.Keymap.{keymap_of}
+use Rattle.kx_run.specs.Replies.{Answer, Glance, Status, run}
+use Rattle.kx_run.specs.World.{World}
+use Rattle.kx_run.specs.declared.direction.Direction.{Direction}
+use Rattle.kx_run.specs.declared.direction.Direction.TheVariants.{Down, Up}
+use Rattle.kx_run.specs.declared.direction.Event.{Event}
+use Rattle.kx_tool.specs.Listing.{listed, chosen}
+
+-- the real modifiers, from bit 0 on
+unfoldable pub mod_names : List (List ℕ)
+mod_names =
+    codes "Shift" ∷ codes "Lock" ∷ codes "Control" ∷ codes "Mod1" ∷ codes "Mod2" ∷ codes "Mod3" ∷ codes "Mod4" ∷ codes "Mod5" ∷ []
+
+-- modifiers behind a label, joined by `+`
+abbrev pub mods_text : List ℕ → ℕ → List ℕ
+mods_text label mask = if mask == 0 then label ++ codes "none" else listed label (codes "+") (chosen mask mod_names)
+
+-- keysyms joined by commas, by the names that are written for them
+abbrev pub keysym_names : List Entry → List ℕ → List ℕ
+keysym_names names keysyms = listed [] (codes ",") (map (name_of_keysym names) keysyms)
+
+-- `?` for an unknown code, `-` for no keysym
+abbrev pub keysyms_text : List Entry → Glance → List ℕ
+keysyms_text names look =
+    if look.known then (if length look.syms == 0 then codes "-" else keysym_names names look.syms) else codes "?"
+
+abbrev pub direction_text : Direction → List ℕ
+direction_text Down = codes " down "
+direction_text Up = codes " up "
+
+abbrev pub event_text : Event → List ℕ
+event_text event = decimal event.code ++ direction_text event.direction
+
+-- the consumed modifiers, and those of the state
+abbrev pub all_mods_text : ℕ → Status → List ℕ
+all_mods_text consumed state =
+    mods_text (codes " consumed=") consumed
+    ++ (mods_text (codes " base=") state.base ++ (mods_text (codes " latched=") state.latched ++ mods_text (codes " locked=") state.locked))
+
+-- the effective group, counted from 1
+abbrev pub group_text : Status → List ℕ
+group_text state = codes " group=" ++ decimal (state.effective_group + 1)
+
+-- the lit indicators joined by commas, where there are any
+abbrev pub lit_text : Content → ℕ → List ℕ
+lit_text content lit = listed (codes " lit=") (codes ",") (chosen lit (map (indicator_name content) content.indicators))
+
+-- the line that answers an event
+unfoldable pub answer_line : Content → List Entry → Event → Answer → List ℕ
+answer_line content names event answer =
+    event_text event
+    ++ (keysyms_text names answer.look
+    ++ (all_mods_text answer.look.consumed answer.state ++ (group_text answer.state ++ (lit_text content answer.lit ++ 10 ∷ []))))
+
+-- a line for each event with its reply
+abbrev pub lines_with : Content → List Entry → List Event → List Answer → List ℕ
+lines_with content names (event ∷ events) (answer ∷ answers) =
+    answer_line content names event answer ++ lines_with content names events answers
+lines_with content names _ _ = []
+
+-- the lines that answer events in a state of the keyboard: one for each reply of the run
+abbrev pub answers_from : Content → List Entry → World → List Event → List ℕ
+answers_from content names world events = lines_with content names events (run (keymap_of content) world events)

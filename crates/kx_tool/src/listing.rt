@@ -1,0 +1,85 @@
+//! Lists in an answer: a label before the first piece, and a mark before each other.
+ghost use Rattle.std.specs.Prelude.{◌≡◌, ◌++◌, ◌<◌, Some, codes, length, map, slice_get};
+ghost use Rattle.ks_core.specs.Names.{name_of_keysym};
+ghost use Rattle.ks_core.specs.Press.{Tells};
+ghost use Rattle.kx_mods.specs.Mods.{mask};
+ghost use Rattle.kx_resolve.specs.Content.{indicator_name};
+ghost use Rattle.kx_tool.specs.Answer.{keysym_names, lit_text, mod_names};
+ghost use Rattle.kx_tool.specs.Listing.{chosen, listed};
+
+use arrayvec::ArrayString;
+use ks_core::{Keysym, NameTable, Out, Press};
+use kx_mods::Mods;
+use kx_resolve::Tables;
+
+/// How many real modifiers there are.
+const MODS: u8 = 8;
+
+/// The name of a real modifier.
+#[tactic(auto, unfolding(crate::specs::Answer::mod_names))]
+fn mod_name(bit: u8) -> &'static str
+    requires { bit < 8 }
+    ensures { slice_get mod_names bit ≡ Some result.now }
+{
+    match bit {
+        0 => "Shift",
+        1 => "Lock",
+        2 => "Control",
+        3 => "Mod1",
+        4 => "Mod2",
+        5 => "Mod3",
+        6 => "Mod4",
+        _ => "Mod5",
+    }
+}
+
+/// Tells the next piece of a list, and what stands before it.
+fn tell_piece<O: Out>(press: &mut Press, out: &mut O, before: &[u8], piece: &[u8])
+    ensures { Tells O.written O.failures out.old press.old out.new press.new (before.now ++ piece.now) }
+{
+    press.tell(out, before);
+    press.tell(out, piece);
+}
+
+/// The modifiers' names in the order of their bits, joined by `+`.
+pub fn tell_mod_names<O: Out>(press: &mut Press, out: &mut O, label: &[u8], mods: Mods)
+    ensures { Tells O.written O.failures out.old press.old out.new press.new (listed label.now (codes "+") (chosen (mask mods) mod_names)) }
+{
+    let mut before = label;
+    let mut bits = mods.mask();
+    for bit in 0..MODS {
+        if bits % 2 == 1 {
+            tell_piece(press, out, before, mod_name(bit).as_bytes());
+            before = b"+";
+        }
+        bits /= 2;
+    }
+}
+
+/// The keysyms' names joined by commas.
+pub fn tell_keysym_names<O: Out>(press: &mut Press, out: &mut O, names: &NameTable, keysyms: &[u32])
+    ensures { Tells O.written O.failures out.old press.old out.new press.new (keysym_names names.now keysyms.now) }
+{
+    let mut before: &[u8] = b"";
+    for keysym in keysyms {
+        let mut name = ArrayString::new();
+        names.write_name(Keysym(*keysym), &mut name);
+        tell_piece(press, out, before, name.as_str().as_bytes());
+        before = b",";
+    }
+}
+
+/// The names of the indicators that are lit, joined by commas.
+pub fn tell_lit<T: Tables, O: Out>(press: &mut Press, out: &mut O, tables: &T, lit: u32)
+    ensures { Tells O.written O.failures out.old press.old out.new press.new (lit_text (T.content tables.now) lit) }
+{
+    let mut before: &[u8] = b" lit=";
+    let mut bits = lit;
+    for index in 0..tables.counts().indicators {
+        if bits % 2 == 1 {
+            tell_piece(press, out, before, tables.indicator_name(index));
+            before = b",";
+        }
+        bits /= 2;
+    }
+}

@@ -1,0 +1,53 @@
+//! A source and lines of events, read from one reader.
+ghost use Rattle.std.specs.Prelude.{◌≡◌, IfErr, IfSome};
+ghost use Rattle.kx_tool.specs.Input.{FailsToRead};
+ghost use Rattle.kx_tool.specs.Quiet.{KeepsQuiet};
+ghost use Rattle.kx_tool.specs.Replay.{AnswersSession};
+ghost use Rattle.kx_tool.specs.declared.fault.ReplayFault.TheVariants.{Read};
+
+use crate::compiler::compile;
+use crate::fault::{ReplayFault, SessionFault};
+use crate::input::Input;
+use crate::replaying::answer_lines;
+use crate::source::read_source;
+use ks_core::{Feed, NameTable, Out};
+use kx_image::View;
+use kx_include::Files;
+use std::alloc::Global;
+
+/// Reads a source up to a line `%%`, compiles it, and answers the event lines behind that line, one line for each
+/// event. Without such a line the source is all that the reader gives.
+///
+/// # Errors
+/// `Compile` where the source is refused; then nothing was written. `Replay` with `Line` at the first line that is
+/// neither empty nor an event, after the answers to the lines before it; with `Read` and `Write` where a device fails,
+/// after a beginning of the answers; with `Memory`.
+pub fn session<F: Feed, O: Out>(
+    alloc: Global,
+    feed: &mut F,
+    files: &Files,
+    names: &NameTable,
+    out: &mut O,
+) -> Result<(), SessionFault>
+    ensures quiet { IfErr result (KeepsQuiet out.old out.new) }
+    ensures answers { IfSome (F.left feed.old) (λ text. AnswersSession O.written O.failures text names.now out.old out.new result) }
+    ensures read { IfErr result (λ fault. fault ≡ SessionFault.Replay Read → FailsToRead (F.failures feed.old) (F.failures feed.new) (F.left feed.old) 67108864) }
+{
+    let mut input = Input::new();
+    let source = read_source(alloc, &mut input, feed)?;
+    let image = match compile(alloc, source.text.as_slice(), files, names) {
+        Ok((image, _)) => image,
+        Err(fault) => return Err(SessionFault::Compile(fault)),
+    };
+    if !source.has_lines {
+        return Ok(());
+    }
+    let answered = match View::open(image.as_slice()) {
+        Ok(view) => answer_lines(alloc, &mut input, feed, view, names, out),
+        Err(fault) => Err(ReplayFault::Image(fault)),
+    };
+    match answered {
+        Ok(()) => Ok(()),
+        Err(fault) => Err(SessionFault::Replay(fault)),
+    }
+}

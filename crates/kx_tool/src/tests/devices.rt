@@ -1,0 +1,160 @@
+//! Answers over devices that are slow, fail or never end, and dumps.
+ghost use Rattle.std.specs.Prelude.{None};
+
+use super::SAMPLE;
+use crate::fault::{ReplayFault, SessionFault};
+use crate::{Files, dump, replay, session};
+use ks_core::{Feed, MemFeed, MemOut, NameTable};
+use kx_image::ImageFault;
+use std::io;
+use std::test::Fail;
+
+/// The image of the sample in version 1.
+const IMAGE: [u8; 94] = [
+    0x4b, 0x58, 0x49, 0x0a, 1, 0, 1, 0, 1, 0, 1, 0, 0, 0, 0, 0, 1, 0, 0, 0, 1, 0, 0, 0, 10, 0, 0,
+    0, 0, 1, 0, 0, 9, 0, 0, 0, 0, 0, 0, 0, 0, 0, 0, 0, 0x26, 0, 0, 0, 0, 1, 1, 0, 9, 0, 0, 0, 0, 0,
+    0, 0, 0, 0, 0, 0, 0, 0, 0, 0, 1, 0, 0, 0, 0, 0, 0, 0, 0, 0, 0, 0, 0x61, 0, 0, 0, 0x4f, 0x4e,
+    0x45, 0x5f, 0x4c, 0x45, 0x56, 0x45, 0x4c, 0x41,
+];
+
+const LINES: &[u8] = b"down 38\n\nup 38\ndown 9";
+
+const ANSWERS: &[u8] =
+    b"38 down a consumed=none base=none latched=none locked=none group=1\n38 up a consumed=none base=none latched=none locked=none group=1\n9 down ? consumed=none base=none latched=none locked=none group=1\n";
+
+/// A reader that gives line feeds and never ends.
+#[derive(Drop)]
+struct Endless;
+
+impl Feed for Endless {
+    ghost left = { λ s. None };
+
+    ghost failures = { λ s. 0 };
+
+    fn take(&mut self, buffer: &mut [u8]) -> io::Result<usize> {
+        buffer.fill(b'\n');
+        Ok(buffer.len())
+    }
+}
+
+#[test]
+fn replay_answers_lines(rt: HostRuntime) {
+    let names = NameTable::builtin();
+    for most in [1, 2, 7, 4096] {
+        let mut feed = MemFeed::new(LINES).with_most(most);
+        let mut room = [0u8; 512];
+        let mut out = MemOut::new(&mut room).with_most(most);
+        let ended = replay(rt.alloc(), &mut feed, &IMAGE, &names, &mut out);
+        assert_eq!(rt; ended, Ok(()));
+        assert_eq!(rt; out.written(), ANSWERS);
+    }
+}
+
+#[test]
+fn replay_refuses_what_is_no_image(rt: HostRuntime) {
+    let names = NameTable::builtin();
+    let mut feed = MemFeed::new(LINES);
+    let mut room = [0u8; 512];
+    let mut out = MemOut::new(&mut room);
+    let ended = replay(rt.alloc(), &mut feed, &IMAGE[..93], &names, &mut out);
+    assert_eq!(rt; ended, Err(ReplayFault::Image(ImageFault::Truncated)));
+    assert!(rt; out.written().is_empty());
+}
+
+#[test]
+fn readers_that_fail_at_each_byte(rt: HostRuntime) -> Result<(), Fail> {
+    let names = NameTable::builtin();
+    let files = Files::new(rt.alloc());
+    for place in 0..LINES.len() {
+        let mut feed = MemFeed::new(LINES).failing_after(place);
+        let mut room = [0u8; 512];
+        let mut out = MemOut::new(&mut room);
+        let ended = replay(rt.alloc(), &mut feed, &IMAGE, &names, &mut out);
+        assert_eq!(rt; ended, Err(ReplayFault::Read), "at {place}");
+        assert!(rt; ANSWERS.starts_with(out.written()), "at {place}");
+    }
+    let input = [SAMPLE, b"%%\n".as_slice(), LINES].concat(rt.alloc())?;
+    for place in 0..input.len() {
+        let mut feed = MemFeed::new(input.as_slice()).failing_after(place);
+        let mut room = [0u8; 512];
+        let mut out = MemOut::new(&mut room);
+        let ended = session(rt.alloc(), &mut feed, &files, &names, &mut out);
+        assert_eq!(rt;
+            ended,
+            Err(SessionFault::Replay(ReplayFault::Read)),
+            "at {place}"
+        );
+        assert!(rt; ANSWERS.starts_with(out.written()), "at {place}");
+    }
+    Ok(())
+}
+
+#[test]
+fn writers_that_fail_at_each_byte(rt: HostRuntime) -> Result<(), Fail> {
+    let names = NameTable::builtin();
+    let files = Files::new(rt.alloc());
+    let input = [SAMPLE, b"%%\n".as_slice(), LINES].concat(rt.alloc())?;
+    for place in 0..ANSWERS.len() {
+        let mut feed = MemFeed::new(LINES);
+        let mut room = [0u8; 512];
+        let mut out = MemOut::new(&mut room).failing_after(place);
+        let ended = replay(rt.alloc(), &mut feed, &IMAGE, &names, &mut out);
+        assert_eq!(rt; ended, Err(ReplayFault::Write), "at {place}");
+        assert!(rt; ANSWERS.starts_with(out.written()), "at {place}");
+        let mut feed = MemFeed::new(input.as_slice());
+        let mut room = [0u8; 512];
+        let mut out = MemOut::new(&mut room).failing_after(place);
+        let ended = session(rt.alloc(), &mut feed, &files, &names, &mut out);
+        assert_eq!(rt;
+            ended,
+            Err(SessionFault::Replay(ReplayFault::Write)),
+            "at {place}"
+        );
+        assert!(rt; ANSWERS.starts_with(out.written()), "at {place}");
+    }
+    Ok(())
+}
+
+#[test]
+fn a_reader_without_end_is_refused(rt: HostRuntime) {
+    let names = NameTable::builtin();
+    let mut room = [0u8; 16];
+    let mut out = MemOut::new(&mut room);
+    let ended = replay(rt.alloc(), &mut Endless, &IMAGE, &names, &mut out);
+    assert_eq!(rt; ended, Err(ReplayFault::Read));
+    assert!(rt; out.written().is_empty());
+}
+
+#[test]
+fn a_mark_without_its_line_feed_ends_the_source(rt: HostRuntime) -> Result<(), Fail> {
+    let names = NameTable::builtin();
+    let files = Files::new(rt.alloc());
+    for end in [b"%%".as_slice(), b"%%\n", b""] {
+        let input = [SAMPLE, end].concat(rt.alloc())?;
+        let mut feed = MemFeed::new(input.as_slice());
+        let mut room = [0u8; 16];
+        let mut out = MemOut::new(&mut room);
+        let ended = session(rt.alloc(), &mut feed, &files, &names, &mut out);
+        assert_eq!(rt; ended, Ok(()));
+        assert!(rt; out.written().is_empty());
+    }
+    Ok(())
+}
+
+#[test]
+fn dumps_rows_of_32_bytes(rt: HostRuntime) {
+    let mut bytes = [0u8; 33];
+    bytes[0] = 0xfe;
+    bytes[32] = 0x0a;
+    let mut room = [0u8; 80];
+    let mut out = MemOut::new(&mut room).with_most(1);
+    assert!(rt; dump(&bytes, &mut out).is_ok());
+    assert_eq!(rt;
+        out.written(),
+        b"fe00000000000000000000000000000000000000000000000000000000000000\n0a\n".as_slice()
+    );
+    let mut room = [0u8; 80];
+    let mut out = MemOut::new(&mut room);
+    assert!(rt; dump(&[], &mut out).is_ok());
+    assert!(rt; out.written().is_empty());
+}

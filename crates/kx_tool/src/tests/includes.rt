@@ -1,0 +1,98 @@
+//! Sources that include files.
+use crate::{Files, compile};
+use ks_core::NameTable;
+use kx_image::View;
+use kx_resolve::Rows;
+use std::process::Abort;
+use std::test::Fail;
+
+const US: &[u8] = b"default xkb_symbols \"basic\" { key <A> { [ a ] }; };";
+
+const RU: &[u8] = b"xkb_symbols \"x\" { key <A> { [ U0444 ] }; };";
+
+/// The keysym of the one key of a source whose symbols are these items, or the fault of the source.
+fn keysym(
+    rt: &(impl Abort + AllocGlobal),
+    items: &[u8],
+    given: &[(&[u8], &[u8])],
+) -> Result<String, Fail> {
+    let mut files = Files::new(rt.alloc());
+    for (name, bytes) in given {
+        files.insert(
+            Vec::from_slice(rt.alloc(), name)?,
+            Vec::from_slice(rt.alloc(), bytes)?,
+        )?;
+    }
+    let source = [
+        b"xkb_keymap { xkb_keycodes { <A>=38; }; xkb_symbols { ".as_slice(),
+        items,
+        b" }; };".as_slice(),
+    ]
+    .concat(rt.alloc())?;
+    match compile(rt.alloc(), source.as_slice(), &files, &NameTable::builtin()) {
+        Err(fault) => Ok(format!(in rt.alloc(); "{fault}")?),
+        Ok((image, _)) => {
+            let view = View::open(image.as_slice())?;
+            let keysym = if view.counts().keysyms == 0 {
+                0
+            } else {
+                view.keysym(0)
+            };
+            Ok(format!(in rt.alloc(); "{keysym:x}")?)
+        }
+    }
+}
+
+#[test]
+fn keys_of_included_maps(rt: HostRuntime) -> Result<(), Fail> {
+    let given = [(b"us".as_slice(), US), (b"ru".as_slice(), RU)];
+    let rows: [(&[u8], &str); 9] = [
+        (b"include \"us\"", "61"),
+        (b"include \"us|ru(x)\"", "61"),
+        (b"include \"us+ru(x)\"", "1000444"),
+        (b"include \"us\" augment \"ru(x)\"", "61"),
+        (b"include \"us\" key <A> { [ b ] };", "62"),
+        (b"key <A> { [ b ] }; augment \"us\"", "62"),
+        (b"include \"us\" replace key <A> { [ NoSymbol ] };", "0"),
+        (b"include \"zz\"", "F9 FileMissing at 0:61-65"),
+        (b"include \"us(nope)\"", "F10 MapMissing at 0:61-71"),
+    ];
+    for (items, wanted) in &rows {
+        assert_eq!(rt;
+            keysym(&rt, items, &given)?.as_str(),
+            *wanted,
+            "{:?}",
+            items
+        );
+    }
+    Ok(())
+}
+
+#[test]
+fn the_folder_of_a_kind_comes_first(rt: HostRuntime) -> Result<(), Fail> {
+    let given = [
+        (b"us".as_slice(), US),
+        (
+            b"symbols/us".as_slice(),
+            b"xkb_symbols { key <A> { [ b ] }; };".as_slice(),
+        ),
+    ];
+    assert_eq!(rt; keysym(&rt, b"include \"us\"", &given)?.as_str(), "62");
+    Ok(())
+}
+
+#[test]
+fn a_fault_names_its_file(rt: HostRuntime) -> Result<(), Fail> {
+    let given = [
+        (b"us".as_slice(), US),
+        (
+            b"a".as_slice(),
+            b"xkb_symbols { include \"a\" };".as_slice(),
+        ),
+    ];
+    assert_eq!(rt;
+        keysym(&rt, b"include \"a\"", &given)?.as_str(),
+        "F11 DepthOver16 at 2:22-25"
+    );
+    Ok(())
+}

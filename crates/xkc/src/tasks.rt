@@ -1,0 +1,169 @@
+//! What the program does.
+use crate::failure::Failure;
+use crate::words::{Included, Task};
+use ks_core::{Lent, NameTable, Notes};
+use kx_image::{UpgradeFault, View, upgrade};
+use kx_tool::{Files, ReplayFault, compile, dump, replay, session};
+use std::rt::Files as FileSystem;
+use std::{fs, io};
+
+/// Reads a file.
+fn read<'a>(rt: &(impl FileSystem + AllocGlobal), path: &'a str) -> Result<Vec<u8>, Failure<'a>> {
+    match fs::read(rt, path) {
+        Ok(bytes) => Ok(bytes),
+        Err(fault) => Err(Failure::of_file(&fault, path)),
+    }
+}
+
+/// The names of keysyms, with those of a file where one is given.
+fn read_names<'a>(
+    rt: &(impl FileSystem + AllocGlobal),
+    path: Option<&'a str>,
+) -> Result<NameTable, Failure<'a>> {
+    let Some(path) = path else {
+        return Ok(NameTable::builtin());
+    };
+    let lines = read(rt, path)?;
+    match NameTable::with_lines(rt.alloc(), lines.as_slice()) {
+        Ok(names) => Ok(names),
+        Err(fault) => Err(Failure::Names(fault)),
+    }
+}
+
+/// The files that a source may include.
+fn read_files<'a>(
+    rt: &(impl FileSystem + AllocGlobal),
+    included: &[Included<'a>],
+) -> Result<Files, Failure<'a>> {
+    let mut files = Files::new(rt.alloc());
+    for file in included {
+        let bytes = read(rt, file.path)?;
+        let name = Vec::from_slice(rt.alloc(), file.name.as_bytes())?;
+        if files.insert(name, bytes).is_err() {
+            return Err(Failure::from(std::alloc::AllocError));
+        }
+    }
+    Ok(files)
+}
+
+fn print_notes<'a>(rt: &impl Print, notes: Notes) -> Result<(), Failure<'a>> {
+    let Notes {
+        keysyms,
+        keys,
+        types,
+        levels,
+        actions,
+    } = notes;
+    let line = format_args!(
+        "notes keysyms={keysyms} keys={keys} types={types} levels={levels} actions={actions}"
+    );
+    match rt.println(line) {
+        Ok(()) => Ok(()),
+        Err(_) => Err(Failure::Replay(ReplayFault::Write)),
+    }
+}
+
+fn compile_to<'a>(
+    rt: &(impl FileSystem + Print + AllocGlobal),
+    names: Option<&'a str>,
+    source: &'a str,
+    image: &'a str,
+    included: &[Included<'a>],
+) -> Result<(), Failure<'a>> {
+    let names = read_names(rt, names)?;
+    let source = read(rt, source)?;
+    let files = read_files(rt, included)?;
+    match compile(rt.alloc(), source.as_slice(), &files, &names) {
+        Ok((bytes, notes)) => {
+            if fs::write(rt, image, bytes.as_slice()).is_err() {
+                return Err(Failure::File(image));
+            }
+            print_notes(rt, notes)
+        }
+        Err(fault) => Err(Failure::Source(fault)),
+    }
+}
+
+fn answer_source<'a>(
+    rt: &(impl FileSystem + Input + Print + AllocGlobal),
+    names: Option<&'a str>,
+    included: &[Included<'a>],
+) -> Result<(), Failure<'a>> {
+    let names = read_names(rt, names)?;
+    let files = read_files(rt, included)?;
+    let mut feed = Lent::new(rt.reader());
+    let mut out = Lent::new(io::writer(rt));
+    match session(rt.alloc(), &mut feed, &files, &names, &mut out) {
+        Ok(()) => Ok(()),
+        Err(fault) => Err(Failure::of_session(fault)),
+    }
+}
+
+fn answer_image<'a>(
+    rt: &(impl FileSystem + Input + Print + AllocGlobal),
+    names: Option<&'a str>,
+    image: &'a str,
+) -> Result<(), Failure<'a>> {
+    let names = read_names(rt, names)?;
+    let bytes = read(rt, image)?;
+    let mut feed = Lent::new(rt.reader());
+    let mut out = Lent::new(io::writer(rt));
+    match replay(rt.alloc(), &mut feed, bytes.as_slice(), &names, &mut out) {
+        Ok(()) => Ok(()),
+        Err(fault) => Err(Failure::Replay(fault)),
+    }
+}
+
+fn dump_image<'a>(
+    rt: &(impl FileSystem + Print + AllocGlobal),
+    image: &'a str,
+) -> Result<(), Failure<'a>> {
+    let bytes = read(rt, image)?;
+    if let Err(fault) = View::open(bytes.as_slice()) {
+        return Err(Failure::Image(fault));
+    }
+    let mut out = Lent::new(io::writer(rt));
+    match dump(bytes.as_slice(), &mut out) {
+        Ok(()) => Ok(()),
+        Err(_) => Err(Failure::Replay(ReplayFault::Write)),
+    }
+}
+
+/// Nothing is written where the bytes are no image.
+fn upgrade_image<'a>(
+    rt: &(impl FileSystem + AllocGlobal),
+    image: &'a str,
+    newer: &'a str,
+) -> Result<(), Failure<'a>> {
+    let bytes = read(rt, image)?;
+    if let Err(fault) = View::open(bytes.as_slice()) {
+        return Err(Failure::Image(fault));
+    }
+    let Ok(file) = fs::create(rt, newer) else {
+        return Err(Failure::File(newer));
+    };
+    match upgrade(bytes.as_slice(), &mut Lent::new(file)) {
+        Ok(()) => Ok(()),
+        Err(UpgradeFault::Image(fault)) => Err(Failure::Image(fault)),
+        Err(UpgradeFault::Write) => Err(Failure::File(newer)),
+    }
+}
+
+/// Does what the words ask for.
+pub fn run<'a>(
+    rt: &(impl FileSystem + Input + Print + AllocGlobal),
+    task: Task<'a>,
+) -> Result<(), Failure<'a>> {
+    match task {
+        Task::Try { names, files } => answer_source(rt, names, files.as_slice()),
+        Task::Compile {
+            names,
+            source,
+            image,
+            files,
+        } => compile_to(rt, names, source, image, files.as_slice()),
+        Task::Replay { names, image } => answer_image(rt, names, image),
+        Task::Dump { image } => dump_image(rt, image),
+        Task::Upgrade { image, newer } => upgrade_image(rt, image, newer),
+    }
+}
