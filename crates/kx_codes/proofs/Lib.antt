@@ -1,4 +1,5 @@
 mod Behind
+mod Distinct
 mod Putting
 mod Sharing
 mod Tables

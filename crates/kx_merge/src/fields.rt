@@ -21,6 +21,8 @@ pub trait Fields<C>: Drop {
     type Value;
     /// The default statements of a section, gathered.
     type Defaults: Drop;
+    /// What reading tells beside records, and is no fault.
+    type Notes: Drop;
 
     ghost rules: { C → Rules Self.Key Self.Cell Self.Value Self.Defaults };
 
@@ -44,13 +46,15 @@ pub trait Fields<C>: Drop {
         ensures next { IfOk result (λ d. d ≡ (rules context.now).next defaults item.now) }
         ensures err { IfErr result (λ e. e ≡ Memory) };
 
-    /// What a statement gives, with the record that each is given to, under the defaults before it in its section.
+    /// What a statement gives, with the record that each is given to, under the defaults before it in its section. What
+    /// is noted of it is added to `notes`.
     fn read(
         alloc: Global,
         context: &C,
         defaults: &Self::Defaults,
         place: Place,
         item: &Item,
+        notes: &mut Self::Notes,
     ) -> Result<Vec<(Self::Key, Self)>, Fault>
         ensures records { IfOk result (λ records. AreOffered (mode_of item.now) (cell) (width) records.items ((rules context.now).offers defaults.now place item.now)) }
         ensures faultless { OnOk result ((rules context.now).faults defaults.now place item.now ≡ []) }

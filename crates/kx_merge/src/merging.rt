@@ -102,6 +102,7 @@ pub(crate) fn merge_own<C, R: Fields<C>>(
     item: &Item,
     mode: Mode,
     records: &mut IndexMap<R::Key, R>,
+    notes: &mut R::Notes,
 ) -> Result<R::Defaults, Fault>
     requires { mode_of item.now ≡ mode }
     ensures shows { (os : List (Offer R.Key R.Cell R.Value))
@@ -111,7 +112,7 @@ pub(crate) fn merge_own<C, R: Fields<C>>(
     ensures faultless { OnOk result ((R.rules context.now).faults defaults place item.now ≡ []) }
     ensures fault { IfErr result (λ e. Contains (Memory ∷ (R.rules context.now).faults defaults place item.now) e) }
 {
-    let given = R::read(alloc, context, &defaults, place, item)?;
+    let given = R::read(alloc, context, &defaults, place, item, notes)?;
     add_all::<C, R>(alloc, records, mode, given)?;
     R::next(alloc, context, defaults, item)
 }

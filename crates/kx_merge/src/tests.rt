@@ -91,6 +91,8 @@ impl Fields<()> for Sheet {
 
     type Defaults = ();
 
+    type Notes = ();
+
     ghost rules = { λ context. sheet_rules };
 
     ghost moves = { sheet_moves };
@@ -111,6 +113,7 @@ impl Fields<()> for Sheet {
         _defaults: &(),
         _place: Place,
         item: &Item,
+        _notes: &mut (),
     ) -> Result<Vec<(u8, Sheet)>, Fault> {
         match item {
             Item::Include { .. } => Ok(no_sheets(alloc)),
@@ -166,7 +169,7 @@ fn value_in(rt: &impl AllocGlobal, items: &[u8], group: u8) -> Result<Option<u32
     };
     let library = Library::read(rt.alloc(), tree, whole, &files)?;
     library.check(rt.alloc())?;
-    let records = merge::<(), Sheet>(rt.alloc(), &(), &library, Kind::Symbols)?;
+    let records = merge::<(), Sheet>(rt.alloc(), &(), &library, Kind::Symbols, &mut ())?;
     match records.get(&b'A') {
         None => Ok(None),
         Some(sheet) => Ok(if group == 1 { sheet.one } else { sheet.two }),

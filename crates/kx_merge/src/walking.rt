@@ -21,7 +21,8 @@ use std::alloc::Global;
 const MOST_MAPS: u8 = 17;
 
 /// The records of a section kind, by what tells them apart, in the order in which the items of its expanded body name
-/// them: each cell has its value by precedence, and each group its width.
+/// them: each cell has its value by precedence, and each group its width. What is noted of its statements, hidden or not,
+/// is added to `notes`.
 ///
 /// # Errors
 /// A fault of a statement of the body; `Memory`.
@@ -30,6 +31,7 @@ pub fn merge<C, R: Fields<C>>(
     context: &C,
     library: &Library,
     kind: Kind,
+    notes: &mut R::Notes,
 ) -> Result<IndexMap<R::Key, R>, Fault>
     ensures shows { IfOk result (λ records. Shows R.cell R.width R.Key.eq (keys records) (get R.Key.eq records) (offers_of R.Key.eq (R.rules context.now) R.moves (body_of library.now kind))) }
     ensures faultless { OnOk result (faults_of R.Key.eq (R.rules context.now) R.moves (body_of library.now kind) ≡ []) }
@@ -39,7 +41,7 @@ pub fn merge<C, R: Fields<C>>(
     let mut section = 0;
     let mut left = library.sections_in(0);
     'sections: while let Some((first, rest)) = left.split_first() {
-        merge_section::<C, R>(alloc, context, library, kind, section, first, &mut records)?;
+        merge_section::<C, R>(alloc, context, library, kind, section, first, &mut records, notes)?;
         section += 1;
         left = rest;
     }
@@ -55,6 +57,7 @@ fn merge_section<C, R: Fields<C>>(
     section: usize,
     first: &Section,
     records: &mut IndexMap<R::Key, R>,
+    notes: &mut R::Notes,
 ) -> Result<(), Fault>
     ensures shows { (os : List (Offer R.Key R.Cell R.Value))
         → Shows R.cell R.width R.Key.eq (keys records.old) (get R.Key.eq records.old) os
@@ -66,7 +69,7 @@ fn merge_section<C, R: Fields<C>>(
         return Ok(());
     }
     let place = Place { file: 0, section };
-    merge_map::<C, R>(alloc, context, library, kind, MOST_MAPS, place, records)
+    merge_map::<C, R>(alloc, context, library, kind, MOST_MAPS, place, records, notes)
 }
 
 /// What the items of a map make of records; includes in it are nested less deep than `depth`.
@@ -79,6 +82,7 @@ fn merge_map<C, R: Fields<C>>(
     depth: u8,
     place: Place,
     records: &mut IndexMap<R::Key, R>,
+    notes: &mut R::Notes,
 ) -> Result<(), Fault>
     requires { 0 < depth }
     ensures shows { (os : List (Offer R.Key R.Cell R.Value))
@@ -99,6 +103,7 @@ fn merge_map<C, R: Fields<C>>(
             item,
             defaults,
             records,
+            notes,
         )?;
     }
     Ok(())
@@ -116,6 +121,7 @@ fn merge_item<C, R: Fields<C>>(
     item: &Item,
     defaults: R::Defaults,
     records: &mut IndexMap<R::Key, R>,
+    notes: &mut R::Notes,
 ) -> Result<R::Defaults, Fault>
     ensures shows { (os : List (Offer R.Key R.Cell R.Value))
         → Shows R.cell R.width R.Key.eq (keys records.old) (get R.Key.eq records.old) os
@@ -126,7 +132,7 @@ fn merge_item<C, R: Fields<C>>(
 {
     match item {
         Item::Statement { mode, .. } => {
-            merge_own::<C, R>(alloc, context, defaults, place, item, *mode, records)
+            merge_own::<C, R>(alloc, context, defaults, place, item, *mode, records, notes)
         }
         Item::Include { mode, text, .. } => {
             merge_text::<C, R>(
@@ -138,6 +144,7 @@ fn merge_item<C, R: Fields<C>>(
                 text.bytes.as_slice(),
                 *mode,
                 records,
+                notes,
             )?;
             Ok(defaults)
         }
@@ -155,6 +162,7 @@ fn merge_text<C, R: Fields<C>>(
     text: &[u8],
     mode: Mode,
     records: &mut IndexMap<R::Key, R>,
+    notes: &mut R::Notes,
 ) -> Result<(), Fault>
     ensures shows { (os : List (Offer R.Key R.Cell R.Value))
         → Shows R.cell R.width R.Key.eq (keys records.old) (get R.Key.eq records.old) os
@@ -172,6 +180,7 @@ fn merge_text<C, R: Fields<C>>(
                 kind,
                 depth,
                 parts.as_slice(),
+                notes,
             )?;
             let given = moved_all::<C, R>(alloc, joined, None)?;
             add_all::<C, R>(alloc, records, mode, given)
@@ -188,6 +197,7 @@ fn merge_parts<C, R: Fields<C>>(
     kind: Kind,
     depth: u8,
     parts: &[Part],
+    notes: &mut R::Notes,
 ) -> Result<IndexMap<R::Key, R>, Fault>
     ensures shows { IfOk result (λ records. Shows R.cell R.width R.Key.eq (keys records) (get R.Key.eq records) (offers R.Key.eq (R.rules context.now) R.moves (R.rules context.now).start (parts_body (part_body depth library.now kind) parts.now))) }
     ensures faultless { OnOk result (faults R.Key.eq (R.rules context.now) R.moves (R.rules context.now).start (parts_body (part_body depth library.now kind) parts.now) ≡ []) }
@@ -195,7 +205,7 @@ fn merge_parts<C, R: Fields<C>>(
 {
     let mut joined = IndexMap::new(alloc);
     'parts: for part in parts {
-        merge_part::<C, R>(alloc, context, library, kind, depth, part, &mut joined)?;
+        merge_part::<C, R>(alloc, context, library, kind, depth, part, &mut joined, notes)?;
     }
     Ok(joined)
 }
@@ -210,6 +220,7 @@ fn merge_part<C, R: Fields<C>>(
     depth: u8,
     part: &Part,
     records: &mut IndexMap<R::Key, R>,
+    notes: &mut R::Notes,
 ) -> Result<(), Fault>
     ensures shows { (os : List (Offer R.Key R.Cell R.Value))
         → Shows R.cell R.width R.Key.eq (keys records.old) (get R.Key.eq records.old) os
@@ -217,7 +228,7 @@ fn merge_part<C, R: Fields<C>>(
     ensures faultless { OnOk result (part_faults R.Key.eq (R.rules context.now) R.moves (part_body depth library.now kind) part.now ≡ []) }
     ensures fault { IfErr result (λ e. Contains (Memory ∷ part_faults R.Key.eq (R.rules context.now) R.moves (part_body depth library.now kind) part.now) e) }
 {
-    let inner = merge_found::<C, R>(alloc, context, library, kind, depth, part)?;
+    let inner = merge_found::<C, R>(alloc, context, library, kind, depth, part, notes)?;
     let given = moved_all::<C, R>(alloc, inner, part.group())?;
     add_all::<C, R>(alloc, records, part.mode(), given)
 }
@@ -231,6 +242,7 @@ fn merge_found<C, R: Fields<C>>(
     kind: Kind,
     depth: u8,
     part: &Part,
+    notes: &mut R::Notes,
 ) -> Result<IndexMap<R::Key, R>, Fault>
     ensures shows { IfOk result (λ records. Shows R.cell R.width R.Key.eq (keys records) (get R.Key.eq records) (offers R.Key.eq (R.rules context.now) R.moves (R.rules context.now).start (part_body depth library.now kind part.now))) }
     ensures faultless { OnOk result (faults R.Key.eq (R.rules context.now) R.moves (R.rules context.now).start (part_body depth library.now kind part.now) ≡ []) }
@@ -243,7 +255,7 @@ fn merge_found<C, R: Fields<C>>(
         None => Ok(IndexMap::new(alloc)),
         Some(place) => {
             let mut records = IndexMap::new(alloc);
-            merge_map::<C, R>(alloc, context, library, kind, depth, place, &mut records)?;
+            merge_map::<C, R>(alloc, context, library, kind, depth, place, &mut records, notes)?;
             Ok(records)
         }
     }

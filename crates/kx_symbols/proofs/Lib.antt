@@ -1,0 +1,5 @@
+mod Absorbing
+mod Given
+mod Loops
+mod Statements
+mod Texts

@@ -54,8 +54,9 @@ pub fn compile_tables(
     library.check(alloc)?;
     check_sections(library.sections_in(0))?;
     let codes = codes(alloc, &library)?;
-    let (keys, notes) = symbols(alloc, &library, &codes, names)?;
-    let parts = build(alloc, &codes, &keys)?;
+    let mut notes = Notes::new();
+    let keys = symbols(alloc, &library, &codes, names, &mut notes)?;
+    let parts = build(alloc, &codes, &keys, &mut notes)?;
     match Owned::new(parts) {
         Ok(tables) => Ok((tables, notes)),
         Err(_) => Err(Fault::Memory),

@@ -1,9 +1,10 @@
 use Rattle.std.proofs.Common.{[], refl, sym, subst, ◌∙◌}
 use Rattle.indexmap.specs.IndexMap.{get, keys}
 use Rattle.kx_include.specs.Expansion.{End, found_body, map_body, parts_body}
+use Rattle.kx_include.specs.IncludeText.{parts_of}
 use Rattle.kx_merge.specs.Bodies.{faults, faults_of, offers}
 use Rattle.kx_merge.specs.Records.{Shows}
-use Rattle.kx_merge.specs.Walks.{part_body, part_faults}
+use Rattle.kx_merge.specs.Walks.{part_body, part_faults, text_faults}
 use Rattle.kx_merge.proofs.Behind.{shows_none, memory_answered, fault_passed}
 use Rattle.kx_merge.proofs.Loops.{map_begins, map_goes, map_blames, map_ends, map_faultless, parts_begin, parts_go, parts_blame, parts_end}
 use Rattle.kx_merge.proofs.walking.+maps.Goals as goal
@@ -50,3 +51,6 @@ merge_found-returns-in_ok-merge_map-in-Some-clause-shows g t c =
 
 pub merge_part-returns-clause-fault : goal.merge_part-returns-clause-fault
 merge_part-returns-clause-fault g t c = memory_answered c.add_all.result (part_faults g.R.Key.PartialEq.eq (g.R.Fields.rules c.args.context.now) g.R.Fields.moves (part_body c.args.depth c.args.library.now c.args.kind) c.args.part.now) c.add_all.ensures.err
+
+pub merge_text-returns-in_ok-given-in-Some-clause-fault : goal.merge_text-returns-in_ok-given-in-Some-clause-fault
+merge_text-returns-in_ok-given-in-Some-clause-fault g t c = memory_answered c.add_all.result (text_faults g.R.Key.PartialEq.eq (g.R.Fields.rules c.args.context.now) g.R.Fields.moves (part_body c.args.depth c.args.library.now c.args.kind) (parts_of c.args.text.now)) c.add_all.ensures.err

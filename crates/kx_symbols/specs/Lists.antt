@@ -1,0 +1,79 @@
+-- Which group each list of a key statement is given to.
+use Rattle.std.specs.Prelude.{ℕ, ◌+◌, ◌-◌, ◌++◌, Bool, ◌&&◌, not, List, [], length, fold, position, replicate, slice_get, slice_set, Option, None, Some, is_some, unwrap_or, if◌then◌else◌, codes}
+use Rattle.std.specs.Option.{option_and_then, option_map_or}
+use Rattle.std.specs.Str.{str_eq_ignore_ascii_case}
+use Rattle.ks_core.specs.Entry.{Entry}
+use Rattle.kx_parse.specs.declared.tree.Field.{Field as FieldOf}
+use Rattle.kx_parse.specs.declared.tree.Index.{Index}
+use Rattle.kx_parse.specs.declared.tree.KeyField.{KeyField}
+use Rattle.kx_parse.specs.declared.tree.KeyField.TheVariants as fields
+use Rattle.kx_parse.specs.declared.tree.List.{List as Listed}
+use Rattle.kx_parse.specs.declared.tree.Place.{Place}
+use Rattle.kx_parse.specs.declared.tree.Setting.{Setting}
+use Rattle.kx_parse.specs.declared.tree.Setting.TheVariants.{Off, On, To}
+use Rattle.kx_parse.specs.declared.tree.Value.{Value}
+use Rattle.kx_parse.specs.declared.tree.Value.TheVariants as values
+use Rattle.kx_symbols.specs.Groups.{group_of}
+use Rattle.kx_symbols.specs.Keysyms.{Level, levels_of}
+
+-- by group, counted from 0, the levels of its list, where it has one
+abbrev pub Lists : Type 0
+Lists = List (Option (List Level))
+
+abbrev pub list_at : Lists → ℕ → Option (List Level)
+list_at lists group = option_and_then (λ o. o) (slice_get lists group)
+
+abbrev pub has_list : Lists → ℕ → Bool
+has_list lists group = is_some (list_at lists group)
+
+abbrev pub is_free : Option (List Level) → Bool
+is_free list = not (is_some list)
+
+-- the first group without a list
+abbrev pub free_group : Lists → ℕ
+free_group lists = unwrap_or (position is_free lists) (length lists)
+
+-- so many groups at least
+abbrev pub widened_to : ℕ → Lists → Lists
+widened_to count lists = lists ++ replicate (count - length lists) None
+
+abbrev pub with_list : Lists → ℕ → List Level → Lists
+with_list lists group levels = slice_set (widened_to (group + 1) lists) group (Some levels)
+
+abbrev pub level_at : List Level → ℕ → Level
+level_at levels level = option_and_then (λ o. o) (slice_get levels level)
+
+abbrev pub level_of : Option (List Level) → ℕ → Level
+level_of list level = option_and_then (λ levels. level_at levels level) list
+
+abbrev pub width_of : Option (List Level) → ℕ
+width_of list = option_map_or length list 0
+
+-- the level of a group's list, and how many levels it has
+abbrev pub level_in : Lists → ℕ → ℕ → Level
+level_in lists group level = level_of (list_at lists group) level
+
+abbrev pub width_in : Lists → ℕ → ℕ
+width_in lists group = width_of (list_at lists group)
+
+-- the field that gives a list its group
+abbrev pub is_symbols : Place → Bool
+is_symbols place = not (is_some place.member) && str_eq_ignore_ascii_case place.word.bytes (codes "symbols")
+
+-- a list without an index takes the first group that has none
+abbrev pub group_for : Lists → Option Index → ℕ
+group_for lists None = free_group lists
+group_for lists (Some index) = unwrap_or (group_of index.value) 1 - 1
+
+module _ (names : List Entry) where
+  abbrev pub set_lists : Lists → Option Index → Setting → Lists
+  set_lists lists index (To (values.List list)) = with_list lists (group_for lists index) (levels_of names list)
+  set_lists lists index _ = lists
+
+  abbrev pub field_lists : Lists → KeyField → Lists
+  field_lists lists (fields.List list) = with_list lists (free_group lists) (levels_of names list)
+  field_lists lists (fields.Field field) = if is_symbols field.place then set_lists lists field.place.index field.setting else lists
+
+  -- the lists that a key statement gives
+  abbrev pub lists_of : List KeyField → Lists
+  lists_of fs = fold field_lists [] fs

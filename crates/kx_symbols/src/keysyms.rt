@@ -1,0 +1,246 @@
+//! The keysyms that symbols stand for.
+ghost use Rattle.std.specs.Prelude.{◌≡◌, ◌+◌, ◌<◌, ◌≤◌, ◌++◌, ◌∷◌, [], List, Contains, IfErr, IfOk, OnOk, length};
+ghost use Rattle.std.specs.List.{flat_map};
+ghost use Rattle.std.specs.Option.{option_map};
+ghost use Rattle.kx_lex.specs.declared.fault.Fault.TheVariants.{Memory};
+ghost use Rattle.kx_symbols.specs.KeyFaults.{call_faults, count_faults, element_faults, part_faults, symbol_faults};
+ghost use Rattle.kx_symbols.specs.Keysyms.{element_level, given, keysym_of_text, number_keysym, part_keysyms, symbol_keysym, word_keysym};
+
+use arrayvec::ArrayVec;
+use ks_core::{NameTable, Note, Notes};
+use kx_lex::{At, Fault, Span};
+use kx_parse::{Call, Element, Part, Symbol};
+use std::marker::Model;
+
+/// The greatest number of a keysym.
+const GREATEST_KEYSYM: u32 = 0x1fff_ffff;
+
+/// The keysym of `None` and `VoidSymbol`.
+const VOID: u32 = 0xff_ffff;
+
+/// A level has at most this many keysyms.
+const MOST_KEYSYMS: usize = 8;
+
+/// The keysyms of a level, one to eight.
+#[derive(Debug, Drop)]
+pub struct Keysyms {
+    numbers: ArrayVec<u32, 8>,
+}
+
+impl Model for Keysyms {
+    ghost use Rattle.std.specs.Prelude.{List, ℕ};
+
+    ghost Value = { List ℕ };
+
+    ghost view = { λ k. k.numbers.items };
+}
+
+impl Keysyms {
+    fn none() -> Keysyms
+        ensures { result ≡ [] }
+    {
+        Keysyms {
+            numbers: ArrayVec::new(),
+        }
+    }
+
+    fn push(&mut self, keysym: u32)
+        requires { length self.old < 8 }
+        ensures { self.new ≡ self.old ++ keysym ∷ [] }
+    {
+        self.numbers.push(keysym);
+    }
+
+    /// The keysyms in order, by their numbers.
+    pub fn as_slice(&self) -> &[u32]
+        ensures value { result.now ≡ self.now }
+        ensures few { length result.now ≤ 8 }
+    {
+        self.numbers.as_slice()
+    }
+
+    /// These keysyms, where there is one.
+    fn given(self) -> Option<Keysyms>
+        ensures { result ≡ given self }
+    {
+        if self.numbers.is_empty() {
+            None
+        } else {
+            Some(self)
+        }
+    }
+}
+
+/// Where a list of a key statement stands.
+#[derive(Clone, Copy, Debug, PartialEq, Eq)]
+pub(crate) enum Standing {
+    /// By itself among the fields.
+    Alone,
+    /// As what a symbols field sets.
+    InSymbols,
+}
+
+/// Where a statement stands.
+#[derive(Clone, Copy, Debug, PartialEq, Eq)]
+pub(crate) struct Reading {
+    pub file: u32,
+    /// All of the statement.
+    pub whole: Span,
+}
+
+impl Reading {
+    pub fn at(self, span: Span) -> At
+        ensures { result ≡ record { file = self.file; span = span } }
+    {
+        At {
+            file: self.file,
+            span,
+        }
+    }
+}
+
+/// The keysym of a word; none where it says so, or where no keysym has the name, which is noted.
+fn word_keysym(names: &NameTable, word: &[u8], notes: &mut Notes) -> Option<u32>
+    ensures { result ≡ word_keysym names.now word.now }
+{
+    if word.eq_ignore_ascii_case(b"any") || word.eq_ignore_ascii_case(b"nosymbol") {
+        return None;
+    }
+    if word.eq_ignore_ascii_case(b"none") || word.eq_ignore_ascii_case(b"voidsymbol") {
+        return Some(VOID);
+    }
+    let keysym = keysym_of_text(names, word);
+    if keysym.is_none() {
+        notes.count(Note::UnknownKeysym);
+    }
+    keysym.filter(|number| *number != 0)
+}
+
+#[tactic(auto, using(crate::proofs::Texts::of_text))]
+fn keysym_of_text(names: &NameTable, word: &[u8]) -> Option<u32>
+    ensures { result ≡ keysym_of_text names.now word.now }
+{
+    match str::from_utf8(word) {
+        Ok(text) => match names.by_name(text) {
+            Some(keysym) => Some(keysym.0),
+            None => None,
+        },
+        Err(_) => None,
+    }
+}
+
+/// The keysym of a number: that of the digit where it has one digit.
+fn number_keysym(number: u32) -> u32
+    requires { number ≤ 536870911 }
+    ensures { result ≡ number_keysym number }
+{
+    if number < 10 { 0x30 + number } else { number }
+}
+
+fn symbol_keysym(
+    names: &NameTable,
+    reading: Reading,
+    symbol: &Symbol,
+    notes: &mut Notes,
+) -> Result<Option<u32>, Fault>
+    ensures value { IfOk result (λ keysym. keysym ≡ symbol_keysym names.now symbol.now) }
+    ensures faultless { OnOk result (symbol_faults reading.file symbol.now ≡ []) }
+    ensures fault { IfErr result (λ e. Contains (Memory ∷ symbol_faults reading.file symbol.now) e) }
+{
+    match symbol {
+        Symbol::Word(word) => Ok(word_keysym(names, word.bytes.as_slice(), notes)),
+        Symbol::Number(number) => {
+            if number.value > GREATEST_KEYSYM {
+                return Err(Fault::BadValue(reading.at(number.span)));
+            }
+            Ok(Some(number_keysym(number.value)))
+        }
+    }
+}
+
+/// An action, which no list of keysyms has.
+fn call_fault(reading: Reading, standing: Standing, call: &Call) -> Fault
+    ensures { Contains (call_faults reading.file standing call.now) result }
+{
+    match standing {
+        Standing::Alone => Fault::UnknownField(reading.at(call.word.span)),
+        Standing::InSymbols => Fault::BadValue(reading.at(call.span)),
+    }
+}
+
+/// Adds what a part of a level gives.
+fn add_part(
+    names: &NameTable,
+    reading: Reading,
+    standing: Standing,
+    part: &Part,
+    keysyms: &mut Keysyms,
+    notes: &mut Notes,
+) -> Result<(), Fault>
+    requires { length keysyms.old < 8 }
+    ensures value { OnOk result (keysyms.new ≡ keysyms.old ++ part_keysyms names.now part.now) }
+    ensures few { OnOk result (length keysyms.new ≤ length keysyms.old + 1) }
+    ensures faultless { OnOk result (part_faults reading.file standing part.now ≡ []) }
+    ensures fault { IfErr result (λ e. Contains (Memory ∷ part_faults reading.file standing part.now) e) }
+{
+    match part {
+        Part::Symbol(symbol) => {
+            if let Some(keysym) = symbol_keysym(names, reading, symbol, notes)? {
+                keysyms.push(keysym);
+            }
+            Ok(())
+        }
+        Part::Call(call) => Err(call_fault(reading, standing, call)),
+    }
+}
+
+/// The keysyms of a level in braces.
+fn braces_keysyms(
+    names: &NameTable,
+    reading: Reading,
+    standing: Standing,
+    parts: &[Part],
+    notes: &mut Notes,
+) -> Result<Keysyms, Fault>
+    ensures value { IfOk result (λ keysyms. keysyms ≡ flat_map (part_keysyms names.now) parts.now) }
+    ensures faultless { OnOk result (count_faults reading.file reading.whole parts.now ++ flat_map (part_faults reading.file standing) parts.now ≡ []) }
+    ensures fault { IfErr result (λ e. Contains (Memory ∷ (count_faults reading.file reading.whole parts.now ++ flat_map (part_faults reading.file standing) parts.now)) e) }
+{
+    let mut keysyms = Keysyms::none();
+    if parts.len() > MOST_KEYSYMS {
+        return Err(Fault::TooMany(reading.at(reading.whole)));
+    }
+    'parts: for part in parts {
+        add_part(names, reading, standing, part, &mut keysyms, notes)?;
+    }
+    Ok(keysyms)
+}
+
+/// What an element of a list gives its level.
+pub(crate) fn element_level(
+    names: &NameTable,
+    reading: Reading,
+    standing: Standing,
+    element: &Element,
+    notes: &mut Notes,
+) -> Result<Option<Keysyms>, Fault>
+    ensures value { IfOk result (λ level. level ≡ element_level names.now element.now) }
+    ensures faultless { OnOk result (element_faults reading.file standing reading.whole element.now ≡ []) }
+    ensures fault { IfErr result (λ e. Contains (Memory ∷ element_faults reading.file standing reading.whole element.now) e) }
+{
+    match element {
+        Element::Symbol(symbol) => match symbol_keysym(names, reading, symbol, notes)? {
+            None => Ok(None),
+            Some(keysym) => {
+                let mut keysyms = Keysyms::none();
+                keysyms.push(keysym);
+                Ok(Some(keysyms))
+            }
+        },
+        Element::Call(call) => Err(call_fault(reading, standing, call)),
+        Element::Braces(braces) => {
+            let keysyms = braces_keysyms(names, reading, standing, braces.parts.as_slice(), notes)?;
+            Ok(keysyms.given())
+        }
+    }
+}
