@@ -4,9 +4,8 @@ use Rattle.std.specs.Prelude.{fold, AllPairs}
 use Rattle.std.specs.Int.{bit_at}
 use Rattle.std.specs.Int.RustNames.{unsigned_abs}
 use Rattle.std.specs.List.{list_any, remove}
-use Rattle.std.proofs.lemmas.List.{length-take}
 use Rattle.std.proofs.Common.{length-append}
-use Rattle.std.proofs.lemmas.Option.{slice_get-get_or}
+use Rattle.std.proofs.lemmas.Option.{get_or_from_slice_get, slice_get_within}
 use Rattle.std.proofs.lemmas.List.Sums.{sum_by-remove}
 use Rattle.std.proofs.Common.{SFits, w32, to_z, of_z}
 use Rattle.std.proofs.lemmas.Int.{ints, to_z-of_z, fits_signed_from_abs}
@@ -16,17 +15,15 @@ use Rattle.std.proofs.lemmas.List.Folds.{fold-map}
 use Rattle.std.proofs.lemmas.List.Elements.{All-map, All-tail, All-head, All-cons, All-push, All-append, All-take, All-drop}
 use Rattle.std.proofs.lemmas.List.{get_or-map}
 use Rattle.std.proofs.lemmas.Bool.{cases_Bool, eqb-true, eq-eqb, ne_eqb}
-use borrow.Author.Tests.{ltb-false}
 use Rattle.std.proofs.lemmas.Nat.{or_of_8}
 use Rattle.std.proofs.lemmas.Bool.Decides.{Decides-eqb, nat_tests}
-use Rattle.std.proofs.lemmas.List.Sums.{fails_before_first}
-use Rattle.std.proofs.lemmas.List.Folds.{find_at, list_any_none}
+use Rattle.std.proofs.lemmas.List.Folds.{find_at}
 use Rattle.std.proofs.lemmas.Nat.Bits.{bit_at_or, bit_at-zero, bit_at-lt, same_from_bits_below}
-use Rattle.std.specs.List.{position, position_or_len, slice_get}
-use Rattle.std.proofs.Common.{inl, inr, Some, None, ltb}
+use Rattle.std.specs.List.{position_or_len, slice_get}
+use Rattle.std.proofs.Common.{inl, inr, Some, None}
 use Rattle.std.proofs.lemmas.Map.Steps.{length-le_from_distinct_below}
 use Rattle.std.proofs.lemmas.Map.Made.{IsDistinct-from_AllPairs}
-use Rattle.std.proofs.lemmas.List.Quantifiers.{position-Some, all_pairs_push, all_pairs_remove}
+use Rattle.std.proofs.lemmas.List.Quantifiers.{all_pairs_push, all_pairs_remove}
 use Rattle.kx_resolve.specs.declared.rows.Action.{Action}
 use Rattle.kx_resolve.specs.declared.rows.Action.TheVariants as actions
 use Rattle.kx_resolve.specs.declared.rows.GroupChange.{GroupChange}
@@ -100,7 +97,7 @@ pub is_held-disturbed : (code : ℕ) (keys : List HeldKey) → is_held code (map
 is_held-disturbed code [] = refl
 is_held-disturbed code (key ∷ keys) = ap (λ b. is_at code key || b) (is_held-disturbed code keys)
 
-AreDistinct-disturbed : (keys : List HeldKey) → AreDistinct keys → AreDistinct (map disturbed keys)
+pub AreDistinct-disturbed : (keys : List HeldKey) → AreDistinct keys → AreDistinct (map disturbed keys)
 AreDistinct-disturbed keys apart = λ i j d before within.
     let long = length-disturbed keys in
     let inside : j < length keys = omega arith in
@@ -134,16 +131,19 @@ AllPairs-codes keys apart = λ i j d before within.
     rw (get_or-map code_of keys i (any_key keys) d outside, get_or-map code_of keys j (any_key keys) d inside)
     (apart i j (any_key keys) before inside)
 
-pub length-sound : (keys : List HeldKey) → AreSound keys → length keys ≤ 4096
-length-sound keys sound =
+pub length-distinct : (keys : List HeldKey) → AreDistinct keys → All (λ key. key.code < 4096) keys → length keys ≤ 4096
+length-distinct keys distinct codes =
     let few = length-le_from_distinct_below (map code_of keys) 4096
-    (IsDistinct-from_AllPairs Decides-eqb (map code_of keys) (AllPairs-codes keys sound.distinct))
-    (λ q is_in. member_below keys q sound.codes is_in) in
+    (IsDistinct-from_AllPairs Decides-eqb (map code_of keys) (AllPairs-codes keys distinct))
+    (λ q is_in. member_below keys q codes is_in) in
     omega (arith, length-codes keys)
+
+pub length-sound : (keys : List HeldKey) → AreSound keys → length keys ≤ 4096
+length-sound keys sound = length-distinct keys sound.distinct sound.codes
 
 -- ---- a key that isn't held
 
-none_held : (code : ℕ) (keys : List HeldKey) → is_held code keys ≡ false → All (λ key. key.code ≢ code) keys
+pub none_held : (code : ℕ) (keys : List HeldKey) → is_held code keys ≡ false → All (λ key. key.code ≢ code) keys
 none_held code [] h = λ k d within. absurd (omega arith)
 none_held code (key ∷ keys) h =
     All-cons (λ k. k.code ≢ code) key keys
@@ -224,36 +224,6 @@ base_mods_is mods keys small sound same =
 
 -- ---- what a look-up finds
 
-some_of : (b : Bool) (n place : ℕ) → cond b (Some n) None ≡ Some place → n ≡ place
-some_of true n place h = cc
-some_of false n place h = absurd (cc)
-
-none_of : (b : Bool) (n : ℕ) → cond b (Some n) None ≡ None → b ≡ false
-none_of true n h = absurd (cc)
-none_of false n h = refl
-
-find_place : (p : HeldKey → Bool) (keys : List HeldKey) (place : ℕ) → position p keys ≡ Some place → position_or_len p keys ≡ place
-find_place p keys place found = some_of (ltb (position_or_len p keys) (length keys)) (position_or_len p keys) place found
-
-pub held_at-place : (code : ℕ) (keys : List HeldKey) (place : ℕ) → position (is_at code) keys ≡ Some place → held_at code keys ≡ slice_get keys place
-held_at-place code keys place found = find_at (is_at code) keys ∙ ap (slice_get keys) (find_place (is_at code) keys place found)
-
-pub held_at-some : (code : ℕ) (keys : List HeldKey) (place : ℕ) (key : HeldKey) → position (is_at code) keys ≡ Some place → key ≡ get_or keys place key → Some key ≡ held_at code keys
-held_at-some code keys place key found read =
-    let within = (position-Some (is_at code) keys place key found).0 in
-    ap (λ k. Some k) read ∙ sym (slice_get-get_or keys place key within) ∙ sym (held_at-place code keys place found)
-
-pub code_at : (code : ℕ) (keys : List HeldKey) (place : ℕ) (key : HeldKey) → position (is_at code) keys ≡ Some place → (place < length keys) × ((get_or keys place key).code ≡ code)
-code_at code keys place key found =
-    let at = position-Some (is_at code) keys place key found in
-    (at.0, eqb-true (get_or keys place key).code code at.1)
-
-pub none_at : (code : ℕ) (keys : List HeldKey) → position (is_at code) keys ≡ None → is_held code keys ≡ false
-none_at code keys absent =
-    let past = none_of (ltb (position_or_len (is_at code) keys) (length keys)) (position_or_len (is_at code) keys) absent in
-    let long = ltb-false (position_or_len (is_at code) keys) (length keys) past in
-    list_any_none (is_at code) keys (λ k d within. fails_before_first (is_at code) keys k d (omega arith))
-
 pub held_at-none : (code : ℕ) (keys : List HeldKey) → is_held code keys ≡ false → held_at code keys ≡ None
 held_at-none code [] h = refl
 held_at-none code (key ∷ keys) h = rw (or_false_left (is_at code key) (is_held code keys) h) (held_at-none code keys (or_false_right (is_at code key) (is_held code keys) h))
@@ -263,13 +233,13 @@ other_keys-none code [] h = refl
 other_keys-none code (key ∷ keys) h = rw (or_false_left (is_at code key) (is_held code keys) h) (ap (λ ks. key ∷ ks) (other_keys-none code keys (or_false_right (is_at code key) (is_held code keys) h)))
 
 -- the first of distinct keys isn't held among the others
-head_apart : (key : HeldKey) (keys : List HeldKey) → AreDistinct (key ∷ keys) → All (λ k. k.code ≢ key.code) keys
+pub head_apart : (key : HeldKey) (keys : List HeldKey) → AreDistinct (key ∷ keys) → All (λ k. k.code ≢ key.code) keys
 head_apart key keys apart = λ k d within same. apart 0 (suc k) d (omega arith) (omega arith) (sym same)
 
-tail_apart : (key : HeldKey) (keys : List HeldKey) → AreDistinct (key ∷ keys) → AreDistinct keys
+pub tail_apart : (key : HeldKey) (keys : List HeldKey) → AreDistinct (key ∷ keys) → AreDistinct keys
 tail_apart key keys apart = λ i j d before within. apart (suc i) (suc j) d (omega arith) (omega arith)
 
-other_keys-apart : (code : ℕ) (keys : List HeldKey) → All (λ k. k.code ≢ code) keys → other_keys code keys ≡ keys
+pub other_keys-apart : (code : ℕ) (keys : List HeldKey) → All (λ k. k.code ≢ code) keys → other_keys code keys ≡ keys
 other_keys-apart code [] apart = refl
 other_keys-apart code (key ∷ keys) apart = rw (ne_eqb key.code code (All-head (λ k. k.code ≢ code) key keys apart)) (ap (λ ks. key ∷ ks) (other_keys-apart code keys (All-tail (λ k. k.code ≢ code) key keys apart)))
 
@@ -279,6 +249,47 @@ remove_is code (key ∷ keys) zero d apart within here =
     rw (eq-eqb key.code code here) (sym (other_keys-apart code keys (λ k e inside same. head_apart key keys apart k e inside (same ∙ sym here))))
 remove_is code (key ∷ keys) (suc place) d apart within here =
     rw (ne_eqb key.code code (λ same. head_apart key keys apart place d (omega arith) (here ∙ sym same))) (ap (λ ks. key ∷ ks) (remove_is code keys place d (tail_apart key keys apart) (omega arith) here))
+
+-- ---- the place of the key that is let go
+
+none_found : (code : ℕ) (keys : List HeldKey) → held_at code keys ≡ None → is_held code keys ≡ false
+none_found code [] h = refl
+none_found code (key ∷ keys) h =
+    elim (cases_Bool (is_at code key)) [
+      | inl here ↦ absurd (cc (rw here at h))
+      | inr other ↦ rw other (none_found code keys (rw other at h))
+    ]
+
+pub others_none : (code : ℕ) (keys : List HeldKey) → held_at code keys ≡ None → other_keys code keys ≡ keys
+others_none code keys h = other_keys-none code keys (none_found code keys h)
+
+found_code : (code : ℕ) (keys : List HeldKey) (key : HeldKey) → held_at code keys ≡ Some key → key.code ≡ code
+found_code code [] key h = absurd (cc)
+found_code code (k ∷ keys) key h =
+    elim (cases_Bool (is_at code k)) [
+      | inl here ↦ let same : k ≡ key = cc (rw here at h) in ap (λ (x : HeldKey). x.code) (sym same) ∙ eqb-true k.code code here
+      | inr other ↦ found_code code keys key (rw other at h)
+    ]
+
+-- a held key stands at a place, and the other keys are those without that place
+pub record StandsAt (code : ℕ) (keys : List HeldKey) (key : HeldKey) (place : ℕ) : Type 0 where
+  pub within : place < length keys
+  pub read : key ≡ get_or keys place key
+  pub left : other_keys code keys ≡ remove keys place
+
+abbrev pub place_in : ℕ → List HeldKey → ℕ
+place_in code keys = position_or_len (is_at code) keys
+
+pub stands_at : (code : ℕ) (keys : List HeldKey) (key : HeldKey) → AreDistinct keys → held_at code keys ≡ Some key → StandsAt code keys key (place_in code keys)
+stands_at code keys key distinct found =
+    let got : slice_get keys (place_in code keys) ≡ Some key = sym (find_at (is_at code) keys) ∙ found in
+    let within = slice_get_within keys (place_in code keys) key got in
+    let read = get_or_from_slice_get keys (place_in code keys) key key got in
+    record {
+      within = within;
+      read = sym read;
+      left = sym (remove_is code keys (place_in code keys) key distinct within (ap (λ (x : HeldKey). x.code) read ∙ found_code code keys key found));
+    }
 
 -- ---- the base group as the code keeps it
 
@@ -290,6 +301,11 @@ pub record IsSmall (z : ℤ) : Type 0 where
 small_abs : (z : ℤ) → unsigned_abs z ≤ 131072 → IsSmall z
 small_abs (pos n) h = record { low = omega (arith, ints); high = omega (arith, ints); fits = record { sfits = omega arith } }
 small_abs (negsuc n) h = record { low = omega (arith, ints); high = omega (arith, ints); fits = record { sfits = omega arith } }
+
+pub small_few : (keys : List HeldKey) → length keys ≤ 4096 → All (λ key. action_size key.action ≤ 32) keys → IsSmall (base_group keys)
+small_few keys few sizes =
+    let size = fold_size (pos 0) keys sizes in
+    small_abs (base_group keys) (omega arith)
 
 pub small_group : (keys : List HeldKey) → AreSound keys → IsSmall (base_group keys)
 small_group keys sound =
@@ -304,16 +320,11 @@ small_more keys action sound size =
     let after = base_group_after_size action (base_group keys) in
     fits_signed_from_abs w32 (base_group_after action (base_group keys)) (omega arith)
 
-pub kept_group : (keys : List HeldKey) (group : ℤ) → AreSound keys → group ≡ base_group keys → to_z w32 (of_z w32 group) ≡ base_group keys
-kept_group keys group sound same = rw same (to_z-of_z w32 (base_group keys) (small_group keys sound).fits)
+pub kept_small : (z group : ℤ) → IsSmall z → group ≡ z → to_z w32 (of_z w32 group) ≡ z
+kept_small z group small same = rw same (to_z-of_z w32 z small.fits)
 
--- so is that of the first held keys
-pub small_front : (place : ℕ) (keys : List HeldKey) → AreSound keys → IsSmall (base_group (take place keys))
-small_front place keys sound =
-    let few = length-sound keys sound in
-    let part = length-take place keys in
-    let size = fold_size (pos 0) (take place keys) (All-take (λ k. action_size k.action ≤ 32) place keys sound.sizes) in
-    small_abs (base_group (take place keys)) (omega arith)
+pub kept_group : (keys : List HeldKey) (group : ℤ) → AreSound keys → group ≡ base_group keys → to_z w32 (of_z w32 group) ≡ base_group keys
+kept_group keys group sound same = kept_small (base_group keys) group (small_group keys sound) same
 
 -- ---- counts stay small
 
@@ -334,6 +345,13 @@ fits_more keys key sound = omega (arith, length-sound (keys ++ key ∷ []) sound
 
 pub count_left : (bit : ℕ) (keys : List HeldKey) (place : ℕ) (key : HeldKey) (left old mods : ℕ) → place < length keys → key ≡ get_or keys place key → mods ≡ held_mods key.action → old ≡ count_of bit keys → left + bit_at mods bit ≡ old → left ≡ count_of bit (remove keys place)
 count_left bit keys place key left old mods within read mask before less =
+    let parts = sum_by-remove (λ k. bit_at (held_mods k.action) bit) keys place key within in
+    let same : bit_at mods bit ≡ bit_at (held_mods (get_or keys place key).action) bit = ap (λ m. bit_at m bit) (mask ∙ ap (λ k. held_mods k.action) read) in
+    omega arith
+
+-- a held key is counted
+pub counted_one : (bit : ℕ) (keys : List HeldKey) (place : ℕ) (key : HeldKey) (old mods : ℕ) → place < length keys → key ≡ get_or keys place key → mods ≡ held_mods key.action → old ≡ count_of bit keys → bit_at mods bit ≤ old
+counted_one bit keys place key old mods within read mask before =
     let parts = sum_by-remove (λ k. bit_at (held_mods k.action) bit) keys place key within in
     let same : bit_at mods bit ≡ bit_at (held_mods (get_or keys place key).action) bit = ap (λ m. bit_at m bit) (mask ∙ ap (λ k. held_mods k.action) read) in
     omega arith

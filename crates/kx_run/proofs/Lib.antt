@@ -1,3 +1,4 @@
+pub mod Entries
 pub mod HeldFlags
 pub mod HeldLists
 pub mod Runs

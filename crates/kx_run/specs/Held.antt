@@ -1,5 +1,5 @@
 -- The keys that are down, in the order of their presses.
-use Rattle.std.specs.Prelude.{◌≡◌, ◌≢◌, ℕ, ◌+◌, length, get_or, ◌<◌, ◌≤◌, ◌==◌, Bool, true, false, not, List, All, AllPairs, filter, find, fold, sum_by, Option, pos, ℤ, ◌+ℤ◌}
+use Rattle.std.specs.Prelude.{◌≡◌, ◌≢◌, ℕ, ◌<◌, ◌≤◌, ◌==◌, Bool, true, false, not, List, All, AllPairs, filter, find, fold, sum_by, Option, pos, ℤ, ◌+ℤ◌}
 use Rattle.std.specs.Int.{bit_at}
 use Rattle.std.specs.Int.RustNames.{bit_or, unsigned_abs}
 use Rattle.std.specs.List.{list_any}
@@ -62,10 +62,6 @@ disturbed key = record key { disturbed = true }
 
 abbrev pub AreAllDisturbed : List HeldKey → Type 0
 AreAllDisturbed keys = All (λ key. key.disturbed ≡ true) keys
-
--- each press disturbs all keys that are held before it, so only the last of the held keys can be undisturbed
-abbrev pub AreEarlierDisturbed : List HeldKey → Type 0
-AreEarlierDisturbed keys = (i : ℕ) (d : HeldKey) → i + 1 < length keys → (get_or keys i d).disturbed ≡ true
 
 -- how many held keys set a modifier, by its bit
 abbrev pub count_of : ℕ → List HeldKey → ℕ

@@ -1,5 +1,7 @@
 pub mod Held
 pub mod HeldKeys
+pub mod Presses
+pub mod PressesKept
 pub mod World
 pub mod Laws
 pub mod Lookup

@@ -1,16 +1,14 @@
-ghost use Rattle.std.specs.Prelude.{◌≡◌, ℕ, ◌^◌, ◌<◌, ◌≤◌, ◌≤ℤ◌, false, List, [], ◌∷◌, ◌++◌, length, slice_index, slice_index_or, remove, position, map, IfOk, IfNone, pos, negsuc};
+ghost use Rattle.std.specs.Prelude.{◌≡◌, ℕ, ◌^◌, ◌<◌, ◌≤◌, ◌≤ℤ◌, false, List, [], ◌∷◌, ◌++◌, slice_index, map, IfOk, IfNone, pos, negsuc};
 ghost use Rattle.kx_mods.specs.Mods.{mask};
-ghost use Rattle.kx_run.specs.Held.{held_mods, base_mods, base_group, count_of, is_group_held, is_at, is_held, held_at, other_keys, disturbed, action_size, AreSound, AreAllDisturbed, AreEarlierDisturbed};
+ghost use Rattle.kx_run.specs.Held.{held_mods, base_mods, base_group, count_of, is_group_held, is_held, held_at, other_keys, disturbed, action_size, AreSound, AreAllDisturbed};
 
 use crate::counts::{Counts, counted, counted_mods, uncounted};
 use crate::group::base_group_with;
+use crate::presses::Presses;
 use kx_mods::Mods;
 use kx_resolve::Action;
 use std::alloc::{AllocError, Global};
 use std::marker::Model;
-
-/// How many codes there are, so how many keys can be held at most.
-pub const CODES: usize = 4096;
 
 /// A key that is down, with what its press found.
 #[derive(Clone, Copy, PartialEq, Eq, Debug)]
@@ -41,9 +39,7 @@ pub fn mods_of(action: Action) -> Mods
 /// The keys that are down, in the order of their presses.
 #[derive(Debug, Drop)]
 pub struct HeldKeys {
-    keys: Vec<HeldKey>,
-    /// Whether each code's key is down.
-    down: Vec<bool>,
+    keys: Presses,
     counts: Counts,
     mods: Mods,
     group: i32,
@@ -57,7 +53,7 @@ impl Model for HeldKeys {
 
     ghost use Rattle.kx_run.specs.HeldKeys.{AreKept};
 
-    ghost view = { λ h. h.keys.items };
+    ghost view = { λ h. h.keys };
 
     ghost invariant = { AreKept };
 }
@@ -68,8 +64,7 @@ impl HeldKeys {
         ensures { IfOk result (λ keys. keys ≡ []) }
     {
         Ok(HeldKeys {
-            keys: Vec::with_capacity(alloc, CODES)?,
-            down: vec![in alloc; false; CODES]?,
+            keys: Presses::new(alloc)?,
             counts: [0; 8],
             mods: Mods::NONE,
             group: 0,
@@ -98,7 +93,7 @@ impl HeldKeys {
         requires { code < 4096 }
         ensures { result ≡ is_held code self.now }
     {
-        self.down[usize::from(code)]
+        self.keys.is_held(code)
     }
 
     /// Tells each key that another one was pressed.
@@ -106,7 +101,7 @@ impl HeldKeys {
         ensures value { self.new ≡ map disturbed self.old }
         ensures all { AreAllDisturbed self.new }
     {
-        disturb_last(&mut self.keys);
+        self.keys.disturb();
     }
 
     /// Adds a key that isn't held, where all others were told of its press.
@@ -118,11 +113,10 @@ impl HeldKeys {
         ensures { self.new ≡ self.old ++ key ∷ [] }
     {
         let mods = mods_of(key.action);
-        self.down[usize::from(key.code)] = true;
         self.counts = counted(self.counts, mods);
         self.mods = self.mods.with(mods);
         self.group = base_group_with(key.action, self.group);
-        self.keys.push_reserved(key);
+        self.keys.push(key);
     }
 
     /// Lets go of a code's key, where it is held.
@@ -132,48 +126,12 @@ impl HeldKeys {
         ensures rest { self.new ≡ other_keys code self.old }
         ensures none { IfNone result (self.new ≡ self.old) }
     {
-        if !self.is_held(code) {
-            return None;
-        }
-        match place_of(&self.keys, code) {
-            Some(place) => Some(self.remove(place)),
-            None => None,
-        }
-    }
-
-    /// Lets go of the key at a place, counted from 0 in press order.
-    fn remove(&mut self, place: usize) -> HeldKey
-        requires { place < length self.old }
-        ensures key { result ≡ slice_index_or self.old place result }
-        ensures rest { self.new ≡ remove self.old place }
-        ensures sound { AreSound self.old }
-    {
-        let key = self.keys.remove(place);
-        self.down[usize::from(key.code)] = false;
+        let key = self.keys.take(code)?;
         self.counts = uncounted(self.counts, mods_of(key.action));
         self.mods = mods_without(key.action, self.mods, &self.counts, &self.keys);
         self.group = group_without(key.action, self.group, &self.keys);
-        key
+        Some(key)
     }
-}
-
-/// Tells each of some keys that another one was pressed. All but the last were told before.
-fn disturb_last(keys: &mut [HeldKey])
-    requires { AreEarlierDisturbed keys.old }
-    ensures { keys.new ≡ map disturbed keys.old }
-{
-    let count = keys.len();
-    if count > 0 {
-        keys[count - 1].disturbed = true;
-    }
-}
-
-/// The place of a code's key, counted from 0.
-#[inline(never)]
-fn place_of(keys: &[HeldKey], code: u16) -> Option<usize>
-    ensures { result ≡ position (is_at code) keys.now }
-{
-    keys.iter().position(|key| key.code == code)
 }
 
 /// Whether an action changes the base group while its key is down.
@@ -185,7 +143,7 @@ fn changes_group(action: Action) -> bool
 
 /// The base modifiers of the keys that are left when one with this action is let go, where `old` are the base
 /// modifiers before, and `counts` tell how many of the keys that are left set each modifier.
-fn mods_without(action: Action, old: Mods, counts: &Counts, keys: &[HeldKey]) -> Mods
+fn mods_without(action: Action, old: Mods, counts: &Counts, keys: &Presses) -> Mods
     requires sound { AreSound keys.now }
     requires counts { (bit : ℕ) → bit < 8 → slice_index counts.now bit ≡ count_of bit keys.now }
     requires unchanged { held_mods action ≡ 0 → mask old ≡ base_mods keys.now }
@@ -199,26 +157,14 @@ fn mods_without(action: Action, old: Mods, counts: &Counts, keys: &[HeldKey]) ->
 }
 
 /// The base group of the keys that are left when one with this action is let go, where `old` is the base group before.
-fn group_without(action: Action, old: i32, keys: &[HeldKey]) -> i32
+fn group_without(action: Action, old: i32, keys: &Presses) -> i32
     requires sound { AreSound keys.now }
     requires unchanged { is_group_held action ≡ false → old ≡ base_group keys.now }
     ensures { result ≡ base_group keys.now }
 {
     if changes_group(action) {
-        group_of(keys)
+        keys.group()
     } else {
         old
     }
-}
-
-/// The base group of some held keys.
-fn group_of(keys: &[HeldKey]) -> i32
-    requires sound { AreSound keys.now }
-    ensures { result ≡ base_group keys.now }
-{
-    let mut group = 0;
-    for key in keys {
-        group = base_group_with(key.action, group);
-    }
-    group
 }

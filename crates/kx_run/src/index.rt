@@ -3,8 +3,8 @@ ghost use Rattle.kx_resolve.specs.Content.{Content};
 ghost use Rattle.kx_resolve.specs.Keymap.{key_with};
 ghost use Rattle.kx_run.specs.Lookup.{TellsKeys};
 
-use crate::held::CODES;
 use crate::lookup::key_of;
+use crate::presses::CODES;
 use kx_resolve::{KeyRow, Tables};
 use std::alloc::{AllocError, Global};
 use std::marker::Model;

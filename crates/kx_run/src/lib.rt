@@ -12,6 +12,7 @@ mod keyboard;
 mod lamps;
 mod lookup;
 mod player;
+mod presses;
 mod reply;
 #[cfg(test)]
 mod tests;

@@ -1,44 +1,33 @@
-use Rattle.std.proofs.Common.{◌≡◌, ℕ, ◌+◌, ◌<◌, ◌≤◌, ◌∙◌, sym, ap, subst, false, true, arith, set, get_or, length-set}
+use Rattle.std.proofs.Common.{◌≡◌, ℕ, ◌+◌, ◌<◌, ◌∙◌, sym, ap, subst, false, arith}
 use Rattle.std.proofs.lemmas.Int.{ints}
 use Rattle.std.specs.Int.{bit_at}
 use Rattle.std.specs.Int.RustNames.{bit_or}
 use Rattle.kx_mods.specs.Mods.{mask}
-use Rattle.kx_run.specs.Held.{AreAllDisturbed, AreEarlierDisturbed, AreSound, base_group, base_group_after, base_mods, count_of, is_held, held_mods}
-use Rattle.kx_run.proofs.HeldLists.{AreSound-push, base_mods-push, base_group-push, count_of-push, count_of-le, fits_more, kept_group, small_group}
-use Rattle.kx_run.proofs.HeldFlags.{down-push, earlier-push}
+use Rattle.kx_run.specs.Held.{AreSound, base_group, base_group_after, base_mods, count_of, is_held, held_mods}
+use Rattle.kx_run.proofs.HeldLists.{AreSound-push, base_mods-push, base_group-push, count_of-push, count_of-le, kept_group, small_group}
 use Rattle.kx_run.proofs.held.HeldKeys.hold.Goals as goal
 
 pub counted-self-inside-requires : goal.counted-self-inside-requires
 counted-self-inside-requires c = λ bit small.
-    omega (arith, c.self.invariant.counts bit small, count_of-le bit c.self.inside.keys.items c.self.invariant.sound)
+    omega (arith, c.self.invariant.counts bit small, count_of-le bit c.self.inside.keys c.self.invariant.sound)
 
 pub base_group_with-self-inside-requires-clause-low : goal.base_group_with-self-inside-requires-clause-low
 base_group_with-self-inside-requires-clause-low c =
-    let keys = c.self.inside.keys.items in
+    let keys = c.self.inside.keys in
     rw (kept_group keys c.self.inside.group c.self.invariant.sound c.self.invariant.group) (omega (arith, ints, (small_group keys c.self.invariant.sound).low))
 
 pub base_group_with-self-inside-requires-clause-high : goal.base_group_with-self-inside-requires-clause-high
 base_group_with-self-inside-requires-clause-high c =
-    let keys = c.self.inside.keys.items in
+    let keys = c.self.inside.keys in
     rw (kept_group keys c.self.inside.group c.self.invariant.sound c.self.invariant.group) (omega (arith, ints, (small_group keys c.self.invariant.sound).high))
-
-pub push_reserved-requires : goal.push_reserved-requires
-push_reserved-requires c =
-    let keys = c.self.inside.keys.items in
-    let view : keys ≡ c.args.self.now = c.self.view_is in
-    let new : is_held c.args.key.code keys ≡ false = ap (is_held c.args.key.code) view ∙ c.requires.new_code in
-    let within : held_mods c.args.key.action < 256 = subst (λ (n : ℕ). n < 256) c.mods_of-mods.ensures.value c.mods_of-mods.ensures.in_range in
-    let sound = AreSound-push keys c.args.key c.self.invariant.sound c.requires.code c.requires.size within new in
-    omega (arith, fits_more keys c.args.key sound, c.self.inside.keys.ok.0, c.self.invariant.room)
 
 pub invariant_of-self : goal.invariant_of-self
 invariant_of-self c =
-    let keys = c.self.inside.keys.items in
-    let flags = c.self.inside.down.items in
+    let keys = c.self.inside.keys in
     let view : keys ≡ c.args.self.now = c.self.view_is in
     let new : is_held c.args.key.code keys ≡ false = ap (is_held c.args.key.code) view ∙ c.requires.new_code in
     let within : held_mods c.args.key.action < 256 = subst (λ (n : ℕ). n < 256) c.mods_of-mods.ensures.value c.mods_of-mods.ensures.in_range in
-    let items = c.push_reserved.ensures.items in
+    let items = c.push.ensures in
     let sound = subst AreSound (sym items) (AreSound-push keys c.args.key c.self.invariant.sound c.requires.code c.requires.size within new) in
     let old = kept_group keys c.self.inside.group c.self.invariant.sound c.self.invariant.group in
     record {
@@ -55,13 +44,6 @@ invariant_of-self c =
           ∙ ap (bit_or (base_mods keys)) c.mods_of-mods.ensures.value
           ∙ sym (base_mods-push keys c.args.key)
           ∙ ap base_mods (sym items);
-      group = kept_group c.push_reserved.new.self.items _ sound
+      group = kept_group c.push.new.self _ sound
           (c.base_group_with-self-inside.ensures ∙ ap (base_group_after c.args.key.action) old ∙ sym (base_group-push keys c.args.key) ∙ ap base_group (sym items));
-      flags = length-set flags c.from.result true ∙ c.self.invariant.flags;
-      down = λ code d within.
-          ap (λ n. get_or (set flags n true) code d) c.from.ensures
-          ∙ down-push flags keys c.args.key code d (omega (arith, c.self.invariant.flags, c.requires.code)) (c.self.invariant.down code d within)
-          ∙ ap (is_held code) (sym items);
-      earlier = subst AreEarlierDisturbed (sym items) (earlier-push keys c.args.key (subst AreAllDisturbed (sym view) c.requires.others));
-      room = subst (λ (n : ℕ). 4096 ≤ n) (sym c.push_reserved.ensures.capacity) c.self.invariant.room;
     }
