@@ -12,8 +12,7 @@ use Rattle.std.proofs.lemmas.List.Quantifiers.{position-Some, all_pairs_push}
 use Rattle.kx_run.specs.declared.held.HeldKey.{HeldKey}
 use Rattle.kx_run.specs.Held.{action_size, base_group, is_at, is_held, held_at, other_keys, disturbed, AreAllDisturbed, AreDistinct, AreSound}
 use Rattle.kx_run.specs.Presses.{AreEarlierDisturbed, ArePlaced, group_after_entry, is_entry_of, keys_of, place_of}
-use Rattle.kx_run.proofs.HeldLists.{IsSmall, base_group-push, head_apart, length-distinct, length-sound, none_held, other_keys-apart, small_few, tail_apart}
-use Rattle.kx_run.proofs.HeldFlags.{apart, disturbed-twice, is_held-let_go}
+use Rattle.kx_run.proofs.HeldLists.{IsSmall, apart, base_group-push, disturbed-twice, head_apart, is_held-let_go, length-distinct, length-sound, none_held, other_keys-apart, small_few, tail_apart}
 
 -- ---- the first place that passes
 
@@ -193,11 +192,6 @@ keys-disturbed (None ∷ es) (suc n) d long earlier = keys-disturbed es n d (ome
 keys-disturbed (Some key ∷ es) (suc n) d long earlier =
     ap (λ ks. key ∷ ks) (keys-disturbed es n d (omega arith) (λ i e within. earlier (suc i) e (omega arith)))
     ∙ ap (λ k. k ∷ map disturbed (keys_of es)) (sym (disturbed-twice key (earlier 0 d (omega arith))))
-
-pub earlier-disturbed : (es : List (Option HeldKey)) (n : ℕ) (x : Option HeldKey) → n + 1 ≡ length es → AreEarlierDisturbed es → AreEarlierDisturbed (set es n x)
-earlier-disturbed es n x long earlier = λ i d within.
-    let inside : i + 1 < length es = omega (arith, length-set es n x) in
-    rw (get_or-set_other es n i x d (λ same. absurd (omega arith))) (earlier i d inside)
 
 pub earlier-emptied : (es : List (Option HeldKey)) (place : ℕ) → place < length es → AreEarlierDisturbed es → AreEarlierDisturbed (set es place None)
 earlier-emptied es place within earlier = λ i d inside.

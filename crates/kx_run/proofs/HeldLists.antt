@@ -1,10 +1,10 @@
 -- What a press and a release do to what is kept of the held keys.
-use Rattle.std.proofs.Common.{◌≡◌, ◌≢◌, ℕ, ◌+◌, ◌*◌, ◌<◌, ◌≤◌, ◌≤ℤ◌, Bool, true, false, cond, eqb, List, [], ◌∷◌, ◌++◌, ◌||◌, zero, suc, length, map, All, get_or, take, drop, sym, ◌∙◌, ap, refl, arith, ℤ, pos, negsuc, ◌+ℤ◌, bit_or, max}
+use Rattle.std.proofs.Common.{◌≡◌, ◌≢◌, ℕ, ◌+◌, ◌*◌, ◌<◌, ◌≤◌, ◌≤ℤ◌, Bool, true, false, cond, not, eqb, List, [], ◌∷◌, ◌++◌, ◌||◌, zero, suc, length, map, All, get_or, take, drop, sym, ◌∙◌, ap, refl, arith, ℤ, pos, negsuc, ◌+ℤ◌, bit_or, max}
 use Rattle.std.specs.Prelude.{fold, AllPairs}
 use Rattle.std.specs.Int.{bit_at}
+use Rattle.std.specs.Int.Bits.{or_zero_r}
 use Rattle.std.specs.Int.RustNames.{unsigned_abs}
 use Rattle.std.specs.List.{list_any, remove}
-use Rattle.std.proofs.Common.{length-append}
 use Rattle.std.proofs.lemmas.Option.{get_or_from_slice_get, slice_get_within}
 use Rattle.std.proofs.lemmas.List.Sums.{sum_by-remove}
 use Rattle.std.proofs.Common.{SFits, w32, to_z, of_z}
@@ -14,7 +14,7 @@ use Rattle.std.proofs.lemmas.List.Sums.{fold-append}
 use Rattle.std.proofs.lemmas.List.Folds.{fold-map}
 use Rattle.std.proofs.lemmas.List.Elements.{All-map, All-tail, All-head, All-cons, All-push, All-append, All-take, All-drop}
 use Rattle.std.proofs.lemmas.List.{get_or-map}
-use Rattle.std.proofs.lemmas.Bool.{cases_Bool, eqb-true, eq-eqb, ne_eqb}
+use Rattle.std.proofs.lemmas.Bool.{cases_Bool, eqb-true, eqb-false, eq-eqb, ne_eqb}
 use Rattle.std.proofs.lemmas.Nat.{or_of_8}
 use Rattle.std.proofs.lemmas.Bool.Decides.{Decides-eqb, nat_tests}
 use Rattle.std.proofs.lemmas.List.Folds.{find_at}
@@ -31,7 +31,7 @@ use Rattle.kx_resolve.specs.declared.rows.GroupChange.TheVariants.{Absolute, Rel
 use Rattle.kx_run.specs.declared.held.HeldKey.{HeldKey}
 use Rattle.kx_run.specs.World.{World}
 use Rattle.kx_run.specs.Laws.{IsBounded}
-use Rattle.kx_run.specs.Held.{held_mods, base_mods, base_group, base_group_after, is_group_held, group_after, change_size, action_size, count_of, is_at, is_held, held_at, other_keys, disturbed, AreDistinct, AreSound}
+use Rattle.kx_run.specs.Held.{held_mods, base_mods, base_group, base_group_after, is_group_held, group_after, change_size, action_size, count_of, is_at, is_held, held_at, other_keys, disturbed, AreAllDisturbed, AreDistinct, AreSound}
 
 abbrev code_of : HeldKey → ℕ
 code_of key = key.code
@@ -111,6 +111,14 @@ AreSound-disturbed keys sound = record {
   sizes = All-map (λ key. action_size key.action ≤ 32) disturbed keys sound.sizes;
   masks = All-map (λ key. held_mods key.action < 256) disturbed keys sound.masks;
 }
+
+pub disturbed-twice : (key : HeldKey) → key.disturbed ≡ true → disturbed key ≡ key
+disturbed-twice key h = ap (λ b. record key { disturbed = b }) (sym h)
+
+pub all_disturbed : (keys : List HeldKey) → AreAllDisturbed (map disturbed keys)
+all_disturbed keys = λ i d within.
+    let inside : i < length keys = omega (arith, length-disturbed keys) in
+    rw (get_or-map disturbed keys i d d inside) refl
 
 -- ---- held keys are few
 
@@ -195,6 +203,16 @@ fold-remove old (key ∷ keys) (suc place) d within other = fold-remove (base_gr
 pub base_group-remove : (keys : List HeldKey) (place : ℕ) (d : HeldKey) → place < length keys → is_group_held (get_or keys place d).action ≡ false → base_group (remove keys place) ≡ base_group keys
 base_group-remove keys place d within other = fold-remove (pos 0) keys place d within other
 
+-- a key that sets no modifier leaves the base modifiers as they are
+mods-remove : (old : ℕ) (keys : List HeldKey) (place : ℕ) (d : HeldKey) → place < length keys → held_mods (get_or keys place d).action ≡ 0 → fold (λ m k. bit_or m (held_mods k.action)) old (remove keys place) ≡ fold (λ m k. bit_or m (held_mods k.action)) old keys
+mods-remove old [] place d within none = absurd (omega arith)
+mods-remove old (key ∷ keys) zero d within none = ap (λ m. fold (λ n k. bit_or n (held_mods k.action)) m keys) (sym (ap (bit_or old) none ∙ or_zero_r old))
+mods-remove old (key ∷ keys) (suc place) d within none = mods-remove (bit_or old (held_mods key.action)) keys place d (omega arith) none
+
+pub mods_left : (keys : List HeldKey) (place : ℕ) (key : HeldKey) → place < length keys → key ≡ get_or keys place key → held_mods key.action ≡ 0 → base_mods (remove keys place) ≡ base_mods keys
+mods_left keys place key within read none =
+    mods-remove 0 keys place key within (ap (λ (k : HeldKey). held_mods k.action) (sym read) ∙ none)
+
 -- ---- base modifiers by their counts
 
 abbrev pub some_count : ℕ → ℕ
@@ -249,6 +267,21 @@ remove_is code (key ∷ keys) zero d apart within here =
     rw (eq-eqb key.code code here) (sym (other_keys-apart code keys (λ k e inside same. head_apart key keys apart k e inside (same ∙ sym here))))
 remove_is code (key ∷ keys) (suc place) d apart within here =
     rw (ne_eqb key.code code (λ same. head_apart key keys apart place d (omega arith) (here ∙ sym same))) (ap (λ ks. key ∷ ks) (remove_is code keys place d (tail_apart key keys apart) (omega arith) here))
+
+-- ---- codes of the keys that are left
+
+let_go_by : (code : ℕ) (key : HeldKey) (keys : List HeldKey) (b : Bool) → is_at code key ≡ b → is_held code (other_keys code keys) ≡ false → is_held code (cond (not b) (key ∷ other_keys code keys) (other_keys code keys)) ≡ false
+let_go_by code key keys true e rest = rest
+let_go_by code key keys false e rest = rw e rest
+
+pub is_held-let_go : (code : ℕ) (keys : List HeldKey) → is_held code (other_keys code keys) ≡ false
+is_held-let_go code [] = refl
+is_held-let_go code (key ∷ keys) = let_go_by code key keys (is_at code key) refl (is_held-let_go code keys)
+
+-- a code of another key
+pub apart : (other code k : ℕ) → eqb other code ≡ false → eqb k other ≡ true → eqb k code ≡ false
+apart other code k differs same =
+    ne_eqb k code (λ e. eqb-false other code differs (sym (eqb-true k other same) ∙ e))
 
 -- ---- the place of the key that is let go
 
@@ -335,11 +368,6 @@ fold_count bit n (key ∷ keys) =
 
 pub count_of-le : (bit : ℕ) (keys : List HeldKey) → AreSound keys → count_of bit keys ≤ 4096
 count_of-le bit keys sound = omega (arith, fold_count bit 0 keys, length-sound keys sound)
-
--- ---- one more key fits
-
-pub fits_more : (keys : List HeldKey) (key : HeldKey) → AreSound (keys ++ key ∷ []) → length keys < 4096
-fits_more keys key sound = omega (arith, length-sound (keys ++ key ∷ []) sound, length-append keys (key ∷ []))
 
 -- ---- what is left of the counts and the base group
 

@@ -1,5 +1,4 @@
 pub mod Entries
-pub mod HeldFlags
 pub mod HeldLists
 pub mod Runs
 pub mod TableReads

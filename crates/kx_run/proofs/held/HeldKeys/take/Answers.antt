@@ -1,8 +1,7 @@
 use Rattle.std.proofs.Common.{◌≡◌, ◌∙◌, ap, subst, sym}
 use Rattle.std.specs.Prelude.{IfNone}
 use Rattle.kx_run.specs.Held.{AreSound, base_group, base_mods, count_of}
-use Rattle.kx_run.proofs.HeldLists.{AreSound-remove, count_left, counted_one, group_left, kept_group, others_none, place_in, stands_at}
-use Rattle.kx_run.proofs.HeldFlags.{mods_left}
+use Rattle.kx_run.proofs.HeldLists.{AreSound-remove, count_left, counted_one, group_left, kept_group, others_none, mods_left, place_in, stands_at}
 use Rattle.kx_run.proofs.held.HeldKeys.take.Goals as goal
 
 pub returns-in_err-key-clause-none : goal.returns-in_err-key-clause-none

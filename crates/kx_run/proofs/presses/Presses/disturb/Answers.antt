@@ -4,8 +4,7 @@ use Rattle.std.proofs.lemmas.List.{with_items_is}
 use Rattle.std.proofs.lemmas.List.Elements.{All-map}
 use Rattle.kx_run.specs.Held.{AreAllDisturbed, AreDistinct, disturbed}
 use Rattle.kx_run.specs.Presses.{AreEarlierDisturbed, keys_of, place_of}
-use Rattle.kx_run.proofs.HeldLists.{AreDistinct-disturbed, length-disturbed}
-use Rattle.kx_run.proofs.HeldFlags.{all_disturbed}
+use Rattle.kx_run.proofs.HeldLists.{AreDistinct-disturbed, all_disturbed, length-disturbed}
 use Rattle.kx_run.proofs.presses.Presses.disturb.Goals as goal
 
 pub invariant_of-self : goal.invariant_of-self
