@@ -43,6 +43,22 @@ fn answers_on_a_desktop(rt: HostRuntime) -> Result<(), Fail> {
     Ok(())
 }
 
+/// Far more keys are let go than are held, so the entries that they left are dropped while Shift is down.
+#[test]
+fn holds_shift_through_many_taps(rt: HostRuntime) -> Result<(), Fail> {
+    let mut player = Player::start(rt.alloc(), desktop(rt.alloc())?.finish()?)?;
+    let _ = player.event(50, Direction::Down);
+    for _ in 0..200 {
+        let reply = player.event(38, Direction::Down);
+        assert_eq!(rt; reply.syms.as_slice(), [A_UPPER].as_slice());
+        assert_eq!(rt; player.event(38, Direction::Up).state.base.mask(), SHIFT);
+    }
+    assert_eq!(rt; player.event(50, Direction::Up).state.base, Mods::NONE);
+    let reply = player.event(38, Direction::Down);
+    assert_eq!(rt; reply.syms.as_slice(), [A_LOWER].as_slice());
+    Ok(())
+}
+
 #[test]
 fn undoes_the_action_of_the_press(rt: HostRuntime) -> Result<(), Fail> {
     let mut player = Player::start(rt.alloc(), desktop_with_two_groups(rt.alloc())?)?;
