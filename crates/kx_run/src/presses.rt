@@ -119,20 +119,16 @@ fn disturb_last(entries: &mut [Option<HeldKey>])
 {
     let count = entries.len();
     if count > 0 {
-        entries[count - 1] = told(entries[count - 1]);
+        tell(&mut entries[count - 1]);
     }
 }
 
-/// An entry whose key was told of another's press.
-fn told(entry: Option<HeldKey>) -> Option<HeldKey>
-    ensures { result ≡ option_map disturbed entry }
+/// Tells the key of an entry that another one was pressed.
+fn tell(entry: &mut Option<HeldKey>)
+    ensures { entry.new ≡ option_map disturbed entry.old }
 {
-    match entry {
-        Some(key) => Some(HeldKey {
-            disturbed: true,
-            ..key
-        }),
-        None => None,
+    if let Some(key) = entry {
+        key.disturbed = true;
     }
 }
 
