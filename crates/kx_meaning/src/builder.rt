@@ -1,0 +1,140 @@
+ghost use Rattle.std.specs.Prelude.{◌≡◌, ◌<◌, [], OnOk, OnErr, IfErr, length, nat_lt, ⊤};
+ghost use Rattle.kx_meaning.specs.Ends.{last_count};
+ghost use Rattle.kx_meaning.specs.Faults.{IsCause, TypeFits, KeyFits, GroupFits, CellFits};
+ghost use Rattle.kx_meaning.specs.Placed.{content_of_resolved};
+ghost use Rattle.kx_meaning.specs.Pushes.{with_type, with_key, with_group, with_cell, last_groups};
+ghost use Rattle.kx_meaning.specs.Resolved.{nothing_resolved};
+ghost use Rattle.kx_resolve.specs.Parts.{content_of};
+
+use crate::fault::BuildFault;
+use crate::tables::{add_cell, add_group, add_key, add_type, count, no_tables, place, small_count};
+use kx_mods::Mods;
+use kx_resolve::{Action, CellRow, EntryRow, GroupRow, KeyRow, Parts, Range, TypeRow};
+use std::alloc::Global;
+use std::marker::Model;
+
+/// The tables of what is resolved so far: all types first, then the keys in order, each with its groups and their
+/// cells. What is refused leaves a builder as it was.
+#[derive(Drop)]
+pub struct Builder {
+    parts: Parts,
+}
+
+impl Model for Builder {
+    ghost use Rattle.std.specs.Prelude.{◌≡◌};
+    ghost use Rattle.kx_meaning.specs.Placed.{content_of_resolved};
+    ghost use Rattle.kx_meaning.specs.Resolved.{Resolved};
+    ghost use Rattle.kx_meaning.specs.Seen.{seen};
+    ghost use Rattle.kx_resolve.specs.Parts.{content_of};
+
+    ghost Value = { Resolved };
+
+    ghost view = { λ b. seen (content_of b.parts) };
+
+    ghost invariant = { λ b. content_of b.parts ≡ content_of_resolved (seen (content_of b.parts)) };
+}
+
+impl Builder {
+    /// Nothing is resolved yet.
+    pub fn new(alloc: Global) -> Builder
+        ensures { result ≡ nothing_resolved }
+    {
+        Builder {
+            parts: no_tables(alloc),
+        }
+    }
+
+    /// Appends a type. It is misplaced behind a key.
+    pub fn push_type(
+        &mut self,
+        name: &[u8],
+        mods: Mods,
+        levels: u8,
+        entries: &[EntryRow],
+    ) -> Result<(), BuildFault>
+        ensures pushed { OnOk result (self.new ≡ with_type self.old (record { name = name.now; mods = mods; levels = levels; entries = entries.now })) }
+        ensures fault { IfErr result (λ e. IsCause e (TypeFits self.old (record { name = name.now; mods = mods; levels = levels; entries = entries.now })) (self.old.keys ≡ [])) }
+        ensures unchanged { OnErr result (self.new ≡ self.old) }
+    {
+        if !self.parts.keys.is_empty() {
+            return Err(BuildFault::Misplaced);
+        }
+        let row = TypeRow {
+            mods,
+            levels,
+            entries: count(entries.len())?,
+            name_length: count(name.len())?,
+            first_entry: place(self.parts.entries.len())?,
+            first_name: place(self.parts.names.len())?,
+        };
+        add_type(&mut self.parts, row, name, entries)
+    }
+
+    /// Appends a key without groups.
+    pub fn push_key(
+        &mut self,
+        code: u16,
+        name: &[u8],
+        modmap: Mods,
+        range: Range,
+    ) -> Result<(), BuildFault>
+        ensures pushed { OnOk result (self.new ≡ with_key self.old (record { code = code; name = name.now; modmap = modmap; range = range; groups = [] })) }
+        ensures fault { IfErr result (λ e. IsCause e (KeyFits self.old name.now) ⊤) }
+        ensures unchanged { OnErr result (self.new ≡ self.old) }
+    {
+        let row = KeyRow {
+            code,
+            modmap,
+            range,
+            groups: 0,
+            name_length: count(name.len())?,
+            first_name: place(self.parts.names.len())?,
+            first_group: place(self.parts.groups.len())?,
+        };
+        add_key(&mut self.parts, row, name)
+    }
+
+    /// Appends a group without cells to the last key. It is misplaced where there is no key.
+    pub fn push_group(&mut self, key_type: u16) -> Result<(), BuildFault>
+        ensures pushed { OnOk result (self.new ≡ with_group self.old (record { key_type = key_type; cells = [] })) }
+        ensures fault { IfErr result (λ e. IsCause e (GroupFits self.old) (0 < length self.old.keys)) }
+        ensures unchanged { OnErr result (self.new ≡ self.old) }
+    {
+        let row = GroupRow {
+            key_type,
+            first_cell: place(self.parts.cells.len())?,
+        };
+        add_group(&mut self.parts, row)
+    }
+
+    /// Appends a cell to the last group of the last key. It is misplaced where that key has no group.
+    pub fn push_cell(&mut self, keysyms: &[u32], action: Action) -> Result<(), BuildFault>
+        ensures pushed { OnOk result (self.new ≡ with_cell self.old (record { syms = keysyms.now; action = action })) }
+        ensures fault { IfErr result (λ e. IsCause e (CellFits self.old keysyms.now) (0 < length (last_groups self.old.keys))) }
+        ensures unchanged { OnErr result (self.new ≡ self.old) }
+    {
+        if !has_open_group(&self.parts) {
+            return Err(BuildFault::Misplaced);
+        }
+        let row = CellRow {
+            keysyms: small_count(keysyms.len())?,
+            action,
+            first_keysym: place(self.parts.keysyms.len())?,
+        };
+        add_cell(&mut self.parts, row, keysyms)
+    }
+
+    /// The tables.
+    pub fn into_parts(self) -> Parts
+        ensures { content_of result ≡ content_of_resolved self }
+    {
+        self.parts
+    }
+}
+
+/// Whether the last key has a group.
+fn has_open_group(parts: &Parts) -> bool
+    ensures { result ≡ nat_lt 0 (last_count (content_of parts.now).keys) }
+{
+    parts.keys.last().is_some_and(|key| key.groups > 0)
+}

@@ -1,0 +1,114 @@
+ghost use Rattle.std.specs.Prelude.{◌≡◌, ◌+◌, ◌<◌, ◌≤◌, ◌^◌, ◌++◌, ◌∷◌, [], IfOk, IfErr, OnOk, OnErr, length};
+ghost use Rattle.kx_meaning.specs.Ends.{with_more_groups, last_count};
+ghost use Rattle.kx_meaning.specs.Faults.{IsCause};
+ghost use Rattle.kx_meaning.specs.Pushes.{change_last};
+ghost use Rattle.kx_meaning.specs.declared.fault.BuildFault.TheVariants.{Memory, TooMany};
+ghost use Rattle.kx_resolve.specs.Parts.{content_of};
+
+use crate::fault::BuildFault;
+use kx_resolve::{CellRow, EntryRow, GroupRow, KeyRow, Parts, TypeRow};
+use std::alloc::Global;
+
+/// A place in a table, as a row holds it.
+pub(crate) fn place(index: usize) -> Result<u32, BuildFault>
+    ensures value { IfOk result (λ n. n ≡ index) }
+    ensures fault { IfErr result (λ e. (e ≡ TooMany) × (2 ^ 32 ≤ index)) }
+{
+    u32::try_from(index).map_err(|_| BuildFault::TooMany)
+}
+
+/// How many entries a type has, or a name bytes.
+pub(crate) fn count(number: usize) -> Result<u16, BuildFault>
+    ensures value { IfOk result (λ n. n ≡ number) }
+    ensures fault { IfErr result (λ e. (e ≡ TooMany) × (2 ^ 16 ≤ number)) }
+{
+    u16::try_from(number).map_err(|_| BuildFault::TooMany)
+}
+
+/// How many keysyms a cell has.
+pub(crate) fn small_count(number: usize) -> Result<u8, BuildFault>
+    ensures value { IfOk result (λ n. n ≡ number) }
+    ensures fault { IfErr result (λ e. (e ≡ TooMany) × (2 ^ 8 ≤ number)) }
+{
+    u8::try_from(number).map_err(|_| BuildFault::TooMany)
+}
+
+/// Tables with no rows.
+pub(crate) fn no_tables(alloc: Global) -> Parts
+    ensures { content_of result ≡ record { types = []; entries = []; keys = []; groups = []; cells = []; keysyms = []; indicators = []; group_names = []; names = [] } }
+{
+    Parts {
+        types: Vec::new(alloc),
+        entries: Vec::new(alloc),
+        keys: Vec::new(alloc),
+        groups: Vec::new(alloc),
+        cells: Vec::new(alloc),
+        keysyms: Vec::new(alloc),
+        indicators: Vec::new(alloc),
+        group_names: Vec::new(alloc),
+        names: Vec::new(alloc),
+    }
+}
+
+/// Appends a type's row, its entries and its name.
+pub(crate) fn add_type(
+    parts: &mut Parts,
+    row: TypeRow,
+    name: &[u8],
+    entries: &[EntryRow],
+) -> Result<(), BuildFault>
+    ensures added { OnOk result (content_of parts.new ≡ record (content_of parts.old) { types = (content_of parts.old).types ++ row ∷ []; entries = (content_of parts.old).entries ++ entries.now; names = (content_of parts.old).names ++ name.now }) }
+    ensures fault { IfErr result (λ e. e ≡ Memory) }
+    ensures unchanged { OnErr result (content_of parts.new ≡ content_of parts.old) }
+{
+    parts.entries.reserve(entries.len())?;
+    parts.names.reserve(name.len())?;
+    parts.types.push(row)?;
+    parts.entries.extend_from_slice(entries).unwrap();
+    parts.names.extend_from_slice(name).unwrap();
+    Ok(())
+}
+
+/// Appends a key's row and its name.
+pub(crate) fn add_key(parts: &mut Parts, row: KeyRow, name: &[u8]) -> Result<(), BuildFault>
+    ensures added { OnOk result (content_of parts.new ≡ record (content_of parts.old) { keys = (content_of parts.old).keys ++ row ∷ []; names = (content_of parts.old).names ++ name.now }) }
+    ensures fault { IfErr result (λ e. e ≡ Memory) }
+    ensures unchanged { OnErr result (content_of parts.new ≡ content_of parts.old) }
+{
+    parts.names.reserve(name.len())?;
+    parts.keys.push(row)?;
+    parts.names.extend_from_slice(name).unwrap();
+    Ok(())
+}
+
+/// Appends a group's row, which is one more of the last key.
+pub(crate) fn add_group(parts: &mut Parts, row: GroupRow) -> Result<(), BuildFault>
+    ensures added { OnOk result (content_of parts.new ≡ record (content_of parts.old) { keys = change_last with_more_groups (content_of parts.old).keys; groups = (content_of parts.old).groups ++ row ∷ [] }) }
+    ensures fault { IfErr result (λ e. IsCause e (last_count (content_of parts.old).keys + 1 < 2 ^ 8) (0 < length (content_of parts.old).keys)) }
+    ensures unchanged { OnErr result (content_of parts.new ≡ content_of parts.old) }
+{
+    let last = parts
+        .keys
+        .len()
+        .checked_sub(1)
+        .ok_or(BuildFault::Misplaced)?;
+    let groups = parts.keys[last]
+        .groups
+        .checked_add(1)
+        .ok_or(BuildFault::TooMany)?;
+    parts.groups.push(row)?;
+    parts.keys[last].groups = groups;
+    Ok(())
+}
+
+/// Appends a cell's row and its keysyms.
+pub(crate) fn add_cell(parts: &mut Parts, row: CellRow, keysyms: &[u32]) -> Result<(), BuildFault>
+    ensures added { OnOk result (content_of parts.new ≡ record (content_of parts.old) { cells = (content_of parts.old).cells ++ row ∷ []; keysyms = (content_of parts.old).keysyms ++ keysyms.now }) }
+    ensures fault { IfErr result (λ e. e ≡ Memory) }
+    ensures unchanged { OnErr result (content_of parts.new ≡ content_of parts.old) }
+{
+    parts.keysyms.reserve(keysyms.len())?;
+    parts.cells.push(row)?;
+    parts.keysyms.extend_from_slice(keysyms).unwrap();
+    Ok(())
+}
