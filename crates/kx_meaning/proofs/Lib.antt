@@ -1,1 +1,3 @@
 pub mod Placing
+pub mod Pushing
+pub mod Seeing

@@ -30,6 +30,13 @@ module _ {X R : Type 0} (row : List X → X → R) where
   pub row_at : (xs : List X) (i : ℕ) (x : X) → slice_get xs i ≡ Some x → slice_get (rows_of row xs) i ≡ Some (row (take i xs) x)
   row_at xs i x e = behind_get [] xs i x e
 
+  behind_length : (before xs : List X) → length (rows_behind row before xs) ≡ length xs
+  behind_length before [] = refl
+  behind_length before (x ∷ xs) = ap suc (behind_length (before ++ x ∷ []) xs)
+
+  pub rows_length : (xs : List X) → length (rows_of row xs) ≡ length xs
+  rows_length xs = behind_length [] xs
+
   behind_past : (before xs : List X) (i : ℕ) → slice_get xs i ≡ None → slice_get (rows_behind row before xs) i ≡ None
   behind_past before [] i e = refl
   behind_past before (y ∷ ys) zero e = absurd (none-some y (sym e))
@@ -66,15 +73,35 @@ get_before (x ∷ xs) ys zero within = refl
 get_before (x ∷ xs) ys (suc j) within = get_before xs ys j (omega (arith, within))
 
 module _ {X A : Type 0} (f : X → List A) where
+  flat_split : (before : List X) (x : X) (after : List X) → flat_map f (before ++ x ∷ after) ≡ flat_map f before ++ (f x ++ flat_map f after)
+  flat_split before x after = flat_map-append f before (x ∷ after)
+
   flat_at : (xs : List X) (i : ℕ) (x : X) → slice_get xs i ≡ Some x → flat_map f xs ≡ flat_map f (take i xs) ++ (f x ++ flat_map f (drop (suc i) xs))
-  flat_at xs i x e = ap (flat_map f) (split_at xs i x e) ∙ flat_map-append f (take i xs) (x ∷ drop (suc i) xs)
+  flat_at xs i x e = ap (flat_map f) (split_at xs i x e) ∙ flat_split (take i xs) x (drop (suc i) xs)
+
+  -- the part that begins behind what the things before one own, and is as long as what that one owns, is what it owns;
+  -- other lists may stand in front and behind
+  pub part_between : (front back : List A) (before : List X) (x : X) (after : List X) (all : List A) → all ≡ front ++ (flat_map f (before ++ x ∷ after) ++ back) → part all (length front + length (flat_map f before)) (length (f x)) ≡ f x
+  part_between front back before x after all e =
+      let rest : List A = f x ++ (flat_map f after ++ back) in
+      let whole : all ≡ (front ++ flat_map f before) ++ rest =
+      e ∙ ap (λ ys. front ++ (ys ++ back)) (flat_split before x after)
+      ∙ ap (λ ys. front ++ ys) (append_assoc (flat_map f before) (f x ++ flat_map f after) back ∙ ap (λ ys. flat_map f before ++ ys) (append_assoc (f x) (flat_map f after) back))
+      ∙ sym (append_assoc front (flat_map f before) rest) in
+      ap (λ ys. part ys (length front + length (flat_map f before)) (length (f x))) whole
+      ∙ ap (take (length (f x))) (drop_at (front ++ flat_map f before) rest (length front + length (flat_map f before)) (length-append front (flat_map f before)))
+      ∙ take_at (f x) (flat_map f after ++ back) (length (f x)) refl
+
+  pub part_split : (before : List X) (x : X) (after : List X) → part (flat_map f (before ++ x ∷ after)) (length (flat_map f before)) (length (f x)) ≡ f x
+  part_split before x after =
+      let e : 0 + length (flat_map f before) ≡ length (flat_map f before) = omega arith in
+      rw (← e) (part_between [] [] before x after (flat_map f (before ++ x ∷ after)) (sym (append-nil (flat_map f (before ++ x ∷ after)))))
 
   -- the part that begins behind what the things before place i own, and is as long as what the thing there owns, is that
   pub part_at : (xs : List X) (i : ℕ) (x : X) → slice_get xs i ≡ Some x → part (flat_map f xs) (length (flat_map f (take i xs))) (length (f x)) ≡ f x
   part_at xs i x e =
-      ap (λ ys. part ys (length (flat_map f (take i xs))) (length (f x))) (flat_at xs i x e)
-      ∙ ap (take (length (f x))) (drop_at (flat_map f (take i xs)) (f x ++ flat_map f (drop (suc i) xs)) (length (flat_map f (take i xs))) refl)
-      ∙ take_at (f x) (flat_map f (drop (suc i) xs)) (length (f x)) refl
+      ap (λ ys. part (flat_map f ys) (length (flat_map f (take i xs))) (length (f x))) (split_at xs i x e)
+      ∙ part_split (take i xs) x (drop (suc i) xs)
 
   -- what stands at place j of what the thing at place i owns
   pub element_at : (xs : List X) (i : ℕ) (x : X) (j : ℕ) → slice_get xs i ≡ Some x → j < length (f x) → slice_get (flat_map f xs) (length (flat_map f (take i xs)) + j) ≡ slice_get (f x) j

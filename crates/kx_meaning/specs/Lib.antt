@@ -2,5 +2,5 @@ pub mod Resolved
 pub mod Placed
 pub mod Pushes
 pub mod Seen
-pub mod Ends
+pub mod Added
 pub mod Faults

@@ -1,15 +1,17 @@
 ghost use Rattle.std.specs.Prelude.{◌≡◌, ◌<◌, [], OnOk, OnErr, IfErr, length, nat_lt, ⊤};
-ghost use Rattle.kx_meaning.specs.Ends.{last_count};
-ghost use Rattle.kx_meaning.specs.Faults.{IsCause, TypeFits, KeyFits, GroupFits, CellFits};
+ghost use Rattle.kx_meaning.specs.Added.{TypeFits, KeyFits, GroupFits, CellFits, last_count};
+ghost use Rattle.kx_meaning.specs.Faults.{IsCause};
 ghost use Rattle.kx_meaning.specs.Placed.{content_of_resolved};
 ghost use Rattle.kx_meaning.specs.Pushes.{with_type, with_key, with_group, with_cell, last_groups};
 ghost use Rattle.kx_meaning.specs.Resolved.{nothing_resolved};
 ghost use Rattle.kx_resolve.specs.Parts.{content_of};
 
 use crate::fault::BuildFault;
-use crate::tables::{add_cell, add_group, add_key, add_type, count, no_tables, place, small_count};
+use crate::tables::{
+    add_cell, add_group, add_key, add_type, next_cell, next_key, next_type, no_tables, place,
+};
 use kx_mods::Mods;
-use kx_resolve::{Action, CellRow, EntryRow, GroupRow, KeyRow, Parts, Range, TypeRow};
+use kx_resolve::{Action, EntryRow, GroupRow, Parts, Range};
 use std::alloc::Global;
 use std::marker::Model;
 
@@ -53,20 +55,13 @@ impl Builder {
         entries: &[EntryRow],
     ) -> Result<(), BuildFault>
         ensures pushed { OnOk result (self.new ≡ with_type self.old (record { name = name.now; mods = mods; levels = levels; entries = entries.now })) }
-        ensures fault { IfErr result (λ e. IsCause e (TypeFits self.old (record { name = name.now; mods = mods; levels = levels; entries = entries.now })) (self.old.keys ≡ [])) }
+        ensures fault { IfErr result (λ e. IsCause e (TypeFits (content_of_resolved self.old) (record { name = name.now; mods = mods; levels = levels; entries = entries.now })) (self.old.keys ≡ [])) }
         ensures unchanged { OnErr result (self.new ≡ self.old) }
     {
         if !self.parts.keys.is_empty() {
             return Err(BuildFault::Misplaced);
         }
-        let row = TypeRow {
-            mods,
-            levels,
-            entries: count(entries.len())?,
-            name_length: count(name.len())?,
-            first_entry: place(self.parts.entries.len())?,
-            first_name: place(self.parts.names.len())?,
-        };
+        let row = next_type(&self.parts, name, mods, levels, entries)?;
         add_type(&mut self.parts, row, name, entries)
     }
 
@@ -79,25 +74,17 @@ impl Builder {
         range: Range,
     ) -> Result<(), BuildFault>
         ensures pushed { OnOk result (self.new ≡ with_key self.old (record { code = code; name = name.now; modmap = modmap; range = range; groups = [] })) }
-        ensures fault { IfErr result (λ e. IsCause e (KeyFits self.old name.now) ⊤) }
+        ensures fault { IfErr result (λ e. IsCause e (KeyFits (content_of_resolved self.old) (record { code = code; name = name.now; modmap = modmap; range = range; groups = [] })) ⊤) }
         ensures unchanged { OnErr result (self.new ≡ self.old) }
     {
-        let row = KeyRow {
-            code,
-            modmap,
-            range,
-            groups: 0,
-            name_length: count(name.len())?,
-            first_name: place(self.parts.names.len())?,
-            first_group: place(self.parts.groups.len())?,
-        };
+        let row = next_key(&self.parts, code, name, modmap, range)?;
         add_key(&mut self.parts, row, name)
     }
 
     /// Appends a group without cells to the last key. It is misplaced where there is no key.
     pub fn push_group(&mut self, key_type: u16) -> Result<(), BuildFault>
         ensures pushed { OnOk result (self.new ≡ with_group self.old (record { key_type = key_type; cells = [] })) }
-        ensures fault { IfErr result (λ e. IsCause e (GroupFits self.old) (0 < length self.old.keys)) }
+        ensures fault { IfErr result (λ e. IsCause e (GroupFits (content_of_resolved self.old)) (0 < length self.old.keys)) }
         ensures unchanged { OnErr result (self.new ≡ self.old) }
     {
         let row = GroupRow {
@@ -110,17 +97,13 @@ impl Builder {
     /// Appends a cell to the last group of the last key. It is misplaced where that key has no group.
     pub fn push_cell(&mut self, keysyms: &[u32], action: Action) -> Result<(), BuildFault>
         ensures pushed { OnOk result (self.new ≡ with_cell self.old (record { syms = keysyms.now; action = action })) }
-        ensures fault { IfErr result (λ e. IsCause e (CellFits self.old keysyms.now) (0 < length (last_groups self.old.keys))) }
+        ensures fault { IfErr result (λ e. IsCause e (CellFits (content_of_resolved self.old) (record { syms = keysyms.now; action = action })) (0 < length (last_groups self.old.keys))) }
         ensures unchanged { OnErr result (self.new ≡ self.old) }
     {
         if !has_open_group(&self.parts) {
             return Err(BuildFault::Misplaced);
         }
-        let row = CellRow {
-            keysyms: small_count(keysyms.len())?,
-            action,
-            first_keysym: place(self.parts.keysyms.len())?,
-        };
+        let row = next_cell(&self.parts, keysyms, action)?;
         add_cell(&mut self.parts, row, keysyms)
     }
 

@@ -1,12 +1,13 @@
 ghost use Rattle.std.specs.Prelude.{◌≡◌, ◌+◌, ◌<◌, ◌≤◌, ◌^◌, ◌++◌, ◌∷◌, [], IfOk, IfErr, OnOk, OnErr, length};
-ghost use Rattle.kx_meaning.specs.Ends.{with_more_groups, last_count};
+ghost use Rattle.kx_meaning.specs.Added.{TypeFits, KeyFits, CellFits, next_type, next_key, next_cell, with_more_groups, last_count};
 ghost use Rattle.kx_meaning.specs.Faults.{IsCause};
 ghost use Rattle.kx_meaning.specs.Pushes.{change_last};
 ghost use Rattle.kx_meaning.specs.declared.fault.BuildFault.TheVariants.{Memory, TooMany};
 ghost use Rattle.kx_resolve.specs.Parts.{content_of};
 
 use crate::fault::BuildFault;
-use kx_resolve::{CellRow, EntryRow, GroupRow, KeyRow, Parts, TypeRow};
+use kx_mods::Mods;
+use kx_resolve::{Action, CellRow, EntryRow, GroupRow, KeyRow, Parts, Range, TypeRow};
 use std::alloc::Global;
 
 /// A place in a table, as a row holds it.
@@ -50,6 +51,68 @@ pub(crate) fn no_tables(alloc: Global) -> Parts
     }
 }
 
+/// The row of a type behind all others.
+pub(crate) fn next_type(
+    parts: &Parts,
+    name: &[u8],
+    mods: Mods,
+    levels: u8,
+    entries: &[EntryRow],
+) -> Result<TypeRow, BuildFault>
+    ensures value { IfOk result (λ row. row ≡ next_type (content_of parts.now) (record { name = name.now; mods = mods; levels = levels; entries = entries.now })) }
+    ensures fault { IfErr result (λ e. (e ≡ TooMany) × (TypeFits (content_of parts.now) (record { name = name.now; mods = mods; levels = levels; entries = entries.now }) → ⊥)) }
+{
+    let row = TypeRow {
+        mods,
+        levels,
+        entries: count(entries.len())?,
+        name_length: count(name.len())?,
+        first_entry: place(parts.entries.len())?,
+        first_name: place(parts.names.len())?,
+    };
+    Ok(row)
+}
+
+/// The row of a key behind all others, without groups.
+pub(crate) fn next_key(
+    parts: &Parts,
+    code: u16,
+    name: &[u8],
+    modmap: Mods,
+    range: Range,
+) -> Result<KeyRow, BuildFault>
+    ensures value { IfOk result (λ row. row ≡ next_key (content_of parts.now) (record { code = code; name = name.now; modmap = modmap; range = range; groups = [] })) }
+    ensures fault { IfErr result (λ e. (e ≡ TooMany) × (KeyFits (content_of parts.now) (record { code = code; name = name.now; modmap = modmap; range = range; groups = [] }) → ⊥)) }
+{
+    let row = KeyRow {
+        code,
+        modmap,
+        range,
+        groups: 0,
+        name_length: count(name.len())?,
+        first_name: place(parts.names.len())?,
+        first_group: place(parts.groups.len())?,
+    };
+    Ok(row)
+}
+
+/// The row of a cell behind all others.
+pub(crate) fn next_cell(
+    parts: &Parts,
+    keysyms: &[u32],
+    action: Action,
+) -> Result<CellRow, BuildFault>
+    ensures value { IfOk result (λ row. row ≡ next_cell (content_of parts.now) (record { syms = keysyms.now; action = action })) }
+    ensures fault { IfErr result (λ e. (e ≡ TooMany) × (CellFits (content_of parts.now) (record { syms = keysyms.now; action = action }) → ⊥)) }
+{
+    let row = CellRow {
+        keysyms: small_count(keysyms.len())?,
+        action,
+        first_keysym: place(parts.keysyms.len())?,
+    };
+    Ok(row)
+}
+
 /// Appends a type's row, its entries and its name.
 pub(crate) fn add_type(
     parts: &mut Parts,
@@ -83,6 +146,7 @@ pub(crate) fn add_key(parts: &mut Parts, row: KeyRow, name: &[u8]) -> Result<(),
 
 /// Appends a group's row, which is one more of the last key.
 pub(crate) fn add_group(parts: &mut Parts, row: GroupRow) -> Result<(), BuildFault>
+    ensures some_key { OnOk result (0 < length (content_of parts.old).keys) }
     ensures added { OnOk result (content_of parts.new ≡ record (content_of parts.old) { keys = change_last with_more_groups (content_of parts.old).keys; groups = (content_of parts.old).groups ++ row ∷ [] }) }
     ensures fault { IfErr result (λ e. IsCause e (last_count (content_of parts.old).keys + 1 < 2 ^ 8) (0 < length (content_of parts.old).keys)) }
     ensures unchanged { OnErr result (content_of parts.new ≡ content_of parts.old) }

@@ -1,0 +1,89 @@
+-- Tables with one more type, key, group or cell behind all others.
+use Rattle.std.specs.Prelude.{ℕ, ◌<◌, ◌+◌, ◌^◌, List, [], ◌∷◌, ◌++◌, length}
+use Rattle.kx_meaning.specs.Pushes.{change_last}
+use Rattle.kx_meaning.specs.Resolved.{ResolvedType, ResolvedKey, ResolvedGroup, ResolvedCell}
+use Rattle.kx_resolve.specs.Content.{Content}
+use Rattle.kx_resolve.specs.declared.rows.CellRow.{CellRow}
+use Rattle.kx_resolve.specs.declared.rows.GroupRow.{GroupRow}
+use Rattle.kx_resolve.specs.declared.rows.KeyRow.{KeyRow}
+use Rattle.kx_resolve.specs.declared.rows.TypeRow.{TypeRow}
+
+-- ---- A type
+
+abbrev pub next_type : Content → ResolvedType → TypeRow
+next_type c t = record {
+  mods = t.mods;
+  levels = t.levels;
+  entries = length t.entries;
+  name_length = length t.name;
+  first_entry = length c.entries;
+  first_name = length c.names;
+}
+
+-- the numbers of its row fit
+pub record TypeFits (c : Content) (t : ResolvedType) : Type 0 where
+  pub entries : length t.entries < 2 ^ 16
+  pub name_length : length t.name < 2 ^ 16
+  pub first_entry : length c.entries < 2 ^ 32
+  pub first_name : length c.names < 2 ^ 32
+
+abbrev pub type_added : Content → ResolvedType → Content
+type_added c t = record c {
+  types = c.types ++ next_type c t ∷ [];
+  entries = c.entries ++ t.entries;
+  names = c.names ++ t.name;
+}
+
+-- ---- A key that has no groups yet
+
+abbrev pub next_key : Content → ResolvedKey → KeyRow
+next_key c k = record {
+  code = k.code;
+  modmap = k.modmap;
+  range = k.range;
+  groups = length k.groups;
+  name_length = length k.name;
+  first_name = length c.names;
+  first_group = length c.groups;
+}
+
+pub record KeyFits (c : Content) (k : ResolvedKey) : Type 0 where
+  pub name_length : length k.name < 2 ^ 16
+  pub first_name : length c.names < 2 ^ 32
+  pub first_group : length c.groups < 2 ^ 32
+
+abbrev pub key_added : Content → ResolvedKey → Content
+key_added c k = record c { keys = c.keys ++ next_key c k ∷ []; names = c.names ++ k.name }
+
+-- ---- A group of the last key, that has no cells yet
+
+abbrev pub next_group : Content → ResolvedGroup → GroupRow
+next_group c g = record { key_type = g.key_type; first_cell = length c.cells }
+
+abbrev pub with_more_groups : KeyRow → KeyRow
+with_more_groups k = record k { groups = k.groups + 1 }
+
+-- how many groups the last key has, 0 where there is no key
+abbrev pub last_count : List KeyRow → ℕ
+last_count [] = 0
+last_count (k ∷ []) = k.groups
+last_count (k ∷ l ∷ ks) = last_count (l ∷ ks)
+
+pub record GroupFits (c : Content) : Type 0 where
+  pub groups : last_count c.keys + 1 < 2 ^ 8
+  pub first_cell : length c.cells < 2 ^ 32
+
+abbrev pub group_added : Content → ResolvedGroup → Content
+group_added c g = record c { keys = change_last with_more_groups c.keys; groups = c.groups ++ next_group c g ∷ [] }
+
+-- ---- A cell of the last group
+
+abbrev pub next_cell : Content → ResolvedCell → CellRow
+next_cell c d = record { keysyms = length d.syms; action = d.action; first_keysym = length c.keysyms }
+
+pub record CellFits (c : Content) (d : ResolvedCell) : Type 0 where
+  pub keysyms : length d.syms < 2 ^ 8
+  pub first_keysym : length c.keysyms < 2 ^ 32
+
+abbrev pub cell_added : Content → ResolvedCell → Content
+cell_added c d = record c { cells = c.cells ++ next_cell c d ∷ []; keysyms = c.keysyms ++ d.syms }
