@@ -1,3 +1,4 @@
 pub mod Placing
 pub mod Pushing
 pub mod Seeing
+pub mod Lasts

@@ -1,16 +1,19 @@
 -- Tables that hold what is resolved, with one more row, hold what is resolved with one more thing.
 use Rattle.std.proofs.Common.{ℕ, zero, suc, ◌+◌, ◌<◌, ◌≡◌, List, [], ◌∷◌, ◌++◌, Result, Ok, Err, OnOk, OnErr, length, refl, sym, ap, subst, ◌∙◌, arith, append_assoc}
-use Rattle.std.proofs.lemmas.List.{append-nil, length-append, length_push}
+use Rattle.std.proofs.lemmas.List.{append-nil, length-append, length_push, nil_from_length}
 use Rattle.std.specs.List.{flat_map}
 use Rattle.kx_meaning.proofs.Placing.{flat_push, rows_length, rows_push}
 use Rattle.kx_meaning.proofs.Seeing.{seen_in, settled}
-use Rattle.kx_meaning.specs.Added.{cell_added, group_added, key_added, next_cell, next_group, next_key, next_type, type_added, with_more_groups}
-use Rattle.kx_meaning.specs.Placed.{all_cells, all_entries, all_groups, all_keysyms, cell_row, content_of_resolved, group_row, key_row, names_of_keys, names_of_types, rows_of, type_row}
+use Rattle.kx_meaning.specs.Added.{cell_added, group_added, key_added, last_count, next_cell, next_group, next_key, next_type, type_added, with_more_groups}
+use Rattle.kx_meaning.specs.Placed.{all_cells, all_entries, all_groups, all_keysyms, cell_row, content_of_resolved, group_row, key_row, names_of_keys, names_of_types, rows_behind, rows_of, type_row}
 use Rattle.kx_meaning.specs.Pushes.{change_end, change_last, group_with_cell, key_with_cell, key_with_group, last_groups, with_cell, with_group, with_key, with_type}
 use Rattle.kx_meaning.specs.Resolved.{Resolved, ResolvedCell, ResolvedGroup, ResolvedKey, ResolvedType}
 use Rattle.kx_meaning.specs.Seen.{seen}
 use Rattle.kx_resolve.specs.Content.{Content}
+use Rattle.kx_resolve.specs.declared.rows.CellRow.{CellRow}
+use Rattle.kx_resolve.specs.declared.rows.GroupRow.{GroupRow}
 use Rattle.kx_resolve.specs.declared.rows.KeyRow.{KeyRow}
+use Rattle.kx_resolve.specs.declared.rows.TypeRow.{TypeRow}
 
 -- ---- After a push that passed, or was refused
 
@@ -200,3 +203,43 @@ cell_pushed c r d held some =
       types = r.types;
       keys = (change_end (key_with_cell d) ks (record k { groups = hs ++ g ∷ [] }) ∙ (λ j. ks ++ record k { groups = change_end (group_with_cell d) hs g j } ∷ [])) i;
     })))
+
+-- ---- What a push of rows makes of the tables
+
+pub no_keys : (c : Content) (r : Resolved) → c ≡ content_of_resolved r → length c.keys ≡ 0 → r.keys ≡ []
+no_keys c r held none = nil_from_length r.keys (sym (rows_length (key_row r.types) r.keys) ∙ sym (ap (λ d. length d.keys) held) ∙ none)
+
+pub type_grown : {X E : Type 0} (result : Result X E) (old new : Content) (r : Resolved) (t : ResolvedType) (row : TypeRow) → old ≡ content_of_resolved r → length old.keys ≡ 0 → row ≡ next_type old t
+    → OnOk result (new ≡ record old { types = old.types ++ row ∷ []; entries = old.entries ++ t.entries; names = old.names ++ t.name })
+    → OnOk result (new ≡ content_of_resolved (with_type r t))
+type_grown result old new r t row held none is added =
+    on_ok_one result added (λ e. e ∙ (λ i. record old { types = old.types ++ is i ∷ []; entries = old.entries ++ t.entries; names = old.names ++ t.name }) ∙ type_pushed old r t held (no_keys old r held none))
+
+pub key_grown : {X E : Type 0} (result : Result X E) (old new : Content) (r : Resolved) (k : ResolvedKey) (row : KeyRow) → old ≡ content_of_resolved r → k.groups ≡ [] → row ≡ next_key old k
+    → OnOk result (new ≡ record old { keys = old.keys ++ row ∷ []; names = old.names ++ k.name })
+    → OnOk result (new ≡ content_of_resolved (with_key r k))
+key_grown result old new r k row held no_groups is added =
+    on_ok_one result added (λ e. e ∙ (λ i. record old { keys = old.keys ++ is i ∷ []; names = old.names ++ k.name }) ∙ key_pushed old r k held no_groups)
+
+key_count : (c : Content) (r : Resolved) → c ≡ content_of_resolved r → length c.keys ≡ length r.keys
+key_count c r held = ap (λ d. length d.keys) held ∙ rows_length (key_row r.types) r.keys
+
+pub group_grown : {X E : Type 0} (result : Result X E) (old new : Content) (r : Resolved) (g : ResolvedGroup) (row : GroupRow) → old ≡ content_of_resolved r → g.cells ≡ [] → row ≡ next_group old g → OnOk result (0 < length old.keys)
+    → OnOk result (new ≡ record old { keys = change_last with_more_groups old.keys; groups = old.groups ++ row ∷ [] })
+    → OnOk result (new ≡ content_of_resolved (with_group r g))
+group_grown result old new r g row held no_cells is some added =
+    on_ok_both result added some (λ e has. e ∙ (λ i. record old { keys = change_last with_more_groups old.keys; groups = old.groups ++ is i ∷ [] }) ∙ group_pushed old r g held no_cells (omega (arith, key_count old r held, has)))
+
+last_count_rows : (ts : List ResolvedType) (before ks : List ResolvedKey) → last_count (rows_behind (key_row ts) before ks) ≡ length (last_groups ks)
+last_count_rows ts before [] = refl
+last_count_rows ts before (k ∷ []) = refl
+last_count_rows ts before (k ∷ l ∷ ks) = last_count_rows ts (before ++ k ∷ []) (l ∷ ks)
+
+pub last_count_is : (c : Content) (r : Resolved) → c ≡ content_of_resolved r → last_count c.keys ≡ length (last_groups r.keys)
+last_count_is c r held = ap (λ d. last_count d.keys) held ∙ last_count_rows r.types [] r.keys
+
+pub cell_grown : {X E : Type 0} (result : Result X E) (old new : Content) (r : Resolved) (d : ResolvedCell) (row : CellRow) → old ≡ content_of_resolved r → 0 < last_count old.keys → row ≡ next_cell old d
+    → OnOk result (new ≡ record old { cells = old.cells ++ row ∷ []; keysyms = old.keysyms ++ d.syms })
+    → OnOk result (new ≡ content_of_resolved (with_cell r d))
+cell_grown result old new r d row held some is added =
+    on_ok_one result added (λ e. e ∙ (λ i. record old { cells = old.cells ++ is i ∷ []; keysyms = old.keysyms ++ d.syms }) ∙ cell_pushed old r d held (omega (arith, last_count_is old r held, some)))

@@ -1,5 +1,5 @@
-ghost use Rattle.std.specs.Prelude.{◌≡◌, ◌<◌, [], OnOk, OnErr, IfErr, length, nat_lt, ⊤};
-ghost use Rattle.kx_meaning.specs.Added.{TypeFits, KeyFits, GroupFits, CellFits, last_count};
+ghost use Rattle.std.specs.Prelude.{◌≡◌, ◌<◌, [], OnOk, OnErr, IfErr, length, ⊤};
+ghost use Rattle.kx_meaning.specs.Added.{TypeFits, KeyFits, GroupFits, CellFits};
 ghost use Rattle.kx_meaning.specs.Faults.{IsCause};
 ghost use Rattle.kx_meaning.specs.Placed.{content_of_resolved};
 ghost use Rattle.kx_meaning.specs.Pushes.{with_type, with_key, with_group, with_cell, last_groups};
@@ -8,7 +8,8 @@ ghost use Rattle.kx_resolve.specs.Parts.{content_of};
 
 use crate::fault::BuildFault;
 use crate::tables::{
-    add_cell, add_group, add_key, add_type, next_cell, next_key, next_type, no_tables, place,
+    add_cell, add_group, add_key, add_type, last_count, next_cell, next_key, next_type, no_tables,
+    place,
 };
 use kx_mods::Mods;
 use kx_resolve::{Action, EntryRow, GroupRow, Parts, Range};
@@ -100,7 +101,7 @@ impl Builder {
         ensures fault { IfErr result (λ e. IsCause e (CellFits (content_of_resolved self.old) (record { syms = keysyms.now; action = action })) (0 < length (last_groups self.old.keys))) }
         ensures unchanged { OnErr result (self.new ≡ self.old) }
     {
-        if !has_open_group(&self.parts) {
+        if last_count(&self.parts) == 0 {
             return Err(BuildFault::Misplaced);
         }
         let row = next_cell(&self.parts, keysyms, action)?;
@@ -113,11 +114,4 @@ impl Builder {
     {
         self.parts
     }
-}
-
-/// Whether the last key has a group.
-fn has_open_group(parts: &Parts) -> bool
-    ensures { result ≡ nat_lt 0 (last_count (content_of parts.now).keys) }
-{
-    parts.keys.last().is_some_and(|key| key.groups > 0)
 }

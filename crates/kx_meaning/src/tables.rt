@@ -144,6 +144,24 @@ pub(crate) fn add_key(parts: &mut Parts, row: KeyRow, name: &[u8]) -> Result<(),
     Ok(())
 }
 
+/// One more group of a key.
+fn one_more(groups: u8) -> Result<u8, BuildFault>
+    ensures value { IfOk result (λ n. n ≡ groups + 1) }
+    ensures fault { IfErr result (λ e. (e ≡ TooMany) × (groups + 1 < 2 ^ 8 → ⊥)) }
+{
+    groups.checked_add(1).ok_or(BuildFault::TooMany)
+}
+
+/// How many groups the last key has, 0 where there is no key.
+pub(crate) fn last_count(parts: &Parts) -> u8
+    ensures { result ≡ last_count (content_of parts.now).keys }
+{
+    match parts.keys.last() {
+        Some(key) => key.groups,
+        None => 0,
+    }
+}
+
 /// Appends a group's row, which is one more of the last key.
 pub(crate) fn add_group(parts: &mut Parts, row: GroupRow) -> Result<(), BuildFault>
     ensures some_key { OnOk result (0 < length (content_of parts.old).keys) }
@@ -156,10 +174,7 @@ pub(crate) fn add_group(parts: &mut Parts, row: GroupRow) -> Result<(), BuildFau
         .len()
         .checked_sub(1)
         .ok_or(BuildFault::Misplaced)?;
-    let groups = parts.keys[last]
-        .groups
-        .checked_add(1)
-        .ok_or(BuildFault::TooMany)?;
+    let groups = one_more(last_count(parts))?;
     parts.groups.push(row)?;
     parts.keys[last].groups = groups;
     Ok(())
