@@ -2,3 +2,4 @@ pub mod Placing
 pub mod Pushing
 pub mod Seeing
 pub mod Lasts
+pub mod Agreeing

@@ -76,9 +76,6 @@ module _ {X A : Type 0} (f : X → List A) where
   flat_split : (before : List X) (x : X) (after : List X) → flat_map f (before ++ x ∷ after) ≡ flat_map f before ++ (f x ++ flat_map f after)
   flat_split before x after = flat_map-append f before (x ∷ after)
 
-  flat_at : (xs : List X) (i : ℕ) (x : X) → slice_get xs i ≡ Some x → flat_map f xs ≡ flat_map f (take i xs) ++ (f x ++ flat_map f (drop (suc i) xs))
-  flat_at xs i x e = ap (flat_map f) (split_at xs i x e) ∙ flat_split (take i xs) x (drop (suc i) xs)
-
   -- the part that begins behind what the things before one own, and is as long as what that one owns, is what it owns;
   -- other lists may stand in front and behind
   pub part_between : (front back : List A) (before : List X) (x : X) (after : List X) (all : List A) → all ≡ front ++ (flat_map f (before ++ x ∷ after) ++ back) → part all (length front + length (flat_map f before)) (length (f x)) ≡ f x
@@ -103,12 +100,17 @@ module _ {X A : Type 0} (f : X → List A) where
       ap (λ ys. part (flat_map f ys) (length (flat_map f (take i xs))) (length (f x))) (split_at xs i x e)
       ∙ part_split (take i xs) x (drop (suc i) xs)
 
-  -- what stands at place j of what the thing at place i owns
+  -- what stands at place j of what one thing owns
+  pub element_split : (before : List X) (x : X) (after : List X) (j : ℕ) → j < length (f x) → slice_get (flat_map f (before ++ x ∷ after)) (length (flat_map f before) + j) ≡ slice_get (f x) j
+  element_split before x after j within =
+      ap (λ ys. slice_get ys (length (flat_map f before) + j)) (flat_split before x after)
+      ∙ get_behind (flat_map f before) (f x ++ flat_map f after) j
+      ∙ get_before (f x) (flat_map f after) j within
+
   pub element_at : (xs : List X) (i : ℕ) (x : X) (j : ℕ) → slice_get xs i ≡ Some x → j < length (f x) → slice_get (flat_map f xs) (length (flat_map f (take i xs)) + j) ≡ slice_get (f x) j
   element_at xs i x j e within =
-      ap (λ ys. slice_get ys (length (flat_map f (take i xs)) + j)) (flat_at xs i x e)
-      ∙ get_behind (flat_map f (take i xs)) (f x ++ flat_map f (drop (suc i) xs)) j
-      ∙ get_before (f x) (flat_map f (drop (suc i) xs)) j within
+      ap (λ ys. slice_get (flat_map f ys) (length (flat_map f (take i xs)) + j)) (split_at xs i x e)
+      ∙ element_split (take i xs) x (drop (suc i) xs) j within
 
   -- one more thing at the end
   pub flat_push : (xs : List X) (x : X) → flat_map f (xs ++ x ∷ []) ≡ flat_map f xs ++ f x

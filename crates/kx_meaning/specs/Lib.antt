@@ -4,3 +4,5 @@ pub mod Pushes
 pub mod Seen
 pub mod Added
 pub mod Faults
+pub mod Whole
+pub mod Agreement

@@ -1,9 +1,12 @@
 ghost use Rattle.std.specs.Prelude.{◌≡◌, ◌<◌, [], OnOk, OnErr, IfErr, length, ⊤};
 ghost use Rattle.kx_meaning.specs.Added.{TypeFits, KeyFits, GroupFits, CellFits};
+ghost use Rattle.kx_meaning.specs.Agreement.{ShowsSame};
 ghost use Rattle.kx_meaning.specs.Faults.{IsCause};
 ghost use Rattle.kx_meaning.specs.Placed.{content_of_resolved};
 ghost use Rattle.kx_meaning.specs.Pushes.{with_type, with_key, with_group, with_cell, last_groups};
-ghost use Rattle.kx_meaning.specs.Resolved.{nothing_resolved};
+ghost use Rattle.kx_meaning.specs.Resolved.{keymap_of_resolved, nothing_resolved};
+ghost use Rattle.kx_meaning.specs.Whole.{IsWhole};
+ghost use Rattle.kx_resolve.specs.Keymap.{keymap_of};
 ghost use Rattle.kx_resolve.specs.Parts.{content_of};
 
 use crate::fault::BuildFault;
@@ -108,9 +111,10 @@ impl Builder {
         add_cell(&mut self.parts, row, keysyms)
     }
 
-    /// The tables.
+    /// The tables. Where what is resolved is whole, their keymap is its keymap.
     pub fn into_parts(self) -> Parts
-        ensures { content_of result ≡ content_of_resolved self }
+        ensures content { content_of result ≡ content_of_resolved self }
+        ensures agrees { IsWhole self → ShowsSame (keymap_of (content_of result)) (keymap_of_resolved self) }
     {
         self.parts
     }

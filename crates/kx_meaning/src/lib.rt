@@ -7,3 +7,6 @@ mod tables;
 
 pub use builder::Builder;
 pub use fault::BuildFault;
+
+#[cfg(test)]
+mod tests;
