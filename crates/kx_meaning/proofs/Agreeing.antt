@@ -1,20 +1,19 @@
 -- The keymap of the tables that hold what is resolved is the keymap of that.
-use Rattle.std.proofs.Common.{ℕ, zero, suc, pos, ◌+◌, ◌-◌, ◌<◌, ◌≤◌, ◌≡◌, eqb, ltb, Bool, true, false, cond, max, All, List, [], ◌∷◌, ◌++◌, Option, None, Some, find, is_some, length, take, drop, slice_get, refl, sym, ap, subst, ◌∙◌, arith, append_assoc, inl, inr}
-use Rattle.std.proofs.lemmas.Bool.{cases_Bool, cond-false, eqb-true, false≢true, ltb-true}
+use Rattle.std.proofs.Common.{ℕ, zero, suc, pos, ◌+◌, ◌<◌, ◌≤◌, ◌≡◌, eqb, ltb, Bool, true, false, cond, max, All, List, [], ◌∷◌, ◌++◌, Option, None, Some, find, is_some, length, take, slice_get, refl, sym, ap, subst, ◌∙◌, arith, append_assoc}
+use Rattle.std.proofs.lemmas.Bool.{false≢true, ltb-true}
 use Rattle.std.proofs.lemmas.List.Elements.{All-head, All-tail}
 use Rattle.std.proofs.lemmas.Nat.{mod_below}
-use Rattle.std.proofs.lemmas.Option.{none-some, same_Some, slice_get_cases}
+use Rattle.std.proofs.lemmas.Option.{none-some, same_Some}
 use Rattle.std.specs.Int.RustNames.{bit_and}
-use Rattle.std.specs.List.{flat_map}
 use Rattle.std.specs.Option.{IsSomeAnd}
-use Rattle.kx_meaning.proofs.Placing.{element_at, element_split, part_at, row_at, row_past, split_at}
+use Rattle.kx_meaning.proofs.Placing.{element_at, element_split, part_at, row_at}
 use Rattle.kx_meaning.specs.Agreement.{ShowsSame}
-use Rattle.kx_meaning.specs.Placed.{all_cells, all_entries, all_groups, all_keysyms, cell_row, content_of_resolved, group_row, key_row, rows_behind, rows_of, type_row}
+use Rattle.kx_meaning.specs.Placed.{all_cells, all_groups, cell_row, content_of_resolved, group_row, key_row, rows_behind, type_row}
 use Rattle.kx_meaning.specs.Resolved.{Resolved, ResolvedCell, ResolvedGroup, ResolvedKey, ResolvedType, consumed_mods, entry_chosen, keymap_of_resolved, most_groups, shown_of_cell, shown_of_group, shown_of_key, shown_of_type}
 use Rattle.kx_meaning.specs.Whole.{GroupIsWhole, IsWhole, KeyIsWhole, LevelExists, TypeIsWhole}
 use Rattle.kx_mods.specs.Mods.{mask}
 use Rattle.kx_resolve.specs.Content.{Content, greatest_groups}
-use Rattle.kx_resolve.specs.Keymap.{Shown, cell_shows, consumed_by, entry_for, group_shows, key_shows, keymap_of, level_of, nothing_shown, type_shows}
+use Rattle.kx_resolve.specs.Keymap.{cell_shows, consumed_by, entry_for, group_shows, key_shows, keymap_of, level_of, nothing_shown, type_shows}
 use Rattle.kx_resolve.specs.Range.{in_range, outside}
 use Rattle.kx_resolve.specs.declared.rows.EntryRow.{EntryRow}
 use Rattle.kx_resolve.specs.declared.rows.Range.{Range}

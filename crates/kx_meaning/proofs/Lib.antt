@@ -3,3 +3,5 @@ pub mod Pushing
 pub mod Seeing
 pub mod Lasts
 pub mod Agreeing
+pub mod Counting
+pub mod Sounding

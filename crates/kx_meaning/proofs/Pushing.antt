@@ -1,7 +1,6 @@
 -- Tables that hold what is resolved, with one more row, hold what is resolved with one more thing.
-use Rattle.std.proofs.Common.{ℕ, zero, suc, ◌+◌, ◌<◌, ◌≡◌, List, [], ◌∷◌, ◌++◌, Result, Ok, Err, OnOk, OnErr, length, refl, sym, ap, subst, ◌∙◌, arith, append_assoc}
+use Rattle.std.proofs.Common.{◌<◌, ◌≡◌, List, [], ◌∷◌, ◌++◌, Result, Ok, Err, OnOk, OnErr, length, refl, sym, ap, subst, ◌∙◌, arith, append_assoc}
 use Rattle.std.proofs.lemmas.List.{append-nil, length-append, length_push, nil_from_length}
-use Rattle.std.specs.List.{flat_map}
 use Rattle.kx_meaning.proofs.Placing.{flat_push, rows_length, rows_push}
 use Rattle.kx_meaning.proofs.Seeing.{seen_in, settled}
 use Rattle.kx_meaning.specs.Added.{cell_added, group_added, key_added, last_count, next_cell, next_group, next_key, next_type, type_added, with_more_groups}

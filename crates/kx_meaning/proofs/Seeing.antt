@@ -2,7 +2,7 @@
 use Rattle.std.proofs.Common.{ℕ, suc, ◌+◌, ◌-◌, ◌≡◌, List, [], ◌∷◌, ◌++◌, Some, map, length, take, drop, slice_get, refl, sym, ap, ◌∙◌, arith, append_assoc}
 use Rattle.std.proofs.lemmas.List.{append-nil, length-append}
 use Rattle.kx_meaning.proofs.Placing.{flat_push, part_at, part_between, part_split, rows_length, rows_read, split_at}
-use Rattle.kx_meaning.specs.Placed.{all_cells, all_entries, all_groups, all_keysyms, cell_row, content_of_resolved, group_row, key_row, names_of_keys, names_of_types, rows_behind, rows_of, type_row}
+use Rattle.kx_meaning.specs.Placed.{all_cells, all_groups, cell_row, content_of_resolved, group_row, key_row, names_of_keys, names_of_types, rows_behind, rows_of, type_row}
 use Rattle.kx_meaning.specs.Resolved.{Resolved, ResolvedCell, ResolvedGroup, ResolvedKey, ResolvedType}
 use Rattle.kx_meaning.specs.Seen.{cell_seen, cells_end, groups_seen, key_seen, seen, type_seen}
 use Rattle.kx_resolve.specs.Content.{Content, part}

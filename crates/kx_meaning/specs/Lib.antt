@@ -5,4 +5,5 @@ pub mod Seen
 pub mod Added
 pub mod Faults
 pub mod Whole
+pub mod Fine
 pub mod Agreement

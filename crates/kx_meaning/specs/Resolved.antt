@@ -1,5 +1,5 @@
 -- What a keymap's statements resolve to: types and keys as a tree, with no indices but a group's type.
-use Rattle.std.specs.Prelude.{ℕ, pos, List, [], ◌∷◌, Bool, ◌==◌, ◌-◌, Option, None, Some, cond, find, is_some, length, max, slice_get}
+use Rattle.std.specs.Prelude.{ℕ, pos, List, [], ◌∷◌, ◌==◌, Option, None, Some, cond, find, is_some, length, max, slice_get}
 use Rattle.std.specs.Int.RustNames.{bit_and}
 use Rattle.kx_mods.specs.Mods.{mask, mask_without}
 use Rattle.kx_mods.specs.declared.mods.Mods.{Mods}

@@ -2,12 +2,14 @@ ghost use Rattle.std.specs.Prelude.{◌≡◌, ◌<◌, [], OnOk, OnErr, IfErr, 
 ghost use Rattle.kx_meaning.specs.Added.{TypeFits, KeyFits, GroupFits, CellFits};
 ghost use Rattle.kx_meaning.specs.Agreement.{ShowsSame};
 ghost use Rattle.kx_meaning.specs.Faults.{IsCause};
+ghost use Rattle.kx_meaning.specs.Fine.{IsFine};
 ghost use Rattle.kx_meaning.specs.Placed.{content_of_resolved};
 ghost use Rattle.kx_meaning.specs.Pushes.{with_type, with_key, with_group, with_cell, last_groups};
 ghost use Rattle.kx_meaning.specs.Resolved.{keymap_of_resolved, nothing_resolved};
 ghost use Rattle.kx_meaning.specs.Whole.{IsWhole};
 ghost use Rattle.kx_resolve.specs.Keymap.{keymap_of};
 ghost use Rattle.kx_resolve.specs.Parts.{content_of};
+ghost use Rattle.kx_resolve.specs.Sound.{Sound};
 
 use crate::fault::BuildFault;
 use crate::tables::{
@@ -111,10 +113,11 @@ impl Builder {
         add_cell(&mut self.parts, row, keysyms)
     }
 
-    /// The tables. Where what is resolved is whole, their keymap is its keymap.
+    /// The tables. Where what is resolved is whole, their keymap is its keymap; where it is fine, they are sound.
     pub fn into_parts(self) -> Parts
         ensures content { content_of result ≡ content_of_resolved self }
         ensures agrees { IsWhole self → ShowsSame (keymap_of (content_of result)) (keymap_of_resolved self) }
+        ensures sound { IsFine self → Sound (content_of result) }
     {
         self.parts
     }

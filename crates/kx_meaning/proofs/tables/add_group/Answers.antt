@@ -1,4 +1,4 @@
-use Rattle.std.proofs.Common.{◌≡◌, ◌+◌, ◌-◌, ◌<◌, length, ap, ◌∙◌, arith, rules}
+use Rattle.std.proofs.Common.{◌≡◌, ◌+◌, ◌-◌, ◌<◌, length, rules}
 use Rattle.kx_meaning.proofs.Lasts.{last_more}
 use Rattle.kx_meaning.specs.Added.{last_count}
 use Rattle.kx_meaning.proofs.tables.add_group.Goals as goal
