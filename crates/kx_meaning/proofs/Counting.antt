@@ -1,9 +1,8 @@
 -- Sums of the counts that rows tell, and what holds of each row.
-use Rattle.std.proofs.Common.{ℕ, zero, suc, ◌*◌, ◌≤◌, ◌≡◌, All, List, [], ◌∷◌, ◌++◌, Option, None, Some, length, take, slice_get, sum_by, refl, sym, ap, subst, ◌∙◌, arith}
+use Rattle.std.proofs.Common.{ℕ, zero, suc, ◌≡◌, All, List, [], ◌∷◌, ◌++◌, Option, None, Some, length, take, slice_get, sum_by, refl, sym, ap, subst, ◌∙◌, arith}
 use Rattle.std.proofs.lemmas.List.{length-append}
-use Rattle.std.proofs.lemmas.List.Elements.{All-append, All-head, All-tail, All-nil, All-take}
-use Rattle.std.proofs.lemmas.List.Concat.{length-flat_map}
-use Rattle.std.proofs.lemmas.List.Sums.{sum_by-cons, sum_by-le}
+use Rattle.std.proofs.lemmas.List.Elements.{All-head, All-tail, All-take}
+use Rattle.std.proofs.lemmas.List.Sums.{sum_by-cons}
 use Rattle.std.proofs.lemmas.Option.{none-some, same_Some}
 use Rattle.std.specs.List.{flat_map}
 use Rattle.kx_meaning.proofs.Placing.{row_at, row_past}
@@ -44,11 +43,3 @@ module _ {X R : Type 0} (row : List X → X → R) where
 
     pub sum_before : (xs : List X) (i : ℕ) → All Q xs → sum_by count (take i (rows_of row xs)) ≡ length (flat_map f (take i xs))
     sum_before xs i each = ap (sum_by count) (rows_take xs i) ∙ sum_of_rows (take i xs) (All-take Q i xs each)
-
-pub All_flat : {X A : Type 0} (f : X → List A) (P : A → Type 0) (xs : List X) → All (λ x. All P (f x)) xs → All P (flat_map f xs)
-All_flat f P [] each = All-nil P
-All_flat f P (x ∷ xs) each = All-append P (f x) (flat_map f xs) (All-head (λ y. All P (f y)) x xs each) (All_flat f P xs (All-tail (λ y. All P (f y)) x xs each))
-
--- things of at most n parts each
-pub flat_length : {X A : Type 0} (f : X → List A) (n : ℕ) (xs : List X) → All (λ x. length (f x) ≤ n) xs → length (flat_map f xs) ≤ length xs * n
-flat_length f n xs each = rw (length-flat_map f xs) (sum_by-le (λ x. length (f x)) n xs each)

@@ -6,13 +6,13 @@ use Rattle.std.proofs.lemmas.List.Elements.{All-append, All-weaker}
 use Rattle.std.proofs.lemmas.Option.{none-some, slice_get_within}
 use Rattle.std.specs.Option.{IsSomeAnd, option_map_or}
 use Rattle.kx_meaning.proofs.Agreeing.{All_at, get_within}
-use Rattle.kx_meaning.proofs.Counting.{All_flat, each_row, flat_length, row_from, rows_take, sum_before, sum_of_rows}
+use Rattle.kx_meaning.proofs.Counting.{each_row, row_from, rows_take, sum_before, sum_of_rows}
 use Rattle.kx_meaning.proofs.Placing.{element_at, get_behind, row_at, rows_length}
 use Rattle.kx_meaning.proofs.Seeing.{key_name_at, type_name_at}
 use Rattle.kx_meaning.specs.Fine.{CellIsFine, EntryIsFine, GroupIsFine, IsFine, KeyIsFine, Rising, TypeIsFine, types_met}
+use Rattle.kx_meaning.specs.Small.{All_flat, CellIsSmall, GroupIsSmall, IsSmall, KeyIsSmall, TypeIsSmall, cell_count, few_entries, few_names, keysym_count}
 use Rattle.kx_meaning.specs.Placed.{all_cells, all_entries, all_groups, all_keysyms, cell_row, content_of_resolved, group_row, key_row, names_of_keys, names_of_types, rows_behind, rows_of, type_row}
 use Rattle.kx_meaning.specs.Resolved.{Resolved, ResolvedCell, ResolvedEntry, ResolvedGroup, ResolvedKey, ResolvedType}
-use Rattle.kx_meaning.specs.Whole.{GroupIsWhole, IsWhole, KeyIsWhole, LevelExists, TypeIsWhole}
 use Rattle.kx_resolve.specs.Content.{Content, key_name, key_names, levels_of, type_name, type_names, types_used}
 use Rattle.kx_resolve.specs.Sound.{CellHolds, CountsHold, EachRow, EntriesHold, GroupHolds, IsKeyNameByte, IsNewName, KeyHolds, KeysymHolds, NameByteHolds, Sound, TypeHolds}
 use Rattle.kx_resolve.specs.declared.rows.CellRow.{CellRow}
@@ -85,25 +85,20 @@ module _ (r : Resolved) (fine : IsFine r) where
   keys_few : length r.keys ≤ 4096
   keys_few = few_keys r.keys fine.codes_rise (All-weaker (KeyIsFine r.types) (λ (k : ResolvedKey). k.code ≤ 4095) (λ k holds. holds.code_fits) r.keys fine.each_key)
 
-  groups_few : length (all_groups r.keys) ≤ 131072
-  groups_few = omega (arith, keys_few, flat_length (λ (k : ResolvedKey). k.groups) 32 r.keys (All-weaker (KeyIsFine r.types) (λ (k : ResolvedKey). length k.groups ≤ 32) (λ k holds. holds.few) r.keys fine.each_key))
-
-  pub all_cells_few : length (all_cells (all_groups r.keys)) ≤ 8388608
-  all_cells_few = omega (arith, groups_few, flat_length (λ (g : ResolvedGroup). g.cells) 64 (all_groups r.keys) (All-weaker (GroupIsFine r.types) (λ (g : ResolvedGroup). length g.cells ≤ 64) (λ g holds. cells_few r.types g (slice_get r.types g.key_type) fine.each_type refl holds.whole) (all_groups r.keys) groups_fine))
-
-  keysyms_few : length (all_keysyms (all_cells (all_groups r.keys))) ≤ 67108864
-  keysyms_few = omega (arith, all_cells_few, flat_length (λ (d : ResolvedCell). d.syms) 8 (all_cells (all_groups r.keys)) (All-weaker CellIsFine (λ (d : ResolvedCell). length d.syms ≤ 8) (λ d holds. holds.few) (all_cells (all_groups r.keys)) cells_fine))
-
-  entries_few : length (all_entries r.types) < 2 ^ 32
-  entries_few =
-      let each : All (λ (t : ResolvedType). length t.entries ≤ 65535) r.types = All-weaker TypeIsFine (λ (t : ResolvedType). length t.entries ≤ 65535) (λ t holds. let h : length t.entries < 2 ^ 16 = holds.entries_fit in omega (arith, h)) r.types fine.each_type in
-      omega (arith, fine.types_fit, flat_length (λ (t : ResolvedType). t.entries) 65535 r.types each)
-
-  type_names_few : length (names_of_types r.types) ≤ 16711425
-  type_names_few = omega (arith, fine.types_fit, flat_length (λ (t : ResolvedType). t.name) 255 r.types (All-weaker TypeIsFine (λ (t : ResolvedType). length t.name ≤ 255) (λ t holds. holds.name_fits) r.types fine.each_type))
-
-  key_names_few : length (names_of_keys r.keys) ≤ 1044480
-  key_names_few = omega (arith, keys_few, flat_length (λ (k : ResolvedKey). k.name) 255 r.keys (All-weaker (KeyIsFine r.types) (λ (k : ResolvedKey). length k.name ≤ 255) (λ k holds. holds.name_fits) r.keys fine.each_key))
+  small : IsSmall r
+  small = record {
+    few_types = fine.types_fit;
+    small_types = All-weaker TypeIsFine TypeIsSmall (λ t holds. record { few_entries = holds.entries_fit; short_name = holds.name_fits }) r.types fine.each_type;
+    few_keys = keys_few;
+    small_keys = All-weaker (KeyIsFine r.types) KeyIsSmall (λ k holds. record {
+      short_name = holds.name_fits;
+      few_groups = holds.few;
+      small_groups = All-weaker (GroupIsFine r.types) GroupIsSmall (λ g group. record {
+        few_cells = cells_few r.types g (slice_get r.types g.key_type) fine.each_type refl group.whole;
+        small_cells = All-weaker CellIsFine CellIsSmall (λ d cell. cell.few) g.cells group.each_cell;
+      }) k.groups holds.each_group;
+    }) r.keys fine.each_key;
+  }
 
   entry_sum : (i : ℕ) → sum_by (λ (t : TypeRow). t.entries) (take i (rows_of type_row r.types)) ≡ length (all_entries (take i r.types))
   entry_sum i = sum_before type_row (λ (t : ResolvedType). t.entries) (λ (t : TypeRow). t.entries) any (λ before t h. refl) r.types i (all_any r.types)
@@ -133,15 +128,15 @@ module _ (r : Resolved) (fine : IsFine r) where
   counts_hold = record {
     types = omega (arith, fine.types_fit, rows_length type_row r.types);
     entries = sym (sum_of_rows type_row (λ (t : ResolvedType). t.entries) (λ (t : TypeRow). t.entries) any (λ before t h. refl) r.types (all_any r.types));
-    entries_fit = entries_few;
+    entries_fit = few_entries r small;
     keys = omega (arith, keys_few, rows_length (key_row r.types) r.keys);
     groups = rows_length group_row (all_groups r.keys) ∙ sym (sum_of_rows (key_row r.types) (λ (k : ResolvedKey). k.groups) (λ (k : KeyRow). k.groups) any (λ before k h. refl) r.keys (all_any r.keys));
     cells = rows_length cell_row (all_cells (all_groups r.keys)) ∙ sym (sum_of_rows group_row (λ (g : ResolvedGroup). g.cells) (levels_of (content_of_resolved r)) (GroupIsFine r.types) (λ before g holds. levels_in r.types g (slice_get r.types g.key_type) refl holds.whole) (all_groups r.keys) groups_fine);
-    cells_fit = omega (arith, all_cells_few, rows_length cell_row (all_cells (all_groups r.keys)));
+    cells_fit = cell_count r small;
     keysyms = sym (sum_of_rows cell_row (λ (d : ResolvedCell). d.syms) (λ (d : CellRow). d.keysyms) any (λ before d h. refl) (all_cells (all_groups r.keys)) (all_any (all_cells (all_groups r.keys))));
-    keysyms_fit = omega (arith, keysyms_few);
+    keysyms_fit = keysym_count r small;
     names = omega (arith, length-append (names_of_types r.types) (names_of_keys r.keys), type_names_are, key_names_are);
-    names_fit = omega (arith, length-append (names_of_types r.types) (names_of_keys r.keys), type_names_few, key_names_few);
+    names_fit = few_names r small;
   }
 
   -- ---- Types and entries
@@ -259,16 +254,6 @@ module _ (r : Resolved) (fine : IsFine r) where
     indicators = λ i d at. absurd (none-some d at);
     group_names = λ i g at. absurd (none-some g at);
     names = name_holds;
-  }
-
-  -- what is fine is whole
-  pub fine_is_whole : IsWhole r
-  fine_is_whole = record {
-    each_type = All-weaker TypeIsFine TypeIsWhole (λ t holds. record {
-      some_level = holds.some_level;
-      level_of_each = All-weaker (EntryIsFine t) (LevelExists t.levels) (λ e entry. entry.level) t.entries holds.each_entry;
-    }) r.types fine.each_type;
-    each_key = All-weaker (KeyIsFine r.types) (KeyIsWhole r.types) (λ k holds. All-weaker (GroupIsFine r.types) (GroupIsWhole r.types) (λ g group. group.whole) k.groups holds.each_group) r.keys fine.each_key;
   }
 
 -- the same of any tables that hold r

@@ -1,10 +1,11 @@
 -- What is resolved is fine: its numbers are within their bounds, names and codes tell things apart, and types stand in
 -- the order in which groups use them first.
 use Rattle.std.specs.Prelude.{ℕ, ◌≡◌, ◌≢◌, ◌+◌, ◌<◌, ◌≤◌, ◌^◌, All, List, [], ◌∷◌, Some, length, max, slice_get, take}
+use Rattle.std.proofs.lemmas.List.Elements.{All-weaker}
 use Rattle.std.specs.Int.RustNames.{bit_and}
 use Rattle.kx_meaning.specs.Placed.{all_groups}
 use Rattle.kx_meaning.specs.Resolved.{Resolved, ResolvedCell, ResolvedEntry, ResolvedGroup, ResolvedKey, ResolvedType}
-use Rattle.kx_meaning.specs.Whole.{GroupIsWhole, LevelExists}
+use Rattle.kx_meaning.specs.Whole.{GroupIsWhole, IsWhole, KeyIsWhole, LevelExists, TypeIsWhole}
 use Rattle.kx_mods.specs.Mods.{mask}
 use Rattle.kx_resolve.specs.Sound.{ActionHolds, IsKeyNameByte, KeysymHolds, RangeHolds}
 
@@ -73,3 +74,13 @@ pub record IsFine (r : Resolved) : Type 0 where
   pub each_key : All (KeyIsFine r.types) r.keys
   pub codes_rise : Rising (λ (k : ResolvedKey). k.code) r.keys
   pub keys_apart : Apart (λ (k : ResolvedKey). k.name) r.keys
+
+-- what is fine is whole
+pub fine_is_whole : (r : Resolved) → IsFine r → IsWhole r
+fine_is_whole r fine = record {
+  each_type = All-weaker TypeIsFine TypeIsWhole (λ t holds. record {
+    some_level = holds.some_level;
+    level_of_each = All-weaker (EntryIsFine t) (LevelExists t.levels) (λ e entry. entry.level) t.entries holds.each_entry;
+  }) r.types fine.each_type;
+  each_key = All-weaker (KeyIsFine r.types) (KeyIsWhole r.types) (λ k holds. All-weaker (GroupIsFine r.types) (GroupIsWhole r.types) (λ g group. group.whole) k.groups holds.each_group) r.keys fine.each_key;
+}

@@ -7,3 +7,4 @@ pub mod Faults
 pub mod Whole
 pub mod Fine
 pub mod Agreement
+pub mod Small
