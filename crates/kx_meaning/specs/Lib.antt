@@ -8,3 +8,4 @@ pub mod Whole
 pub mod Fine
 pub mod Agreement
 pub mod Small
+pub mod Many
