@@ -3,7 +3,7 @@ use Rattle.std.proofs.Common.{◌<◌, ◌≡◌, List, [], ◌∷◌, ◌++◌,
 use Rattle.std.proofs.lemmas.List.{append-nil, length-append, length_push, nil_from_length}
 use Rattle.kx_meaning.proofs.Placing.{flat_push, rows_length, rows_push}
 use Rattle.kx_meaning.proofs.Seeing.{seen_in, settled}
-use Rattle.kx_meaning.specs.Added.{cell_added, group_added, key_added, last_count, next_cell, next_group, next_key, next_type, type_added, with_more_groups}
+use Rattle.kx_meaning.specs.Added.{cell_added, group_added, key_added, last_count, next_cell, next_group, next_key, next_type, type_added, with_cell_row, with_group_row, with_key_row, with_more_groups, with_type_row}
 use Rattle.kx_meaning.specs.Placed.{all_cells, all_entries, all_groups, all_keysyms, cell_row, content_of_resolved, group_row, key_row, names_of_keys, names_of_types, rows_behind, rows_of, type_row}
 use Rattle.kx_meaning.specs.Pushes.{change_end, change_last, group_with_cell, key_with_cell, key_with_group, last_groups, with_cell, with_group, with_key, with_type}
 use Rattle.kx_meaning.specs.Resolved.{Resolved, ResolvedCell, ResolvedGroup, ResolvedKey, ResolvedType}
@@ -209,25 +209,25 @@ pub no_keys : (c : Content) (r : Resolved) → c ≡ content_of_resolved r → l
 no_keys c r held none = nil_from_length r.keys (sym (rows_length (key_row r.types) r.keys) ∙ sym (ap (λ d. length d.keys) held) ∙ none)
 
 pub type_grown : {X E : Type 0} (result : Result X E) (old new : Content) (r : Resolved) (t : ResolvedType) (row : TypeRow) → old ≡ content_of_resolved r → length old.keys ≡ 0 → row ≡ next_type old t
-    → OnOk result (new ≡ record old { types = old.types ++ row ∷ []; entries = old.entries ++ t.entries; names = old.names ++ t.name })
+    → OnOk result (new ≡ with_type_row old row t.entries t.name)
     → OnOk result (new ≡ content_of_resolved (with_type r t))
 type_grown result old new r t row held none is added =
-    on_ok_one result added (λ e. e ∙ (λ i. record old { types = old.types ++ is i ∷ []; entries = old.entries ++ t.entries; names = old.names ++ t.name }) ∙ type_pushed old r t held (no_keys old r held none))
+    on_ok_one result added (λ e. e ∙ (λ i. with_type_row old (is i) t.entries t.name) ∙ type_pushed old r t held (no_keys old r held none))
 
 pub key_grown : {X E : Type 0} (result : Result X E) (old new : Content) (r : Resolved) (k : ResolvedKey) (row : KeyRow) → old ≡ content_of_resolved r → k.groups ≡ [] → row ≡ next_key old k
-    → OnOk result (new ≡ record old { keys = old.keys ++ row ∷ []; names = old.names ++ k.name })
+    → OnOk result (new ≡ with_key_row old row k.name)
     → OnOk result (new ≡ content_of_resolved (with_key r k))
 key_grown result old new r k row held no_groups is added =
-    on_ok_one result added (λ e. e ∙ (λ i. record old { keys = old.keys ++ is i ∷ []; names = old.names ++ k.name }) ∙ key_pushed old r k held no_groups)
+    on_ok_one result added (λ e. e ∙ (λ i. with_key_row old (is i) k.name) ∙ key_pushed old r k held no_groups)
 
 key_count : (c : Content) (r : Resolved) → c ≡ content_of_resolved r → length c.keys ≡ length r.keys
 key_count c r held = ap (λ d. length d.keys) held ∙ rows_length (key_row r.types) r.keys
 
 pub group_grown : {X E : Type 0} (result : Result X E) (old new : Content) (r : Resolved) (g : ResolvedGroup) (row : GroupRow) → old ≡ content_of_resolved r → g.cells ≡ [] → row ≡ next_group old g → OnOk result (0 < length old.keys)
-    → OnOk result (new ≡ record old { keys = change_last with_more_groups old.keys; groups = old.groups ++ row ∷ [] })
+    → OnOk result (new ≡ with_group_row old row)
     → OnOk result (new ≡ content_of_resolved (with_group r g))
 group_grown result old new r g row held no_cells is some added =
-    on_ok_both result added some (λ e has. e ∙ (λ i. record old { keys = change_last with_more_groups old.keys; groups = old.groups ++ is i ∷ [] }) ∙ group_pushed old r g held no_cells (omega (arith, key_count old r held, has)))
+    on_ok_both result added some (λ e has. e ∙ (λ i. with_group_row old (is i)) ∙ group_pushed old r g held no_cells (omega (arith, key_count old r held, has)))
 
 last_count_rows : (ts : List ResolvedType) (before ks : List ResolvedKey) → last_count (rows_behind (key_row ts) before ks) ≡ length (last_groups ks)
 last_count_rows ts before [] = refl
@@ -238,7 +238,7 @@ pub last_count_is : (c : Content) (r : Resolved) → c ≡ content_of_resolved r
 last_count_is c r held = ap (λ d. last_count d.keys) held ∙ last_count_rows r.types [] r.keys
 
 pub cell_grown : {X E : Type 0} (result : Result X E) (old new : Content) (r : Resolved) (d : ResolvedCell) (row : CellRow) → old ≡ content_of_resolved r → 0 < last_count old.keys → row ≡ next_cell old d
-    → OnOk result (new ≡ record old { cells = old.cells ++ row ∷ []; keysyms = old.keysyms ++ d.syms })
+    → OnOk result (new ≡ with_cell_row old row d.syms)
     → OnOk result (new ≡ content_of_resolved (with_cell r d))
 cell_grown result old new r d row held some is added =
-    on_ok_one result added (λ e. e ∙ (λ i. record old { cells = old.cells ++ is i ∷ []; keysyms = old.keysyms ++ d.syms }) ∙ cell_pushed old r d held (omega (arith, last_count_is old r held, some)))
+    on_ok_one result added (λ e. e ∙ (λ i. with_cell_row old (is i) d.syms) ∙ cell_pushed old r d held (omega (arith, last_count_is old r held, some)))

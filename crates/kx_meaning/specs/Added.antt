@@ -4,6 +4,7 @@ use Rattle.kx_meaning.specs.Pushes.{change_last}
 use Rattle.kx_meaning.specs.Resolved.{ResolvedType, ResolvedKey, ResolvedGroup, ResolvedCell}
 use Rattle.kx_resolve.specs.Content.{Content}
 use Rattle.kx_resolve.specs.declared.rows.CellRow.{CellRow}
+use Rattle.kx_resolve.specs.declared.rows.EntryRow.{EntryRow}
 use Rattle.kx_resolve.specs.declared.rows.GroupRow.{GroupRow}
 use Rattle.kx_resolve.specs.declared.rows.KeyRow.{KeyRow}
 use Rattle.kx_resolve.specs.declared.rows.TypeRow.{TypeRow}
@@ -27,12 +28,11 @@ pub record TypeFits (c : Content) (t : ResolvedType) : Type 0 where
   pub first_entry : length c.entries < 2 ^ 32
   pub first_name : length c.names < 2 ^ 32
 
+abbrev pub with_type_row : Content → TypeRow → List EntryRow → List ℕ → Content
+with_type_row c row entries name = record c { types = c.types ++ row ∷ []; entries = c.entries ++ entries; names = c.names ++ name }
+
 abbrev pub type_added : Content → ResolvedType → Content
-type_added c t = record c {
-  types = c.types ++ next_type c t ∷ [];
-  entries = c.entries ++ t.entries;
-  names = c.names ++ t.name;
-}
+type_added c t = with_type_row c (next_type c t) t.entries t.name
 
 -- ---- A key that has no groups yet
 
@@ -52,8 +52,11 @@ pub record KeyFits (c : Content) (k : ResolvedKey) : Type 0 where
   pub first_name : length c.names < 2 ^ 32
   pub first_group : length c.groups < 2 ^ 32
 
+abbrev pub with_key_row : Content → KeyRow → List ℕ → Content
+with_key_row c row name = record c { keys = c.keys ++ row ∷ []; names = c.names ++ name }
+
 abbrev pub key_added : Content → ResolvedKey → Content
-key_added c k = record c { keys = c.keys ++ next_key c k ∷ []; names = c.names ++ k.name }
+key_added c k = with_key_row c (next_key c k) k.name
 
 -- ---- A group of the last key, that has no cells yet
 
@@ -73,8 +76,11 @@ pub record GroupFits (c : Content) : Type 0 where
   pub groups : last_count c.keys + 1 < 2 ^ 8
   pub first_cell : length c.cells < 2 ^ 32
 
+abbrev pub with_group_row : Content → GroupRow → Content
+with_group_row c row = record c { keys = change_last with_more_groups c.keys; groups = c.groups ++ row ∷ [] }
+
 abbrev pub group_added : Content → ResolvedGroup → Content
-group_added c g = record c { keys = change_last with_more_groups c.keys; groups = c.groups ++ next_group c g ∷ [] }
+group_added c g = with_group_row c (next_group c g)
 
 -- ---- A cell of the last group
 
@@ -85,5 +91,8 @@ pub record CellFits (c : Content) (d : ResolvedCell) : Type 0 where
   pub keysyms : length d.syms < 2 ^ 8
   pub first_keysym : length c.keysyms < 2 ^ 32
 
+abbrev pub with_cell_row : Content → CellRow → List ℕ → Content
+with_cell_row c row syms = record c { cells = c.cells ++ row ∷ []; keysyms = c.keysyms ++ syms }
+
 abbrev pub cell_added : Content → ResolvedCell → Content
-cell_added c d = record c { cells = c.cells ++ next_cell c d ∷ []; keysyms = c.keysyms ++ d.syms }
+cell_added c d = with_cell_row c (next_cell c d) d.syms

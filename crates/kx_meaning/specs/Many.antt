@@ -1,6 +1,6 @@
 -- Many pushes, one after another: what they make together.
 use Rattle.std.specs.Prelude.{◌≡◌, List, [], ◌∷◌, ◌++◌}
-use Rattle.std.proofs.Common.{ap, append_assoc, refl, sym, ◌∙◌}
+use Rattle.std.proofs.Common.{ap, append_assoc, sym, ◌∙◌}
 use Rattle.std.proofs.lemmas.List.{append-nil}
 use Rattle.kx_meaning.specs.Pushes.{group_with_cell, key_then_cell, key_then_group, with_cell, with_group, with_key, with_type}
 use Rattle.kx_meaning.specs.Resolved.{Resolved, ResolvedCell, ResolvedGroup, ResolvedKey, ResolvedType, nothing_resolved}

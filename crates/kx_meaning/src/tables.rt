@@ -1,7 +1,6 @@
-ghost use Rattle.std.specs.Prelude.{◌≡◌, ◌+◌, ◌<◌, ◌≤◌, ◌^◌, ◌++◌, ◌∷◌, [], IfOk, IfErr, OnOk, OnErr, length};
-ghost use Rattle.kx_meaning.specs.Added.{TypeFits, KeyFits, CellFits, next_type, next_key, next_cell, with_more_groups, last_count};
+ghost use Rattle.std.specs.Prelude.{◌≡◌, ◌+◌, ◌<◌, ◌≤◌, ◌^◌, [], IfOk, IfErr, OnOk, OnErr, length};
+ghost use Rattle.kx_meaning.specs.Added.{TypeFits, KeyFits, CellFits, next_type, next_key, next_cell, with_type_row, with_key_row, with_group_row, with_cell_row, last_count};
 ghost use Rattle.kx_meaning.specs.Faults.{IsCause};
-ghost use Rattle.kx_meaning.specs.Pushes.{change_last};
 ghost use Rattle.kx_meaning.specs.declared.fault.BuildFault.TheVariants.{Memory, TooMany};
 ghost use Rattle.kx_resolve.specs.Parts.{content_of};
 
@@ -120,7 +119,7 @@ pub(crate) fn add_type(
     name: &[u8],
     entries: &[EntryRow],
 ) -> Result<(), BuildFault>
-    ensures added { OnOk result (content_of parts.new ≡ record (content_of parts.old) { types = (content_of parts.old).types ++ row ∷ []; entries = (content_of parts.old).entries ++ entries.now; names = (content_of parts.old).names ++ name.now }) }
+    ensures added { OnOk result (content_of parts.new ≡ with_type_row (content_of parts.old) row entries.now name.now) }
     ensures fault { IfErr result (λ e. e ≡ Memory) }
     ensures unchanged { OnErr result (content_of parts.new ≡ content_of parts.old) }
 {
@@ -134,7 +133,7 @@ pub(crate) fn add_type(
 
 /// Appends a key's row and its name.
 pub(crate) fn add_key(parts: &mut Parts, row: KeyRow, name: &[u8]) -> Result<(), BuildFault>
-    ensures added { OnOk result (content_of parts.new ≡ record (content_of parts.old) { keys = (content_of parts.old).keys ++ row ∷ []; names = (content_of parts.old).names ++ name.now }) }
+    ensures added { OnOk result (content_of parts.new ≡ with_key_row (content_of parts.old) row name.now) }
     ensures fault { IfErr result (λ e. e ≡ Memory) }
     ensures unchanged { OnErr result (content_of parts.new ≡ content_of parts.old) }
 {
@@ -165,7 +164,7 @@ pub(crate) fn last_count(parts: &Parts) -> u8
 /// Appends a group's row, which is one more of the last key.
 pub(crate) fn add_group(parts: &mut Parts, row: GroupRow) -> Result<(), BuildFault>
     ensures some_key { OnOk result (0 < length (content_of parts.old).keys) }
-    ensures added { OnOk result (content_of parts.new ≡ record (content_of parts.old) { keys = change_last with_more_groups (content_of parts.old).keys; groups = (content_of parts.old).groups ++ row ∷ [] }) }
+    ensures added { OnOk result (content_of parts.new ≡ with_group_row (content_of parts.old) row) }
     ensures fault { IfErr result (λ e. IsCause e (last_count (content_of parts.old).keys + 1 < 2 ^ 8) (0 < length (content_of parts.old).keys)) }
     ensures unchanged { OnErr result (content_of parts.new ≡ content_of parts.old) }
 {
@@ -182,7 +181,7 @@ pub(crate) fn add_group(parts: &mut Parts, row: GroupRow) -> Result<(), BuildFau
 
 /// Appends a cell's row and its keysyms.
 pub(crate) fn add_cell(parts: &mut Parts, row: CellRow, keysyms: &[u32]) -> Result<(), BuildFault>
-    ensures added { OnOk result (content_of parts.new ≡ record (content_of parts.old) { cells = (content_of parts.old).cells ++ row ∷ []; keysyms = (content_of parts.old).keysyms ++ keysyms.now }) }
+    ensures added { OnOk result (content_of parts.new ≡ with_cell_row (content_of parts.old) row keysyms.now) }
     ensures fault { IfErr result (λ e. e ≡ Memory) }
     ensures unchanged { OnErr result (content_of parts.new ≡ content_of parts.old) }
 {
