@@ -64,7 +64,7 @@ module _ (r : Resolved) (whole : IsWhole r) where
   consumed_same before t None = refl
   consumed_same before t (Some e) = refl
 
-  -- a level of a group that the level's place exists in
+  -- a level that a group has shows the same in the tables
   level_same : (p : ℕ) (g : ResolvedGroup) (consumed level : ℕ) → slice_get (all_groups r.keys) p ≡ Some g → level < length g.cells
       → cell_shows (content_of_resolved r) consumed (slice_get (content_of_resolved r).cells (length (all_cells (take p (all_groups r.keys))) + level)) ≡ shown_of_cell consumed (slice_get g.cells level)
   level_same p g consumed level at within =
@@ -98,7 +98,7 @@ module _ (r : Resolved) (whole : IsWhole r) where
       ap (group_shows (content_of_resolved r) mods) (row_at group_row (all_groups r.keys) p g at)
       ∙ group_whole_same p g mods (slice_get r.types g.key_type) at refl group_whole
 
-  -- the place of a group of a key among all groups
+  -- a group that a key has shows the same in the tables
   key_group_same : (before : List ResolvedKey) (k : ResolvedKey) (after : List ResolvedKey) (j mods : ℕ) → r.keys ≡ before ++ k ∷ after → KeyIsWhole r.types k → j < length k.groups
       → group_shows (content_of_resolved r) mods (slice_get (content_of_resolved r).groups (length (all_groups before) + j)) ≡ shown_of_group r mods (slice_get k.groups j)
   key_group_same before k after j mods e key_whole within =

@@ -19,7 +19,7 @@ use Rattle.kx_resolve.specs.declared.rows.CellRow.{CellRow}
 use Rattle.kx_resolve.specs.declared.rows.KeyRow.{KeyRow}
 use Rattle.kx_resolve.specs.declared.rows.TypeRow.{TypeRow}
 
--- every thing is something
+-- no condition on a thing
 any : {X : Type 0} → X → Type 0
 any x = Unit {0}
 
