@@ -72,6 +72,7 @@ impl Gathered {
             }
             Statement::IndicatorName { .. } => Ok(()),
             Statement::Field(field) => {
+                let field = field.get();
                 if is_limit(&field.place) {
                     return Ok(());
                 }

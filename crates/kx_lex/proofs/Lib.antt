@@ -1,2 +1,2 @@
 mod Readings
-mod Strings
+pub mod Strings

@@ -57,7 +57,10 @@ fn is_blank(byte: u8) -> bool
 fn is_mark(byte: u8) -> bool
     ensures { result ≡ is_mark byte }
 {
-    b"{}[]();,.=+-*/!~".contains(&byte)
+    matches!(
+        byte,
+        b'{' | b'}' | b'[' | b']' | b'(' | b')' | b';' | b',' | b'.' | b'=' | b'+' | b'-' | b'*' | b'/' | b'!' | b'~'
+    )
 }
 
 fn is_key_byte(byte: u8) -> bool

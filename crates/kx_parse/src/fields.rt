@@ -5,6 +5,7 @@ ghost use Rattle.kx_parse.specs.Statements.{setting, bare_field, field, block_fi
 ghost use Rattle.kx_parse.specs.Others.{before_mark};
 ghost use Rattle.kx_parse.specs.Values.{close_brace};
 
+use crate::kept::Apart;
 use crate::repeated::{Repeated, is_before_mark, read_many};
 use crate::tokens::{
     Reading, front_is_key_name, front_is_mark, read_key_name, read_mark, read_word, span_between,
@@ -111,7 +112,7 @@ fn read_key_field<'a>(alloc: Global, text: &[u8], tokens: &'a [Token]) -> Readin
         return Ok((KeyField::List(list), rest));
     }
     let (field, rest) = read_field(alloc, text, tokens)?;
-    Ok((KeyField::Field(field), rest))
+    Ok((KeyField::Field(Apart::of(alloc, field)?), rest))
 }
 
 /// The fields of a key.

@@ -2,6 +2,7 @@
 #![tactic(auto)]
 
 mod fields;
+mod kept;
 mod repeated;
 mod sections;
 mod statements;
@@ -11,6 +12,7 @@ mod tokens;
 mod tree;
 mod values;
 
+pub use kept::{Apart, Bytes};
 pub use sections::{one_stop, one_tree, parse, parse_file, stops};
 pub use tree::{
     Argument, Braces, Call, Declaration, Element, Entry, Expression, Field, Flag, Index, Item,

@@ -51,7 +51,6 @@ fn read_behind<'a, R: Repeated>(
         items.push(item)?;
         rest = left;
     }
-    items.shrink_to_fit();
     Ok((Row::of(items), rest))
 }
 

@@ -4,6 +4,7 @@ ghost use Rattle.kx_parse.specs.Kinds.{front, is_mark, is_word, is_number, is_te
 ghost use Rattle.kx_parse.specs.Statements.{begins, keycode, alias, indicator_name, virtual_indicator, virtual_modifiers, key_type, optional_modifiers, interpretation, indicator, group, key, mapped_entries, modifier_map, field_statement, symbols_statement, types_statement, keycodes_statement, statement};
 
 use crate::fields::{Declarations, Entries, KeyFields, read_block, read_field, read_predicate};
+use crate::kept::Apart;
 use crate::repeated::{read_listed, read_sequence};
 use crate::tokens::{
     Reading, behind_front, front_is_key_name, front_is_keyword, front_is_mark, front_is_number,
@@ -91,7 +92,7 @@ fn read_wanted_modifiers<'a>(
     alloc: Global,
     text: &[u8],
     tokens: &'a [Token],
-) -> Reading<'a, Option<Predicate>>
+) -> Reading<'a, Option<Apart<Predicate>>>
     ensures { Gives result ((optional_modifiers text.now).read tokens.now) }
 {
     if !front_is_mark(text, b'+', tokens) {
@@ -99,7 +100,7 @@ fn read_wanted_modifiers<'a>(
     }
     let (_, rest) = read_mark(text, b'+', tokens)?;
     let (predicate, rest) = read_predicate(alloc, text, rest)?;
-    Ok((Some(predicate), rest))
+    Ok((Some(Apart::of(alloc, predicate)?), rest))
 }
 
 #[tactic(auto, unfolding(crate::specs::Statements::interpretation))]
@@ -142,6 +143,7 @@ fn read_group<'a>(alloc: Global, text: &[u8], tokens: &'a [Token]) -> Reading<'a
     let (number, rest) = read_number(text, rest)?;
     let (_, rest) = read_mark(text, b'=', rest)?;
     let (mask, rest) = read_expression(alloc, text, rest)?;
+    let mask = Apart::of(alloc, mask)?;
     Ok((Statement::Group { number, mask }, rest))
 }
 
@@ -189,7 +191,7 @@ fn read_field_statement<'a>(
     ensures { Gives result ((field_statement text.now).read tokens.now) }
 {
     let (field, rest) = read_field(alloc, text, tokens)?;
-    Ok((Statement::Field(field), rest))
+    Ok((Statement::Field(Apart::of(alloc, field)?), rest))
 }
 
 #[tactic(auto, unfolding(crate::specs::Statements::symbols_statement))]

@@ -1,11 +1,14 @@
 ghost use Rattle.std.specs.Prelude.{◌≡◌, ◌<◌, ◌^◌, ◌-◌, List, IfOk, ◌≤◌, slice_range, drop};
 ghost use Rattle.std.specs.Char.{digit_value};
+ghost use Rattle.kx_lex.specs.Strings.{text_value};
+ghost use Rattle.kx_lex.specs.declared.string.Reading.TheVariants.{Plain};
 ghost use Rattle.kx_parse.specs.Gives.{Gives};
 ghost use Rattle.kx_parse.specs.Production.{syntax_of, front_span, span_between};
 ghost use Rattle.kx_parse.specs.Kinds.{slice_of, inner_of, is_word, is_number, is_key_name, is_text, is_mark, is_keyword, front, second, digits_value, number_value};
 ghost use Rattle.kx_parse.specs.Tokens.{mark, keyword, word, key_name, text_name, measured, number};
 
-use crate::tree::{Name, Number, Row};
+use crate::kept::Bytes;
+use crate::tree::{Name, Number};
 use kx_lex::{At, Fault, Span, Token, TokenKind, begins_hex, text_bytes};
 use std::alloc::{AllocError, Global};
 
@@ -115,7 +118,7 @@ fn name_of(alloc: Global, bytes: &[u8], span: Span) -> Result<Name, AllocError>
     ensures { IfOk result (λ name. name ≡ record { bytes = bytes.now; span = span }) }
 {
     Ok(Name {
-        bytes: Row::of(Vec::from_slice(alloc, bytes)?),
+        bytes: Bytes::of(alloc, bytes)?,
         span,
     })
 }
@@ -146,13 +149,25 @@ pub fn read_key_name<'a>(alloc: Global, text: &[u8], tokens: &'a [Token]) -> Rea
     }
 }
 
+/// What text between quotes stands for.
+#[tactic(auto, using(kx_lex::proofs::Strings::plain_texts))]
+fn unescaped(alloc: Global, text: &[u8]) -> Result<Bytes, AllocError>
+    ensures { IfOk result (λ bytes. bytes ≡ text_value Plain text.now) }
+{
+    if !text.contains(&b'\\') {
+        return Bytes::of(alloc, text);
+    }
+    let bytes = text_bytes(alloc, text)?;
+    Bytes::of(alloc, bytes.as_slice())
+}
+
 #[tactic(auto, unfolding(crate::specs::Tokens::text_name))]
 pub fn read_text<'a>(alloc: Global, text: &[u8], tokens: &'a [Token]) -> Reading<'a, Name>
     ensures { Gives result ((text_name text.now).read tokens.now) }
 {
     match tokens.split_first() {
         Some((token, rest)) if is_text(token) => {
-            let bytes = Row::of(text_bytes(alloc, inner_of(text, token))?);
+            let bytes = unescaped(alloc, inner_of(text, token))?;
             let span = token.span;
             Ok((Name { bytes, span }, rest))
         }

@@ -1,3 +1,4 @@
+use crate::kept::{Apart, Bytes};
 use kx_lex::Span;
 use std::alloc::AllocError;
 use std::marker::Model;
@@ -51,7 +52,7 @@ impl<T> Row<T> {
 /// A name, a word or text: its bytes, without what encloses it, and where it stands with it.
 #[derive(Debug, Drop)]
 pub struct Name {
-    pub bytes: Row<u8>,
+    pub bytes: Bytes,
     pub span: Span,
 }
 
@@ -119,8 +120,8 @@ pub struct Index {
 #[derive(Debug, Drop)]
 pub struct Place {
     pub word: Name,
-    pub member: Option<Name>,
-    pub index: Option<Index>,
+    pub member: Option<Apart<Name>>,
+    pub index: Option<Apart<Index>>,
 }
 
 /// What an argument of a call sets.
@@ -131,7 +132,7 @@ pub enum Argument {
     /// `word = value`, `word[index] = value`
     Set {
         word: Name,
-        index: Option<Index>,
+        index: Option<Apart<Index>>,
         value: Expression,
     },
     /// A value without a name.
@@ -211,7 +212,7 @@ pub struct Field {
 /// A field of a key.
 #[derive(Debug, Drop)]
 pub enum KeyField {
-    Field(Field),
+    Field(Apart<Field>),
     List(List),
 }
 
@@ -263,7 +264,7 @@ pub enum Statement {
     /// `interpret SYMBOL + PREDICATE { .. }`
     Interpretation {
         symbol: Symbol,
-        predicate: Option<Predicate>,
+        predicate: Option<Apart<Predicate>>,
         fields: Row<Field>,
     },
     /// `indicator "NAME" { .. }`
@@ -274,7 +275,7 @@ pub enum Statement {
     /// `group NUMBER = MASK`
     Group {
         number: Number,
-        mask: Expression,
+        mask: Apart<Expression>,
     },
     /// `key <NAME> { .. }`
     Key {
@@ -287,7 +288,7 @@ pub enum Statement {
         entries: Row<Entry>,
     },
     /// A field that stands alone.
-    Field(Field),
+    Field(Apart<Field>),
 }
 
 /// How a statement or an include joins what stands before it.
@@ -368,7 +369,7 @@ impl Item {
             Item::Statement {
                 statement: Statement::Field(field),
                 ..
-            } => field.place.word.span,
+            } => field.get().place.word.span,
             Item::Statement { first, .. } => *first,
         }
     }

@@ -4,6 +4,7 @@ ghost use Rattle.kx_parse.specs.Shrinks.{production-shrinks};
 ghost use Rattle.kx_parse.specs.Kinds.{front};
 ghost use Rattle.kx_parse.specs.Values.{symbol, sign_of, is_sign, sign, signed_read, term, operation, operation-least, argument-least, part-least, element-least, bare_argument, expression, optional_index, index, optional_member, place, begins_set, set_argument, off_argument, argument, begins_call, call, part, braces, element, list, value};
 
+use crate::kept::Apart;
 use crate::repeated::{Repeated, read_listed, read_many};
 use crate::tokens::{
     Reading, behind_front, front_is_key_name, front_is_mark, front_is_number, front_is_text,
@@ -161,14 +162,14 @@ fn read_optional_index<'a>(
     alloc: Global,
     text: &[u8],
     tokens: &'a [Token],
-) -> Reading<'a, Option<Index>>
+) -> Reading<'a, Option<Apart<Index>>>
     ensures { Gives result ((optional_index text.now).read tokens.now) }
 {
     if !front_is_mark(text, b'[', tokens) {
         return Ok((None, tokens));
     }
     let (index, rest) = read_index(alloc, text, tokens)?;
-    Ok((Some(index), rest))
+    Ok((Some(Apart::of(alloc, index)?), rest))
 }
 
 #[tactic(auto, unfolding(crate::specs::Values::member))]
@@ -176,7 +177,7 @@ fn read_optional_member<'a>(
     alloc: Global,
     text: &[u8],
     tokens: &'a [Token],
-) -> Reading<'a, Option<Name>>
+) -> Reading<'a, Option<Apart<Name>>>
     ensures { Gives result ((optional_member text.now).read tokens.now) }
 {
     if !front_is_mark(text, b'.', tokens) {
@@ -184,7 +185,7 @@ fn read_optional_member<'a>(
     }
     let (_, rest) = read_mark(text, b'.', tokens)?;
     let (name, rest) = read_word(alloc, text, rest)?;
-    Ok((Some(name), rest))
+    Ok((Some(Apart::of(alloc, name)?), rest))
 }
 
 #[tactic(auto, unfolding(crate::specs::Values::place))]

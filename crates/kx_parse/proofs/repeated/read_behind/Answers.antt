@@ -18,4 +18,4 @@ items-preserved g c =
     (SoFar-more (g.R.Repeated.test c.args.text.now) (g.R.Repeated.reading c.args.text.now) (g.met.R.Repeated.shrinks c.args.text.now) c.args.start.items c.args.tokens.now c.items.rest.now c.items.items.items c.in_ok-item.item c.in_ok-item.left.now c.items.invariant (search rules) c.in_ok-item.ensures)
 
 pub returns : goal.returns
-returns g c = rw (c.of.ensures, c.shrink_to_fit.ensures.items) (SoFar-last (g.R.Repeated.test c.args.text.now) (g.R.Repeated.reading c.args.text.now) (g.met.R.Repeated.shrinks c.args.text.now) c.args.start.items c.args.tokens.now c.items.rest.now c.items.items.items c.items.invariant (search rules))
+returns g c = rw c.of.ensures (SoFar-last (g.R.Repeated.test c.args.text.now) (g.R.Repeated.reading c.args.text.now) (g.met.R.Repeated.shrinks c.args.text.now) c.args.start.items c.args.tokens.now c.items.rest.now c.items.items.items c.items.invariant (search rules))
