@@ -59,7 +59,7 @@ fn begins_include(text: &[u8], tokens: &[Token]) -> bool
     ensures { result ≡ begins_include text.now tokens.now }
 {
     match tokens.first() {
-        Some(token) => join_of(text, token).is_some() && front_is_text(behind_front(tokens)),
+        Some(token) => front_is_text(behind_front(tokens)) && join_of(text, token).is_some(),
         None => false,
     }
 }
@@ -70,10 +70,10 @@ fn begins_moded(text: &[u8], tokens: &[Token]) -> bool
     let behind = behind_front(tokens);
     match tokens.first() {
         Some(token) => {
-            mode_of(text, token).is_some()
-                && (front_is_word(behind)
-                    || front_is_key_name(behind)
-                    || front_is_mark(text, b'!', behind))
+            (front_is_word(behind)
+                || front_is_key_name(behind)
+                || front_is_mark(text, b'!', behind))
+                && mode_of(text, token).is_some()
         }
         None => false,
     }

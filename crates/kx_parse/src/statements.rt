@@ -1,7 +1,7 @@
-ghost use Rattle.std.specs.Prelude.{◌≡◌, ◌||◌, codes};
+ghost use Rattle.std.specs.Prelude.{◌≡◌, ◌&&◌, ◌||◌, codes};
 ghost use Rattle.kx_parse.specs.Gives.{Gives};
 ghost use Rattle.kx_parse.specs.Kinds.{front, is_mark, is_word, is_number, is_text, is_key_name, is_keyword};
-ghost use Rattle.kx_parse.specs.Statements.{begins, keycode, alias, indicator_name, virtual_indicator, virtual_modifiers, key_type, optional_modifiers, interpretation, indicator, group, key, mapped_entries, modifier_map, field_statement, symbols_statement, types_statement, keycodes_statement, statement};
+ghost use Rattle.kx_parse.specs.Statements.{keycode, alias, indicator_name, virtual_indicator, virtual_modifiers, key_type, optional_modifiers, interpretation, indicator, group, key, mapped_entries, modifier_map, field_statement, symbols_statement, types_statement, keycodes_statement, statement};
 
 use crate::fields::{Declarations, Entries, KeyFields, read_block, read_field, read_predicate};
 use crate::kept::Apart;
@@ -194,6 +194,14 @@ fn read_field_statement<'a>(
     Ok((Statement::Field(Apart::of(alloc, field)?), rest))
 }
 
+/// Whether this word stands at the front, where what stands behind it is right. That is told first,
+/// being cheaper to tell.
+fn begins(text: &[u8], word: &[u8], tokens: &[Token], is_right_behind: bool) -> bool
+    ensures { result ≡ (front (is_keyword text.now word.now) tokens.now && is_right_behind) }
+{
+    is_right_behind && front_is_keyword(text, word, tokens)
+}
+
 #[tactic(auto, unfolding(crate::specs::Statements::symbols_statement))]
 fn read_symbols_statement<'a>(
     alloc: Global,
@@ -203,10 +211,10 @@ fn read_symbols_statement<'a>(
     ensures { Gives result ((symbols_statement text.now).read tokens.now) }
 {
     let behind = behind_front(tokens);
-    if front_is_keyword(text, b"key", tokens) && front_is_key_name(behind) {
+    if begins(text, b"key", tokens, front_is_key_name(behind)) {
         return read_key(alloc, text, tokens);
     }
-    if front_is_keyword(text, b"modifier_map", tokens) && front_is_word(behind) {
+    if begins(text, b"modifier_map", tokens, front_is_word(behind)) {
         return read_modifier_map(alloc, text, tokens);
     }
     read_field_statement(alloc, text, tokens)
@@ -230,19 +238,19 @@ fn read_types_statement<'a>(
     ensures { Gives result ((types_statement text.now (symbols_statement text.now)).read tokens.now) }
 {
     let behind = behind_front(tokens);
-    if front_is_keyword(text, b"virtual_modifiers", tokens) && front_is_word(behind) {
+    if begins(text, b"virtual_modifiers", tokens, front_is_word(behind)) {
         return read_virtual_modifiers(alloc, text, tokens);
     }
-    if front_is_keyword(text, b"type", tokens) && front_is_text(behind) {
+    if begins(text, b"type", tokens, front_is_text(behind)) {
         return read_key_type(alloc, text, tokens);
     }
-    if front_is_keyword(text, b"interpret", tokens) && front_is_symbol(behind) {
+    if begins(text, b"interpret", tokens, front_is_symbol(behind)) {
         return read_interpretation(alloc, text, tokens);
     }
-    if front_is_keyword(text, b"indicator", tokens) && front_is_text(behind) {
+    if begins(text, b"indicator", tokens, front_is_text(behind)) {
         return read_indicator(alloc, text, tokens);
     }
-    if front_is_keyword(text, b"group", tokens) && front_is_number(behind) {
+    if begins(text, b"group", tokens, front_is_number(behind)) {
         return read_group(alloc, text, tokens);
     }
     read_symbols_statement(alloc, text, tokens)
@@ -256,13 +264,13 @@ pub fn read_statement<'a>(alloc: Global, text: &[u8], tokens: &'a [Token]) -> Re
     if front_is_key_name(tokens) {
         return read_keycode(alloc, text, tokens);
     }
-    if front_is_keyword(text, b"alias", tokens) && front_is_key_name(behind) {
+    if begins(text, b"alias", tokens, front_is_key_name(behind)) {
         return read_alias(alloc, text, tokens);
     }
     if front_is_keyword(text, b"virtual", tokens) && front_is_keyword(text, b"indicator", behind) {
         return read_virtual_indicator(alloc, text, tokens);
     }
-    if front_is_keyword(text, b"indicator", tokens) && front_is_number(behind) {
+    if begins(text, b"indicator", tokens, front_is_number(behind)) {
         return read_indicator_name(alloc, text, tokens);
     }
     read_types_statement(alloc, text, tokens)
