@@ -1,3 +1,5 @@
+ghost use Rattle.std.specs.Prelude.{◌≡◌, take};
+
 use std::alloc::{AllocError, Global};
 use std::marker::Model;
 
@@ -43,12 +45,18 @@ const MOST_SHORT_BYTES: usize = 22;
 
 #[derive(Debug, Drop)]
 enum Kept {
-    /// The first `len` of the bytes.
+    /// The first `len` of the bytes; those behind them mean nothing.
     Short {
         len: u8,
         bytes: [u8; MOST_SHORT_BYTES],
     },
     Long(Box<Vec<u8>>),
+}
+
+fn front_of(bytes: &[u8], len: usize) -> &[u8]
+    ensures { result.now ≡ take len bytes.now }
+{
+    bytes.get(..len).unwrap_or(bytes)
 }
 
 /// The bytes of a name, of which few take no allocation; seen as their list.
@@ -67,7 +75,7 @@ impl Model for Bytes {
 }
 
 impl Bytes {
-    ghost use Rattle.std.specs.Prelude.{◌≡◌, IfOk};
+    ghost use Rattle.std.specs.Prelude.{◌≡◌, ◌≤◌, IfOk, take};
 
     /// These bytes.
     ///
@@ -84,12 +92,34 @@ impl Bytes {
         }
         let mut short = [0; MOST_SHORT_BYTES];
         short[..bytes.len()].copy_from_slice(bytes);
-        Ok(Bytes {
+        Ok(Bytes::short(&short, bytes.len()))
+    }
+
+    /// The first `len` of these bytes, or all where they are fewer. Where a few of many are wanted, a
+    /// fixed number is copied, which is faster.
+    ///
+    /// # Errors
+    /// Where a growth is refused.
+    pub fn front(alloc: Global, bytes: &[u8], len: usize) -> Result<Bytes, AllocError>
+        ensures { IfOk result (λ kept. kept ≡ take len bytes.now) }
+    {
+        match bytes.first_chunk::<MOST_SHORT_BYTES>() {
+            Some(chunk) if len <= MOST_SHORT_BYTES => Ok(Bytes::short(chunk, len)),
+            _ => Bytes::of(alloc, front_of(bytes, len)),
+        }
+    }
+
+    /// The first `len` of these bytes.
+    fn short(bytes: &[u8; MOST_SHORT_BYTES], len: usize) -> Bytes
+        requires { len ≤ 22 }
+        ensures { result ≡ take len bytes.now }
+    {
+        Bytes {
             kept: Kept::Short {
-                len: bytes.len() as u8,
-                bytes: short,
+                len: len as u8,
+                bytes: *bytes,
             },
-        })
+        }
     }
 
     /// The bytes in order.
@@ -97,7 +127,7 @@ impl Bytes {
         ensures { result.now ≡ self.now }
     {
         match &self.kept {
-            Kept::Short { len, bytes } => bytes.get(..usize::from(*len)).unwrap_or(bytes),
+            Kept::Short { len, bytes } => front_of(bytes, usize::from(*len)),
             Kept::Long(bytes) => bytes.as_slice(),
         }
     }

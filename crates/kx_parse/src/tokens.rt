@@ -114,12 +114,33 @@ pub fn read_keyword<'a>(text: &[u8], wanted: &[u8], tokens: &'a [Token]) -> Read
     }
 }
 
-fn name_of(alloc: Global, bytes: &[u8], span: Span) -> Result<Name, AllocError>
-    ensures { IfOk result (λ name. name ≡ record { bytes = bytes.now; span = span }) }
+/// The bytes of a text from `start` to `stop`.
+fn bytes_between(alloc: Global, text: &[u8], start: usize, stop: usize) -> Result<Bytes, AllocError>
+    ensures { IfOk result (λ bytes. bytes ≡ slice_range text.now start stop) }
 {
+    let front = text.get(start..).unwrap_or(&[]);
+    Bytes::front(alloc, front, stop.saturating_sub(start))
+}
+
+fn word_of(alloc: Global, text: &[u8], token: &Token) -> Result<Name, AllocError>
+    ensures { IfOk result (λ name. name ≡ record { bytes = slice_of text.now token.now; span = token.now.span }) }
+{
+    let start = token.span.start as usize;
+    let stop = token.span.stop as usize;
     Ok(Name {
-        bytes: Bytes::of(alloc, bytes)?,
-        span,
+        bytes: bytes_between(alloc, text, start, stop)?,
+        span: token.span,
+    })
+}
+
+fn key_name_of(alloc: Global, text: &[u8], token: &Token) -> Result<Name, AllocError>
+    ensures { IfOk result (λ name. name ≡ record { bytes = inner_of text.now token.now; span = token.now.span }) }
+{
+    let start = token.span.start as usize + 1;
+    let stop = (token.span.stop as usize).saturating_sub(1);
+    Ok(Name {
+        bytes: bytes_between(alloc, text, start, stop)?,
+        span: token.span,
     })
 }
 
@@ -128,10 +149,7 @@ pub fn read_word<'a>(alloc: Global, text: &[u8], tokens: &'a [Token]) -> Reading
     ensures { Gives result ((word text.now).read tokens.now) }
 {
     match tokens.split_first() {
-        Some((token, rest)) if is_word(token) => Ok((
-            name_of(alloc, slice_of(text, token), token.span)?,
-            rest,
-        )),
+        Some((token, rest)) if is_word(token) => Ok((word_of(alloc, text, token)?, rest)),
         _ => Err(syntax(text, tokens)),
     }
 }
@@ -141,10 +159,7 @@ pub fn read_key_name<'a>(alloc: Global, text: &[u8], tokens: &'a [Token]) -> Rea
     ensures { Gives result ((key_name text.now).read tokens.now) }
 {
     match tokens.split_first() {
-        Some((token, rest)) if is_key_name(token) => Ok((
-            name_of(alloc, inner_of(text, token), token.span)?,
-            rest,
-        )),
+        Some((token, rest)) if is_key_name(token) => Ok((key_name_of(alloc, text, token)?, rest)),
         _ => Err(syntax(text, tokens)),
     }
 }
