@@ -12,7 +12,7 @@ use crate::keysyms::{Reading, Standing};
 use crate::levels::{Levels, read_levels};
 use ks_core::{NameTable, Notes};
 use kx_lex::Fault;
-use kx_parse::{Expression, Field, Index, KeyField, List as Listed, Place, Setting, Value};
+use kx_parse::{Apart, Expression, Field, Index, KeyField, List as Listed, Place, Setting, Value};
 use std::alloc::{AllocError, Global};
 
 /// A key has at most this many groups.
@@ -120,7 +120,7 @@ fn numbered_group(
 fn group_for(
     reading: Reading,
     lists: &[Option<Levels>],
-    index: &Option<Index>,
+    index: &Option<Apart<Index>>,
     list: &Listed,
 ) -> Result<usize, Fault>
     ensures small { IfOk result (λ group. group < 32) }
@@ -129,7 +129,7 @@ fn group_for(
     ensures fault { IfErr result (λ e. Contains (Memory ∷ place_faults reading.file lists.now (index.now) list.now) e) }
 {
     match index {
-        Some(index) => indexed_group(reading, lists, list, &index.value),
+        Some(index) => indexed_group(reading, lists, list, &index.get().value),
         None => {
             let group = free_group(lists);
             if group >= MOST_GROUPS {
@@ -146,7 +146,7 @@ fn add_list(
     names: &NameTable,
     reading: Reading,
     standing: Standing,
-    index: &Option<Index>,
+    index: &Option<Apart<Index>>,
     list: &Listed,
     lists: &mut Vec<Option<Levels>>,
     notes: &mut Notes,
@@ -223,6 +223,7 @@ fn add_field(
             )
         }
         KeyField::Field(field) => {
+            let field = field.get();
             if !is_symbols(&field.place) {
                 return Err(Fault::UnknownField(reading.at(field.place.word.span)));
             }

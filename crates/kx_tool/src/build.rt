@@ -60,10 +60,13 @@ fn small(count: usize) -> u32 {
 
 /// How many groups a key has: up to the last that has a level.
 fn group_count(key: &KeyRecord) -> usize {
-    match (0..MOST_GROUPS).rev().find(|group| key.width(*group) > 0) {
-        Some(group) => group + 1,
-        None => 0,
+    let mut count = 0;
+    for group in 0..MOST_GROUPS {
+        if key.width(group) > 0 {
+            count = group + 1;
+        }
     }
+    count
 }
 
 /// The group whose content a group takes: the first's where it has no level of its own.

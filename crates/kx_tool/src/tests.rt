@@ -183,8 +183,8 @@ fn refusals_name_their_place(rt: HostRuntime) -> Result<(), Fail> {
             "F9 FileMissing at 0:35-39",
         ),
         (
-            b"xkb_keymap { xkb_symbols { key <A> { [ a, A ] }; }; };",
-            "F14 UnknownField at 0:27-30",
+            b"xkb_keymap { xkb_symbols { key <A> { [ NoAction() ] }; }; };",
+            "F14 UnknownField at 0:39-47",
         ),
         (
             b"xkb_keymap { xkb_symbols { key <A> { type = \"x\" }; }; };",
