@@ -160,6 +160,7 @@ code-of-name (p ∷ ps) code name d h = by (code == p.code) (unsigned_Decides co
     other : (b : Bool) → (b ≡ true → name ≡ p.name) → code_in ps name ≡ Some code → cond b (Some p.code) (code_in ps name) ≡ Some code
     other true same g = absurd (false≢true (sym (no-first (list_any (shares p) ps) (distinct ps) d) ∙ code-any name code p ps (sym (same refl)) g))
     other false same g = g
+
     by : (b : Bool) → (b ≡ true → code ≡ p.code) → (name_in ps code ≡ Some name → code_in ps name ≡ Some code) → cond b (Some p.name) (name_in ps code) ≡ Some name → cond (bytes_eq name p.name) (Some p.code) (code_in ps name) ≡ Some code
     by true same rest h = ap (λ b. cond b (Some p.code) (code_in ps name)) ((bytes_eq-Decides name p.name).1 (sym (ap (λ o. unwrap_or o name) h))) ∙ ap Some (sym (same refl))
     by false same rest h = other (bytes_eq name p.name) (bytes_eq-Decides name p.name).0 (rest h)
@@ -171,6 +172,7 @@ name-of-code (p ∷ ps) code name d h = by (bytes_eq name p.name) (bytes_eq-Deci
     other : (b : Bool) → (b ≡ true → code ≡ p.code) → name_in ps code ≡ Some name → cond b (Some p.name) (name_in ps code) ≡ Some name
     other true same g = absurd (false≢true (sym (no-first (list_any (shares p) ps) (distinct ps) d) ∙ name-any code name p ps (sym (same refl)) g))
     other false same g = g
+
     by : (b : Bool) → (b ≡ true → name ≡ p.name) → (code_in ps name ≡ Some code → name_in ps code ≡ Some name) → cond b (Some p.code) (code_in ps name) ≡ Some code → cond (code == p.code) (Some p.name) (name_in ps code) ≡ Some name
     by true same rest h = ap (λ b. cond b (Some p.name) (name_in ps code)) ((unsigned_Decides code p.code).1 (sym (ap (λ o. unwrap_or o code) h))) ∙ ap Some (sym (same refl))
     by false same rest h = other (code == p.code) (unsigned_Decides code p.code).0 (rest h)

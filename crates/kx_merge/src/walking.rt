@@ -41,7 +41,16 @@ pub fn merge<C, R: Fields<C>>(
     let mut section = 0;
     let mut left = library.sections_in(0);
     'sections: while let Some((first, rest)) = left.split_first() {
-        merge_section::<C, R>(alloc, context, library, kind, section, first, &mut records, notes)?;
+        merge_section::<C, R>(
+            alloc,
+            context,
+            library,
+            kind,
+            section,
+            first,
+            &mut records,
+            notes,
+        )?;
         section += 1;
         left = rest;
     }
@@ -69,7 +78,9 @@ fn merge_section<C, R: Fields<C>>(
         return Ok(());
     }
     let place = Place { file: 0, section };
-    merge_map::<C, R>(alloc, context, library, kind, MOST_MAPS, place, records, notes)
+    merge_map::<C, R>(
+        alloc, context, library, kind, MOST_MAPS, place, records, notes,
+    )
 }
 
 /// What the items of a map make of records; includes in it are nested less deep than `depth`.
@@ -205,7 +216,16 @@ fn merge_parts<C, R: Fields<C>>(
 {
     let mut joined = IndexMap::new(alloc);
     'parts: for part in parts {
-        merge_part::<C, R>(alloc, context, library, kind, depth, part, &mut joined, notes)?;
+        merge_part::<C, R>(
+            alloc,
+            context,
+            library,
+            kind,
+            depth,
+            part,
+            &mut joined,
+            notes,
+        )?;
     }
     Ok(joined)
 }
@@ -255,7 +275,16 @@ fn merge_found<C, R: Fields<C>>(
         None => Ok(IndexMap::new(alloc)),
         Some(place) => {
             let mut records = IndexMap::new(alloc);
-            merge_map::<C, R>(alloc, context, library, kind, depth, place, &mut records, notes)?;
+            merge_map::<C, R>(
+                alloc,
+                context,
+                library,
+                kind,
+                depth,
+                place,
+                &mut records,
+                notes,
+            )?;
             Ok(records)
         }
     }
