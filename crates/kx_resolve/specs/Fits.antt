@@ -5,7 +5,7 @@ use Rattle.std.proofs.lemmas.List.Sums.{sum_by-le}
 use Rattle.std.proofs.lemmas.Option.{slice_get_cases, slice_get-get_or}
 use Rattle.kx_resolve.specs.Content.{Content, greatest_groups}
 use Rattle.kx_resolve.specs.Fit.{CountsFit}
-use Rattle.kx_resolve.specs.Sound.{Sound, KeyHolds, IndicatorHolds, GroupNameHolds}
+use Rattle.kx_resolve.specs.Sound.{CountsHold, Sound, KeyHolds, IndicatorHolds, GroupNameHolds}
 use Rattle.kx_resolve.specs.declared.rows.KeyRow.{KeyRow}
 
 -- a table whose rows stand at places below a limit
@@ -16,20 +16,28 @@ short_table xs limit low =
       | inr past ↦ past.0
     ]
 
-pub sound_fits : (c : Content) → Sound c → CountsFit c
-sound_fits c sound = record {
-  types = sound.counts.types;
-  entries = sound.counts.entries_fit;
-  keys = sound.counts.keys;
+-- counts that hold, where there are few indicators, few group names and few groups a key
+pub few_fit : (c : Content) → CountsHold c → length c.indicators ≤ 32 → length c.group_names ≤ 32 → ((i : ℕ) (k : KeyRow) → i < length c.keys → slice_get c.keys i ≡ Some k → k.groups ≤ 32) → CountsFit c
+few_fit c counts indicators group_names each = record {
+  types = counts.types;
+  entries = counts.entries_fit;
+  keys = counts.keys;
   groups =
-      let most : sum_by (λ k. k.groups) c.keys ≤ length c.keys * 32 = sum_by-le (λ k. k.groups) 32 c.keys (λ i d within. let holds : KeyHolds c i (get_or c.keys i d) = sound.keys i (get_or c.keys i d) (slice_get-get_or c.keys i d within) in holds.groups) in
-      omega (arith, most, sound.counts.groups, sound.counts.keys);
-  cells = sound.counts.cells_fit;
-  keysyms = sound.counts.keysyms_fit;
-  indicators = let few : length c.indicators ≤ 32 = short_table c.indicators 32 (λ d at. let holds : IndicatorHolds c 32 d = sound.indicators 32 d at in holds.place) in omega arith;
-  group_names = let few : length c.group_names ≤ 32 = short_table c.group_names 32 (λ n at. let holds : GroupNameHolds c 32 n = sound.group_names 32 n at in holds.place) in omega arith;
-  names = sound.counts.names_fit;
+      let most : sum_by (λ k. k.groups) c.keys ≤ length c.keys * 32 = sum_by-le (λ k. k.groups) 32 c.keys (λ i d within. each i (get_or c.keys i d) within (slice_get-get_or c.keys i d within)) in
+      omega (arith, most, counts.groups, counts.keys);
+  cells = counts.cells_fit;
+  keysyms = counts.keysyms_fit;
+  indicators = omega arith;
+  group_names = omega arith;
+  names = counts.names_fit;
 }
+
+pub sound_fits : (c : Content) → Sound c → CountsFit c
+sound_fits c sound =
+    few_fit c sound.counts
+    (short_table c.indicators 32 (λ d at. let holds : IndicatorHolds c 32 d = sound.indicators 32 d at in holds.place))
+    (short_table c.group_names 32 (λ n at. let holds : GroupNameHolds c 32 n = sound.group_names 32 n at in holds.place))
+    (λ i k within at. let holds : KeyHolds c i k = sound.keys i k at in holds.groups)
 
 few_groups : (ks : List KeyRow) → ((i : ℕ) (k : KeyRow) → slice_get ks i ≡ Some k → k.groups ≤ 32) → greatest_groups ks ≤ 32
 few_groups [] each = omega arith

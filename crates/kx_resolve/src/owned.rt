@@ -1,10 +1,10 @@
-ghost use Rattle.std.specs.Prelude.{◌≡◌, ◌<◌, ◌↔◌, IfOk, IfErr, IfSome, IfNone, OnOk, OnErr, OnSome};
+ghost use Rattle.std.specs.Prelude.{◌≡◌, ◌<◌, ◌↔◌, IsTrue, IfOk, IfErr, OnOk, OnErr};
 ghost use Rattle.kx_resolve.specs.Broken.{Breaks};
 ghost use Rattle.kx_resolve.specs.Fit.{CountsFit};
 ghost use Rattle.kx_resolve.specs.Parts.{content_of};
 ghost use Rattle.kx_resolve.specs.Sound.{Sound};
 
-use crate::check::{Broken, check};
+use crate::check::{Broken, Part, check};
 use crate::rows::{CellRow, EntryRow, GroupNameRow, GroupRow, IndicatorRow, KeyRow, TypeRow};
 use crate::tables::{Counts, Rows, Tables, most_groups};
 use std::marker::Model;
@@ -22,6 +22,53 @@ pub struct Parts {
     pub group_names: Vec<GroupNameRow>,
     /// The bytes of all names: the types', the keys', the indicators' and the groups'.
     pub names: Vec<u8>,
+}
+
+/// Whether counts fit the numbers in which they are told.
+fn counts_fit(parts: &Parts) -> bool
+    ensures { IsTrue result ↔ CountsFit (content_of parts.now) }
+{
+    parts.types.len() < 1 << 16
+        && parts.entries.len() < 1 << 32
+        && parts.keys.len() < 1 << 16
+        && parts.groups.len() < 1 << 32
+        && parts.cells.len() < 1 << 32
+        && parts.keysyms.len() < 1 << 32
+        && parts.indicators.len() < 1 << 16
+        && parts.group_names.len() < 1 << 16
+        && parts.names.len() < 1 << 32
+}
+
+/// A record that breaks a rule, of tables whose counts don't fit.
+fn unfit(parts: &Parts) -> Broken
+    requires { CountsFit (content_of parts.now) → ⊥ }
+    ensures { Breaks (content_of parts.now) result.part result.index }
+{
+    if parts.indicators.len() > 32 {
+        return Broken {
+            part: Part::Indicator,
+            index: 32,
+        };
+    }
+    if parts.group_names.len() > 32 {
+        return Broken {
+            part: Part::GroupName,
+            index: 32,
+        };
+    }
+    if parts.keys.len() >= 1 << 16 {
+        return Broken::HEADER;
+    }
+    // Where no key has too many groups, all groups of so few keys are counted in 32 bits.
+    for index in 0..parts.keys.len() {
+        if parts.keys[index].groups > 32 {
+            return Broken {
+                part: Part::Key,
+                index: index as u32,
+            };
+        }
+    }
+    Broken::HEADER
 }
 
 /// Tables whose counts fit.
@@ -44,22 +91,16 @@ impl Model for Counted {
 }
 
 impl Counted {
-    /// The tables, where their counts fit.
-    fn new(parts: Parts) -> Option<Counted>
-        ensures value { IfSome result (λ t. t ≡ content_of parts) }
-        ensures some { OnSome result (CountsFit (content_of parts)) }
-        ensures none { IfNone result (CountsFit (content_of parts) → ⊥) }
+    /// The tables, where their counts fit; else a record that breaks a rule.
+    fn new(parts: Parts) -> Result<Counted, Broken>
+        ensures value { IfOk result (λ t. t ≡ content_of parts) }
+        ensures ok { OnOk result (CountsFit (content_of parts)) }
+        ensures broken { IfErr result (λ b. Breaks (content_of parts) b.part b.index) }
     {
-        let fits = parts.types.len() < 1 << 16
-            && parts.entries.len() < 1 << 32
-            && parts.keys.len() < 1 << 16
-            && parts.groups.len() < 1 << 32
-            && parts.cells.len() < 1 << 32
-            && parts.keysyms.len() < 1 << 32
-            && parts.indicators.len() < 1 << 16
-            && parts.group_names.len() < 1 << 16
-            && parts.names.len() < 1 << 32;
-        if fits { Some(Counted { parts }) } else { None }
+        if !counts_fit(&parts) {
+            return Err(unfit(&parts));
+        }
+        Ok(Counted { parts })
     }
 }
 
@@ -144,11 +185,10 @@ impl Owned {
     pub fn new(parts: Parts) -> Result<Owned, Broken>
         ensures value { IfOk result (λ o. o ≡ content_of parts) }
         ensures sound { OnOk result (Sound (content_of parts)) }
+        ensures broken { IfErr result (λ b. Breaks (content_of parts) b.part b.index) }
         ensures unsound { OnErr result (Sound (content_of parts) → ⊥) }
     {
-        let Some(rows) = Counted::new(parts) else {
-            return Err(Broken::HEADER);
-        };
+        let rows = Counted::new(parts)?;
         check(&rows)?;
         let most_groups = most_groups(&rows);
         Ok(Owned { rows, most_groups })

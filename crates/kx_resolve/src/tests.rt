@@ -84,3 +84,32 @@ fn refuses_unsound_tables(rt: HostRuntime) -> Result<(), Fail> {
     assert_eq!(rt; refused, Some(key_0));
     Ok(())
 }
+
+/// The tables of one key, with so many indicators.
+fn with_indicators(alloc: Global, count: u32) -> Result<Parts, AllocError> {
+    let mut parts = one_key(alloc, 38)?;
+    for _ in 0..count {
+        parts.indicators.push(IndicatorRow {
+            mods: Mods::NONE,
+            mod_states: States::from_mask(0),
+            group_states: States::from_mask(0),
+            groups: 0,
+            name_length: 0,
+            first_name: 10,
+        })?;
+    }
+    Ok(parts)
+}
+
+#[test]
+fn names_the_indicator_past_the_last_place(rt: HostRuntime) -> Result<(), Fail> {
+    let indicator_32 = Broken {
+        part: Part::Indicator,
+        index: 32,
+    };
+    for count in [33, 65_536] {
+        let refused = Owned::new(with_indicators(rt.alloc(), count)?).err();
+        assert_eq!(rt; refused, Some(indicator_32), "{count}");
+    }
+    Ok(())
+}
