@@ -6,8 +6,8 @@ use Rattle.kx_lex.specs.declared.fault.Fault.TheVariants.{TooMany, CodeRange, Un
 use Rattle.kx_lex.specs.declared.token.Span.{Span}
 use Rattle.kx_parse.specs.declared.tree.Item.{Item}
 use Rattle.kx_parse.specs.declared.tree.Item.TheVariants.{Include, Statement}
-use Rattle.kx_parse.specs.declared.tree.Name.{Name}
-use Rattle.kx_parse.specs.declared.tree.Number.{Number}
+use Rattle.kx_lex.specs.declared.name.Name.{Name}
+use Rattle.kx_lex.specs.declared.name.Number.{Number}
 use Rattle.kx_parse.specs.declared.tree.Place.{Place as FieldPlace}
 use Rattle.kx_parse.specs.declared.tree.Statement.{Statement as Said}
 use Rattle.kx_parse.specs.declared.tree.Statement.TheVariants.{Keycode, Alias, IndicatorName, Field}

@@ -9,7 +9,7 @@ use Rattle.kx_parse.specs.declared.tree.Flag.TheVariants as flags
 use Rattle.kx_parse.specs.declared.tree.Item.{Item}
 use Rattle.kx_parse.specs.declared.tree.Kind.{Kind}
 use Rattle.kx_parse.specs.declared.tree.Kind.TheVariants.{Keycodes, Types, Compat, Symbols, Geometry}
-use Rattle.kx_parse.specs.declared.tree.Name.{Name}
+use Rattle.kx_lex.specs.declared.name.Name.{Name}
 use Rattle.kx_parse.specs.declared.tree.Section.{Section}
 use Rattle.kx_parse.specs.declared.tree.Tree.{Tree}
 use Rattle.kx_include.specs.IncludeText.{Part}

@@ -1,2 +1,5 @@
 mod Readings
 pub mod Strings
+mod Digits
+mod Rounds
+mod Takes

@@ -2,3 +2,15 @@ pub mod Bytes
 pub mod Pieces
 pub mod Reading
 pub mod Strings
+pub mod Kept
+pub mod Kinds
+pub mod Stops
+pub mod Reasons
+pub mod Laws
+pub mod Production
+pub mod Spelling
+pub mod Others
+pub mod Tokens
+pub mod Gives
+pub mod Shrinks
+pub mod Lists

@@ -1,14 +1,21 @@
-//! Keymap text as tokens with spans, and the faults that a compiler of keymap text answers.
+//! Keymap text as tokens with spans, what is read of single tokens and of rows of values, and the
+//! faults that a compiler of keymap text answers.
 #![tactic(auto)]
 
 pub mod fault;
+pub mod kept;
+pub mod name;
+pub mod repeated;
 pub mod scan;
 pub mod string;
 #[cfg(test)]
 mod tests;
 pub mod token;
+pub mod tokens;
 
 pub use fault::{At, Fault};
+pub use kept::{Apart, Bytes};
+pub use name::{Name, Number, Row};
 pub use scan::{MOST_TEXT_BYTES, begins_hex, lex, one_reading};
 pub use string::text_bytes;
 pub use token::{Span, Token, TokenKind};

@@ -1,4 +1,16 @@
-use crate::{Fault, TokenKind, lex};
+ghost use Rattle.kx_lex.specs.Kinds.{front, is_mark};
+ghost use Rattle.kx_lex.specs.Shrinks.{production-shrinks};
+ghost use Rattle.kx_lex.specs.Tokens.{mark, mark-least, semicolon};
+
+use crate::repeated::{Repeated, is_before_mark, read_listed, read_many, read_sequence};
+use crate::tokens::{
+    Reading, behind_front, front_is_key_name, front_is_keyword, front_is_mark, front_is_number,
+    front_is_text, front_is_word, front_span, is_keyword, is_mark, is_number, is_word,
+    read_key_name, read_keyword, read_mark, read_number, read_text, read_word, span_between,
+    syntax,
+};
+use crate::{Apart, Bytes, Fault, Name, Row, Span, Token, TokenKind, lex};
+use std::alloc::Global;
 use std::process::Abort;
 use std::test::Fail;
 
@@ -101,5 +113,194 @@ fn faults_print_as_lines(rt: HostRuntime) -> Result<(), Fail> {
         format!(in rt.alloc(); "{}", Fault::Memory)?.as_str(),
         "F1 Memory"
     );
+    Ok(())
+}
+
+#[test]
+fn an_item_goes_before_the_others(rt: HostRuntime) -> Result<(), Fail> {
+    let row = Row::of(vec![in rt.alloc(); 2u8, 3]?).behind(1)?;
+    assert_eq!(rt; row.as_slice(), [1, 2, 3].as_slice());
+    Ok(())
+}
+
+#[test]
+fn bytes_are_kept_whole(rt: HostRuntime) -> Result<(), Fail> {
+    let all = b"abcdefghijklmnopqrstuvwxyz";
+    for len in [0, 1, 21, 22, 23, 26] {
+        let wanted = &all[..len];
+        let given = Bytes::of(rt.alloc(), wanted)?;
+        assert_eq!(rt; given.as_slice(), wanted);
+        let front = Bytes::front(rt.alloc(), all, len)?;
+        assert_eq!(rt; front.as_slice(), wanted);
+        let fewer = Bytes::front(rt.alloc(), wanted, 24)?;
+        assert_eq!(rt; fewer.as_slice(), &wanted[..len.min(24)]);
+    }
+    Ok(())
+}
+
+#[test]
+fn a_value_stands_apart(rt: HostRuntime) -> Result<(), Fail> {
+    let apart = Apart::of(rt.alloc(), 7u8)?;
+    assert_eq!(rt; *apart.get(), 7);
+    Ok(())
+}
+
+#[test]
+fn fronts_are_told_apart(rt: HostRuntime) -> Result<(), Fail> {
+    // whether a word, a number, text, a key's name, `;`, `key`, and a token but `;`
+    let rows: [(&[u8], [bool; 7]); 7] = [
+        (b"ab", [true, false, false, false, false, false, true]),
+        (b"Key", [true, false, false, false, false, true, true]),
+        (b"7", [false, true, false, false, false, false, true]),
+        (b"\"a\"", [false, false, true, false, false, false, true]),
+        (b"<A>", [false, false, false, true, false, false, true]),
+        (b";", [false, false, false, false, true, false, false]),
+        (b"", [false, false, false, false, false, false, false]),
+    ];
+    for (text, wanted) in rows {
+        let all = lex(rt.alloc(), text)?;
+        let tokens = all.as_slice();
+        let found = [
+            front_is_word(tokens),
+            front_is_number(tokens),
+            front_is_text(tokens),
+            front_is_key_name(tokens),
+            front_is_mark(text, b';', tokens),
+            front_is_keyword(text, b"key", tokens),
+            is_before_mark(text, b';', tokens),
+        ];
+        assert_eq!(rt; found, wanted, "{:?}", text);
+        if let Some(token) = tokens.first() {
+            assert_eq!(rt; is_word(token), wanted[0]);
+            assert_eq!(rt; is_number(token), wanted[1]);
+            assert_eq!(rt; is_mark(text, b';', token), wanted[4]);
+            assert_eq!(rt; is_keyword(text, b"key", token), wanted[5]);
+        }
+    }
+    Ok(())
+}
+
+/// The bytes and the span of a name with how many tokens are left, or the fault.
+fn name_shown(rt: &(impl Abort + AllocGlobal), reading: Reading<'_, Name>) -> Result<String, Fail> {
+    match reading {
+        Ok((name, rest)) => {
+            let left = rest.len();
+            let span = name.span;
+            let bytes = name.bytes.as_slice();
+            Ok(format!(in rt.alloc(); "{:?} {span} {left}", bytes)?)
+        }
+        Err(fault) => Ok(format!(in rt.alloc(); "{fault}")?),
+    }
+}
+
+#[test]
+fn names_are_read_without_what_encloses_them(rt: HostRuntime) -> Result<(), Fail> {
+    let text = b"ab <cd> \"e\\n\"";
+    let all = lex(rt.alloc(), text)?;
+    let tokens = all.as_slice();
+    let word = read_word(rt.alloc(), text, tokens);
+    assert_eq!(rt; name_shown(&rt, word)?.as_str(), "[97, 98] 0-2 2");
+    let behind = behind_front(tokens);
+    let key = read_key_name(rt.alloc(), text, behind);
+    assert_eq!(rt; name_shown(&rt, key)?.as_str(), "[99, 100] 3-7 1");
+    let last = behind_front(behind);
+    let quoted = read_text(rt.alloc(), text, last);
+    assert_eq!(rt; name_shown(&rt, quoted)?.as_str(), "[101, 10] 8-13 0");
+    let no_word = read_word(rt.alloc(), text, behind);
+    assert_eq!(rt; name_shown(&rt, no_word)?.as_str(), "F6 Syntax at 0:3-7");
+    let no_key = read_key_name(rt.alloc(), text, behind_front(last));
+    assert_eq!(rt; name_shown(&rt, no_key)?.as_str(), "F6 Syntax at 0:13-13");
+    let no_text = read_text(rt.alloc(), text, tokens);
+    assert_eq!(rt; name_shown(&rt, no_text)?.as_str(), "F6 Syntax at 0:0-2");
+    Ok(())
+}
+
+#[test]
+fn numbers_are_at_most_4294967295(rt: HostRuntime) -> Result<(), Fail> {
+    let rows: [(&[u8], &str); 6] = [
+        (b"38;", "38 0-2 1"),
+        (b"0xfF", "255 0-4 0"),
+        (b"4294967295", "4294967295 0-10 0"),
+        (b"4294967296", "F7 NumberTooBig at 0:0-10"),
+        (b"18.5", "F6 Syntax at 0:0-4"),
+        (b"", "F6 Syntax at 0:0-0"),
+    ];
+    for (text, wanted) in rows {
+        let tokens = lex(rt.alloc(), text)?;
+        let shown = match read_number(text, tokens.as_slice()) {
+            Ok((number, rest)) => {
+                let left = rest.len();
+                let value = number.value;
+                let span = number.span;
+                format!(in rt.alloc(); "{value} {span} {left}")?
+            }
+            Err(fault) => format!(in rt.alloc(); "{fault}")?,
+        };
+        assert_eq!(rt; shown.as_str(), wanted);
+    }
+    Ok(())
+}
+
+#[test]
+fn marks_keywords_and_their_places(rt: HostRuntime) -> Result<(), Fail> {
+    let text = b"KEY ; x";
+    let all = lex(rt.alloc(), text)?;
+    let tokens = all.as_slice();
+    let (word, behind) = read_keyword(text, b"key", tokens)?;
+    assert_eq!(rt; word.span, Span { start: 0, stop: 3 });
+    let (mark, rest) = read_mark(text, b';', behind)?;
+    assert_eq!(rt; mark.span, Span { start: 4, stop: 5 });
+    assert!(rt; read_keyword(text, b"key", behind).is_err());
+    assert!(rt; read_mark(text, b',', behind).is_err());
+    assert_eq!(rt; front_span(rest), Span { start: 6, stop: 7 });
+    assert_eq!(rt; span_between(tokens, rest), Span { start: 0, stop: 5 });
+    assert_eq!(rt;
+        format!(in rt.alloc(); "{}", syntax(text, behind))?.as_str(),
+        "F6 Syntax at 0:4-5"
+    );
+    Ok(())
+}
+
+/// Semicolons in a row.
+struct Semicolons;
+
+impl Repeated for Semicolons {
+    type Value = Token;
+
+    ghost test = { λ text ts. front (is_mark text semicolon) ts };
+
+    ghost reading = { λ text. (mark text semicolon).read };
+
+    fn is_next(text: &[u8], tokens: &[Token]) -> bool {
+        front_is_mark(text, b';', tokens)
+    }
+
+    fn read_next<'a>(_alloc: Global, text: &[u8], tokens: &'a [Token]) -> Reading<'a, Token> {
+        read_mark(text, b';', tokens)
+    }
+
+    ghost shrinks = { λ text. production-shrinks (mark text semicolon) (mark-least text semicolon) };
+}
+
+/// How many were read, and how many tokens are left.
+fn counts(reading: Reading<'_, Row<Token>>) -> Result<(usize, usize), Fail> {
+    let (row, rest) = reading?;
+    Ok((row.as_slice().len(), rest.len()))
+}
+
+#[test]
+fn rows_end_where_no_more_stand(rt: HostRuntime) -> Result<(), Fail> {
+    let text = b";;;,;}";
+    let all = lex(rt.alloc(), text)?;
+    let tokens = all.as_slice();
+    let many = read_many::<Semicolons>(rt.alloc(), text, tokens);
+    assert_eq!(rt; counts(many)?, (3, 3));
+    let sequence = read_sequence::<Semicolons>(rt.alloc(), text, &tokens[2..]);
+    assert_eq!(rt; counts(sequence)?, (2, 1));
+    let listed = read_listed::<Semicolons>(rt.alloc(), text, b'}', &tokens[2..]);
+    assert_eq!(rt; counts(listed)?, (2, 1));
+    let none = read_listed::<Semicolons>(rt.alloc(), text, b'}', &tokens[5..]);
+    assert_eq!(rt; counts(none)?, (0, 1));
+    assert!(rt; read_sequence::<Semicolons>(rt.alloc(), text, &tokens[5..]).is_err());
     Ok(())
 }

@@ -3,12 +3,12 @@ use Rattle.std.specs.Prelude.{ℕ, zero, suc, ◌+◌, ◌≤◌, Bool, true, fa
 use Rattle.std.proofs.Common.{arith, sym, ◌∙◌, subst, append-nil}
 use Rattle.kx_lex.specs.declared.token.Token.{Token}
 use Rattle.kx_lex.specs.declared.fault.Fault.{Fault}
-use Rattle.kx_parse.specs.Laws.{Read, done, which, done-same}
-use Rattle.kx_parse.specs.Kinds.{is_mark}
-use Rattle.kx_parse.specs.Stops.{syntax_end, IsBehind, StopsWithin}
-use Rattle.kx_parse.specs.Reasons.{behind_self, behind_more, behind_first}
-use Rattle.kx_parse.specs.Production.{Production}
-use Rattle.kx_parse.specs.Values.{open_brace, close_brace}
+use Rattle.kx_lex.specs.Laws.{Read, done, which, done-same}
+use Rattle.kx_lex.specs.Kinds.{is_mark}
+use Rattle.kx_lex.specs.Stops.{syntax_end, IsBehind, StopsWithin}
+use Rattle.kx_lex.specs.Reasons.{behind_self, behind_more, behind_first}
+use Rattle.kx_lex.specs.Production.{Production}
+use Rattle.kx_lex.specs.Tokens.{open_brace, close_brace}
 
 -- tokens whose braces stand in pairs, and the rest
 pub data Balanced (text : List ℕ) : List Token → List Token → Type 0 where

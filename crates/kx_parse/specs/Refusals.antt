@@ -7,14 +7,13 @@ use Rattle.kx_lex.specs.declared.token.Token.{Token}
 use Rattle.kx_lex.specs.declared.fault.At.{At}
 use Rattle.kx_lex.specs.declared.fault.Fault.{Fault}
 use Rattle.kx_lex.specs.declared.fault.Fault.TheVariants.{Syntax, NumberTooBig}
-use Rattle.kx_parse.specs.Spelling.{OneBlames, ManyBlames, many_front}
-use Rattle.kx_parse.specs.Laws.{done}
-use Rattle.kx_parse.specs.Stops.{syntax_at, syntax_end, StopsWithin}
+use Rattle.kx_lex.specs.Spelling.{OneBlames, ManyBlames, many_front}
+use Rattle.kx_lex.specs.Laws.{done}
+use Rattle.kx_lex.specs.Stops.{syntax_at, syntax_end, StopsWithin}
 use Rattle.kx_parse.specs.Geometry.{geometry}
-use Rattle.kx_parse.specs.Production.{Production, ◌>>=◌, give, at_end}
-use Rattle.kx_parse.specs.Kinds.{is_keyword, front}
-use Rattle.kx_parse.specs.Values.{open_brace, close_brace, semicolon}
-use Rattle.kx_parse.specs.Tokens.{mark, keyword, text_name}
+use Rattle.kx_lex.specs.Production.{Production, ◌>>=◌, give, at_end}
+use Rattle.kx_lex.specs.Kinds.{is_keyword, front}
+use Rattle.kx_lex.specs.Tokens.{mark, keyword, text_name, open_brace, close_brace, semicolon}
 use Rattle.kx_parse.specs.Sections.{flags, flag, optional_text, plain_section, geometry_body, geometry_section, flagged, section, held_sections, source, file, StopsWith, FileStopsWith, Spells, SpellsFile, Spells-read, SpellsFile-read}
 use Rattle.kx_parse.specs.declared.tree.Flag.{Flag}
 use Rattle.kx_parse.specs.declared.tree.Section.{Section}

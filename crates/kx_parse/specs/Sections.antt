@@ -5,15 +5,14 @@ use Rattle.kx_lex.specs.declared.token.Token.{Token}
 use Rattle.kx_lex.specs.declared.token.Span.{Span}
 use Rattle.kx_lex.specs.declared.fault.Fault.{Fault}
 use Rattle.kx_parse.specs.Geometry.{geometry}
-use Rattle.kx_parse.specs.Spelling.{many_front}
-use Rattle.kx_parse.specs.Laws.{same-uses, done, done-same}
-use Rattle.kx_parse.specs.Production.{Production, Admits, ◌>>=◌, give, many, either, known, optional, spanned, fronted, at_least, at_end}
-use Rattle.kx_parse.specs.Kinds.{is_word, is_key_name, is_text, is_mark, is_keyword, front, second}
-use Rattle.kx_parse.specs.Tokens.{mark, keyword, keyword-front, text_name, text_name-front}
-use Rattle.kx_parse.specs.Others.{before_mark, word-before, keyword-word}
-use Rattle.kx_parse.specs.Values.{open_brace, close_brace, semicolon, bang}
+use Rattle.kx_lex.specs.Spelling.{many_front}
+use Rattle.kx_lex.specs.Laws.{same-uses, done, done-same}
+use Rattle.kx_lex.specs.Production.{Production, Admits, ◌>>=◌, give, many, either, known, optional, spanned, fronted, at_least, at_end}
+use Rattle.kx_lex.specs.Kinds.{is_word, is_key_name, is_text, is_mark, is_keyword, front, second}
+use Rattle.kx_lex.specs.Tokens.{mark, keyword, keyword-front, text_name, text_name-front, open_brace, close_brace, semicolon, bang}
+use Rattle.kx_lex.specs.Others.{before_mark, word-before, keyword-word}
 use Rattle.kx_parse.specs.Statements.{starts, starts-before, statement, statement-least, statement-starts}
-use Rattle.kx_parse.specs.declared.tree.Name.{Name}
+use Rattle.kx_lex.specs.declared.name.Name.{Name}
 use Rattle.kx_parse.specs.declared.tree.Statement.{Statement}
 use Rattle.kx_parse.specs.declared.tree.Statement.TheVariants as statements
 use Rattle.kx_parse.specs.declared.tree.Mode.{Mode}

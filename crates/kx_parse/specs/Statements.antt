@@ -2,11 +2,11 @@
 use Rattle.std.specs.Prelude.{ℕ, ◌≤◌, ◌≡◌, Bool, true, false, [], ◌∷◌, ◌&&◌, ◌||◌, List, Option, codes}
 use Rattle.std.proofs.Common.{arith, inl, inr, refl}
 use Rattle.kx_lex.specs.declared.token.Token.{Token}
-use Rattle.kx_parse.specs.Production.{Production, Admits, ◌>>=◌, give, many, either, optional, spanned}
-use Rattle.kx_parse.specs.Kinds.{is_word, is_number, is_key_name, is_text, is_mark, is_keyword, front, second}
-use Rattle.kx_parse.specs.Tokens.{mark, mark-front, keyword, keyword-front, keyword-behind, word, word-front, key_name, key_name-front, text_name, text_name-front, number, number-front}
-use Rattle.kx_parse.specs.Others.{before_mark, word-before, key_name-before, mark-before, keyword-word}
-use Rattle.kx_parse.specs.Values.{open_brace, close_brace, open_bracket, semicolon, equals, plus, bang, sequence, listed, symbol, expression, place, value, call, list, begins_call, place-front, call-begins, list-front, or_true}
+use Rattle.kx_lex.specs.Production.{Production, Admits, ◌>>=◌, give, many, either, optional, spanned}
+use Rattle.kx_lex.specs.Kinds.{is_word, is_number, is_key_name, is_text, is_mark, is_keyword, front, second}
+use Rattle.kx_lex.specs.Tokens.{mark, mark-front, keyword, keyword-front, keyword-behind, word, word-front, key_name, key_name-front, text_name, text_name-front, number, number-front, open_brace, close_brace, open_bracket, semicolon, equals, plus, bang}
+use Rattle.kx_lex.specs.Others.{before_mark, word-before, key_name-before, mark-before, keyword-word}
+use Rattle.kx_parse.specs.Values.{sequence, listed, symbol, expression, place, value, call, list, begins_call, place-front, call-begins, list-front, or_true}
 use Rattle.kx_parse.specs.declared.tree.Place.{Place}
 use Rattle.kx_parse.specs.declared.tree.Expression.{Expression}
 use Rattle.kx_parse.specs.declared.tree.Setting.{Setting}

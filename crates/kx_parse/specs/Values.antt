@@ -2,13 +2,13 @@
 use Rattle.std.specs.Prelude.{ℕ, ◌≤◌, ◌≡◌, Bool, true, false, is_some, ◌&&◌, ◌||◌, List, [], ◌∷◌, Option, Some, None, if◌then◌else◌}
 use Rattle.std.proofs.Common.{arith, inl, inr, refl}
 use Rattle.kx_lex.specs.declared.token.Token.{Token}
-use Rattle.kx_parse.specs.Laws.{Read}
-use Rattle.kx_parse.specs.Others.{before_mark, word-before, number-before, key_name-before, text-before, mark-before}
-use Rattle.kx_parse.specs.Production.{Production, Admits, ◌>>=◌, give, many, either, known, optional, spanned}
-use Rattle.kx_parse.specs.Kinds.{is_word, is_number, is_key_name, is_text, is_mark, front, second}
-use Rattle.kx_parse.specs.Tokens.{mark, mark-front, word, word-front, word-behind, key_name, key_name-front, text_name, text_name-front, number, number-front}
-use Rattle.kx_parse.specs.declared.tree.Name.{Name}
-use Rattle.kx_parse.specs.declared.tree.Number.{Number}
+use Rattle.kx_lex.specs.Laws.{Read}
+use Rattle.kx_lex.specs.Others.{before_mark, word-before, number-before, key_name-before, text-before, mark-before}
+use Rattle.kx_lex.specs.Production.{Production, Admits, ◌>>=◌, give, many, either, known, optional, spanned}
+use Rattle.kx_lex.specs.Kinds.{is_word, is_number, is_key_name, is_text, is_mark, front, second}
+use Rattle.kx_lex.specs.Tokens.{open_brace, close_brace, open_bracket, close_bracket, open_paren, close_paren, comma, point, equals, plus, minus, bang, mark, mark-least, mark-front, word, word-front, word-behind, key_name, key_name-front, text_name, text_name-front, number, number-front}
+use Rattle.kx_lex.specs.declared.name.Name.{Name}
+use Rattle.kx_lex.specs.declared.name.Number.{Number}
 use Rattle.kx_parse.specs.declared.tree.Symbol.{Symbol}
 use Rattle.kx_parse.specs.declared.tree.Symbol.TheVariants as symbols
 use Rattle.kx_parse.specs.declared.tree.Sign.{Sign}
@@ -32,51 +32,6 @@ use Rattle.kx_parse.specs.declared.tree.Element.TheVariants as elements
 use Rattle.kx_parse.specs.declared.tree.List.{List as Levels}
 use Rattle.kx_parse.specs.declared.tree.Value.{Value}
 use Rattle.kx_parse.specs.declared.tree.Value.TheVariants as values
-
--- The marks that productions want, by their byte: { } [ ] ( ) ; , . = + - !
-abbrev pub open_brace : ℕ
-open_brace = 123
-
-abbrev pub close_brace : ℕ
-close_brace = 125
-
-abbrev pub open_bracket : ℕ
-open_bracket = 91
-
-abbrev pub close_bracket : ℕ
-close_bracket = 93
-
-abbrev pub open_paren : ℕ
-open_paren = 40
-
-abbrev pub close_paren : ℕ
-close_paren = 41
-
-abbrev pub semicolon : ℕ
-semicolon = 59
-
-abbrev pub comma : ℕ
-comma = 44
-
-abbrev pub point : ℕ
-point = 46
-
-abbrev pub equals : ℕ
-equals = 61
-
-abbrev pub plus : ℕ
-plus = 43
-
-abbrev pub minus : ℕ
-minus = 45
-
-abbrev pub bang : ℕ
-bang = 33
-
--- each takes one token at least
-pub mark-least : (text : List ℕ) (byte : ℕ) → 1 ≤ (mark text byte).least
-unfolding mark
-mark-least text byte = omega arith
 
 -- a comma and one more
 abbrev pub after_comma : {A : Type 0} (text : List ℕ) → Production text A → Production text A

@@ -1,22 +1,19 @@
 ghost use Rattle.std.specs.Prelude.{◌≡◌, true};
-ghost use Rattle.kx_parse.specs.Gives.{Gives};
-ghost use Rattle.kx_parse.specs.Shrinks.{production-shrinks};
+ghost use Rattle.kx_lex.specs.Gives.{Gives};
+ghost use Rattle.kx_lex.specs.Shrinks.{production-shrinks};
 ghost use Rattle.kx_parse.specs.Statements.{setting, bare_field, field, block_field, block_field-least, block, key_field, key_field-least, declared_mask, declaration, declaration-least, predicate, entry, entry-least};
-ghost use Rattle.kx_parse.specs.Others.{before_mark};
-ghost use Rattle.kx_parse.specs.Values.{close_brace};
+ghost use Rattle.kx_lex.specs.Others.{before_mark};
+ghost use Rattle.kx_lex.specs.Tokens.{close_brace};
 
-use crate::kept::Apart;
-use crate::repeated::{Repeated, is_before_mark, read_many};
-use crate::tokens::{
-    Reading, front_is_key_name, front_is_mark, read_key_name, read_mark, read_word, span_between,
-};
-use crate::tree::{
-    Declaration, Entry, Expression, Field, KeyField, Place, Predicate, Row, Setting,
-};
+use crate::tree::{Declaration, Entry, Expression, Field, KeyField, Place, Predicate, Setting};
 use crate::values::{
     begins_call, read_call, read_expression, read_list, read_place, read_symbol, read_value,
 };
-use kx_lex::{Fault, Token};
+use kx_lex::repeated::{Repeated, is_before_mark, read_many};
+use kx_lex::tokens::{
+    Reading, front_is_key_name, front_is_mark, read_key_name, read_mark, read_word, span_between,
+};
+use kx_lex::{Apart, Fault, Row, Token};
 use std::alloc::Global;
 
 #[tactic(auto, unfolding(crate::specs::Statements::setting))]

@@ -5,26 +5,25 @@ ghost use Rattle.kx_lex.specs.declared.fault.Fault.TheVariants.{Memory, NumberTo
 ghost use Rattle.kx_lex.specs.declared.token.Token.{Token as TokenValue};
 ghost use Rattle.kx_parse.specs.declared.tree.Tree.{Tree as TreeValue};
 ghost use Rattle.kx_parse.specs.Geometry.{geometry, geometry_read};
-ghost use Rattle.kx_parse.specs.Gives.{Gives};
-ghost use Rattle.kx_parse.specs.Production.{optional, known, many, at_end};
+ghost use Rattle.kx_lex.specs.Gives.{Gives};
+ghost use Rattle.kx_lex.specs.Production.{optional, known, many, at_end};
 ghost use Rattle.kx_parse.specs.Refusals.{InSourceSection, InPlainSection};
-ghost use Rattle.kx_parse.specs.Stops.{StopsWithin};
-ghost use Rattle.kx_parse.specs.Shrinks.{production-shrinks};
-ghost use Rattle.kx_parse.specs.Kinds.{front, is_text, is_mark};
-ghost use Rattle.kx_parse.specs.Tokens.{text_name};
-ghost use Rattle.kx_parse.specs.Others.{before_mark};
-ghost use Rattle.kx_parse.specs.Values.{close_brace};
+ghost use Rattle.kx_lex.specs.Stops.{StopsWithin};
+ghost use Rattle.kx_lex.specs.Shrinks.{production-shrinks};
+ghost use Rattle.kx_lex.specs.Kinds.{front, is_text, is_mark};
+ghost use Rattle.kx_lex.specs.Tokens.{text_name, close_brace};
+ghost use Rattle.kx_lex.specs.Others.{before_mark};
 ghost use Rattle.kx_parse.specs.Sections.{mode_of, join_of, begins_include, begins_moded, join, mode, include, moded, modal, own, item, item-least, kind_of, flag_of, kind, flag, flag-least, flags, optional_text, held_items, plain_section, geometry_body, geometry_section, flagged, section, whole_section, whole_section-least, held_sections, source, file, Spells, StopsWith, SpellsFile, FileStopsWith};
 
-use crate::repeated::{Repeated, is_before_mark, read_many};
 use crate::statements::read_statement;
-use crate::tokens::{
+use crate::tree::{Flag, Item, Kind, Mode, Section, Statement, Tree};
+use kx_lex::repeated::{Repeated, is_before_mark, read_many};
+use kx_lex::tokens::{
     Reading, behind_front, front_is_key_name, front_is_keyword, front_is_mark, front_is_text,
     front_is_word, front_span, is_keyword, is_mark, read_keyword, read_mark, read_text,
     span_between, syntax,
 };
-use crate::tree::{Flag, Item, Kind, Mode, Name, Row, Section, Statement, Tree};
-use kx_lex::{Fault, Span, Token};
+use kx_lex::{Fault, Name, Row, Span, Token};
 use std::alloc::Global;
 
 #[tactic(auto, unfolding(crate::specs::Sections::mode_of))]

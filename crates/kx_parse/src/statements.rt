@@ -1,19 +1,18 @@
 ghost use Rattle.std.specs.Prelude.{◌≡◌, ◌&&◌, ◌||◌, codes};
-ghost use Rattle.kx_parse.specs.Gives.{Gives};
-ghost use Rattle.kx_parse.specs.Kinds.{front, is_mark, is_word, is_number, is_text, is_key_name, is_keyword};
+ghost use Rattle.kx_lex.specs.Gives.{Gives};
+ghost use Rattle.kx_lex.specs.Kinds.{front, is_mark, is_word, is_number, is_text, is_key_name, is_keyword};
 ghost use Rattle.kx_parse.specs.Statements.{keycode, alias, indicator_name, virtual_indicator, virtual_modifiers, key_type, optional_modifiers, interpretation, indicator, group, key, mapped_entries, modifier_map, field_statement, symbols_statement, types_statement, keycodes_statement, statement};
 
 use crate::fields::{Declarations, Entries, KeyFields, read_block, read_field, read_predicate};
-use crate::kept::Apart;
-use crate::repeated::{read_listed, read_sequence};
-use crate::tokens::{
+use crate::tree::{Entry, Predicate, Statement};
+use crate::values::{read_expression, read_symbol};
+use kx_lex::repeated::{read_listed, read_sequence};
+use kx_lex::tokens::{
     Reading, behind_front, front_is_key_name, front_is_keyword, front_is_mark, front_is_number,
     front_is_text, front_is_word, is_number, is_word, read_key_name, read_keyword, read_mark,
     read_number, read_text, read_word,
 };
-use crate::tree::{Entry, Predicate, Row, Statement};
-use crate::values::{read_expression, read_symbol};
-use kx_lex::{Fault, Token};
+use kx_lex::{Apart, Fault, Row, Token};
 use std::alloc::Global;
 
 #[tactic(auto, unfolding(crate::specs::Statements::keycode))]

@@ -1,4 +1,4 @@
-use crate::{Apart, Bytes, Item, Kind, Mode, Row, Statement, Tree, parse, parse_file};
+use crate::{Item, Kind, Mode, Statement, Tree, parse, parse_file};
 use kx_lex::{Span, lex};
 use std::process::Abort;
 use std::test::Fail;
@@ -427,34 +427,5 @@ fn faults_of_unknown_fields_name_their_words(rt: HostRuntime) -> Result<(), Fail
     for (item, (start, stop)) in items.iter().zip(wanted) {
         assert_eq!(rt; item.word_span(), Span { start, stop });
     }
-    Ok(())
-}
-
-#[test]
-fn an_item_goes_before_the_others(rt: HostRuntime) -> Result<(), Fail> {
-    let row = Row::of(vec![in rt.alloc(); 2u8, 3]?).behind(1)?;
-    assert_eq!(rt; row.as_slice(), [1, 2, 3].as_slice());
-    Ok(())
-}
-
-#[test]
-fn bytes_are_kept_whole(rt: HostRuntime) -> Result<(), Fail> {
-    let all = b"abcdefghijklmnopqrstuvwxyz";
-    for len in [0, 1, 21, 22, 23, 26] {
-        let wanted = &all[..len];
-        let given = Bytes::of(rt.alloc(), wanted)?;
-        assert_eq!(rt; given.as_slice(), wanted);
-        let front = Bytes::front(rt.alloc(), all, len)?;
-        assert_eq!(rt; front.as_slice(), wanted);
-        let fewer = Bytes::front(rt.alloc(), wanted, 24)?;
-        assert_eq!(rt; fewer.as_slice(), &wanted[..len.min(24)]);
-    }
-    Ok(())
-}
-
-#[test]
-fn a_value_stands_apart(rt: HostRuntime) -> Result<(), Fail> {
-    let apart = Apart::of(rt.alloc(), 7u8)?;
-    assert_eq!(rt; *apart.get(), 7);
     Ok(())
 }

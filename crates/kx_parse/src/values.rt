@@ -1,21 +1,20 @@
 ghost use Rattle.std.specs.Prelude.{◌≡◌, true};
-ghost use Rattle.kx_parse.specs.Gives.{Gives};
-ghost use Rattle.kx_parse.specs.Shrinks.{production-shrinks};
-ghost use Rattle.kx_parse.specs.Kinds.{front};
+ghost use Rattle.kx_lex.specs.Gives.{Gives};
+ghost use Rattle.kx_lex.specs.Shrinks.{production-shrinks};
+ghost use Rattle.kx_lex.specs.Kinds.{front};
 ghost use Rattle.kx_parse.specs.Values.{symbol, sign_of, is_sign, sign, signed_read, term, operation, operation-least, argument-least, part-least, element-least, bare_argument, expression, optional_index, index, optional_member, place, begins_set, set_argument, off_argument, argument, begins_call, call, part, braces, element, list, value};
 
-use crate::kept::Apart;
-use crate::repeated::{Repeated, read_listed, read_many};
-use crate::tokens::{
+use crate::tree::{
+    Argument, Braces, Call, Element, Expression, Index, List, Operation, Part, Place,
+    PlacedArgument, Sign, Signed, Symbol, Term, Value,
+};
+use kx_lex::repeated::{Repeated, read_listed, read_many};
+use kx_lex::tokens::{
     Reading, behind_front, front_is_key_name, front_is_mark, front_is_number, front_is_text,
     front_is_word, is_mark, read_key_name, read_mark, read_number, read_text, read_word,
     span_between, syntax,
 };
-use crate::tree::{
-    Argument, Braces, Call, Element, Expression, Index, List, Name, Operation, Part, Place,
-    PlacedArgument, Sign, Signed, Symbol, Term, Value,
-};
-use kx_lex::{Fault, Token};
+use kx_lex::{Apart, Fault, Name, Token};
 use std::alloc::Global;
 
 #[tactic(auto, unfolding(crate::specs::Values::symbol))]

@@ -19,7 +19,7 @@ use Rattle.kx_parse.specs.declared.tree.KeyField.{KeyField}
 use Rattle.kx_parse.specs.declared.tree.KeyField.TheVariants as fields
 use Rattle.kx_parse.specs.declared.tree.List.{List as Listed}
 use Rattle.kx_parse.specs.Sections.{word_span}
-use Rattle.kx_parse.specs.declared.tree.Name.{Name}
+use Rattle.kx_lex.specs.declared.name.Name.{Name}
 use Rattle.kx_parse.specs.declared.tree.Part.{Part}
 use Rattle.kx_parse.specs.declared.tree.Part.TheVariants as parts
 use Rattle.kx_parse.specs.declared.tree.Setting.{Setting}

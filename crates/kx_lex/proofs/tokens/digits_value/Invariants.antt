@@ -1,6 +1,6 @@
 use Rattle.std.proofs.Common.{◌≡◌, ◌<◌, ◌^◌, drop}
-use Rattle.kx_parse.specs.Kinds.{digits_from}
-use Rattle.kx_parse.proofs.tokens.digits_value.Given as goal
+use Rattle.kx_lex.specs.Kinds.{digits_from}
+use Rattle.kx_lex.proofs.tokens.digits_value.Given as goal
 
 -- the digits that are left, behind the value so far, give the whole number
 abbrev pub invariant-loop-digit : goal.invariant-loop-digit

@@ -2,17 +2,20 @@ ghost use Rattle.std.specs.Prelude.{◌≡◌, ◌<◌, ◌^◌, ◌-◌, List, 
 ghost use Rattle.std.specs.Char.{digit_value};
 ghost use Rattle.kx_lex.specs.Strings.{text_value};
 ghost use Rattle.kx_lex.specs.declared.string.Reading.TheVariants.{Plain};
-ghost use Rattle.kx_parse.specs.Gives.{Gives};
-ghost use Rattle.kx_parse.specs.Production.{syntax_of, front_span, span_between};
-ghost use Rattle.kx_parse.specs.Kinds.{slice_of, inner_of, is_word, is_number, is_key_name, is_text, is_mark, is_keyword, front, second, digits_value, number_value};
-ghost use Rattle.kx_parse.specs.Tokens.{mark, keyword, word, key_name, text_name, measured, number};
+ghost use Rattle.kx_lex.specs.Gives.{Gives};
+ghost use Rattle.kx_lex.specs.Production.{syntax_of, front_span, span_between};
+ghost use Rattle.kx_lex.specs.Kinds.{slice_of, inner_of, is_word, is_number, is_key_name, is_text, is_mark, is_keyword, front, second, digits_value, number_value};
+ghost use Rattle.kx_lex.specs.Tokens.{mark, keyword, word, key_name, text_name, measured, number};
 
+use crate::fault::{At, Fault};
 use crate::kept::Bytes;
-use crate::tree::{Name, Number};
-use kx_lex::{At, Fault, Span, Token, TokenKind, begins_hex, text_bytes};
+use crate::name::{Name, Number};
+use crate::scan::begins_hex;
+use crate::string::text_bytes;
+use crate::token::{Span, Token, TokenKind};
 use std::alloc::{AllocError, Global};
 
-/// The tokens that are left, or why there is no value.
+/// A value with the tokens that are left behind it, or why there is none.
 pub type Reading<'a, T> = Result<(T, &'a [Token]), Fault>;
 
 fn range(text: &[u8], start: usize, stop: usize) -> &[u8]
@@ -41,30 +44,33 @@ fn inner_of<'t>(text: &'t [u8], token: &Token) -> &'t [u8]
     range(text, start, stop)
 }
 
+/// Whether the token is a word.
 pub fn is_word(token: &Token) -> bool
     ensures { result ≡ is_word token.now }
 {
     matches!(token.kind, TokenKind::Word)
 }
 
+/// Whether the token is a whole number.
 pub fn is_number(token: &Token) -> bool
     ensures { result ≡ is_number token.now }
 {
     matches!(token.kind, TokenKind::Number)
 }
 
-pub fn is_key_name(token: &Token) -> bool
+fn is_key_name(token: &Token) -> bool
     ensures { result ≡ is_key_name token.now }
 {
     matches!(token.kind, TokenKind::KeyName)
 }
 
-pub fn is_text(token: &Token) -> bool
+fn is_text(token: &Token) -> bool
     ensures { result ≡ is_text token.now }
 {
     matches!(token.kind, TokenKind::Text)
 }
 
+/// Whether the token is the mark of this byte in the text.
 pub fn is_mark(text: &[u8], byte: u8, token: &Token) -> bool
     ensures { result ≡ is_mark text.now byte token.now }
 {
@@ -72,6 +78,7 @@ pub fn is_mark(text: &[u8], byte: u8, token: &Token) -> bool
     matches!(token.kind, TokenKind::Mark) && first == byte
 }
 
+/// Whether the token is this word in the text, in capital letters or small.
 #[tactic(auto, unfolding(crate::specs::Kinds::is_keyword))]
 pub fn is_keyword(text: &[u8], keyword: &[u8], token: &Token) -> bool
     ensures { result ≡ is_keyword text.now keyword.now token.now }
@@ -79,7 +86,8 @@ pub fn is_keyword(text: &[u8], keyword: &[u8], token: &Token) -> bool
     matches!(token.kind, TokenKind::Word) && slice_of(text, token).eq_ignore_ascii_case(keyword)
 }
 
-/// The fault of a token that may not stand where it does, or of the end.
+/// The fault of the first token, which may not stand where it does, or of the text's end. A place
+/// counts no further than 4,294,967,295 bytes.
 pub fn syntax(text: &[u8], tokens: &[Token]) -> Fault
     ensures { result ≡ syntax_of text.now tokens.now }
 {
@@ -94,6 +102,10 @@ pub fn syntax(text: &[u8], tokens: &[Token]) -> Fault
     Fault::Syntax(At { file: 0, span })
 }
 
+/// Takes the mark of this byte.
+///
+/// # Errors
+/// [`Fault::Syntax`] where another token or none stands.
 #[tactic(auto, unfolding(crate::specs::Tokens::mark))]
 pub fn read_mark<'a>(text: &[u8], byte: u8, tokens: &'a [Token]) -> Reading<'a, Token>
     ensures { Gives result ((mark text.now byte).read tokens.now) }
@@ -104,6 +116,10 @@ pub fn read_mark<'a>(text: &[u8], byte: u8, tokens: &'a [Token]) -> Reading<'a, 
     }
 }
 
+/// Takes this word, in capital letters or small.
+///
+/// # Errors
+/// [`Fault::Syntax`] where another token or none stands.
 #[tactic(auto, unfolding(crate::specs::Tokens::keyword))]
 pub fn read_keyword<'a>(text: &[u8], wanted: &[u8], tokens: &'a [Token]) -> Reading<'a, Token>
     ensures { Gives result ((keyword text.now wanted.now).read tokens.now) }
@@ -144,6 +160,10 @@ fn key_name_of(alloc: Global, text: &[u8], token: &Token) -> Result<Name, AllocE
     })
 }
 
+/// Takes a word as it is written.
+///
+/// # Errors
+/// [`Fault::Syntax`] where another token or none stands, and [`Fault::Memory`] where a growth is refused.
 #[tactic(auto, unfolding(crate::specs::Tokens::word))]
 pub fn read_word<'a>(alloc: Global, text: &[u8], tokens: &'a [Token]) -> Reading<'a, Name>
     ensures { Gives result ((word text.now).read tokens.now) }
@@ -154,6 +174,10 @@ pub fn read_word<'a>(alloc: Global, text: &[u8], tokens: &'a [Token]) -> Reading
     }
 }
 
+/// Takes a key's name, without `<` and `>`.
+///
+/// # Errors
+/// [`Fault::Syntax`] where another token or none stands, and [`Fault::Memory`] where a growth is refused.
 #[tactic(auto, unfolding(crate::specs::Tokens::key_name))]
 pub fn read_key_name<'a>(alloc: Global, text: &[u8], tokens: &'a [Token]) -> Reading<'a, Name>
     ensures { Gives result ((key_name text.now).read tokens.now) }
@@ -165,7 +189,7 @@ pub fn read_key_name<'a>(alloc: Global, text: &[u8], tokens: &'a [Token]) -> Rea
 }
 
 /// What text between quotes stands for.
-#[tactic(auto, using(kx_lex::proofs::Strings::plain_texts))]
+#[tactic(auto, using(crate::proofs::Strings::plain_texts))]
 fn unescaped(alloc: Global, text: &[u8]) -> Result<Bytes, AllocError>
     ensures { IfOk result (λ bytes. bytes ≡ text_value Plain text.now) }
 {
@@ -176,6 +200,10 @@ fn unescaped(alloc: Global, text: &[u8]) -> Result<Bytes, AllocError>
     Bytes::of(alloc, bytes.as_slice())
 }
 
+/// Takes text between quotes: the bytes that it stands for.
+///
+/// # Errors
+/// [`Fault::Syntax`] where another token or none stands, and [`Fault::Memory`] where a growth is refused.
 #[tactic(auto, unfolding(crate::specs::Tokens::text_name))]
 pub fn read_text<'a>(alloc: Global, text: &[u8], tokens: &'a [Token]) -> Reading<'a, Name>
     ensures { Gives result ((text_name text.now).read tokens.now) }
@@ -242,6 +270,11 @@ fn number_value(digits: &[u8]) -> u64
     }
 }
 
+/// Takes a whole number, decimal or behind `0x` hexadecimal.
+///
+/// # Errors
+/// [`Fault::Syntax`] where another token or none stands, and [`Fault::NumberTooBig`] above
+/// 4,294,967,295.
 #[tactic(auto, unfolding(crate::specs::Tokens::number))]
 pub fn read_number<'a>(text: &[u8], tokens: &'a [Token]) -> Reading<'a, Number>
     ensures { Gives result ((number text.now).read tokens.now) }
@@ -255,7 +288,7 @@ pub fn read_number<'a>(text: &[u8], tokens: &'a [Token]) -> Reading<'a, Number>
     }
 }
 
-/// Whether the first token is this mark.
+/// Whether the first token is the mark of this byte in the text.
 pub fn front_is_mark(text: &[u8], byte: u8, tokens: &[Token]) -> bool
     ensures { result ≡ front (is_mark text.now byte) tokens.now }
 {
@@ -265,7 +298,7 @@ pub fn front_is_mark(text: &[u8], byte: u8, tokens: &[Token]) -> bool
     }
 }
 
-/// Whether the first token is this word.
+/// Whether the first token is this word in the text, in capital letters or small.
 pub fn front_is_keyword(text: &[u8], wanted: &[u8], tokens: &[Token]) -> bool
     ensures { result ≡ front (is_keyword text.now wanted.now) tokens.now }
 {
@@ -275,7 +308,7 @@ pub fn front_is_keyword(text: &[u8], wanted: &[u8], tokens: &[Token]) -> bool
     }
 }
 
-/// Where the first token stands; nowhere, at the end.
+/// Where the first token stands; without one, no bytes from 0.
 pub fn front_span(tokens: &[Token]) -> Span
     ensures { result ≡ front_span tokens.now }
 {
@@ -285,7 +318,7 @@ pub fn front_span(tokens: &[Token]) -> Span
     }
 }
 
-/// From the first of the tokens to the last before the rest of them.
+/// The bytes from the first of the tokens to the last before the rest of them.
 pub fn span_between(tokens: &[Token], rest: &[Token]) -> Span
     ensures { result ≡ span_between tokens.now rest.now }
 {
@@ -296,13 +329,14 @@ pub fn span_between(tokens: &[Token], rest: &[Token]) -> Span
     }
 }
 
-/// The tokens behind the first.
+/// The tokens behind the first; without one, none.
 pub fn behind_front(tokens: &[Token]) -> &[Token]
     ensures { result.now ≡ drop 1 tokens.now }
 {
     tokens.get(1..).unwrap_or(&[])
 }
 
+/// Whether the first token is a word.
 pub fn front_is_word(tokens: &[Token]) -> bool
     ensures { result ≡ front is_word tokens.now }
 {
@@ -312,6 +346,7 @@ pub fn front_is_word(tokens: &[Token]) -> bool
     }
 }
 
+/// Whether the first token is a whole number.
 pub fn front_is_number(tokens: &[Token]) -> bool
     ensures { result ≡ front is_number tokens.now }
 {
@@ -321,6 +356,7 @@ pub fn front_is_number(tokens: &[Token]) -> bool
     }
 }
 
+/// Whether the first token is text between quotes.
 pub fn front_is_text(tokens: &[Token]) -> bool
     ensures { result ≡ front is_text tokens.now }
 {
@@ -330,6 +366,7 @@ pub fn front_is_text(tokens: &[Token]) -> bool
     }
 }
 
+/// Whether the first token is a key's name.
 pub fn front_is_key_name(tokens: &[Token]) -> bool
     ensures { result ≡ front is_key_name tokens.now }
 {

@@ -5,7 +5,7 @@ use Rattle.std.proofs.lemmas.Bool.{eqb-true}
 use Rattle.kx_lex.specs.declared.token.Token.{Token}
 use Rattle.kx_lex.specs.declared.token.TokenKind.{TokenKind}
 use Rattle.kx_lex.specs.declared.token.TokenKind.TheVariants.{Mark}
-use Rattle.kx_parse.specs.Kinds.{is_word_kind, is_number_kind, is_key_name_kind, is_text_kind, is_mark_kind, is_word, is_number, is_key_name, is_text, is_mark, is_keyword, front}
+use Rattle.kx_lex.specs.Kinds.{is_word_kind, is_number_kind, is_key_name_kind, is_text_kind, is_mark_kind, is_word, is_number, is_key_name, is_text, is_mark, is_keyword, front}
 
 -- the first token isn't this mark
 abbrev pub before_mark : List ℕ → ℕ → List Token → Bool

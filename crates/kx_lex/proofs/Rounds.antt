@@ -3,8 +3,8 @@ use Rattle.std.proofs.Common.{◌≡◌, suc, ◌<◌, Bool, true, false, List, 
 use Rattle.kx_lex.specs.declared.token.Token.{Token}
 use Rattle.kx_lex.specs.declared.fault.Fault.{Fault}
 use Rattle.kx_lex.specs.declared.fault.Fault.TheVariants.{Memory}
-use Rattle.kx_parse.specs.Laws.{Read, done, prepend, then_read, many_read, many_read-round}
-use Rattle.kx_parse.specs.Lists.{put_before}
+use Rattle.kx_lex.specs.Laws.{Read, done, prepend, then_read, many_read, many_read-round}
+use Rattle.kx_lex.specs.Lists.{put_before}
 
 pub put_before-nil : {A : Type 0} (w : Read (List A)) → put_before [] w ≡ w
 put_before-nil (Ok p) = refl

@@ -4,8 +4,8 @@ use Rattle.std.specs.Option.{ok_or}
 use Rattle.std.proofs.Common.{inl, inr, sym, refl, ◌∙◌, ap, append_assoc}
 use Rattle.kx_lex.specs.declared.token.Token.{Token}
 use Rattle.kx_lex.specs.declared.fault.Fault.{Fault}
-use Rattle.kx_parse.specs.Spelling.{ThenSpells, ThenBlames, EitherSpells, EitherBlames, OneSpells, OneBlames, many_front, ManyBlames, EndBlames}
-use Rattle.kx_parse.specs.Stops.{syntax_at, syntax_end, StopsAt, IsBehind, StopsWithin}
+use Rattle.kx_lex.specs.Spelling.{ThenSpells, ThenBlames, EitherSpells, EitherBlames, OneSpells, OneBlames, many_front, ManyBlames, EndBlames}
+use Rattle.kx_lex.specs.Stops.{syntax_at, syntax_end, StopsAt, IsBehind, StopsWithin}
 
 pub behind_self : {ts rest : List Token} → ts ≡ rest → IsBehind ts rest
 behind_self e = record { before = []; tokens = e }

@@ -2,10 +2,9 @@
 use Rattle.std.specs.Prelude.{ℕ, ◌≤◌, ◌<◌, List, length, ◌≡◌}
 use Rattle.std.proofs.Common.{arith}
 use Rattle.kx_lex.specs.declared.token.Token.{Token}
-use Rattle.kx_parse.specs.Laws.{Read, done, then_read, then-first}
-use Rattle.kx_parse.specs.Production.{Production}
-use Rattle.kx_parse.specs.Tokens.{mark}
-use Rattle.kx_parse.specs.Values.{mark-least}
+use Rattle.kx_lex.specs.Laws.{Read, done, then_read, then-first}
+use Rattle.kx_lex.specs.Production.{Production}
+use Rattle.kx_lex.specs.Tokens.{mark, mark-least}
 
 pub production-shrinks : {text : List ℕ} {A : Type 0} (p : Production text A) → 1 ≤ p.least → (ts : List Token) (x : A) (rest : List Token) → p.read ts ≡ done x rest → length rest < length ts
 production-shrinks p some ts x rest e = let h = p.uses ts x rest (p.takes ts x rest e) in omega arith

@@ -1,6 +1,6 @@
--- The productions that take one token.
-use Rattle.std.specs.Prelude.{ℕ, List, ◌≡◌, ◌^◌, Bool, true, false, nat_lt, drop, Result, Ok, Err, if◌then◌else◌}
-use Rattle.std.proofs.Common.{inr, sym, refl}
+-- The productions that take one token, and the marks that productions want.
+use Rattle.std.specs.Prelude.{ℕ, List, ◌≡◌, ◌≤◌, ◌^◌, Bool, true, false, nat_lt, drop, Result, Ok, Err, if◌then◌else◌}
+use Rattle.std.proofs.Common.{arith, inr, sym, refl}
 use Rattle.std.proofs.lemmas.Bool.{ltb-false}
 use Rattle.kx_lex.specs.Strings.{text_value}
 use Rattle.kx_lex.specs.declared.string.Reading.TheVariants.{Plain}
@@ -8,11 +8,51 @@ use Rattle.kx_lex.specs.declared.token.Token.{Token}
 use Rattle.kx_lex.specs.declared.token.Span.{Span}
 use Rattle.kx_lex.specs.declared.fault.Fault.{Fault}
 use Rattle.kx_lex.specs.declared.fault.Fault.TheVariants.{NumberTooBig}
-use Rattle.kx_parse.specs.Kinds.{slice_of, inner_of, is_word, is_number, is_key_name, is_text, is_mark, is_keyword, front, number_value}
-use Rattle.kx_parse.specs.Stops.{StopsAt}
-use Rattle.kx_parse.specs.Production.{Production, Admits, ◌>>=◌, give, one, one_as}
-use Rattle.kx_parse.specs.declared.tree.Name.{Name}
-use Rattle.kx_parse.specs.declared.tree.Number.{Number as NumberValue}
+use Rattle.kx_lex.specs.Kinds.{slice_of, inner_of, is_word, is_number, is_key_name, is_text, is_mark, is_keyword, front, number_value}
+use Rattle.kx_lex.specs.Stops.{StopsAt}
+use Rattle.kx_lex.specs.Production.{Production, Admits, ◌>>=◌, give, one, one_as}
+use Rattle.kx_lex.specs.declared.name.Name.{Name}
+use Rattle.kx_lex.specs.declared.name.Number.{Number as NumberValue}
+
+-- The marks that productions want, by their byte: { } [ ] ( ) ; , . = + - !
+abbrev pub open_brace : ℕ
+open_brace = 123
+
+abbrev pub close_brace : ℕ
+close_brace = 125
+
+abbrev pub open_bracket : ℕ
+open_bracket = 91
+
+abbrev pub close_bracket : ℕ
+close_bracket = 93
+
+abbrev pub open_paren : ℕ
+open_paren = 40
+
+abbrev pub close_paren : ℕ
+close_paren = 41
+
+abbrev pub semicolon : ℕ
+semicolon = 59
+
+abbrev pub comma : ℕ
+comma = 44
+
+abbrev pub point : ℕ
+point = 46
+
+abbrev pub equals : ℕ
+equals = 61
+
+abbrev pub plus : ℕ
+plus = 43
+
+abbrev pub minus : ℕ
+minus = 45
+
+abbrev pub bang : ℕ
+bang = 33
 
 unfoldable pub mark : (text : List ℕ) → ℕ → Production text Token
 mark text byte = one text (is_mark text byte)
@@ -20,6 +60,11 @@ mark text byte = one text (is_mark text byte)
 pub mark-front : (text : List ℕ) (byte : ℕ) → Admits (front (is_mark text byte)) (mark text byte)
 unfolding mark
 mark-front text byte ts t rest s = rw s.0 s.1
+
+-- a mark takes one token at least
+pub mark-least : (text : List ℕ) (byte : ℕ) → 1 ≤ (mark text byte).least
+unfolding mark
+mark-least text byte = omega arith
 
 unfoldable pub keyword : (text : List ℕ) → List ℕ → Production text Token
 keyword text word = one text (is_keyword text word)

@@ -1,7 +1,7 @@
 -- A number doesn't shrink with a digit more.
 use Rattle.std.proofs.Common.{ℕ, ◌+◌, ◌*◌, ◌≤◌, List, [], ◌∷◌, arith}
 use Rattle.std.specs.Char.{digit_value}
-use Rattle.kx_parse.specs.Kinds.{digits_from}
+use Rattle.kx_lex.specs.Kinds.{digits_from}
 
 more : (base value digit : ℕ) → 1 ≤ base → value ≤ value * base + digit
 more base value digit h = grind arith

@@ -67,7 +67,7 @@ pub struct Bytes {
 
 impl Model for Bytes {
     ghost use Rattle.std.specs.Prelude.{ℕ, List};
-    ghost use Rattle.kx_parse.specs.Kept.{kept_bytes};
+    ghost use Rattle.kx_lex.specs.Kept.{kept_bytes};
 
     ghost Value = { List ℕ };
 

@@ -3,7 +3,7 @@ use Rattle.std.specs.Prelude.{ℕ, zero, suc, min, ◌+◌, ◌≤◌, ◌<◌, 
 use Rattle.std.proofs.Common.{inl, inr, arith, sym, subst, ap}
 use Rattle.kx_lex.specs.declared.token.Token.{Token}
 use Rattle.kx_lex.specs.declared.fault.Fault.{Fault}
-use Rattle.kx_parse.specs.Spelling.{ThenSpells, ThenBlames, EitherSpells, EitherBlames, OneSpells, OneBlames, many_front, ManyBlames, EndBlames}
+use Rattle.kx_lex.specs.Spelling.{ThenSpells, ThenBlames, EitherSpells, EitherBlames, OneSpells, OneBlames, many_front, ManyBlames, EndBlames}
 
 -- what is read of the front, and the tokens left
 abbrev pub Read : Type 0 → Type 0

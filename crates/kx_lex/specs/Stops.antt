@@ -3,7 +3,7 @@ use Rattle.std.specs.Prelude.{ℕ, true, List, [], ◌∷◌, ◌++◌, length, 
 use Rattle.kx_lex.specs.declared.token.Token.{Token}
 use Rattle.kx_lex.specs.declared.fault.Fault.{Fault}
 use Rattle.kx_lex.specs.declared.fault.Fault.TheVariants.{Syntax, NumberTooBig}
-use Rattle.kx_parse.specs.Kinds.{slice_of, is_number, number_value}
+use Rattle.kx_lex.specs.Kinds.{slice_of, is_number, number_value}
 
 -- the fault of a token that may not stand where it does, and that of the end
 abbrev pub syntax_at : Token → Fault

@@ -1,6 +1,6 @@
 use Rattle.std.proofs.Common.{◌∙◌, take, ap, List, ℕ}
-use Rattle.kx_parse.proofs.Takes.{take-shorter}
-use Rattle.kx_parse.proofs.kept.Bytes.front.Goals as goal
+use Rattle.kx_lex.proofs.Takes.{take-shorter}
+use Rattle.kx_lex.proofs.kept.Bytes.front.Goals as goal
 
 pub returns-in-Some : goal.returns-in-Some
 returns-in-Some c =

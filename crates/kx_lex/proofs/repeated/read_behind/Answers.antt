@@ -1,7 +1,7 @@
 use Rattle.std.proofs.Common.{rules}
 use Rattle.std.proofs.lemmas.Result.{err_from_is_err_and}
-use Rattle.kx_parse.proofs.Rounds.{SoFar-none, SoFar-more, SoFar-last, SoFar-blamed}
-use Rattle.kx_parse.proofs.repeated.read_behind.Goals as goal
+use Rattle.kx_lex.proofs.Rounds.{SoFar-none, SoFar-more, SoFar-last, SoFar-blamed}
+use Rattle.kx_lex.proofs.repeated.read_behind.Goals as goal
 
 pub items-init : goal.items-init
 items-init g c = SoFar-none (g.R.Repeated.test c.args.text.now) (g.R.Repeated.reading c.args.text.now) c.args.start.items c.args.tokens.now

@@ -5,12 +5,12 @@ use Rattle.std.specs.Option.{ok_or}
 use Rattle.kx_lex.specs.declared.token.Span.{Span}
 use Rattle.kx_lex.specs.declared.token.Token.{Token}
 use Rattle.kx_lex.specs.declared.fault.Fault.{Fault}
-use Rattle.kx_parse.specs.Spelling.{ThenSpells, ThenBlames, EitherSpells, EitherBlames, OneSpells, OneBlames, many_front, ManyBlames, EndBlames}
-use Rattle.kx_parse.specs.Stops.{syntax_at, syntax_end, StopsAt, IsBehind, StopsWithin}
-use Rattle.kx_parse.specs.Reasons as reasons
-use Rattle.kx_parse.specs.Reasons.{behind_self}
-use Rattle.kx_parse.specs.Laws as laws
-use Rattle.kx_parse.specs.Laws.{Read, done, then_read, which, many_read, one_read, settle_read, end_read, noted_read}
+use Rattle.kx_lex.specs.Spelling.{ThenSpells, ThenBlames, EitherSpells, EitherBlames, OneSpells, OneBlames, many_front, ManyBlames, EndBlames}
+use Rattle.kx_lex.specs.Stops.{syntax_at, syntax_end, StopsAt, IsBehind, StopsWithin}
+use Rattle.kx_lex.specs.Reasons as reasons
+use Rattle.kx_lex.specs.Reasons.{behind_self}
+use Rattle.kx_lex.specs.Laws as laws
+use Rattle.kx_lex.specs.Laws.{Read, done, then_read, which, many_read, one_read, settle_read, end_read, noted_read}
 
 pub record Production (text : List ℕ) (A : Type 0) : Type 1 where
   -- the front of the tokens spells the value, and these are left

@@ -1,23 +1,24 @@
 ghost use Rattle.std.specs.Prelude.{◌≡◌, ◌<◌, ℕ, List, Bool, length, suc, []};
 ghost use Rattle.kx_lex.specs.declared.token.Token.{Token as TokenValue};
-ghost use Rattle.kx_parse.specs.Gives.{Gives};
-ghost use Rattle.kx_parse.specs.Laws.{Read, done, many_read, then_read, prepend, which};
-ghost use Rattle.kx_parse.specs.Production.{one};
-ghost use Rattle.kx_parse.specs.Kinds.{front, is_mark};
-ghost use Rattle.kx_parse.specs.Tokens.{mark};
-ghost use Rattle.kx_parse.specs.Others.{before_mark};
-ghost use Rattle.kx_parse.specs.Values.{comma};
-ghost use Rattle.kx_parse.specs.Lists.{put_before, after_comma_read, sequence_read, listed_read};
-ghost use Rattle.kx_parse.specs.Shrinks.{after_mark-shrinks};
+ghost use Rattle.kx_lex.specs.Gives.{Gives};
+ghost use Rattle.kx_lex.specs.Laws.{Read, done, many_read, then_read, prepend, which};
+ghost use Rattle.kx_lex.specs.Production.{one};
+ghost use Rattle.kx_lex.specs.Kinds.{front, is_mark};
+ghost use Rattle.kx_lex.specs.Tokens.{mark, comma};
+ghost use Rattle.kx_lex.specs.Others.{before_mark};
+ghost use Rattle.kx_lex.specs.Lists.{put_before, after_comma_read, sequence_read, listed_read};
+ghost use Rattle.kx_lex.specs.Shrinks.{after_mark-shrinks};
 
+use crate::fault::Fault;
+use crate::name::Row;
+use crate::token::Token;
 use crate::tokens::{Reading, front_is_mark, is_mark, read_mark};
-use crate::tree::Row;
-use kx_lex::{Fault, Token};
 use std::alloc::Global;
 use std::marker::PhantomData;
 
 /// Something that stands many times in a row.
 pub trait Repeated {
+    /// What is read of each.
     type Value: Drop;
 
     ghost test: { List ℕ → List TokenValue → Bool };
@@ -29,6 +30,9 @@ pub trait Repeated {
         ensures { result ≡ test text.now tokens.now };
 
     /// Reads one more.
+    ///
+    /// # Errors
+    /// The fault of what may not stand there, and [`Fault::Memory`] where a growth is refused.
     fn read_next<'a>(alloc: Global, text: &[u8], tokens: &'a [Token]) -> Reading<'a, Self::Value>
         ensures { Gives result (reading text.now tokens.now) };
 
@@ -55,6 +59,9 @@ fn read_behind<'a, R: Repeated>(
 }
 
 /// Reads as many as stand at the front.
+///
+/// # Errors
+/// The fault of the first that cannot be read, and [`Fault::Memory`] where a growth is refused.
 #[tactic(auto, using(crate::proofs::Rounds::read_lists))]
 pub fn read_many<'a, R: Repeated>(
     alloc: Global,
@@ -67,7 +74,7 @@ pub fn read_many<'a, R: Repeated>(
 }
 
 /// A comma, and one more of what `R` reads.
-pub struct AfterComma<R>(PhantomData<R>);
+struct AfterComma<R>(PhantomData<R>);
 
 impl<R: Repeated> Repeated for AfterComma<R> {
     type Value = R::Value;
@@ -89,6 +96,9 @@ impl<R: Repeated> Repeated for AfterComma<R> {
 }
 
 /// Reads one, and more behind commas.
+///
+/// # Errors
+/// The fault of the first that cannot be read, and [`Fault::Memory`] where a growth is refused.
 #[tactic(auto, using(crate::proofs::Rounds::read_lists))]
 pub fn read_sequence<'a, R: Repeated>(
     alloc: Global,
@@ -103,7 +113,11 @@ pub fn read_sequence<'a, R: Repeated>(
     read_behind::<AfterComma<R>>(items, alloc, text, rest)
 }
 
-/// Reads none where the mark that closes the list stands, else one, and more behind commas.
+/// Reads none at the end or where the mark stands that closes the list, by its byte; else one, and
+/// more behind commas.
+///
+/// # Errors
+/// The fault of the first that cannot be read, and [`Fault::Memory`] where a growth is refused.
 pub fn read_listed<'a, R: Repeated>(
     alloc: Global,
     text: &[u8],
@@ -118,7 +132,7 @@ pub fn read_listed<'a, R: Repeated>(
     read_sequence::<R>(alloc, text, tokens)
 }
 
-/// Whether a token stands at the front that is not this mark.
+/// Whether a token stands at the front that is not the mark of this byte in the text.
 pub fn is_before_mark(text: &[u8], byte: u8, tokens: &[Token]) -> bool
     ensures { result ≡ before_mark text.now byte tokens.now }
 {
