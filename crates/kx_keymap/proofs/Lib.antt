@@ -1,0 +1,6 @@
+mod Growing
+mod Joining
+mod Keymaps
+mod Refusals
+mod Steps
+mod Whole

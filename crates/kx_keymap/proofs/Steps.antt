@@ -1,0 +1,64 @@
+-- What one number more makes of keys and their groups.
+use Rattle.std.proofs.Common.{ℕ, zero, suc, ◌+◌, ◌≡◌, false, ◌||◌, List, [], ◌∷◌, ◌++◌, Option, None, refl, subst, ap, ◌∙◌, arith, if◌then◌else◌}
+use Rattle.kx_keymap.specs.Given.{given_in}
+use Rattle.kx_keymap.specs.Keys.{KeyGiven, group_count, group_of, groups_of, groups_within, has_groups, has_level, key_if_named, keys_below, resolved_of, some_groups_below, types_if}
+use Rattle.kx_meaning.specs.Resolved.{ResolvedGroup, ResolvedKey}
+
+one_more : (n : ℕ) → suc n ≡ n + 1
+one_more n = omega arith
+
+module _ (key : KeyGiven) where
+  pub within_none : groups_within key 0 ≡ 0
+  unfolding groups_within
+  within_none = refl
+
+  pub within_next : (n : ℕ) → groups_within key (n + 1) ≡ (if has_level key n then n + 1 else groups_within key n)
+  unfolding groups_within
+  within_next n = subst (λ m. groups_within key m ≡ (if has_level key n then m else groups_within key n)) (one_more n) refl
+
+  pub within_all : groups_within key 32 ≡ group_count key
+  unfolding group_count
+  within_all = refl
+
+  pub groups_none : groups_of key 0 ≡ []
+  unfolding groups_of
+  groups_none = refl
+
+  pub groups_next : (n : ℕ) → groups_of key (n + 1) ≡ groups_of key n ++ group_of key n ∷ []
+  unfolding groups_of
+  groups_next n = subst (λ m. groups_of key m ≡ groups_of key n ++ group_of key n ∷ []) (one_more n) refl
+
+module _ (name : ℕ → Option (List ℕ)) (key : ℕ → KeyGiven) where
+  pub below_none : keys_below name key 0 ≡ []
+  unfolding keys_below
+  below_none = refl
+
+  pub below_next : (n : ℕ) → keys_below name key (n + 1) ≡ keys_below name key n ++ key_if_named n (name n) (key n)
+  unfolding keys_below
+  below_next n = subst (λ m. keys_below name key m ≡ keys_below name key n ++ key_if_named n (name n) (key n)) (one_more n) refl
+
+  pub some_none : some_groups_below name key 0 ≡ false
+  unfolding some_groups_below
+  some_none = refl
+
+  pub some_next : (n : ℕ) → some_groups_below name key (n + 1) ≡ (some_groups_below name key n || has_groups name key n)
+  unfolding some_groups_below
+  some_next n = subst (λ m. some_groups_below name key m ≡ (some_groups_below name key n || has_groups name key n)) (one_more n) refl
+
+  pub resolved_is : record { types = types_if (some_groups_below name key 4096); keys = keys_below name key 4096 } ≡ resolved_of name key
+  unfolding resolved_of
+  resolved_is = refl
+
+-- ---- A key that no statement names
+
+none_within : (n : ℕ) → groups_within (given_in None) n ≡ 0
+unfolding groups_within
+none_within zero = refl
+none_within (suc n) = none_within n
+
+pub none_count : group_count (given_in None) ≡ 0
+unfolding group_count
+none_count = none_within 32
+
+pub none_groups : groups_of (given_in None) (group_count (given_in None)) ≡ []
+none_groups = ap (groups_of (given_in None)) none_count ∙ groups_none (given_in None)

@@ -1,0 +1,4 @@
+pub mod Keys
+pub mod Given
+pub mod Meaning
+pub mod Source

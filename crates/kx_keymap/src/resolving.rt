@@ -1,0 +1,180 @@
+//! From keys by code to tables.
+ghost use Rattle.std.specs.Prelude.{◌≡◌, ◌++◌, ◌∷◌, [], ℕ, None, Some, IfErr, IfOk, OnOk, nat_lt, is_some};
+ghost use Rattle.kx_codes.specs.Codes.{name_of};
+ghost use Rattle.kx_keymap.specs.Given.{given, given_in};
+ghost use Rattle.kx_keymap.specs.Keys.{content_group, first_level, group_count, group_of, groups_of, groups_within, has_groups, has_level, key_if_named, key_of, resolved_of, some_groups_below, types_if};
+ghost use Rattle.kx_lex.specs.declared.fault.Fault.TheVariants.{Memory};
+ghost use Rattle.kx_meaning.specs.Agreement.{ShowsSame};
+ghost use Rattle.kx_meaning.specs.Placed.{content_of_resolved};
+ghost use Rattle.kx_meaning.specs.Pushes.{with_cell, with_group, with_key};
+ghost use Rattle.kx_meaning.specs.Resolved.{keymap_of_resolved, nothing_resolved};
+ghost use Rattle.kx_resolve.specs.Keymap.{keymap_of};
+ghost use Rattle.kx_resolve.specs.Parts.{content_of};
+ghost use Rattle.kx_symbols.specs.Keys.{key_at};
+
+use ks_core::{Note, Notes};
+use kx_codes::Codes;
+use kx_lex::Fault;
+use kx_meaning::{BuildFault, Builder};
+use kx_mods::Mods;
+use kx_resolve::{Action, Parts, Range};
+use kx_symbols::{KeyRecord, Keys};
+use std::alloc::Global;
+
+/// The built-in type of every group: no modifiers and one level.
+const ONE_LEVEL: &str = "ONE_LEVEL";
+
+/// A key has at most this many groups.
+const MOST_GROUPS: usize = 32;
+
+/// Codes are below this.
+const CODES: u16 = 4096;
+
+/// Tables that are too large for their numbers are refused as want of memory.
+fn refused(_fault: BuildFault) -> Fault
+    ensures { result ≡ Memory }
+{
+    Fault::Memory
+}
+
+/// How many groups a key has: up to the last that has a level.
+#[tactic(auto, using(crate::proofs::Steps::within_none, crate::proofs::Steps::within_next))]
+fn group_count(key: &KeyRecord) -> usize
+    ensures { result ≡ group_count (given key.now) }
+{
+    let mut count = 0;
+    'groups: for group in 0..MOST_GROUPS {
+        if key.width(group) > 0 {
+            count = group + 1;
+        }
+    }
+    count
+}
+
+/// The group whose content a group takes: the first's where it has no level of its own.
+fn content_group(key: &KeyRecord, group: usize) -> usize
+    ensures { result ≡ content_group (given key.now) group }
+{
+    if key.width(group) > 0 { group } else { 0 }
+}
+
+/// Notes a group that wants another type than the one that there is, or that has keysyms behind its level.
+fn note_group(key: &KeyRecord, group: usize, notes: &mut Notes) {
+    let width = key.width(group);
+    if width > 1 {
+        notes.count(Note::OtherType);
+    }
+    if (1..width).any(|level| key.keysyms(group, level).is_some()) {
+        notes.count(Note::LostLevels);
+    }
+}
+
+/// Pushes the one level of a group.
+fn push_level(builder: &mut Builder, key: &KeyRecord, group: usize) -> Result<(), Fault>
+    ensures pushed { OnOk result (builder.new ≡ with_cell builder.old (first_level (given key.now) group)) }
+    ensures err { IfErr result (λ e. e ≡ Memory) }
+{
+    match key.keysyms(content_group(key, group), 0) {
+        Some(keysyms) => builder.push_cell(keysyms.as_slice(), Action::None).map_err(refused),
+        None => builder.push_cell(&[], Action::None).map_err(refused),
+    }
+}
+
+/// Pushes a key with its groups.
+#[tactic(auto, using(crate::proofs::Steps::groups_none, crate::proofs::Steps::groups_next, crate::proofs::Growing::group_pushed))]
+fn push_key(
+    builder: &mut Builder,
+    code: u16,
+    name: &[u8],
+    key: &KeyRecord,
+    notes: &mut Notes,
+) -> Result<(), Fault>
+    ensures pushed { OnOk result (builder.new ≡ with_key builder.old (key_of code name.now (given key.now))) }
+    ensures err { IfErr result (λ e. e ≡ Memory) }
+{
+    builder.push_key(code, name, Mods::NONE, Range::Wrap).map_err(refused)?;
+    'groups: for group in 0..group_count(key) {
+        note_group(key, content_group(key, group), notes);
+        builder.push_group(0).map_err(refused)?;
+        push_level(builder, key, group)?;
+    }
+    Ok(())
+}
+
+/// Pushes the key of a code, where the code has a name.
+#[tactic(auto, using(crate::proofs::Steps::none_groups))]
+fn push_code(
+    builder: &mut Builder,
+    codes: &Codes,
+    keys: &Keys,
+    code: u16,
+    notes: &mut Notes,
+) -> Result<(), Fault>
+    ensures pushed { OnOk result (builder.new ≡ record builder.old { keys = builder.old.keys ++ key_if_named code (name_of codes.now code) (given_in (key_at keys.now code)) }) }
+    ensures err { IfErr result (λ e. e ≡ Memory) }
+{
+    match (codes.name_of(code), keys.key(code)) {
+        (Some(name), Some(key)) => push_key(builder, code, name, key, notes),
+        (Some(name), None) => {
+            builder.push_key(code, name, Mods::NONE, Range::Wrap).map_err(refused)
+        }
+        (None, _) => Ok(()),
+    }
+}
+
+/// Whether a code has a name, and its key a group.
+#[tactic(auto, using(crate::proofs::Steps::none_count))]
+fn has_groups(codes: &Codes, keys: &Keys, code: u16) -> bool
+    ensures { result ≡ has_groups (name_of codes.now) (λ c. given_in (key_at keys.now c)) code }
+{
+    match (codes.name_of(code), keys.key(code)) {
+        (Some(_), Some(key)) => group_count(key) > 0,
+        (Some(_), None) => false,
+        (None, _) => false,
+    }
+}
+
+#[tactic(auto, using(crate::proofs::Steps::some_none, crate::proofs::Steps::some_next))]
+fn some_groups(codes: &Codes, keys: &Keys) -> bool
+    ensures { result ≡ some_groups_below (name_of codes.now) (λ c. given_in (key_at keys.now c)) 4096 }
+{
+    let mut found = false;
+    'codes: for code in 0..CODES {
+        found = found || has_groups(codes, keys, code);
+    }
+    found
+}
+
+/// A builder with the types that the keys use.
+fn types_used(alloc: Global, codes: &Codes, keys: &Keys) -> Result<Builder, Fault>
+    ensures types { IfOk result (λ builder. builder ≡ record { types = types_if (some_groups_below (name_of codes.now) (λ c. given_in (key_at keys.now c)) 4096); keys = [] }) }
+    ensures err { IfErr result (λ e. e ≡ Memory) }
+{
+    let mut builder = Builder::new(alloc);
+    if some_groups(codes, keys) {
+        builder.push_type(ONE_LEVEL.as_bytes(), Mods::NONE, 1, &[]).map_err(refused)?;
+    }
+    Ok(builder)
+}
+
+/// The tables of the keys that keycodes name, in the order of their codes; what is passed over is added to `notes`.
+///
+/// # Errors
+/// `Memory`.
+#[tactic(auto, using(crate::proofs::Steps::below_none, crate::proofs::Steps::below_next))]
+pub fn resolve(
+    alloc: Global,
+    codes: &Codes,
+    keys: &Keys,
+    notes: &mut Notes,
+) -> Result<Parts, Fault>
+    ensures content { IfOk result (λ parts. content_of parts ≡ content_of_resolved (resolved_of (name_of codes.now) (λ c. given_in (key_at keys.now c)))) }
+    ensures agrees { IfOk result (λ parts. ShowsSame (keymap_of (content_of parts)) (keymap_of_resolved (resolved_of (name_of codes.now) (λ c. given_in (key_at keys.now c))))) }
+    ensures err { IfErr result (λ e. e ≡ Memory) }
+{
+    let mut builder = types_used(alloc, codes, keys)?;
+    'codes: for code in 0..CODES {
+        push_code(&mut builder, codes, keys, code, notes)?;
+    }
+    Ok(builder.into_parts())
+}
