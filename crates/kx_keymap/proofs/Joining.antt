@@ -17,7 +17,7 @@ use Rattle.kx_parse.specs.declared.tree.Item.{Item}
 use Rattle.kx_parse.specs.declared.tree.Item.TheVariants.{Include, Statement}
 use Rattle.kx_parse.specs.declared.tree.KeyField.{KeyField}
 use Rattle.kx_parse.specs.declared.tree.Mode.{Mode}
-use Rattle.kx_parse.specs.declared.tree.Name.{Name}
+use Rattle.kx_lex.specs.declared.name.Name.{Name}
 use Rattle.kx_symbols.specs.KeyFaults.{item_faults, key_in}
 use Rattle.kx_symbols.specs.Keys.{KeyLists, KeysShow, item_offers, key_at, key_moves, key_rules, offered, said_offers}
 use Rattle.kx_symbols.specs.Lists.{lists_of}
