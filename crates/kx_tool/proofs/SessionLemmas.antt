@@ -1,13 +1,18 @@
 -- What a session answers, by what was read of its source and by the answers to the lines behind it.
-use Rattle.std.proofs.Common.{◌≡◌, ℕ, true, List, Option, None, Some, Result, Ok, Err, IfSome, inl, inr, refl, subst}
+use Rattle.std.proofs.Common.{◌≡◌, ◌⊎◌, ℕ, Bool, true, List, Option, None, Some, Result, Ok, Err, IfSome, inl, inr, refl, subst}
 use Rattle.ks_core.specs.Entry.{Entry}
+use Rattle.kx_image.proofs.Refused.{one_content}
 use Rattle.kx_image.specs.Image.{IsImage}
+use Rattle.kx_keymap.specs.Source.{Handed, HasFault}
+use Rattle.kx_lex.specs.declared.fault.Fault.{Fault}
+use Rattle.kx_lex.specs.declared.fault.Fault.TheVariants.{Memory}
 use Rattle.kx_resolve.specs.Content.{Content}
+use Rattle.kx_tool.specs.Compiled.{IsCompiled}
 use Rattle.kx_tool.specs.Input.{FailsToRead, IsOver, Waiting, budget, coming, nothing_read}
 use Rattle.kx_tool.specs.Replay.{Answers, AnswersSession, Replays, known_lines}
 use Rattle.kx_tool.specs.Sources.{ReadsSource}
 use Rattle.kx_tool.specs.declared.fault.ReplayFault.{ReplayFault}
-use Rattle.kx_tool.specs.declared.fault.SessionFault.TheVariants.{Replay}
+use Rattle.kx_tool.specs.declared.fault.SessionFault.TheVariants.{Compile, Replay}
 
 over_all : (left : Option (List ℕ)) (most : ℕ) → IsOver (coming nothing_read left) most → IsOver left most
 over_all None most over = tt
@@ -21,40 +26,57 @@ fails_all f g left input is fails =
       | inr over ↦ inr (over_all left 67108864 over)
     ]
 
-module _ {D : Type 0} (written : D → Option (List ℕ)) (failures : D → ℕ) where
-  answers_known : (left later : Option (List ℕ)) (k m : ℕ) (source : List ℕ) (content : Content) (bytes : List ℕ) (names : List Entry) (d e : D) (r : Result (Unit {0}) ReplayFault)
-      → ReadsSource (coming nothing_read left) k later m source true → IsImage content bytes → Replays written failures content names (known_lines later) d e r
-      → IfSome left (λ text. Answers written failures text names d e r)
-  answers_known None later k m source content bytes names d e r read image replays = tt
-  answers_known (Some text) later k m source content bytes names d e r read image replays =
+module _ {D : Type 0} (written : D → Option (List ℕ)) (failures : D → ℕ) (files : Handed) (names : List Entry) where
+  -- the tables that are read are those that were compiled, since the bytes are the image of one content
+  opened_is_compiled : (source : List ℕ) (opened : Content) (bytes : List ℕ) → IsImage opened bytes → (content : Content) × IsCompiled source files names content bytes → IsCompiled source files names opened bytes
+  opened_is_compiled source opened bytes image made = subst (λ content. IsCompiled source files names content bytes) (one_content bytes made.0 opened made.1.image image) made.1
+
+  answers_known : (left later : Option (List ℕ)) (k m : ℕ) (source : List ℕ) (content : Content) (bytes : List ℕ) (d e : D) (r : Result (Unit {0}) ReplayFault)
+      → ReadsSource (coming nothing_read left) k later m source true → IsCompiled source files names content bytes → Replays written failures content names (known_lines later) d e r
+      → IfSome left (λ text. Answers written failures text files names d e r)
+  answers_known None later k m source content bytes d e r read compiled replays = tt
+  answers_known (Some text) later k m source content bytes d e r read compiled replays =
       record {
         content = content;
-        compiled = record { bytes = bytes; image = image };
+        bytes = bytes;
+        compiled = subst (λ s. IsCompiled s files names content bytes) read.is compiled;
         answers = subst (λ lines. Replays written failures content names lines d e r) (read.lines refl) replays;
       }
 
-  session_ok : (left : Option (List ℕ)) (names : List Entry) (d e : D) → IfSome left (λ text. Answers written failures {A = Unit {0}} text names d e (Ok tt))
-      → IfSome left (λ text. AnswersSession written failures {A = Unit {0}} text names d e (Ok tt))
-  session_ok None names d e h = tt
-  session_ok (Some text) names d e h = h
+  session_ok : (left : Option (List ℕ)) (d e : D) → IfSome left (λ text. Answers written failures {A = Unit {0}} text files names d e (Ok tt))
+      → IfSome left (λ text. AnswersSession written failures {A = Unit {0}} text files names d e (Ok tt))
+  session_ok None d e h = tt
+  session_ok (Some text) d e h = h
 
-  session_err : (left : Option (List ℕ)) (names : List Entry) (d e : D) (fault : ReplayFault) → IfSome left (λ text. Answers written failures {A = Unit {0}} text names d e (Err fault))
-      → IfSome left (λ text. AnswersSession written failures {A = Unit {0}} text names d e (Err (Replay fault)))
-  session_err None names d e fault h = tt
-  session_err (Some text) names d e fault h = inr h
+  session_err : (left : Option (List ℕ)) (d e : D) (fault : ReplayFault) → IfSome left (λ text. Answers written failures {A = Unit {0}} text files names d e (Err fault))
+      → IfSome left (λ text. AnswersSession written failures {A = Unit {0}} text files names d e (Err (Replay fault)))
+  session_err None d e fault h = tt
+  session_err (Some text) d e fault h = inr h
 
-  pub session_answered : (left later : Option (List ℕ)) (k m : ℕ) (input : Waiting) (source : List ℕ) (content : Content) (bytes : List ℕ) (names : List Entry) (d e : D) (r : Result (Unit {0}) ReplayFault)
-      → input ≡ nothing_read → ReadsSource (coming input left) k later m source true → IsImage content bytes → Replays written failures content names (known_lines later) d e r → r ≡ Ok tt
-      → IfSome left (λ text. AnswersSession written failures {A = Unit {0}} text names d e (Ok tt))
-  session_answered left later k m input source content bytes names d e r is read image replays ok =
-      session_ok left names d e
-      (subst (λ s. IfSome left (λ text. Answers written failures text names d e s)) ok
-      (answers_known left later k m source content bytes names d e r (subst (λ (w : Waiting). ReadsSource (coming w left) k later m source true) is read) image replays))
+  pub session_answered : (left later : Option (List ℕ)) (k m : ℕ) (input : Waiting) (source : List ℕ) (content : Content) (bytes : List ℕ) (d e : D) (r : Result (Unit {0}) ReplayFault)
+      → input ≡ nothing_read → ReadsSource (coming input left) k later m source true → IsImage content bytes → (made : Content) × IsCompiled source files names made bytes → Replays written failures content names (known_lines later) d e r → r ≡ Ok tt
+      → IfSome left (λ text. AnswersSession written failures {A = Unit {0}} text files names d e (Ok tt))
+  session_answered left later k m input source content bytes d e r is read image made replays ok =
+      session_ok left d e
+      (subst (λ s. IfSome left (λ text. Answers written failures text files names d e s)) ok
+      (answers_known left later k m source content bytes d e r (subst (λ (w : Waiting). ReadsSource (coming w left) k later m source true) is read) (opened_is_compiled source content bytes image made) replays))
 
-  pub session_stopped : (left later : Option (List ℕ)) (k m : ℕ) (input : Waiting) (source : List ℕ) (content : Content) (bytes : List ℕ) (names : List Entry) (d e : D) (r : Result (Unit {0}) ReplayFault) (fault : ReplayFault)
-      → input ≡ nothing_read → ReadsSource (coming input left) k later m source true → IsImage content bytes → Replays written failures content names (known_lines later) d e r → r ≡ Err fault
-      → IfSome left (λ text. AnswersSession written failures {A = Unit {0}} text names d e (Err (Replay fault)))
-  session_stopped left later k m input source content bytes names d e r fault is read image replays err =
-      session_err left names d e fault
-      (subst (λ s. IfSome left (λ text. Answers written failures text names d e s)) err
-      (answers_known left later k m source content bytes names d e r (subst (λ (w : Waiting). ReadsSource (coming w left) k later m source true) is read) image replays))
+  pub session_stopped : (left later : Option (List ℕ)) (k m : ℕ) (input : Waiting) (source : List ℕ) (content : Content) (bytes : List ℕ) (d e : D) (r : Result (Unit {0}) ReplayFault) (fault : ReplayFault)
+      → input ≡ nothing_read → ReadsSource (coming input left) k later m source true → IsImage content bytes → (made : Content) × IsCompiled source files names made bytes → Replays written failures content names (known_lines later) d e r → r ≡ Err fault
+      → IfSome left (λ text. AnswersSession written failures {A = Unit {0}} text files names d e (Err (Replay fault)))
+  session_stopped left later k m input source content bytes d e r fault is read image made replays err =
+      session_err left d e fault
+      (subst (λ s. IfSome left (λ text. Answers written failures text files names d e s)) err
+      (answers_known left later k m source content bytes d e r (subst (λ (w : Waiting). ReadsSource (coming w left) k later m source true) is read) (opened_is_compiled source content bytes image made) replays))
+
+  refused_known : (left later : Option (List ℕ)) (k m : ℕ) (source : List ℕ) (has_lines : Bool) (d : D) (fault : Fault)
+      → ReadsSource (coming nothing_read left) k later m source has_lines → (fault ≡ Memory) ⊎ HasFault source files names fault
+      → IfSome left (λ text. AnswersSession written failures {A = Unit {0}} text files names d d (Err (Compile fault)))
+  refused_known None later k m source has_lines d fault read has = tt
+  refused_known (Some text) later k m source has_lines d fault read has = (refl, subst (λ s. (fault ≡ Memory) ⊎ HasFault s files names fault) read.is has)
+
+  pub session_refused : (left later : Option (List ℕ)) (k m : ℕ) (input : Waiting) (source : List ℕ) (has_lines : Bool) (d : D) (fault : Fault)
+      → input ≡ nothing_read → ReadsSource (coming input left) k later m source has_lines → (fault ≡ Memory) ⊎ HasFault source files names fault
+      → IfSome left (λ text. AnswersSession written failures {A = Unit {0}} text files names d d (Err (Compile fault)))
+  session_refused left later k m input source has_lines d fault is read has =
+      refused_known left later k m source has_lines d fault (subst (λ (w : Waiting). ReadsSource (coming w left) k later m source has_lines) is read) has

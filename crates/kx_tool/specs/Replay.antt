@@ -9,6 +9,8 @@ use Rattle.kx_image.specs.Image.{IsImage, HasFault}
 use Rattle.kx_image.specs.declared.fault.ImageFault.{ImageFault}
 use Rattle.kx_resolve.specs.Content.{Content}
 use Rattle.kx_run.specs.World.{opening}
+use Rattle.kx_keymap.specs.Source.{Handed, HasFault as HasSourceFault}
+use Rattle.kx_lex.specs.declared.fault.Fault.TheVariants.{Memory}
 use Rattle.kx_tool.specs.Answer.{answers_from}
 use Rattle.kx_tool.specs.Compiled.{IsCompiled}
 use Rattle.kx_tool.specs.EventLines.{events_in, fine_lines}
@@ -58,14 +60,16 @@ module _ {D : Type 0} (written : D → Option (List ℕ)) (failures : D → ℕ)
     pub answers : Replays content names lines d e r
 
   -- the text's source is compiled to tables, from which the lines behind it are answered
-  pub record Answers {A : Type 0} (text : List ℕ) (names : List Entry) (d e : D) (r : Result A ReplayFault) : Type 0 where
+  pub record Answers {A : Type 0} (text : List ℕ) (files : Handed) (names : List Entry) (d e : D) (r : Result A ReplayFault) : Type 0 where
     pub content : Content
-    pub compiled : IsCompiled (source_in text) content
+    pub bytes : List ℕ
+    pub compiled : IsCompiled (source_in text) files names content bytes
     pub answers : Replays content names (Some (lines_in text)) d e r
 
   -- a session over a text: where its source is refused, and where it can't be read whole, nothing is written
-  abbrev pub AnswersSession : {A : Type 0} → List ℕ → List Entry → D → D → Result A SessionFault → Type 0
-  AnswersSession text names d e (Ok x) = Answers text names d e (Ok x)
-  AnswersSession text names d e (Err (Compile fault)) = e ≡ d
-  AnswersSession {A} text names d e (Err (Replay fault)) =
-      ((fault ≡ faults.Read) × (e ≡ d)) ⊎ Answers {A = A} text names d e (Err fault)
+  abbrev pub AnswersSession : {A : Type 0} → List ℕ → Handed → List Entry → D → D → Result A SessionFault → Type 0
+  AnswersSession text files names d e (Ok x) = Answers text files names d e (Ok x)
+  AnswersSession text files names d e (Err (Compile fault)) =
+      (e ≡ d) × ((fault ≡ Memory) ⊎ HasSourceFault (source_in text) files names fault)
+  AnswersSession {A} text files names d e (Err (Replay fault)) =
+      ((fault ≡ faults.Read) × (e ≡ d)) ⊎ Answers {A = A} text files names d e (Err fault)

@@ -1,71 +1,21 @@
-ghost use Rattle.std.specs.Prelude.{IfOk};
+ghost use Rattle.std.specs.Prelude.{◌≡◌, ◌⊎◌, IfErr, IfOk};
 ghost use Rattle.kx_image.specs.Image.{IsImage};
+ghost use Rattle.kx_keymap.specs.Source.{HasFault};
+ghost use Rattle.kx_lex.specs.declared.fault.Fault.TheVariants.{Memory};
 ghost use Rattle.kx_resolve.specs.Content.{Content};
+ghost use Rattle.kx_tool.specs.Compiled.{IsCompiled};
 
-use crate::build::build;
 use ks_core::{Lent, NameTable, Notes};
-use kx_codes::codes;
-use kx_include::{Files, Library};
-use kx_lex::{At, Fault, Span, lex};
-use kx_parse::{Kind, Section, parse};
+use kx_include::Files;
+use kx_keymap::tables;
+use kx_lex::Fault;
 use kx_resolve::{Owned, Tables};
-use kx_symbols::symbols;
 use std::alloc::Global;
-
-/// Types and compat sections are read as text, and what they hold is refused for now.
-fn check_section(section: &Section) -> Result<(), Fault> {
-    match (section.kind, section.items.as_slice()) {
-        (Kind::Types | Kind::Compat, [item, ..]) => Err(Fault::UnknownField(At {
-            file: 0,
-            span: item.word_span(),
-        })),
-        _ => Ok(()),
-    }
-}
-
-fn check_sections(sections: &[Section]) -> Result<(), Fault> {
-    for section in sections {
-        check_section(section)?;
-    }
-    Ok(())
-}
-
-/// The place of all of a source; it counts no further than 4,294,967,295 bytes.
-fn whole(source: &[u8]) -> Span {
-    Span {
-        start: 0,
-        stop: source.len().min(u32::MAX as usize) as u32,
-    }
-}
-
-/// The tables of a source, and what was passed over.
-///
-/// # Errors
-/// A fault of the source with its place, or `Memory`.
-pub fn compile_tables(
-    alloc: Global,
-    source: &[u8],
-    files: &Files,
-    names: &NameTable,
-) -> Result<(Owned, Notes), Fault> {
-    let tokens = lex(alloc, source)?;
-    let tree = parse(alloc, source, tokens.as_slice())?;
-    let library = Library::read(alloc, tree, whole(source), files)?;
-    library.check(alloc)?;
-    check_sections(library.sections_in(0))?;
-    let codes = codes(alloc, &library)?;
-    let mut notes = Notes::new();
-    let keys = symbols(alloc, &library, &codes, names, &mut notes)?;
-    let parts = build(alloc, &codes, &keys, &mut notes)?;
-    match Owned::new(parts) {
-        Ok(tables) => Ok((tables, notes)),
-        Err(_) => Err(Fault::Memory),
-    }
-}
 
 /// The image of tables, version 2.
 fn image_of(alloc: Global, tables: &Owned) -> Result<Vec<u8>, Fault>
-    ensures { IfOk result (λ bytes. IsImage tables.now bytes.items) }
+    ensures image { IfOk result (λ bytes. IsImage tables.now bytes.items) }
+    ensures err { IfErr result (λ e. e ≡ Memory) }
 {
     let _sound = tables.key_count();
     let mut out = Lent::new(Vec::new(alloc));
@@ -75,7 +25,8 @@ fn image_of(alloc: Global, tables: &Owned) -> Result<Vec<u8>, Fault>
     }
 }
 
-/// The image of a source, version 2, and what was passed over.
+/// The image of a source, version 2, and what was passed over. A player over it answers every list of events as the
+/// source's statements mean, since the image's keymap is theirs.
 ///
 /// # Errors
 /// A fault of the source with its place, or `Memory`.
@@ -85,9 +36,10 @@ pub fn compile(
     files: &Files,
     names: &NameTable,
 ) -> Result<(Vec<u8>, Notes), Fault>
-    ensures image { IfOk result (λ made. (content : Content) × IsImage content made.0.items) }
+    ensures image { IfOk result (λ made. (content : Content) × IsCompiled source.now files.now names.now content made.0.items) }
+    ensures fault { IfErr result (λ e. (e ≡ Memory) ⊎ HasFault source.now files.now names.now e) }
 {
-    let (tables, notes) = compile_tables(alloc, source, files, names)?;
+    let (tables, notes) = tables(alloc, source, files, names)?;
     let image = image_of(alloc, &tables)?;
     Ok((image, notes))
 }

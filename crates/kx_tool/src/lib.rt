@@ -2,7 +2,6 @@
 #![tactic(auto)]
 
 mod answer;
-mod build;
 mod compiler;
 mod dumping;
 mod event;
@@ -15,7 +14,7 @@ mod source;
 #[cfg(test)]
 mod tests;
 
-pub use compiler::{compile, compile_tables};
+pub use compiler::compile;
 pub use dumping::dump;
 pub use fault::{ReplayFault, SessionFault};
 pub use kx_include::Files;

@@ -30,7 +30,7 @@ pub fn session<F: Feed, O: Out>(
     out: &mut O,
 ) -> Result<(), SessionFault>
     ensures quiet { IfErr result (KeepsQuiet out.old out.new) }
-    ensures answers { IfSome (F.left feed.old) (λ text. AnswersSession O.written O.failures text names.now out.old out.new result) }
+    ensures answers { IfSome (F.left feed.old) (λ text. AnswersSession O.written O.failures text files.now names.now out.old out.new result) }
     ensures read { IfErr result (λ fault. fault ≡ SessionFault.Replay Read → FailsToRead (F.failures feed.old) (F.failures feed.new) (F.left feed.old) 67108864) }
 {
     let mut input = Input::new();
