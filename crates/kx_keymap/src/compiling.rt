@@ -52,11 +52,7 @@ fn whole(source: &[u8]) -> Span
 }
 
 /// The source's tree, with the texts of the files.
-fn read_library<'f>(
-    alloc: Global,
-    source: &[u8],
-    files: &'f Files,
-) -> Result<Library<'f>, Fault>
+fn read_library<'f>(alloc: Global, source: &[u8], files: &'f Files) -> Result<Library<'f>, Fault>
     ensures read { IfOk result (λ library. IsRead source.now files.now library) }
     ensures fault { IfErr result (λ e. (e ≡ Memory) ⊎ (HasNoTree source.now e ⊎ HasTooManyFiles source.now files.now e)) }
 {
@@ -66,11 +62,7 @@ fn read_library<'f>(
 }
 
 /// The tables of what a source and its files say, and what was passed over.
-fn tables_of(
-    alloc: Global,
-    library: &Library,
-    names: &NameTable,
-) -> Result<(Owned, Notes), Fault>
+fn tables_of(alloc: Global, library: &Library, names: &NameTable) -> Result<(Owned, Notes), Fault>
     ensures whole { OnOk result (IsWhole library.now) }
     ensures faultless { OnOk result (statement_faults names.now library.now ≡ []) }
     ensures keymap { IfOk result (λ made. keymap_of made.0 ≡ keymap_in names.now library.now) }

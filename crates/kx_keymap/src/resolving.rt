@@ -2,13 +2,14 @@
 ghost use Rattle.std.specs.Prelude.{◌≡◌, ◌++◌, ◌∷◌, [], ℕ, None, Some, IfErr, IfOk, OnOk, nat_lt, is_some};
 ghost use Rattle.kx_codes.specs.Codes.{name_of};
 ghost use Rattle.kx_keymap.specs.Given.{given, given_in};
-ghost use Rattle.kx_keymap.specs.Keys.{content_group, first_level, group_count, group_of, groups_of, groups_within, has_groups, has_level, key_if_named, key_of, resolved_of, some_groups_below, types_if};
+ghost use Rattle.kx_keymap.specs.Keys.{content_group, first_level, group_count, group_of, groups_of, groups_within, has_groups, has_level, key_if_named, key_of, no_mods, resolved_of, some_groups_below, types_if};
 ghost use Rattle.kx_lex.specs.declared.fault.Fault.TheVariants.{Memory};
 ghost use Rattle.kx_meaning.specs.Agreement.{ShowsSame};
 ghost use Rattle.kx_meaning.specs.Placed.{content_of_resolved};
 ghost use Rattle.kx_meaning.specs.Pushes.{with_cell, with_group, with_key};
 ghost use Rattle.kx_meaning.specs.Resolved.{keymap_of_resolved, nothing_resolved};
 ghost use Rattle.kx_resolve.specs.Keymap.{keymap_of};
+ghost use Rattle.kx_resolve.specs.declared.rows.Range.TheVariants.{Wrap};
 ghost use Rattle.kx_resolve.specs.Parts.{content_of};
 ghost use Rattle.kx_symbols.specs.Keys.{key_at};
 
@@ -75,9 +76,21 @@ fn push_level(builder: &mut Builder, key: &KeyRecord, group: usize) -> Result<()
     ensures err { IfErr result (λ e. e ≡ Memory) }
 {
     match key.keysyms(content_group(key, group), 0) {
-        Some(keysyms) => builder.push_cell(keysyms.as_slice(), Action::None).map_err(refused),
+        Some(keysyms) => builder
+            .push_cell(keysyms.as_slice(), Action::None)
+            .map_err(refused),
         None => builder.push_cell(&[], Action::None).map_err(refused),
     }
+}
+
+/// Pushes a key that has no groups yet.
+fn push_bare_key(builder: &mut Builder, code: u16, name: &[u8]) -> Result<(), Fault>
+    ensures pushed { OnOk result (builder.new ≡ with_key builder.old (record { code = code; name = name.now; modmap = no_mods; range = Wrap; groups = [] })) }
+    ensures err { IfErr result (λ e. e ≡ Memory) }
+{
+    builder
+        .push_key(code, name, Mods::NONE, Range::Wrap)
+        .map_err(refused)
 }
 
 /// Pushes a key with its groups.
@@ -92,7 +105,7 @@ fn push_key(
     ensures pushed { OnOk result (builder.new ≡ with_key builder.old (key_of code name.now (given key.now))) }
     ensures err { IfErr result (λ e. e ≡ Memory) }
 {
-    builder.push_key(code, name, Mods::NONE, Range::Wrap).map_err(refused)?;
+    push_bare_key(builder, code, name)?;
     'groups: for group in 0..group_count(key) {
         note_group(key, content_group(key, group), notes);
         builder.push_group(0).map_err(refused)?;
@@ -115,9 +128,7 @@ fn push_code(
 {
     match (codes.name_of(code), keys.key(code)) {
         (Some(name), Some(key)) => push_key(builder, code, name, key, notes),
-        (Some(name), None) => {
-            builder.push_key(code, name, Mods::NONE, Range::Wrap).map_err(refused)
-        }
+        (Some(name), None) => push_bare_key(builder, code, name),
         (None, _) => Ok(()),
     }
 }
@@ -152,7 +163,9 @@ fn types_used(alloc: Global, codes: &Codes, keys: &Keys) -> Result<Builder, Faul
 {
     let mut builder = Builder::new(alloc);
     if some_groups(codes, keys) {
-        builder.push_type(ONE_LEVEL.as_bytes(), Mods::NONE, 1, &[]).map_err(refused)?;
+        builder
+            .push_type(ONE_LEVEL.as_bytes(), Mods::NONE, 1, &[])
+            .map_err(refused)?;
     }
     Ok(builder)
 }
@@ -162,12 +175,7 @@ fn types_used(alloc: Global, codes: &Codes, keys: &Keys) -> Result<Builder, Faul
 /// # Errors
 /// `Memory`.
 #[tactic(auto, using(crate::proofs::Steps::below_none, crate::proofs::Steps::below_next))]
-pub fn resolve(
-    alloc: Global,
-    codes: &Codes,
-    keys: &Keys,
-    notes: &mut Notes,
-) -> Result<Parts, Fault>
+pub fn resolve(alloc: Global, codes: &Codes, keys: &Keys, notes: &mut Notes) -> Result<Parts, Fault>
     ensures content { IfOk result (λ parts. content_of parts ≡ content_of_resolved (resolved_of (name_of codes.now) (λ c. given_in (key_at keys.now c)))) }
     ensures agrees { IfOk result (λ parts. ShowsSame (keymap_of (content_of parts)) (keymap_of_resolved (resolved_of (name_of codes.now) (λ c. given_in (key_at keys.now c))))) }
     ensures err { IfErr result (λ e. e ≡ Memory) }
