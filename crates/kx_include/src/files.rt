@@ -1,4 +1,4 @@
-ghost use Rattle.std.specs.Prelude.{◌≡◌, ◌++◌, [], ◌≤◌, List, ℕ, IfOk, OnOk, OnErr, IfErr, IfSome, length, slice_get, map, Some, position};
+ghost use Rattle.std.specs.Prelude.{◌≡◌, ◌++◌, [], ◌≤◌, List, ℕ, IfOk, OnOk, OnErr, IfErr, IfSome, IfNone, length, slice_get, map, Some, position};
 ghost use Rattle.std.specs.Option.{option_map};
 ghost use Rattle.kx_lex.specs.declared.fault.Fault.TheVariants.{Memory};
 ghost use Rattle.kx_include.specs.Library.{number_of, with_file};
@@ -65,7 +65,8 @@ impl Files {
 
     /// The bytes of the file at a place, counted from 0; none behind the last.
     pub(crate) fn bytes_at(&self, place: usize) -> &[u8]
-        ensures { IfSome (slice_get self.now place) (λ f. result.now ≡ f.1) }
+        ensures found { IfSome (slice_get self.now place) (λ f. result.now ≡ f.1) }
+        ensures behind { IfNone (slice_get self.now place) (result.now ≡ []) }
     {
         match self.files.get_index(place) {
             None => &[],

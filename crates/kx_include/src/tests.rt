@@ -1,4 +1,4 @@
-use crate::{Files, Library, Part, Place, include_parts};
+use crate::{Files, Library, Part, Place, include_parts, is_of};
 use kx_lex::{Span, lex};
 use kx_parse::{Kind, Mode, parse};
 use std::process::Abort;
@@ -242,5 +242,34 @@ fn parts_of_a_text(rt: HostRuntime) -> Result<(), Fail> {
     assert_eq!(rt; parts[1].group(), Some(2));
     assert_eq!(rt; parts[2].mode(), Mode::Augment);
     assert_eq!(rt; parts[2].group(), Some(32));
+    Ok(())
+}
+
+#[test]
+fn a_file_of_a_name_again_replaces_it(rt: HostRuntime) -> Result<(), Fail> {
+    let us = b"xkb_symbols { };".as_slice();
+    let given = [
+        (b"us".as_slice(), b"\x01".as_slice()),
+        (b"broken".as_slice(), b"\x01".as_slice()),
+        (b"us".as_slice(), us),
+    ];
+    assert_eq!(rt; inside(&rt, b"include \"us\"", &given)?.as_str(), "ok");
+    assert_eq!(rt;
+        inside(&rt, b"include \"broken\"", &given)?.as_str(),
+        "F3 BadByte at 2:0-1"
+    );
+    Ok(())
+}
+
+#[test]
+fn kinds_of_sections(rt: HostRuntime) -> Result<(), Fail> {
+    let text = b"xkb_keymap { xkb_types { }; xkb_compat { }; };".as_slice();
+    let tokens = lex(rt.alloc(), text)?;
+    let tree = parse(rt.alloc(), text, tokens.as_slice())?;
+    let sections = tree.sections.as_slice();
+    assert_eq!(rt; sections.len(), 2);
+    assert!(rt; is_of(Kind::Types, &sections[0]));
+    assert!(rt; is_of(Kind::Compat, &sections[1]));
+    assert!(rt; !is_of(Kind::Types, &sections[1]));
     Ok(())
 }

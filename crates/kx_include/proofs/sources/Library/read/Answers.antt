@@ -10,5 +10,5 @@ files-init c = ([], c.in_ok-push.ensures.items ∙ ap (λ ts. ts ++ Ok c.args.tr
 pub files-preserved : goal.files-preserved
 files-preserved c =
     let within : c.files.place < length c.args.files.now = (let below = c.files-test.true in let len = c.len-place-end.ensures in omega arith) in
-    let r = read_more c.files.place c.args.tree c.args.files.now c.files.texts.items c.in_ok-text.text c.files.invariant within (λ file found. subst (λ bs. IsText (c.files.place + 1) bs c.in_ok-text.text) (subst (λ o. IfSome o (λ f. c.bytes_at.result.now ≡ f.1)) found c.bytes_at.ensures) c.in_ok-text.ensures.text) in
+    let r = read_more c.files.place c.args.tree c.args.files.now c.files.texts.items c.in_ok-text.text c.files.invariant within (λ file found. subst (λ bs. IsText (c.files.place + 1) bs c.in_ok-text.text) (subst (λ o. IfSome o (λ f. c.bytes_at.result.now ≡ f.1)) found c.bytes_at.ensures.found) c.in_ok-text.ensures.text) in
     (r.0, c.in_ok-push-2.ensures.items ∙ r.1, r.2)
