@@ -10,6 +10,7 @@ ghost use Rattle.kx_merge.specs.Sheet.{keycode_in, sheet_cell, sheet_moves, shee
 
 use crate::fields::Fields;
 use crate::walking::merge;
+use indexmap::IndexMap;
 use kx_include::{Files, Library, Place};
 use kx_lex::{Fault, Span, lex};
 use kx_parse::{Item, Kind, Mode, Statement, parse};
@@ -139,9 +140,12 @@ impl Fields<()> for Sheet {
     ghost same = { λ j k e. eqb-true j k e };
 }
 
-/// The value of the record A in the first group or the second of a source with these symbols items, where `a` and `b` are
-/// files with `<A>=7` and `<A>=8`.
-fn value_in(rt: &impl AllocGlobal, items: &[u8], group: u8) -> Result<Option<u32>, Fail> {
+/// The records of a kind of a source with these symbols items, where `a` and `b` are files with `<A>=7` and `<A>=8`.
+fn records_in(
+    rt: &impl AllocGlobal,
+    items: &[u8],
+    kind: Kind,
+) -> Result<IndexMap<u8, Sheet>, Fail> {
     let text = [
         b"xkb_keymap { xkb_symbols { ".as_slice(),
         items,
@@ -169,7 +173,12 @@ fn value_in(rt: &impl AllocGlobal, items: &[u8], group: u8) -> Result<Option<u32
     };
     let library = Library::read(rt.alloc(), tree, whole, &files)?;
     library.check(rt.alloc())?;
-    let records = merge::<(), Sheet>(rt.alloc(), &(), &library, Kind::Symbols, &mut ())?;
+    Ok(merge::<(), Sheet>(rt.alloc(), &(), &library, kind, &mut ())?)
+}
+
+/// The value of the record A in the first group or the second of a source with these symbols items.
+fn value_in(rt: &impl AllocGlobal, items: &[u8], group: u8) -> Result<Option<u32>, Fail> {
+    let records = records_in(rt, items, Kind::Symbols)?;
     match records.get(&b'A') {
         None => Ok(None),
         Some(sheet) => Ok(if group == 1 { sheet.one } else { sheet.two }),
@@ -211,5 +220,23 @@ fn maps_moved_to_a_group(rt: HostRuntime) -> Result<(), Fail> {
     assert_eq!(rt; value_in(&rt, b"include \"a+b:2\"", 2)?, Some(8));
     assert_eq!(rt; value_in(&rt, b"include \"a:2|b:2\"", 1)?, None);
     assert_eq!(rt; value_in(&rt, b"include \"a:2|b:2\"", 2)?, Some(7));
+    Ok(())
+}
+
+#[test]
+fn records_in_the_order_of_their_names(rt: HostRuntime) -> Result<(), Fail> {
+    let records = records_in(&rt, b"<C>=1; include \"a\" <B>=2; <C>=3;", Kind::Symbols)?;
+    assert_eq!(rt; records.len(), 3);
+    for (place, name) in [(0, b'C'), (1, b'A'), (2, b'B')] {
+        let found = records.get_index(place).ok_or("no record")?;
+        assert_eq!(rt; *found.0, name);
+    }
+    Ok(())
+}
+
+#[test]
+fn sections_of_another_kind_give_nothing(rt: HostRuntime) -> Result<(), Fail> {
+    let records = records_in(&rt, b"<A>=1; include \"a\"", Kind::Types)?;
+    assert_eq!(rt; records.len(), 0);
     Ok(())
 }
