@@ -1,5 +1,5 @@
 //! Rows of precedence, on records with a cell a group, which keycode statements fill: `<A>=1` gives 1 to the first group
-//! of the record A, and `<A>=0` names it and gives nothing.
+//! of the record A, and `<A>=0` names it and gives nothing. Each statement that is read is noted.
 ghost use Rattle.std.specs.Prelude.{◌≡◌, ◌∷◌, [], slice_index, IfOk, IfErr};
 ghost use Rattle.std.proofs.Common.{eqb-true};
 ghost use Rattle.kx_lex.specs.declared.fault.Fault.TheVariants.{Memory};
@@ -92,7 +92,7 @@ impl Fields<()> for Sheet {
 
     type Defaults = ();
 
-    type Notes = ();
+    type Notes = u32;
 
     ghost rules = { λ context. sheet_rules };
 
@@ -114,8 +114,9 @@ impl Fields<()> for Sheet {
         _defaults: &(),
         _place: Place,
         item: &Item,
-        _notes: &mut (),
+        notes: &mut u32,
     ) -> Result<Vec<(u8, Sheet)>, Fault> {
+        *notes = notes.saturating_add(1);
         match item {
             Item::Include { .. } => Ok(no_sheets(alloc)),
             Item::Statement { statement, .. } => match keycode_in(statement) {
@@ -145,6 +146,7 @@ fn records_in(
     rt: &impl AllocGlobal,
     items: &[u8],
     kind: Kind,
+    notes: &mut u32,
 ) -> Result<IndexMap<u8, Sheet>, Fail> {
     let text = [
         b"xkb_keymap { xkb_symbols { ".as_slice(),
@@ -173,12 +175,13 @@ fn records_in(
     };
     let library = Library::read(rt.alloc(), tree, whole, &files)?;
     library.check(rt.alloc())?;
-    Ok(merge::<(), Sheet>(rt.alloc(), &(), &library, kind, &mut ())?)
+    Ok(merge::<(), Sheet>(rt.alloc(), &(), &library, kind, notes)?)
 }
 
 /// The value of the record A in the first group or the second of a source with these symbols items.
 fn value_in(rt: &impl AllocGlobal, items: &[u8], group: u8) -> Result<Option<u32>, Fail> {
-    let records = records_in(rt, items, Kind::Symbols)?;
+    let mut notes = 0;
+    let records = records_in(rt, items, Kind::Symbols, &mut notes)?;
     match records.get(&b'A') {
         None => Ok(None),
         Some(sheet) => Ok(if group == 1 { sheet.one } else { sheet.two }),
@@ -225,7 +228,9 @@ fn maps_moved_to_a_group(rt: HostRuntime) -> Result<(), Fail> {
 
 #[test]
 fn records_in_the_order_of_their_names(rt: HostRuntime) -> Result<(), Fail> {
-    let records = records_in(&rt, b"<C>=1; include \"a\" <B>=2; <C>=3;", Kind::Symbols)?;
+    let items = b"<C>=1; include \"a\" <B>=2; <C>=3;";
+    let mut notes = 0;
+    let records = records_in(&rt, items, Kind::Symbols, &mut notes)?;
     assert_eq!(rt; records.len(), 3);
     for (place, name) in [(0, b'C'), (1, b'A'), (2, b'B')] {
         let found = records.get_index(place).ok_or("no record")?;
@@ -236,7 +241,26 @@ fn records_in_the_order_of_their_names(rt: HostRuntime) -> Result<(), Fail> {
 
 #[test]
 fn sections_of_another_kind_give_nothing(rt: HostRuntime) -> Result<(), Fail> {
-    let records = records_in(&rt, b"<A>=1; include \"a\"", Kind::Types)?;
+    let mut notes = 0;
+    let records = records_in(&rt, b"<A>=1; include \"a\"", Kind::Types, &mut notes)?;
     assert_eq!(rt; records.len(), 0);
+    assert_eq!(rt; notes, 0);
+    Ok(())
+}
+
+#[test]
+fn notes_count_a_statement_once_for_each_place(rt: HostRuntime) -> Result<(), Fail> {
+    let rows: [(&[u8], u32); 5] = [
+        (b"", 0),
+        (b"<A>=1; <B>=2;", 2),
+        (b"<A>=1; replace <A>=2;", 2),
+        (b"<A>=1; include \"a+b\" augment \"a\"", 4),
+        (b"include \"a:2|a\"", 2),
+    ];
+    for (items, wanted) in &rows {
+        let mut notes = 0;
+        records_in(&rt, items, Kind::Symbols, &mut notes)?;
+        assert_eq!(rt; notes, *wanted, "{:?}", items);
+    }
     Ok(())
 }
