@@ -5,7 +5,7 @@ use Rattle.std.specs.List.{list_all}
 use Rattle.ks_core.specs.BuiltIn.{built_in, built_in_runs, numbered, entries_of_run}
 use Rattle.ks_core.specs.Entry.{Entry, keysym_in, name_in}
 use Rattle.ks_core.specs.Name.{is_word, is_hex, is_u_form, is_hex_form, is_decimal}
-use Rattle.ks_core.specs.Names.{is_word_or_number}
+use Rattle.ks_core.specs.Names.{is_word_or_number, is_written_back}
 use Rattle.ks_core.proofs.IndexLemmas.{is_keysym, is_keysym-true, keysym_in-entry, name_in-entry}
 
 -- its name is of that keysym, has at most 64 bytes, is an identifier or a number, and of neither the U form nor the 0x form
@@ -48,3 +48,12 @@ built_in-free name form = by (keysym_in built_in name) refl
 pub built_in-zero : is_some (name_in built_in 0) ≡ true
 unfolding built_in built_in_runs numbered entries_of_run
 built_in-zero = refl
+
+all_written_back : list_all (λ e. is_written_back e.1) built_in ≡ true
+unfolding built_in built_in_runs numbered entries_of_run
+all_written_back = refl
+
+-- the keysym of a built-in name is one whose name is read back
+pub built_in-written_back : (name : List ℕ) (keysym : ℕ) → keysym_in built_in name ≡ Some keysym → is_written_back keysym ≡ true
+built_in-written_back name keysym found =
+    let e = keysym_in-entry (λ e. is_written_back e.1) built_in name keysym all_written_back found in subst (λ k. is_written_back k ≡ true) e.3 e.1

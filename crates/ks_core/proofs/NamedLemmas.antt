@@ -217,3 +217,17 @@ IfSome-both (Some x) P Q R f p q = f x p q
 
 pub no_name-positive : (k : ℕ) (given : List Entry) → None ≡ option_or (name_in built_in k) (name_in given k) → (name_in built_in k ≡ None) × (0 < k)
 no_name-positive k given h = let none = first-none (name_in built_in k) (name_in given k) h in (none, some-digits k none)
+
+or_second : (a b : Bool) → b ≡ true → (a || b) ≡ true
+or_second true b h = refl
+or_second false b h = h
+
+-- so is the keysym of a name that lines gave
+pub sound-written_back : (given : List Entry) (name : List ℕ) (r : Option ℕ) → list_all is_sound given ≡ true → r ≡ keysym_in given name → IfSome r (λ keysym. is_written_back keysym ≡ true)
+unfolding is_sound
+sound-written_back given name None sound h = tt
+sound-written_back given name (Some keysym) sound h =
+    let e = keysym_in-entry is_sound given name keysym sound (sym h) in
+    let fine = and_parts (is_given_name e.0.0 && is_nameable e.0.1) (not (is_some (keysym_in built_in e.0.0))) e.1 in
+    let nameable = (and_parts (is_given_name e.0.0) (is_nameable e.0.1) fine.0).1 in
+    subst (λ k. is_written_back k ≡ true) e.3 (or_second (e.0.1 == 0) (is_nameable e.0.1) nameable)

@@ -1,9 +1,10 @@
 //! The built-in names.
-ghost use Rattle.std.specs.Prelude.{◌≡◌, ◌<◌, length, IfSome};
+ghost use Rattle.std.specs.Prelude.{◌≡◌, ◌<◌, true, length, IfSome};
 ghost use Rattle.std.specs.Option.{option_map};
 ghost use Rattle.ks_core.specs.Entry.{keysym_in, name_in};
 ghost use Rattle.ks_core.specs.BuiltIn.{built_in};
 ghost use Rattle.ks_core.specs.Index.{IsNameIndex, IsKeysymIndex};
+ghost use Rattle.ks_core.specs.Names.{is_written_back};
 
 use crate::table::{BY_KEYSYM, BY_NAME, Entry};
 
@@ -21,7 +22,8 @@ fn by_keysym() -> &'static [Entry]
 
 /// The keysym with that built-in name.
 pub(crate) fn keysym_of(name: &str) -> Option<u32>
-    ensures { result ≡ keysym_in built_in name.now }
+    ensures value { result ≡ keysym_in built_in name.now }
+    ensures within { IfSome result (λ keysym. is_written_back keysym ≡ true) }
 {
     let entries = by_name();
     match entries.binary_search_by(|entry| entry.0.cmp(name)) {

@@ -62,7 +62,8 @@ impl NameTable {
     /// character, or `0x` and the number of a keysym.
     #[tactic(auto, unfolding(crate::specs::Names::keysym_named))]
     pub fn by_name(&self, name: &str) -> Option<Keysym>
-        ensures { option_map (λ keysym. keysym.0) result ≡ keysym_named self.now name.now }
+        ensures value { option_map (λ keysym. keysym.0) result ≡ keysym_named self.now name.now }
+        ensures within { IfSome result (λ keysym. is_written_back keysym.0 ≡ true) }
     {
         if let Some(keysym) = builtin::keysym_of(name) {
             return Some(Keysym(keysym));
@@ -112,7 +113,8 @@ impl NameTable {
     }
 
     fn given_keysym(&self, name: &str) -> Option<u32>
-        ensures { result ≡ keysym_in self.now name.now }
+        ensures value { result ≡ keysym_in self.now name.now }
+        ensures within { IfSome result (λ keysym. is_written_back keysym ≡ true) }
     {
         match &self.given {
             Some(given) => given.keysym_of(name),
@@ -154,7 +156,8 @@ fn read_lines(alloc: Global, lines: &[u8]) -> Result<Given, NameFault>
 /// The keysym of a name of the U form.
 #[tactic(auto, unfolding(crate::specs::Name::u_keysym))]
 fn u_form(name: &[u8]) -> Option<u32>
-    ensures { result ≡ u_keysym name.now }
+    ensures value { result ≡ u_keysym name.now }
+    ensures within { IfSome result (λ keysym. is_written_back keysym ≡ true) }
 {
     let Some(digits) = u_digits(name) else {
         return None;
@@ -169,7 +172,8 @@ fn u_form(name: &[u8]) -> Option<u32>
 /// The keysym of a name of the 0x form.
 #[tactic(auto, unfolding(crate::specs::Name::hex_keysym))]
 fn hex_form(name: &[u8]) -> Option<u32>
-    ensures { result ≡ hex_keysym name.now }
+    ensures value { result ≡ hex_keysym name.now }
+    ensures within { IfSome result (λ keysym. is_written_back keysym ≡ true) }
 {
     let Some(digits) = hex_digits(name) else {
         return None;

@@ -1,10 +1,11 @@
 //! The keysyms that symbols stand for.
-ghost use Rattle.std.specs.Prelude.{◌≡◌, ◌+◌, ◌<◌, ◌≤◌, ◌++◌, ◌∷◌, [], List, Contains, IfErr, IfOk, OnOk, length};
+ghost use Rattle.std.specs.Prelude.{◌≡◌, true, ◌+◌, ◌<◌, ◌≤◌, ◌++◌, ◌∷◌, [], List, All, Contains, IfErr, IfOk, IfSome, OnOk, length};
 ghost use Rattle.std.specs.List.{flat_map};
 ghost use Rattle.std.specs.Option.{option_map};
+ghost use Rattle.ks_core.specs.Names.{is_written_back};
 ghost use Rattle.kx_lex.specs.declared.fault.Fault.TheVariants.{Memory};
 ghost use Rattle.kx_symbols.specs.KeyFaults.{call_faults, count_faults, element_faults, part_faults, symbol_faults};
-ghost use Rattle.kx_symbols.specs.Keysyms.{element_level, given, keysym_of_text, number_keysym, part_keysyms, symbol_keysym, word_keysym};
+ghost use Rattle.kx_symbols.specs.Keysyms.{IsKeysym, element_level, given, keysym_of_text, number_keysym, part_keysyms, symbol_keysym, word_keysym};
 
 use arrayvec::ArrayVec;
 use ks_core::{NameTable, Note, Notes};
@@ -28,11 +29,14 @@ pub struct Keysyms {
 }
 
 impl Model for Keysyms {
-    ghost use Rattle.std.specs.Prelude.{List, ℕ};
+    ghost use Rattle.std.specs.Prelude.{All, List, ℕ};
+    ghost use Rattle.kx_symbols.specs.Keysyms.{IsKeysym};
 
     ghost Value = { List ℕ };
 
     ghost view = { λ k. k.numbers.items };
+
+    ghost invariant = { λ k. All IsKeysym k.numbers.items };
 }
 
 impl Keysyms {
@@ -45,7 +49,8 @@ impl Keysyms {
     }
 
     fn push(&mut self, keysym: u32)
-        requires { length self.old < 8 }
+        requires room { length self.old < 8 }
+        requires keysym { IsKeysym keysym }
         ensures { self.new ≡ self.old ++ keysym ∷ [] }
     {
         self.numbers.push(keysym);
@@ -55,6 +60,7 @@ impl Keysyms {
     pub fn as_slice(&self) -> &[u32]
         ensures value { result.now ≡ self.now }
         ensures few { length result.now ≤ 8 }
+        ensures each { All IsKeysym result.now }
     {
         self.numbers.as_slice()
     }
@@ -101,7 +107,8 @@ impl Reading {
 
 /// The keysym of a word; none where it says so, or where no keysym has the name, which is noted.
 fn word_keysym(names: &NameTable, word: &[u8], notes: &mut Notes) -> Option<u32>
-    ensures { result ≡ word_keysym names.now word.now }
+    ensures value { result ≡ word_keysym names.now word.now }
+    ensures within { IfSome result IsKeysym }
 {
     if word.eq_ignore_ascii_case(b"any") || word.eq_ignore_ascii_case(b"nosymbol") {
         return None;
@@ -118,7 +125,8 @@ fn word_keysym(names: &NameTable, word: &[u8], notes: &mut Notes) -> Option<u32>
 
 #[tactic(auto, using(crate::proofs::Texts::of_text))]
 fn keysym_of_text(names: &NameTable, word: &[u8]) -> Option<u32>
-    ensures { result ≡ keysym_of_text names.now word.now }
+    ensures value { result ≡ keysym_of_text names.now word.now }
+    ensures within { IfSome result (λ keysym. is_written_back keysym ≡ true) }
 {
     match str::from_utf8(word) {
         Ok(text) => match names.by_name(text) {
@@ -132,7 +140,8 @@ fn keysym_of_text(names: &NameTable, word: &[u8]) -> Option<u32>
 /// The keysym of a number: that of the digit where it has one digit.
 fn number_keysym(number: u32) -> u32
     requires { number ≤ 536870911 }
-    ensures { result ≡ number_keysym number }
+    ensures value { result ≡ number_keysym number }
+    ensures within { IsKeysym result }
 {
     if number < 10 { 0x30 + number } else { number }
 }
@@ -144,6 +153,7 @@ fn symbol_keysym(
     notes: &mut Notes,
 ) -> Result<Option<u32>, Fault>
     ensures value { IfOk result (λ keysym. keysym ≡ symbol_keysym names.now symbol.now) }
+    ensures within { IfOk result (λ keysym. IfSome keysym IsKeysym) }
     ensures faultless { OnOk result (symbol_faults reading.file symbol.now ≡ []) }
     ensures fault { IfErr result (λ e. Contains (Memory ∷ symbol_faults reading.file symbol.now) e) }
 {
