@@ -4,7 +4,7 @@ use Rattle.std.proofs.lemmas.Bool.{false≢true, eqb-true}
 use Rattle.std.proofs.lemmas.List.{drop_more, drop_all}
 use Rattle.std.proofs.lemmas.Slice.Eq.{bytes_eq-Decides}
 use Rattle.std.specs.Map.{lookup}
-use Rattle.std.specs.Option.{option_map, option_or}
+use Rattle.std.specs.Option.{option_or}
 use Rattle.std.specs.Str.{bytes_eq}
 use Rattle.indexmap.specs.IndexMap.{insert_entry}
 use Rattle.kx_codes.specs.Codes.{named, coded}
@@ -14,13 +14,9 @@ pub code_named : {K : Type 0} (f : K → List ℕ) (es : List (K × ℕ)) (name 
 code_named f [] name = refl
 code_named f (e ∷ es) name = ap (cond (bytes_eq name (f e.0)) (Some e.1)) (code_named f es name)
 
-pub name_coded : {V : Type 0} (g : V → List ℕ) (es : List (ℕ × V)) (code : ℕ) → name_in (coded g es) code ≡ option_map g (lookup (nat_eq code) es)
-name_coded g [] code = refl
-name_coded g (e ∷ es) code = by (nat_eq code e.0) (name_coded g es code)
-  where
-    by : (b : Bool) → name_in (coded g es) code ≡ option_map g (lookup (nat_eq code) es) → cond b (Some (g e.1)) (name_in (coded g es) code) ≡ option_map g (cond b (Some e.1) (lookup (nat_eq code) es))
-    by true rest = refl
-    by false rest = rest
+pub name_coded : (es : List (ℕ × List ℕ)) (code : ℕ) → name_in (coded es) code ≡ lookup (nat_eq code) es
+name_coded [] code = refl
+name_coded (e ∷ es) code = ap (cond (nat_eq code e.0) (Some e.1)) (name_coded es code)
 
 or-kept : {X : Type 0} (o p : Option X) → is_some o ≡ true → o ≡ option_or o p
 or-kept None p h = absurd (false≢true h)
@@ -34,11 +30,6 @@ or-next : {X : Type 0} (o : Option X) (b : Bool) (x : X) (rest : Option X) → o
 or-next None true x rest = refl
 or-next None false x rest = refl
 or-next (Some y) b x rest = refl
-
-map-or : {X Y : Type 0} (g : X → Y) (o : Option X) (b : Bool) (x : X) → option_map g (option_or o (cond b (Some x) None)) ≡ option_or (option_map g o) (cond b (Some (g x)) None)
-map-or g None true x = refl
-map-or g None false x = refl
-map-or g (Some y) b x = refl
 
 module _ {K V N : Type 0} (f : K → N) (eq : N → N → Bool) where
   at-next : (t b : Bool) (a v : V) (l1 l2 l3 one : Option V) → is_some (cond t (Some a) l1) ≡ false → (is_some l1 ≡ false → l2 ≡ option_or l3 one) → cond t (cond b (Some v) l3) (cond b (Some a) l2) ≡ option_or (cond b (Some a) l3) one
@@ -73,24 +64,15 @@ pub code_there : {K : Type 0} (f : K → List ℕ) (es : List (K × ℕ)) (m : L
     → (name : List ℕ) → lookup (λ j. bytes_eq name (f j)) es ≡ option_or (lookup (λ j. bytes_eq name (f j)) es) (cond (bytes_eq name p.name) (Some p.code) None)
 code_there f es m p is there name = kept_at f bytes_eq es p.name name p.code (bytes_eq-Decides name p.name).0 (sym (ap (λ x. is_some (lookup (λ j. bytes_eq x (f j)) es)) is) ∙ there)
 
-pub name_added : {V : Type 0} (g : V → List ℕ) (es new : List (ℕ × V)) (k : ℕ) (v : V) (p : Pair) → new ≡ insert_entry nat_eq es k v → k ≡ p.code → g v ≡ p.name → is_some (lookup (nat_eq k) es) ≡ false
-    → (code : ℕ) → option_map g (lookup (nat_eq code) new) ≡ option_or (option_map g (lookup (nat_eq code) es)) (cond (nat_eq code p.code) (Some p.name) None)
-name_added g es new k v p e c n absent code =
-    ap (λ xs. option_map g (lookup (nat_eq code) xs)) e ∙ ap (option_map g) (put_at (λ x. x) nat_eq es k v code absent)
-    ∙ map-or g (lookup (nat_eq code) es) (nat_eq code k) v
-    ∙ (λ i. option_or (option_map g (lookup (nat_eq code) es)) (cond (nat_eq code (c i)) (Some (n i)) None))
+pub name_added : (es new : List (ℕ × List ℕ)) (k : ℕ) (v : List ℕ) (p : Pair) → new ≡ insert_entry nat_eq es k v → k ≡ p.code → v ≡ p.name → is_some (lookup (nat_eq k) es) ≡ false
+    → (code : ℕ) → lookup (nat_eq code) new ≡ option_or (lookup (nat_eq code) es) (cond (nat_eq code p.code) (Some p.name) None)
+name_added es new k v p e c n absent code =
+    ap (lookup (nat_eq code)) e ∙ put_at (λ x. x) nat_eq es k v code absent
+    ∙ (λ i. option_or (lookup (nat_eq code) es) (cond (nat_eq code (c i)) (Some (n i)) None))
 
-some-mapped : {X Y : Type 0} (g : X → Y) (o : Option X) → is_some o ≡ true → is_some (option_map g o) ≡ true
-some-mapped g None h = h
-some-mapped g (Some x) h = refl
-
-pub name_there : {V : Type 0} (g : V → List ℕ) (es : List (ℕ × V)) (k : ℕ) (p : Pair) → k ≡ p.code → is_some (lookup (nat_eq k) es) ≡ true
-    → (code : ℕ) → option_map g (lookup (nat_eq code) es) ≡ option_or (option_map g (lookup (nat_eq code) es)) (cond (nat_eq code p.code) (Some p.name) None)
-name_there g es k p c there code = by (nat_eq code p.code) (eqb-true code p.code)
-  where
-    by : (b : Bool) → (b ≡ true → code ≡ p.code) → option_map g (lookup (nat_eq code) es) ≡ option_or (option_map g (lookup (nat_eq code) es)) (cond b (Some p.name) None)
-    by true same = or-kept (option_map g (lookup (nat_eq code) es)) (Some p.name) (some-mapped g (lookup (nat_eq code) es) (ap (λ x. is_some (lookup (nat_eq x) es)) (same refl ∙ sym c) ∙ there))
-    by false same = or-none (option_map g (lookup (nat_eq code) es))
+pub name_there : (es : List (ℕ × List ℕ)) (k : ℕ) (p : Pair) → k ≡ p.code → is_some (lookup (nat_eq k) es) ≡ true
+    → (code : ℕ) → lookup (nat_eq code) es ≡ option_or (lookup (nat_eq code) es) (cond (nat_eq code p.code) (Some p.name) None)
+name_there es k p c there code = kept_at (λ x. x) nat_eq es p.code code p.name (eqb-true code p.code) (sym (ap (λ x. is_some (lookup (nat_eq x) es)) c) ∙ there)
 
 drop-next : {X : Type 0} (xs : List X) (i : ℕ) (x : X) → i < length xs → x ≡ get_or xs i x → drop i xs ≡ x ∷ drop (i + 1) xs
 drop-next xs i x within h = drop_more xs i x within ∙ ap (λ y. y ∷ drop (i + 1) xs) (sym h)

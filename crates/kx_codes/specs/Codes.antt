@@ -15,8 +15,8 @@ pub record Codes : Type 0 where
 abbrev pub named : {K : Type 0} → (K → List ℕ) → List (K × ℕ) → List Pair
 named {K} bytes es = map {A = K × ℕ} {B = Pair} (λ e. record { name = bytes e.0; code = e.1 }) es
 
-abbrev pub coded : {V : Type 0} → (V → List ℕ) → List (ℕ × V) → List Pair
-coded {V} bytes es = map {A = ℕ × V} {B = Pair} (λ e. record { name = bytes e.1; code = e.0 }) es
+abbrev pub coded : List (ℕ × List ℕ) → List Pair
+coded es = map {A = ℕ × List ℕ} {B = Pair} (λ e. record { name = e.1; code = e.0 }) es
 
 abbrev pub paired : Codes → List ℕ → Option ℕ
 paired c name = code_in c.by_name name

@@ -1,9 +1,10 @@
 ghost use Rattle.std.specs.Prelude.{◌≡◌, ◌⊎◌, ◌≤◌, ◌++◌, ◌∷◌, [], Contains, IfErr, IfOk, OnOk};
 ghost use Rattle.kx_lex.specs.declared.fault.Fault.TheVariants.{Memory};
 ghost use Rattle.kx_codes.specs.CodeFaults.{name_faults, code_faults, is_limit};
+ghost use Rattle.kx_codes.specs.Names.{IsName};
 
 use kx_lex::{At, Fault, Span};
-use kx_parse::{Name, Number, Place};
+use kx_parse::{KeyName, Number, Place};
 
 /// The greatest keycode.
 pub const GREATEST_CODE: u32 = 4095;
@@ -11,15 +12,18 @@ pub const GREATEST_CODE: u32 = 4095;
 /// A name may have this many bytes.
 pub const MOST_NAME_BYTES: usize = 255;
 
-/// `whole` is the statement in which the name stands.
-pub(crate) fn check_name(file: u32, whole: Span, name: &Name) -> Result<(), Fault>
+/// The bytes of a name; `whole` is the statement in which it stands.
+pub(crate) fn check_name(file: u32, whole: Span, name: &KeyName) -> Result<&[u8], Fault>
+    ensures value { IfOk result (λ bytes. bytes.now ≡ name.now.bytes) }
+    ensures fine { IfOk result (λ bytes. IsName bytes.now) }
     ensures faultless { OnOk result (name_faults file whole name.now ≡ []) }
     ensures fault { IfErr result (λ e. Contains (Memory ∷ name_faults file whole name.now) e) }
 {
-    if name.bytes.as_slice().len() > MOST_NAME_BYTES {
+    let bytes = name.as_slice();
+    if bytes.len() > MOST_NAME_BYTES {
         return Err(Fault::TooMany(At { file, span: whole }));
     }
-    Ok(())
+    Ok(bytes)
 }
 
 pub(crate) fn check_code(file: u32, code: Number) -> Result<u16, Fault>

@@ -61,14 +61,14 @@ impl Gathered {
     {
         match statement {
             Statement::Keycode { name, code } => {
-                check_name(file, whole, name)?;
+                let name = check_name(file, whole, name)?;
                 let code = check_code(file, *code)?;
-                self.pairs.take(alloc, mode, name.bytes.as_slice(), code)
+                self.pairs.take(alloc, mode, name, code)
             }
             Statement::Alias { name, target } => {
-                check_name(file, whole, name)?;
-                check_name(file, whole, target)?;
-                self.aliases.take(alloc, mode, name.bytes.as_slice(), target.bytes.as_slice())
+                let name = check_name(file, whole, name)?;
+                let target = check_name(file, whole, target)?;
+                self.aliases.take(alloc, mode, name, target)
             }
             Statement::IndicatorName { .. } => Ok(()),
             Statement::Field(field) => {

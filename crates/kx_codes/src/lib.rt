@@ -4,6 +4,7 @@
 mod aliases;
 mod checks;
 mod gathered;
+mod name;
 mod pairs;
 mod reader;
 mod table;

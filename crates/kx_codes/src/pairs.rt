@@ -1,8 +1,10 @@
 ghost use Rattle.std.specs.Prelude.{◌≡◌, ◌++◌, ◌∷◌, [], ◌≤◌, false, true, IfErr, OnOk, List, ℕ, Bool};
 ghost use Rattle.std.specs.List.{list_any};
 ghost use Rattle.kx_lex.specs.declared.fault.Fault.TheVariants.{Memory};
+ghost use Rattle.kx_codes.specs.Names.{IsName};
 ghost use Rattle.kx_codes.specs.Pairs.{shares, taken, all_taken, without};
 
+use crate::name::PairName;
 use indexmap::IndexSet;
 use kx_lex::Fault;
 use kx_parse::Mode;
@@ -12,7 +14,7 @@ use std::marker::Model;
 /// A name and its keycode.
 #[derive(Drop)]
 pub(crate) struct Pair {
-    name: Vec<u8>,
+    name: PairName,
     code: u16,
 }
 
@@ -21,12 +23,13 @@ impl Model for Pair {
 
     ghost Value = { Pair };
 
-    ghost view = { λ p. record { name = p.name.items; code = p.code } };
+    ghost view = { λ p. record { name = p.name; code = p.code } };
 }
 
 impl Pair {
     pub(crate) fn name(&self) -> &[u8]
-        ensures { result.now ≡ self.now.name }
+        ensures value { result.now ≡ self.now.name }
+        ensures fine { IsName result.now }
     {
         self.name.as_slice()
     }
@@ -106,13 +109,14 @@ impl Pairs {
     }
 
     fn push(&mut self, alloc: Global, name: &[u8], code: u16) -> Result<(), Fault>
+        requires { IsName name.now }
         ensures pushed { OnOk result (self.new ≡ self.old ++ record { name = name.now; code = code } ∷ []) }
         ensures err { IfErr result (λ e. e ≡ Memory) }
     {
         let key = Vec::from_slice(alloc, name)?;
         self.names.insert(key)?;
         self.codes.insert(code)?;
-        let name = Vec::from_slice(alloc, name)?;
+        let name = PairName::of(alloc, name)?;
         self.pairs.push(Pair { name, code })?;
         Ok(())
     }
@@ -127,6 +131,7 @@ impl Pairs {
         name: &[u8],
         code: u16,
     ) -> Result<(), Fault>
+        requires { IsName name.now }
         ensures took { OnOk result (self.new ≡ taken mode self.old (record { name = name.now; code = code })) }
         ensures err { IfErr result (λ e. e ≡ Memory) }
     {

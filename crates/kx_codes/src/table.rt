@@ -1,13 +1,15 @@
-ghost use Rattle.std.specs.Prelude.{◌≡◌, ℕ, List, IfErr, IfOk, OnOk, None, Some, nat_eq, if◌then◌else◌};
+ghost use Rattle.std.specs.Prelude.{◌≡◌, ℕ, List, IfErr, IfOk, IfSome, OnOk, None, Some, nat_eq, if◌then◌else◌};
 ghost use Rattle.std.specs.HashMap.{get_by};
 ghost use Rattle.std.specs.Str.{bytes_eq};
 ghost use Rattle.std.specs.Option.{option_map, option_or};
 ghost use Rattle.kx_lex.specs.declared.fault.Fault.TheVariants.{Memory};
 ghost use Rattle.kx_codes.specs.Aliases.{target_in};
 ghost use Rattle.kx_codes.specs.Codes.{code_of, name_of, paired};
+ghost use Rattle.kx_codes.specs.Names.{IsName};
 ghost use Rattle.kx_codes.specs.Pairs.{code_in, name_in};
 
 use crate::aliases::Aliases;
+use crate::name::PairName;
 use crate::pairs::Pair;
 use indexmap::IndexMap;
 use kx_lex::Fault;
@@ -18,7 +20,7 @@ use std::marker::Model;
 #[derive(Drop)]
 pub struct Codes {
     by_name: IndexMap<Vec<u8>, u16>,
-    by_code: IndexMap<u16, Vec<u8>>,
+    by_code: IndexMap<u16, PairName>,
     aliases: Aliases,
 }
 
@@ -27,17 +29,17 @@ impl Model for Codes {
 
     ghost Value = { Codes };
 
-    ghost view = { λ c. record { by_name = named (λ k. k.items) c.by_name.entries; by_code = coded (λ n. n.items) c.by_code.entries; aliases = c.aliases } };
+    ghost view = { λ c. record { by_name = named (λ k. k.items) c.by_name.entries; by_code = coded c.by_code.entries; aliases = c.aliases } };
 }
 
 impl Codes {
     pub(crate) fn of(
         by_name: IndexMap<Vec<u8>, u16>,
-        by_code: IndexMap<u16, Vec<u8>>,
+        by_code: IndexMap<u16, PairName>,
         aliases: Aliases,
     ) -> Codes
         ensures codes { (name : List ℕ) → paired result name ≡ get_by (λ k. bytes_eq name k.items) by_name }
-        ensures names { (code : ℕ) → name_of result code ≡ option_map (λ n. n.items) (get_by (nat_eq code) by_code) }
+        ensures names { (code : ℕ) → name_of result code ≡ get_by (nat_eq code) by_code }
         ensures targets { (name : List ℕ) → target_in result.aliases name ≡ target_in aliases name }
     {
         Codes {
@@ -66,7 +68,8 @@ impl Codes {
 
     /// The name of a keycode.
     pub fn name_of(&self, code: u16) -> Option<&[u8]>
-        ensures { option_map (λ n. n.now) result ≡ name_of self.now code }
+        ensures value { option_map (λ n. n.now) result ≡ name_of self.now code }
+        ensures fine { IfSome result (λ name. IsName name.now) }
     {
         match self.by_code.get(&code) {
             Some(name) => Some(name.as_slice()),
@@ -101,22 +104,22 @@ pub(crate) fn codes_by_name(alloc: Global, pairs: &[Pair]) -> Result<IndexMap<Ve
 }
 
 #[tactic(auto, using(crate::proofs::Tables::name_added, crate::proofs::Tables::name_there))]
-fn add_name(alloc: Global, names: &mut IndexMap<u16, Vec<u8>>, pair: &Pair) -> Result<(), Fault>
-    ensures added { OnOk result ((code : ℕ) → option_map (λ n. n.items) (get_by (nat_eq code) names.new) ≡ option_or (option_map (λ n. n.items) (get_by (nat_eq code) names.old)) (if nat_eq code pair.now.code then Some pair.now.name else None)) }
+fn add_name(alloc: Global, names: &mut IndexMap<u16, PairName>, pair: &Pair) -> Result<(), Fault>
+    ensures added { OnOk result ((code : ℕ) → get_by (nat_eq code) names.new ≡ option_or (get_by (nat_eq code) names.old) (if nat_eq code pair.now.code then Some pair.now.name else None)) }
     ensures err { IfErr result (λ e. e ≡ Memory) }
 {
     let code = pair.code();
     if names.contains_key(&code) {
         return Ok(());
     }
-    let name = Vec::from_slice(alloc, pair.name())?;
+    let name = PairName::of(alloc, pair.name())?;
     names.insert(code, name)?;
     Ok(())
 }
 
 /// The name of each code.
-pub(crate) fn names_by_code(alloc: Global, pairs: &[Pair]) -> Result<IndexMap<u16, Vec<u8>>, Fault>
-    ensures shows { IfOk result (λ m. (code : ℕ) → option_map (λ n. n.items) (get_by (nat_eq code) m) ≡ name_in pairs.now code) }
+pub(crate) fn names_by_code(alloc: Global, pairs: &[Pair]) -> Result<IndexMap<u16, PairName>, Fault>
+    ensures shows { IfOk result (λ m. (code : ℕ) → get_by (nat_eq code) m ≡ name_in pairs.now code) }
     ensures err { IfErr result (λ e. e ≡ Memory) }
 {
     let mut names = IndexMap::new(alloc);

@@ -3,3 +3,4 @@ pub mod Strings
 mod Digits
 mod Rounds
 mod Takes
+mod KeyNames

@@ -1,5 +1,5 @@
 -- The kinds of bytes in keymap text, as the text format v1 of libxkbcommon has them. Letters are ASCII letters.
-use Rattle.std.specs.Prelude.{ℕ, Bool, ◌==◌, nat_le, ◌&&◌, ◌||◌, not, codes}
+use Rattle.std.specs.Prelude.{ℕ, ◌≡◌, All, List, Bool, true, ◌==◌, nat_le, ◌&&◌, ◌||◌, not, codes}
 use Rattle.std.specs.Char.{is_ascii_alphabetic, is_ascii_alphanumeric}
 use Rattle.std.specs.List.{list_any}
 
@@ -22,6 +22,9 @@ is_mark b = list_any (λ m. m == b) (codes "{}[]();,.=+-*/!~")
 -- what a key name may have between < and >
 abbrev pub is_key_byte : ℕ → Bool
 is_key_byte b = (nat_le 33 b && nat_le b 126) && not (b == 62)
+
+abbrev pub AreKeyBytes : List ℕ → Type 0
+AreKeyBytes bytes = All (λ b. is_key_byte b ≡ true) bytes
 
 abbrev pub is_not_line_feed : ℕ → Bool
 is_not_line_feed b = not (b == 10)

@@ -1,7 +1,9 @@
 -- The productions that take one token, and the marks that productions want.
 use Rattle.std.specs.Prelude.{ℕ, List, ◌≡◌, ◌≤◌, ◌^◌, Bool, true, false, nat_lt, drop, Result, Ok, Err, if◌then◌else◌}
-use Rattle.std.proofs.Common.{arith, inr, sym, refl}
+use Rattle.std.proofs.Common.{arith, inl, inr, sym, refl}
 use Rattle.std.proofs.lemmas.Bool.{ltb-false}
+use Rattle.std.specs.List.{list_all}
+use Rattle.kx_lex.specs.Bytes.{is_key_byte}
 use Rattle.kx_lex.specs.Strings.{text_value}
 use Rattle.kx_lex.specs.declared.string.Reading.TheVariants.{Plain}
 use Rattle.kx_lex.specs.declared.token.Token.{Token}
@@ -9,7 +11,7 @@ use Rattle.kx_lex.specs.declared.token.Span.{Span}
 use Rattle.kx_lex.specs.declared.fault.Fault.{Fault}
 use Rattle.kx_lex.specs.declared.fault.Fault.TheVariants.{NumberTooBig}
 use Rattle.kx_lex.specs.Kinds.{slice_of, inner_of, is_word, is_number, is_key_name, is_text, is_mark, is_keyword, front, number_value}
-use Rattle.kx_lex.specs.Stops.{StopsAt}
+use Rattle.kx_lex.specs.Stops.{syntax_at, StopsAt}
 use Rattle.kx_lex.specs.Production.{Production, Admits, ◌>>=◌, give, one, one_as}
 use Rattle.kx_lex.specs.declared.name.Name.{Name}
 use Rattle.kx_lex.specs.declared.name.Number.{Number as NumberValue}
@@ -91,11 +93,25 @@ pub word-behind : (text : List ℕ) (ts : List Token) (x : Name) (rest : List To
 unfolding word
 word-behind text ts x rest s = rw s.2.0 s.3.1
 
+abbrev pub enclosed_name : List ℕ → Token → Name
+enclosed_name text t = record { bytes = inner_of text t; span = t.span }
+
+-- the name between < and >, where each of its bytes is a key's; tokens that a caller gives need not be a reading of the
+-- text, so they may enclose others
+abbrev pub enclosed : List ℕ → Token → Result Name Fault
+enclosed text t = if list_all is_key_byte (inner_of text t) then Ok (enclosed_name text t) else Err (syntax_at t)
+
+-- where they are not, the token may not stand there
+pub enclosed-stops : (text : List ℕ) (t : Token) (e : Fault) → is_key_name t ≡ true → enclosed text t ≡ Err e → StopsAt text t e
+enclosed-stops text t e kind w = go (list_all is_key_byte (inner_of text t)) w
+  where
+    go : (b : Bool) → (if b then Ok (enclosed_name text t) else Err (syntax_at t)) ≡ Err e → StopsAt text t e
+    go true w = cc
+    go false w = inl (let same : syntax_at t ≡ e = cc in sym same)
+
 -- a key's name without < and >
 unfoldable pub key_name : (text : List ℕ) → Production text Name
-key_name text = do
-  t ← one text is_key_name
-  give (record { bytes = inner_of text t; span = t.span })
+key_name text = one_as text is_key_name (enclosed text) (enclosed-stops text)
 
 pub key_name-front : (text : List ℕ) → Admits (front is_key_name) (key_name text)
 unfolding key_name

@@ -15,7 +15,7 @@ pub mod tokens;
 
 pub use fault::{At, Fault};
 pub use kept::{Apart, Bytes};
-pub use name::{Name, Number, Row};
-pub use scan::{MOST_TEXT_BYTES, begins_hex, lex, one_reading};
+pub use name::{KeyName, Name, Number, Row};
+pub use scan::{MOST_TEXT_BYTES, begins_hex, key_names_of_readings, lex, one_reading};
 pub use string::text_bytes;
 pub use token::{Span, Token, TokenKind};

@@ -1,4 +1,5 @@
 use crate::kept::Bytes;
+use crate::scan::are_key_bytes;
 use crate::token::Span;
 use std::alloc::AllocError;
 use std::marker::Model;
@@ -54,6 +55,55 @@ impl<T> Row<T> {
 pub struct Name {
     pub bytes: Bytes,
     pub span: Span,
+}
+
+/// A key's name, as it stands between `<` and `>`; seen as the name. Each of its bytes is visible ASCII but `>`.
+#[derive(Debug, Drop)]
+pub struct KeyName {
+    name: Name,
+}
+
+impl Model for KeyName {
+    ghost use Rattle.kx_lex.specs.declared.name.Name.{Name};
+    ghost use Rattle.kx_lex.specs.Bytes.{AreKeyBytes};
+
+    ghost Value = { Name };
+
+    ghost view = { λ key. key.name };
+
+    ghost invariant = { λ key. AreKeyBytes key.name.bytes };
+}
+
+impl KeyName {
+    ghost use Rattle.std.specs.Prelude.{◌≡◌, true, if◌then◌else◌, None, Some};
+    ghost use Rattle.std.specs.List.{list_all};
+    ghost use Rattle.kx_lex.specs.Bytes.{AreKeyBytes, is_key_byte};
+
+    /// This name, where a key may have it.
+    pub(crate) fn of(name: Name) -> Option<KeyName>
+        ensures { result ≡ (if list_all is_key_byte name.bytes then Some name else None) }
+    {
+        if are_key_bytes(name.bytes.as_slice()) {
+            Some(KeyName { name })
+        } else {
+            None
+        }
+    }
+
+    /// Its bytes in order.
+    pub fn as_slice(&self) -> &[u8]
+        ensures value { result.now ≡ self.now.bytes }
+        ensures fine { AreKeyBytes result.now }
+    {
+        self.name.bytes.as_slice()
+    }
+
+    /// Where it stands with what encloses it.
+    pub fn span(&self) -> Span
+        ensures { result ≡ self.now.span }
+    {
+        self.name.span
+    }
 }
 
 /// A number and where it stands.

@@ -1,6 +1,7 @@
-ghost use Rattle.std.specs.Prelude.{◌≡◌, ◌≢◌, ℕ, List, IsTrue, ◌+◌, ◌<◌, ◌≤◌, ◌^◌, ◌⊎◌, slice_index, false, length, IfOk, IfErr, OnOk, drop};
-ghost use Rattle.std.specs.List.{prefix_len};
+ghost use Rattle.std.specs.Prelude.{◌≡◌, ◌≢◌, ℕ, true, All, List, IsTrue, ◌+◌, ◌<◌, ◌≤◌, ◌^◌, ◌⊎◌, slice_index, false, length, IfOk, IfErr, OnOk, drop};
+ghost use Rattle.std.specs.List.{list_all, prefix_len};
 ghost use Rattle.kx_lex.specs.Bytes.{is_word_start, is_word_byte, is_mark, is_blank, is_key_byte, is_not_line_feed};
+ghost use Rattle.kx_lex.specs.Kinds.{inner_of, is_key_name};
 ghost use Rattle.kx_lex.specs.Pieces.{begins_comment, extent, extent_len, piece_len, string_piece, key_name_piece, number_piece, begins_hex, piece};
 ghost use Rattle.kx_lex.specs.Reading.{IsReading, StopsWith, mark_len, whole_of, place_of};
 ghost use Rattle.std.specs.Char.{is_ascii_digit, is_ascii_hexdigit};
@@ -123,6 +124,12 @@ fn key_len(bytes: &[u8]) -> usize
     ensures within { result ≤ length bytes.now }
 {
     bytes.iter().take_while(|b| is_key_byte(**b)).count()
+}
+
+pub(crate) fn are_key_bytes(bytes: &[u8]) -> bool
+    ensures { result ≡ list_all is_key_byte bytes.now }
+{
+    bytes.iter().all(|b| is_key_byte(*b))
 }
 
 /// How far text goes behind its opening quote, in bytes.
@@ -333,4 +340,11 @@ pub fn lex(alloc: Global, text: &[u8]) -> Result<Vec<Token>, Fault>
 pub fn one_reading()
     ensures one { (text : List ℕ) (ts us : List TokenValue) → IsReading text ts → IsReading text us → ts ≡ us }
     ensures stopped { (text : List ℕ) (tokens : List TokenValue) (e : FaultValue) → StopsWith text e → IsReading text tokens → ⊥ }
+{}
+
+/// In a token reading the bytes of each key's name are a key's, so that [`read_key_name`] refuses none.
+///
+/// [`read_key_name`]: crate::tokens::read_key_name
+pub fn key_names_of_readings()
+    ensures { (text : List ℕ) (tokens : List TokenValue) → IsReading text tokens → All (λ t. is_key_name t ≡ true → list_all is_key_byte (inner_of text t) ≡ true) tokens }
 {}

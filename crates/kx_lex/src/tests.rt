@@ -9,7 +9,7 @@ use crate::tokens::{
     read_key_name, read_keyword, read_mark, read_number, read_text, read_word, span_between,
     syntax,
 };
-use crate::{Apart, Bytes, Fault, Name, Row, Span, Token, TokenKind, lex};
+use crate::{Apart, Bytes, Fault, KeyName, Name, Row, Span, Token, TokenKind, lex};
 use std::alloc::Global;
 use std::process::Abort;
 use std::test::Fail;
@@ -193,6 +193,22 @@ fn name_shown(rt: &(impl Abort + AllocGlobal), reading: Reading<'_, Name>) -> Re
     }
 }
 
+/// The same of a key's name.
+fn key_name_shown(
+    rt: &(impl Abort + AllocGlobal),
+    reading: Reading<'_, KeyName>,
+) -> Result<String, Fail> {
+    match reading {
+        Ok((name, rest)) => {
+            let left = rest.len();
+            let span = name.span();
+            let bytes = name.as_slice();
+            Ok(format!(in rt.alloc(); "{:?} {span} {left}", bytes)?)
+        }
+        Err(fault) => Ok(format!(in rt.alloc(); "{fault}")?),
+    }
+}
+
 #[test]
 fn names_are_read_without_what_encloses_them(rt: HostRuntime) -> Result<(), Fail> {
     let text = b"ab <cd> \"e\\n\"";
@@ -202,16 +218,35 @@ fn names_are_read_without_what_encloses_them(rt: HostRuntime) -> Result<(), Fail
     assert_eq!(rt; name_shown(&rt, word)?.as_str(), "[97, 98] 0-2 2");
     let behind = behind_front(tokens);
     let key = read_key_name(rt.alloc(), text, behind);
-    assert_eq!(rt; name_shown(&rt, key)?.as_str(), "[99, 100] 3-7 1");
+    assert_eq!(rt; key_name_shown(&rt, key)?.as_str(), "[99, 100] 3-7 1");
     let last = behind_front(behind);
     let quoted = read_text(rt.alloc(), text, last);
     assert_eq!(rt; name_shown(&rt, quoted)?.as_str(), "[101, 10] 8-13 0");
     let no_word = read_word(rt.alloc(), text, behind);
     assert_eq!(rt; name_shown(&rt, no_word)?.as_str(), "F6 Syntax at 0:3-7");
     let no_key = read_key_name(rt.alloc(), text, behind_front(last));
-    assert_eq!(rt; name_shown(&rt, no_key)?.as_str(), "F6 Syntax at 0:13-13");
+    assert_eq!(rt;
+        key_name_shown(&rt, no_key)?.as_str(),
+        "F6 Syntax at 0:13-13"
+    );
     let no_text = read_text(rt.alloc(), text, tokens);
     assert_eq!(rt; name_shown(&rt, no_text)?.as_str(), "F6 Syntax at 0:0-2");
+    Ok(())
+}
+
+#[test]
+fn tokens_of_another_text_may_enclose_no_key_name(rt: HostRuntime) -> Result<(), Fail> {
+    let tokens = lex(rt.alloc(), b"<abc>")?;
+    let rows: [(&[u8], &str); 4] = [
+        (b"<a!c>", "[97, 33, 99] 0-5 0"),
+        (b"<a c>", "F6 Syntax at 0:0-5"),
+        (b"<a>c>", "F6 Syntax at 0:0-5"),
+        (b"<a\x7fc>", "F6 Syntax at 0:0-5"),
+    ];
+    for (text, wanted) in rows {
+        let key = read_key_name(rt.alloc(), text, tokens.as_slice());
+        assert_eq!(rt; key_name_shown(&rt, key)?.as_str(), wanted);
+    }
     Ok(())
 }
 

@@ -1,15 +1,16 @@
-ghost use Rattle.std.specs.Prelude.{◌≡◌, ◌<◌, ◌^◌, ◌-◌, List, IfOk, ◌≤◌, slice_range, drop};
+ghost use Rattle.std.specs.Prelude.{◌≡◌, ◌<◌, ◌^◌, ◌-◌, ◌⊎◌, Err, List, IfErr, IfOk, Ok, ◌≤◌, slice_range, drop};
+ghost use Rattle.kx_lex.specs.declared.fault.Fault.TheVariants.{Memory};
 ghost use Rattle.std.specs.Char.{digit_value};
 ghost use Rattle.kx_lex.specs.Strings.{text_value};
 ghost use Rattle.kx_lex.specs.declared.string.Reading.TheVariants.{Plain};
 ghost use Rattle.kx_lex.specs.Gives.{Gives};
 ghost use Rattle.kx_lex.specs.Production.{syntax_of, front_span, span_between};
 ghost use Rattle.kx_lex.specs.Kinds.{slice_of, inner_of, is_word, is_number, is_key_name, is_text, is_mark, is_keyword, front, second, digits_value, number_value};
-ghost use Rattle.kx_lex.specs.Tokens.{mark, keyword, word, key_name, text_name, measured, number};
+ghost use Rattle.kx_lex.specs.Tokens.{mark, keyword, word, key_name, enclosed, text_name, measured, number};
 
 use crate::fault::{At, Fault};
 use crate::kept::Bytes;
-use crate::name::{Name, Number};
+use crate::name::{KeyName, Name, Number};
 use crate::scan::begins_hex;
 use crate::string::text_bytes;
 use crate::token::{Span, Token, TokenKind};
@@ -149,15 +150,18 @@ fn word_of(alloc: Global, text: &[u8], token: &Token) -> Result<Name, AllocError
     })
 }
 
-fn key_name_of(alloc: Global, text: &[u8], token: &Token) -> Result<Name, AllocError>
-    ensures { IfOk result (λ name. name ≡ record { bytes = inner_of text.now token.now; span = token.now.span }) }
+fn key_name_of(alloc: Global, text: &[u8], token: &Token) -> Result<KeyName, Fault>
+    ensures value { IfOk result (λ name. enclosed text.now token.now ≡ Ok name) }
+    ensures fault { IfErr result (λ e. (e ≡ Memory) ⊎ (enclosed text.now token.now ≡ Err e)) }
 {
     let start = token.span.start as usize + 1;
     let stop = (token.span.stop as usize).saturating_sub(1);
-    Ok(Name {
-        bytes: bytes_between(alloc, text, start, stop)?,
-        span: token.span,
-    })
+    let bytes = bytes_between(alloc, text, start, stop)?;
+    let span = token.span;
+    match KeyName::of(Name { bytes, span }) {
+        Some(name) => Ok(name),
+        None => Err(Fault::Syntax(At { file: 0, span })),
+    }
 }
 
 /// Takes a word as it is written.
@@ -179,7 +183,7 @@ pub fn read_word<'a>(alloc: Global, text: &[u8], tokens: &'a [Token]) -> Reading
 /// # Errors
 /// [`Fault::Syntax`] where another token or none stands, and [`Fault::Memory`] where a growth is refused.
 #[tactic(auto, unfolding(crate::specs::Tokens::key_name))]
-pub fn read_key_name<'a>(alloc: Global, text: &[u8], tokens: &'a [Token]) -> Reading<'a, Name>
+pub fn read_key_name<'a>(alloc: Global, text: &[u8], tokens: &'a [Token]) -> Reading<'a, KeyName>
     ensures { Gives result ((key_name text.now).read tokens.now) }
 {
     match tokens.split_first() {

@@ -49,7 +49,7 @@ fn keycode_in(statement: &Statement) -> Option<(u8, u32)>
     ensures { result ≡ keycode_in statement.now }
 {
     match statement {
-        Statement::Keycode { name, code } => Some((first_byte(name.bytes.as_slice()), code.value)),
+        Statement::Keycode { name, code } => Some((first_byte(name.as_slice()), code.value)),
         Statement::Alias { .. } => None,
         Statement::IndicatorName { .. } => None,
         Statement::VirtualModifiers(_) => None,

@@ -389,9 +389,9 @@ fn trees_keep_bytes_values_and_places(rt: HostRuntime) -> Result<(), Fail> {
         return Ok(());
     };
     assert_eq!(rt; *mode, Mode::Override);
-    assert_eq!(rt; name.bytes.as_slice(), b"A".as_slice());
+    assert_eq!(rt; name.as_slice(), b"A".as_slice());
     assert_eq!(rt;
-        name.span,
+        name.span(),
         Span {
             start: 28,
             stop: 31

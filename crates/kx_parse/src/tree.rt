@@ -1,4 +1,4 @@
-use kx_lex::{Apart, Name, Number, Row, Span};
+use kx_lex::{Apart, KeyName, Name, Number, Row, Span};
 
 /// A keysym as it is written: a name or a number.
 #[derive(Debug, Drop)]
@@ -28,7 +28,7 @@ pub enum Term {
     Signed(Signed),
     Word(Name),
     Text(Name),
-    KeyName(Name),
+    KeyName(KeyName),
 }
 
 /// A term that is added or taken away.
@@ -170,7 +170,7 @@ pub enum Predicate {
 /// What a modifier map names.
 #[derive(Debug, Drop)]
 pub enum Entry {
-    KeyName(Name),
+    KeyName(KeyName),
     Symbol(Symbol),
 }
 
@@ -178,13 +178,13 @@ pub enum Entry {
 pub enum Statement {
     /// `<NAME> = CODE`
     Keycode {
-        name: Name,
+        name: KeyName,
         code: Number,
     },
     /// `alias <NAME> = <TARGET>`
     Alias {
-        name: Name,
-        target: Name,
+        name: KeyName,
+        target: KeyName,
     },
     /// `indicator NUMBER = "NAME"`
     IndicatorName {
@@ -216,7 +216,7 @@ pub enum Statement {
     },
     /// `key <NAME> { .. }`
     Key {
-        name: Name,
+        name: KeyName,
         fields: Row<KeyField>,
     },
     /// `modifier_map WORD { .. }`

@@ -24,7 +24,7 @@ use kx_codes::{Codes, MOST_NAME_BYTES};
 use kx_include::{Library, Place};
 use kx_lex::{At, Fault};
 use kx_merge::{Fields, merge};
-use kx_parse::{Item, KeyField, Kind, Mode, Name, Row, Statement};
+use kx_parse::{Item, KeyField, KeyName, Kind, Mode, Row, Statement};
 use std::alloc::Global;
 use std::marker::Model;
 
@@ -36,7 +36,7 @@ pub struct Context<'a> {
 }
 
 /// The name and the fields of a key statement.
-fn key_in(statement: &Statement) -> Option<(&Name, &Row<KeyField>)>
+fn key_in(statement: &Statement) -> Option<(&KeyName, &Row<KeyField>)>
     ensures { option_map (λ k. (k.0.now, k.1.now)) result ≡ key_in statement.now }
 {
     match statement {
@@ -75,7 +75,7 @@ fn read_key(
     codes: &Codes,
     names: &NameTable,
     reading: Reading,
-    name: &Name,
+    name: &KeyName,
     fields: &[KeyField],
     notes: &mut Notes,
 ) -> Result<Vec<(u16, KeyRecord)>, Fault>
@@ -83,11 +83,11 @@ fn read_key(
     ensures faultless { OnOk result (name_faults reading.file reading.whole name.now ++ fields_faults reading.file names.now [] reading.whole fields.now ≡ []) }
     ensures fault { IfErr result (λ e. Contains (Memory ∷ (name_faults reading.file reading.whole name.now ++ fields_faults reading.file names.now [] reading.whole fields.now)) e) }
 {
-    if name.bytes.as_slice().len() > MOST_NAME_BYTES {
+    if name.as_slice().len() > MOST_NAME_BYTES {
         return Err(Fault::TooMany(reading.at(reading.whole)));
     }
     let lists = read_lists(alloc, names, reading, fields, notes)?;
-    match codes.code_of(name.bytes.as_slice()) {
+    match codes.code_of(name.as_slice()) {
         Some(code) => one_record(alloc, code, KeyRecord::of(lists)),
         None => {
             notes.count(Note::UnknownKey);

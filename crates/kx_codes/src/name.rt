@@ -1,0 +1,42 @@
+ghost use Rattle.std.specs.Prelude.{◌≡◌, IfErr, IfOk};
+ghost use Rattle.kx_lex.specs.declared.fault.Fault.TheVariants.{Memory};
+ghost use Rattle.kx_codes.specs.Names.{IsName};
+
+use kx_lex::Fault;
+use std::alloc::Global;
+use std::marker::Model;
+
+/// The name of a pair; seen as its bytes.
+#[derive(Drop)]
+pub(crate) struct PairName {
+    bytes: Vec<u8>,
+}
+
+impl Model for PairName {
+    ghost use Rattle.std.specs.Prelude.{List, ℕ};
+    ghost use Rattle.kx_codes.specs.Names.{IsName};
+
+    ghost Value = { List ℕ };
+
+    ghost view = { λ n. n.bytes.items };
+
+    ghost invariant = { λ n. IsName n.bytes.items };
+}
+
+impl PairName {
+    pub(crate) fn of(alloc: Global, name: &[u8]) -> Result<PairName, Fault>
+        requires { IsName name.now }
+        ensures value { IfOk result (λ n. n ≡ name.now) }
+        ensures err { IfErr result (λ e. e ≡ Memory) }
+    {
+        let bytes = Vec::from_slice(alloc, name)?;
+        Ok(PairName { bytes })
+    }
+
+    pub(crate) fn as_slice(&self) -> &[u8]
+        ensures value { result.now ≡ self.now }
+        ensures fine { IsName result.now }
+    {
+        self.bytes.as_slice()
+    }
+}
