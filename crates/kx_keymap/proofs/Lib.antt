@@ -1,3 +1,4 @@
+mod Fine
 mod Growing
 mod Joining
 mod Keymaps

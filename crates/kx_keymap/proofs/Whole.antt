@@ -22,7 +22,7 @@ types_whole true = All-cons TypeIsWhole one_level [] type_whole (All-nil TypeIsW
 types_whole false = All-nil TypeIsWhole
 
 module _ (name : ℕ → Option (List ℕ)) (key : ℕ → KeyGiven) where
-  some_below : (n code : ℕ) → code < n → has_groups name key code ≡ true → some_groups_below name key n ≡ true
+  pub some_below : (n code : ℕ) → code < n → has_groups name key code ≡ true → some_groups_below name key n ≡ true
   unfolding some_groups_below
   some_below zero code less is = absurd (omega arith)
   some_below (suc n) code less is =

@@ -1,4 +1,5 @@
 pub mod Keys
+pub mod Bounds
 pub mod Given
 pub mod Meaning
 pub mod Source
