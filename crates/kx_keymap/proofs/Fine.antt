@@ -27,11 +27,11 @@ within_few key (suc n) = by (has_level key n) (within_few key n)
     by true few = omega arith
     by false few = omega (arith, few)
 
-count_few : (key : KeyGiven) → group_count key ≤ 32
+pub count_few : (key : KeyGiven) → group_count key ≤ 32
 unfolding group_count
 count_few key = within_few key 32
 
-groups_length : (key : KeyGiven) (n : ℕ) → length (groups_of key n) ≡ n
+pub groups_length : (key : KeyGiven) (n : ℕ) → length (groups_of key n) ≡ n
 unfolding groups_of
 groups_length key zero = refl
 groups_length key (suc n) = omega (arith, length-append (groups_of key n) (group_of key n ∷ []), groups_length key n)

@@ -3,5 +3,6 @@ mod Growing
 mod Joining
 mod Keymaps
 mod Refusals
+mod Small
 mod Steps
 mod Whole
