@@ -1,20 +1,19 @@
 -- What keys resolve to is fine where names and keysyms keep their bounds.
-use Rattle.std.proofs.Common.{ℕ, zero, suc, ◌+◌, ◌≡◌, ◌≢◌, ◌<◌, ◌≤◌, ◌^◌, nat_lt, ltb, max, Bool, true, false, ◌||◌, ◌&&◌, All, List, [], ◌∷◌, ◌++◌, Option, None, Some, is_some, length, slice_get, take, refl, ap, ◌∙◌, subst, sym, arith, lt-suc_self, lt_trans, append_assoc, ◌⊎◌, inl, inr}
+use Rattle.std.proofs.Common.{ℕ, zero, suc, ◌+◌, ◌≡◌, ◌<◌, ◌≤◌, ◌^◌, nat_lt, Bool, true, false, ◌||◌, ◌&&◌, All, List, [], ◌∷◌, ◌++◌, Option, None, Some, is_some, length, slice_get, refl, ap, ◌∙◌, subst, sym, arith, lt-suc_self, lt_trans, append_assoc, ◌⊎◌, inl, inr}
 use Rattle.std.proofs.lemmas.Bool.{lt-ltb, ltb-true}
 use Rattle.std.proofs.lemmas.List.{append-nil, length-append}
 use Rattle.std.proofs.lemmas.List.Elements.{All-append, All-cons, All-from_recursion, All-nil, All-push, All-weaker}
 use Rattle.std.proofs.lemmas.Option.{none-some, same_Some, slice_get_within}
 use Rattle.std.specs.List.{flat_map}
 use Rattle.std.specs.Prelude.{codes, if◌then◌else◌}
-use Rattle.kx_keymap.proofs.Whole.{resolved_whole, some_below}
+use Rattle.kx_keymap.proofs.Whole.{some_below}
 use Rattle.kx_keymap.specs.Bounds.{BoundsBelow, KeepsBounds, OneCode}
-use Rattle.kx_keymap.specs.Keys.{KeyGiven, first_level, group_count, group_of, groups_of, groups_within, has_groups, has_level, key_if_named, key_of, keys_below, no_mods, one_level, resolved_of, some_groups_below, types_if}
+use Rattle.kx_keymap.specs.Keys.{KeyGiven, first_level, group_count, group_of, groups_of, groups_within, has_groups, has_level, key_if_named, key_of, keys_below, one_level, resolved_of, some_groups_below, types_if}
 use Rattle.kx_meaning.proofs.Agreeing.{All_at}
-use Rattle.kx_meaning.specs.Fine.{Apart, CellIsFine, EntryIsFine, GroupIsFine, InOrderOfUse, IsFine, KeyIsFine, Rising, TypeIsFine, types_met}
+use Rattle.kx_meaning.specs.Fine.{Apart, CellIsFine, EntryIsFine, GroupIsFine, IsFine, KeyIsFine, Rising, TypeIsFine, types_met}
 use Rattle.kx_meaning.specs.Placed.{all_groups}
-use Rattle.kx_meaning.specs.Resolved.{ResolvedEntry, ResolvedGroup, ResolvedKey, ResolvedType}
+use Rattle.kx_meaning.specs.Resolved.{ResolvedGroup, ResolvedKey, ResolvedType}
 use Rattle.kx_meaning.specs.Whole.{GroupIsWhole}
-use Rattle.kx_mods.specs.Mods.{mask}
 
 -- ---- Groups
 
@@ -104,7 +103,7 @@ types_fine : (some : Bool) → All TypeIsFine (types_if some)
 types_fine true = All-cons TypeIsFine one_level [] type_fine (All-nil TypeIsFine)
 types_fine false = All-nil TypeIsFine
 
-types_few : (some : Bool) → length (types_if some) ≤ 1
+pub types_few : (some : Bool) → length (types_if some) ≤ 1
 types_few true = omega arith
 types_few false = omega arith
 
@@ -177,6 +176,7 @@ module _ (name : ℕ → Option (List ℕ)) (key : ℕ → KeyGiven) where
     where
       both : length (all_groups (keys_below name key n ++ key_if_named n (name n) (key n))) ≡ length (all_groups (keys_below name key n)) + length (all_groups (key_if_named n (name n) (key n)))
       both = ap length (flat_append (λ (k : ResolvedKey). k.groups) (keys_below name key n) (key_if_named n (name n) (key n))) ∙ length-append (all_groups (keys_below name key n)) (all_groups (key_if_named n (name n) (key n)))
+
       by : (b : Bool) → some_groups_below name key n ≡ b → (some_groups_below name key n ≡ true → 0 < length (all_groups (keys_below name key n))) → (b || has_groups name key n) ≡ true → 0 < length (all_groups (keys_below name key n ++ key_if_named n (name n) (key n)))
       by true before earlier h = omega (arith, both, earlier before)
       by false before earlier h = omega (arith, both, some_in_one n (name n) h)

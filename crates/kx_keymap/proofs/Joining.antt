@@ -1,16 +1,13 @@
 -- What codes and keys show is what the statements mean.
-use Rattle.std.proofs.Common.{ℕ, ◌≡◌, List, [], ◌∷◌, Option, None, Some, nat_eq, refl, ap, ◌∙◌, sym}
+use Rattle.std.proofs.Common.{ℕ, ◌≡◌, List, Option, None, Some, nat_eq, refl, ap, ◌∙◌}
 use Rattle.std.proofs.Math.Path.{fun_ext}
 use Rattle.std.specs.Option.{option_and_then, option_or}
 use Rattle.ks_core.specs.Entry.{Entry}
-use Rattle.kx_codes.specs.Aliases.{target_in}
-use Rattle.kx_codes.specs.Codes.{Codes, CodesShow, code_of, name_of, paired}
+use Rattle.kx_codes.specs.Codes.{Codes, CodesShow, code_of, name_of}
 use Rattle.kx_include.specs.Expansion.{Body}
-use Rattle.kx_include.specs.declared.place.Place.{Place}
 use Rattle.kx_keymap.specs.Given.{given_in}
 use Rattle.kx_keymap.specs.Keys.{KeyGiven, resolved_of}
 use Rattle.kx_keymap.specs.Meaning.{codes_of, key_given, resolved_in}
-use Rattle.kx_meaning.specs.Resolved.{Resolved}
 use Rattle.kx_merge.specs.Bodies.{Rules, offers_of}
 use Rattle.kx_merge.specs.Offers.{value_of, width_of}
 use Rattle.kx_parse.specs.declared.tree.Item.{Item}

@@ -2,6 +2,7 @@ mod Fine
 mod Growing
 mod Joining
 mod Keymaps
+mod Names
 mod Refusals
 mod Small
 mod Steps

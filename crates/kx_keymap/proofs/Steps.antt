@@ -2,7 +2,6 @@
 use Rattle.std.proofs.Common.{ℕ, zero, suc, ◌+◌, ◌≡◌, false, ◌||◌, List, [], ◌∷◌, ◌++◌, Option, None, refl, subst, ap, ◌∙◌, arith, if◌then◌else◌}
 use Rattle.kx_keymap.specs.Given.{given_in}
 use Rattle.kx_keymap.specs.Keys.{KeyGiven, group_count, group_of, groups_of, groups_within, has_groups, has_level, key_if_named, keys_below, resolved_of, some_groups_below, types_if}
-use Rattle.kx_meaning.specs.Resolved.{ResolvedGroup, ResolvedKey}
 
 one_more : (n : ℕ) → suc n ≡ n + 1
 one_more n = omega arith

@@ -1,10 +1,10 @@
 -- What keys resolve to is whole: each group has one level, as its type.
-use Rattle.std.proofs.Common.{ℕ, zero, suc, ◌≡◌, ◌<◌, ◌≤◌, nat_lt, Bool, true, false, ◌||◌, ◌&&◌, All, List, [], ◌∷◌, Option, None, Some, is_some, refl, ap, ◌∙◌, subst, sym, arith, eq-or-lt_of_le, lt-suc_self, lt_trans, ◌⊎◌, inl, inr}
+use Rattle.std.proofs.Common.{ℕ, zero, suc, ◌≡◌, ◌<◌, ◌≤◌, nat_lt, Bool, true, false, ◌||◌, ◌&&◌, All, List, [], ◌∷◌, Option, None, Some, is_some, refl, ap, ◌∙◌, subst, sym, arith, eq-or-lt_of_le, lt-suc_self, lt_trans, inl, inr}
 use Rattle.std.proofs.Math.Bool.{or-true}
 use Rattle.std.proofs.lemmas.Bool.{lt-ltb}
 use Rattle.std.proofs.lemmas.List.Elements.{All-append, All-cons, All-nil, All-push}
 use Rattle.kx_keymap.specs.Keys.{KeyGiven, group_count, group_of, groups_of, has_groups, key_if_named, key_of, keys_below, one_level, resolved_of, some_groups_below, types_if}
-use Rattle.kx_meaning.specs.Resolved.{ResolvedGroup, ResolvedType}
+use Rattle.kx_meaning.specs.Resolved.{ResolvedType}
 use Rattle.kx_meaning.specs.Whole.{GroupIsWhole, IsWhole, KeyIsWhole, LevelExists, TypeIsWhole}
 
 groups_whole : (types : List ResolvedType) (key : KeyGiven) (n : ℕ) → (0 < n → types ≡ one_level ∷ []) → All (GroupIsWhole types) (groups_of key n)

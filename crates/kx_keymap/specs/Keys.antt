@@ -1,6 +1,5 @@
 -- What keys resolve to, by what their statements give them: as yet every group is of the built-in type ONE_LEVEL.
-use Rattle.std.specs.Prelude.{ℕ, zero, suc, ◌≡◌, nat_lt, Bool, false, ◌&&◌, ◌||◌, List, [], ◌∷◌, ◌++◌, Option, None, Some, codes, is_some, unwrap_or, if◌then◌else◌}
-use Rattle.std.proofs.Common.{refl}
+use Rattle.std.specs.Prelude.{ℕ, zero, suc, nat_lt, Bool, false, ◌&&◌, ◌||◌, List, [], ◌∷◌, ◌++◌, Option, None, Some, codes, is_some, unwrap_or, if◌then◌else◌}
 use Rattle.kx_meaning.specs.Resolved.{Resolved, ResolvedCell, ResolvedGroup, ResolvedKey, ResolvedType}
 use Rattle.kx_mods.specs.declared.mods.Mods.{Mods}
 use Rattle.kx_resolve.specs.declared.rows.Action.TheVariants as actions

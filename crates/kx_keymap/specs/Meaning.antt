@@ -1,5 +1,5 @@
 -- The keymap that the statements of a keymap's text mean, with the files that it includes.
-use Rattle.std.specs.Prelude.{ℕ, List, nat_eq, Option}
+use Rattle.std.specs.Prelude.{ℕ, List, nat_eq}
 use Rattle.ks_core.specs.Entry.{Entry}
 use Rattle.kx_codes.specs.Aliases.{aliases_of}
 use Rattle.kx_codes.specs.Codes.{Codes, name_of}

@@ -1,5 +1,5 @@
 -- The keymap of a source, and its faults.
-use Rattle.std.specs.Prelude.{ℕ, ◌≡◌, ◌⊎◌, ◌≤◌, ◌<◌, List, [], ◌∷◌, ◌++◌, Contains, length, map, nat_eq}
+use Rattle.std.specs.Prelude.{ℕ, ◌≡◌, ◌⊎◌, ◌≤◌, ◌<◌, List, [], ◌++◌, Contains, length, map, nat_eq}
 use Rattle.std.specs.List.{flat_map}
 use Rattle.ks_core.specs.Entry.{Entry}
 use Rattle.kx_codes.specs.CodeFaults.{faults_of as keycodes_faults}
@@ -16,7 +16,7 @@ use Rattle.kx_merge.specs.Bodies.{faults_of}
 use Rattle.kx_parse.specs.Sections.{Spells, StopsWith, word_span}
 use Rattle.kx_parse.specs.declared.tree.Item.{Item}
 use Rattle.kx_parse.specs.declared.tree.Kind.{Kind}
-use Rattle.kx_parse.specs.declared.tree.Kind.TheVariants.{Compat, Geometry, Keycodes, Symbols, Types}
+use Rattle.kx_parse.specs.declared.tree.Kind.TheVariants.{Compat, Keycodes, Symbols, Types}
 use Rattle.kx_parse.specs.declared.tree.Section.{Section}
 use Rattle.kx_parse.specs.declared.tree.Tree.{Tree}
 use Rattle.kx_resolve.specs.Keymap.{Keymap}

@@ -76,7 +76,7 @@ fn tables_of(alloc: Global, library: &Library, names: &NameTable) -> Result<(Own
     let parts = resolve(alloc, &codes, &keys, &mut notes)?;
     match Owned::new(parts) {
         Ok(tables) => Ok((tables, notes)),
-        Err(_) => Err(Fault::Memory),
+        Err(_) => unreachable!(),
     }
 }
 

@@ -1,16 +1,21 @@
 //! From keys by code to tables.
-ghost use Rattle.std.specs.Prelude.{◌≡◌, ◌++◌, ◌∷◌, [], ℕ, None, Some, IfErr, IfOk, OnOk, nat_lt, is_some};
+ghost use Rattle.std.specs.Prelude.{◌≡◌, ◌++◌, ◌∷◌, [], ℕ, ◌<◌, ◌≤◌, List, None, Some, length, IfErr, IfOk, OnOk, nat_lt, is_some};
 ghost use Rattle.kx_codes.specs.Codes.{name_of};
+ghost use Rattle.kx_keymap.specs.Bounds.{KeepsBounds, OneCode};
 ghost use Rattle.kx_keymap.specs.Given.{given, given_in};
 ghost use Rattle.kx_keymap.specs.Keys.{content_group, first_level, group_count, group_of, groups_of, groups_within, has_groups, has_level, key_if_named, key_of, no_mods, resolved_of, some_groups_below, types_if};
 ghost use Rattle.kx_lex.specs.declared.fault.Fault.TheVariants.{Memory};
 ghost use Rattle.kx_meaning.specs.Agreement.{ShowsSame};
+ghost use Rattle.kx_meaning.specs.Fine.{CellIsFine};
 ghost use Rattle.kx_meaning.specs.Placed.{content_of_resolved};
-ghost use Rattle.kx_meaning.specs.Pushes.{with_cell, with_group, with_key};
+ghost use Rattle.kx_meaning.specs.Pushes.{last_groups, with_cell, with_group, with_key};
 ghost use Rattle.kx_meaning.specs.Resolved.{keymap_of_resolved, nothing_resolved};
+ghost use Rattle.kx_meaning.specs.Small.{IsSmall};
+ghost use Rattle.kx_meaning.specs.declared.fault.BuildFault.TheVariants as builds;
 ghost use Rattle.kx_resolve.specs.Keymap.{keymap_of};
 ghost use Rattle.kx_resolve.specs.declared.rows.Range.TheVariants.{Wrap};
 ghost use Rattle.kx_resolve.specs.Parts.{content_of};
+ghost use Rattle.kx_resolve.specs.Sound.{Sound};
 ghost use Rattle.kx_symbols.specs.Keys.{key_at};
 
 use ks_core::{Note, Notes};
@@ -31,11 +36,15 @@ const MOST_GROUPS: usize = 32;
 /// Codes are below this.
 const CODES: u16 = 4096;
 
-/// Tables that are too large for their numbers are refused as want of memory.
-fn refused(_fault: BuildFault) -> Fault
+/// The refusal of what has its place and whose numbers fit.
+fn refused(fault: BuildFault) -> Fault
+    requires { fault ≡ builds.Memory }
     ensures { result ≡ Memory }
 {
-    Fault::Memory
+    match fault {
+        BuildFault::Memory => Fault::Memory,
+        BuildFault::TooMany | BuildFault::Misplaced => unreachable!(),
+    }
 }
 
 /// How many groups a key has: up to the last that has a level.
@@ -71,26 +80,51 @@ fn note_group(key: &KeyRecord, group: usize, notes: &mut Notes) {
 }
 
 /// Pushes the one level of a group.
+#[tactic(auto, using(crate::proofs::Small::cell_refused))]
 fn push_level(builder: &mut Builder, key: &KeyRecord, group: usize) -> Result<(), Fault>
+    requires small { IsSmall builder.old }
+    requires some { 0 < length (last_groups builder.old.keys) }
     ensures pushed { OnOk result (builder.new ≡ with_cell builder.old (first_level (given key.now) group)) }
+    ensures fine { CellIsFine (first_level (given key.now) group) }
     ensures err { IfErr result (λ e. e ≡ Memory) }
 {
-    match key.keysyms(content_group(key, group), 0) {
-        Some(keysyms) => builder
-            .push_cell(keysyms.as_slice(), Action::None)
-            .map_err(refused),
-        None => builder.push_cell(&[], Action::None).map_err(refused),
+    let keysyms = match key.keysyms(content_group(key, group), 0) {
+        Some(keysyms) => keysyms.as_slice(),
+        None => &[],
+    };
+    match builder.push_cell(keysyms, Action::None) {
+        Ok(()) => Ok(()),
+        Err(fault) => Err(refused(fault)),
     }
 }
 
-/// Pushes a key that has no groups yet.
+/// Pushes a group without its level.
+#[tactic(auto, using(crate::proofs::Small::group_refused))]
+fn push_bare_group(builder: &mut Builder) -> Result<(), Fault>
+    requires small { IsSmall builder.old }
+    requires some { 0 < length builder.old.keys }
+    requires few { length (last_groups builder.old.keys) < 32 }
+    ensures pushed { OnOk result (builder.new ≡ with_group builder.old (record { key_type = 0; cells = [] })) }
+    ensures err { IfErr result (λ e. e ≡ Memory) }
+{
+    match builder.push_group(0) {
+        Ok(()) => Ok(()),
+        Err(fault) => Err(refused(fault)),
+    }
+}
+
+/// Pushes a key without its groups.
+#[tactic(auto, using(crate::proofs::Small::key_refused))]
 fn push_bare_key(builder: &mut Builder, code: u16, name: &[u8]) -> Result<(), Fault>
+    requires small { IsSmall builder.old }
+    requires short { length name.now ≤ 255 }
     ensures pushed { OnOk result (builder.new ≡ with_key builder.old (record { code = code; name = name.now; modmap = no_mods; range = Wrap; groups = [] })) }
     ensures err { IfErr result (λ e. e ≡ Memory) }
 {
-    builder
-        .push_key(code, name, Mods::NONE, Range::Wrap)
-        .map_err(refused)
+    match builder.push_key(code, name, Mods::NONE, Range::Wrap) {
+        Ok(()) => Ok(()),
+        Err(fault) => Err(refused(fault)),
+    }
 }
 
 /// Pushes a key with its groups.
@@ -102,13 +136,17 @@ fn push_key(
     key: &KeyRecord,
     notes: &mut Notes,
 ) -> Result<(), Fault>
+    requires small { IsSmall builder.old }
+    requires few { length builder.old.keys < 4096 }
+    requires short { length name.now ≤ 255 }
     ensures pushed { OnOk result (builder.new ≡ with_key builder.old (key_of code name.now (given key.now))) }
+    ensures levels { OnOk result ((group : ℕ) → group < group_count (given key.now) → CellIsFine (first_level (given key.now) group)) }
     ensures err { IfErr result (λ e. e ≡ Memory) }
 {
     push_bare_key(builder, code, name)?;
     'groups: for group in 0..group_count(key) {
         note_group(key, content_group(key, group), notes);
-        builder.push_group(0).map_err(refused)?;
+        push_bare_group(builder)?;
         push_level(builder, key, group)?;
     }
     Ok(())
@@ -123,7 +161,11 @@ fn push_code(
     code: u16,
     notes: &mut Notes,
 ) -> Result<(), Fault>
+    requires small { IsSmall builder.old }
+    requires few { length builder.old.keys < 4096 }
     ensures pushed { OnOk result (builder.new ≡ record builder.old { keys = builder.old.keys ++ key_if_named code (name_of codes.now code) (given_in (key_at keys.now code)) }) }
+    ensures bounds { OnOk result ((name : List ℕ) → name_of codes.now code ≡ Some name → KeepsBounds name (given_in (key_at keys.now code))) }
+    ensures small { OnOk result (IsSmall builder.new) }
     ensures err { IfErr result (λ e. e ≡ Memory) }
 {
     match (codes.name_of(code), keys.key(code)) {
@@ -174,9 +216,9 @@ fn types_used(alloc: Global, codes: &Codes, keys: &Keys) -> Result<Builder, Faul
 ///
 /// # Errors
 /// `Memory`.
-#[tactic(auto, using(crate::proofs::Steps::below_none, crate::proofs::Steps::below_next))]
 pub fn resolve(alloc: Global, codes: &Codes, keys: &Keys, notes: &mut Notes) -> Result<Parts, Fault>
     ensures content { IfOk result (λ parts. content_of parts ≡ content_of_resolved (resolved_of (name_of codes.now) (λ c. given_in (key_at keys.now c)))) }
+    ensures sound { OneCode (name_of codes.now) → IfOk result (λ parts. Sound (content_of parts)) }
     ensures agrees { IfOk result (λ parts. ShowsSame (keymap_of (content_of parts)) (keymap_of_resolved (resolved_of (name_of codes.now) (λ c. given_in (key_at keys.now c))))) }
     ensures err { IfErr result (λ e. e ≡ Memory) }
 {

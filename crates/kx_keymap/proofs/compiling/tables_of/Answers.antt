@@ -3,6 +3,7 @@ use Rattle.kx_codes.specs.Codes.{name_of}
 use Rattle.kx_include.specs.Expansion.{body_of}
 use Rattle.kx_keymap.proofs.Joining.{resolved_same}
 use Rattle.kx_keymap.proofs.Keymaps.{one_keymap}
+use Rattle.kx_keymap.proofs.Names.{one_code}
 use Rattle.kx_keymap.proofs.Refusals.{all_faultless, keycodes_refused, passed, symbols_refused}
 use Rattle.kx_keymap.specs.Given.{given_in}
 use Rattle.kx_keymap.specs.Keys.{resolved_of}
@@ -31,13 +32,16 @@ returns-in_err-parts-clause-fault c =
     passed c.from_residual-in_err-parts.result (λ (e : Fault). (e ≡ Memory) ⊎ HasFaultIn c.args.names.now c.args.library.now e) c.in_err-parts.field-0.0 c.from_residual-in_err-parts.ensures.1
     (inl c.in_err-parts.ensures.err)
 
-pub returns-in-Ok-clause-keymap : goal.returns-in-Ok-clause-keymap
-returns-in-Ok-clause-keymap c =
+pub unreachable-requires : goal.unreachable-requires
+unreachable-requires c = c.in-Err.ensures.unsound (c.in_ok-parts.ensures.sound (one_code c.in_ok-codes.codes c.in_ok-codes.ensures.joined))
+
+pub returns-clause-keymap : goal.returns-clause-keymap
+returns-clause-keymap c =
     let meant = resolved_of (name_of c.in_ok-codes.codes) (λ code. given_in (key_at c.in_ok-keys.keys code)) in
     ap keymap_of c.in-Ok.ensures.value
     ∙ one_keymap (keymap_of (content_of c.in_ok-parts.parts)) (keymap_of_resolved meant) c.in_ok-parts.ensures.agrees
     ∙ ap keymap_of_resolved (resolved_same c.in_ok-codes.codes c.in_ok-keys.keys c.args.names.now (body_of c.args.library.now Keycodes) (body_of c.args.library.now Symbols) c.in_ok-codes.ensures.shows c.in_ok-keys.ensures.shows)
 
-pub returns-in-Ok-clause-faultless : goal.returns-in-Ok-clause-faultless
-returns-in-Ok-clause-faultless c =
+pub returns-clause-faultless : goal.returns-clause-faultless
+returns-clause-faultless c =
     all_faultless c.args.names.now c.args.library.now c.in_ok-codes.codes c.in_ok-codes.ensures.shows (subst (λ sections. unread sections ≡ []) c.sections_in.ensures c.in_ok-check_sections.ensures.faultless) c.in_ok-codes.ensures.faultless c.in_ok-keys.ensures.faultless
