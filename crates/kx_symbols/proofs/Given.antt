@@ -1,7 +1,6 @@
 -- Records of offers: none and one.
-use Rattle.std.proofs.Common.{◌≡◌, ℕ, List, [], ◌∷◌, Option, refl, subst, sym}
+use Rattle.std.proofs.Common.{◌≡◌, ℕ, List, [], ◌∷◌, refl, subst, sym}
 use Rattle.kx_parse.specs.declared.tree.Mode.{Mode}
-use Rattle.kx_merge.specs.Offers.{Offer}
 use Rattle.kx_merge.specs.Records.{AreOffered, none, more}
 use Rattle.kx_symbols.specs.Keys.{KeyLists, cell_in, record_offer, width_in_key}
 use Rattle.kx_symbols.specs.declared.record.Cell.{Cell}

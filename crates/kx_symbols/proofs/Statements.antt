@@ -1,6 +1,6 @@
 -- Going over the fields of a key statement.
-use Rattle.std.proofs.Common.{◌≡◌, ℕ, ◌+◌, ◌<◌, List, [], ◌∷◌, ◌++◌, length, drop, get_or, fold, Option, Some, Contains, Result, Ok, Err, IfOk, refl, sym, ap, ◌∙◌, subst}
-use Rattle.std.proofs.lemmas.List.Elements.{Contains-append_left, Contains-append_right}
+use Rattle.std.proofs.Common.{◌≡◌, ℕ, ◌+◌, ◌<◌, List, [], ◌∷◌, ◌++◌, length, drop, get_or, Option, Some, Contains, Result, IfOk, sym, ap, ◌∙◌, subst}
+use Rattle.std.proofs.lemmas.List.Elements.{Contains-append_left}
 use Rattle.ks_core.specs.Entry.{Entry}
 use Rattle.kx_lex.specs.declared.fault.Fault.{Fault}
 use Rattle.kx_lex.specs.declared.fault.Fault.TheVariants.{Memory}

@@ -6,7 +6,7 @@ use Rattle.std.specs.Str.{str_eq_ignore_ascii_case}
 use Rattle.kx_parse.specs.declared.tree.Expression.{Expression}
 use Rattle.kx_parse.specs.declared.tree.Operation.{Operation}
 use Rattle.kx_parse.specs.declared.tree.Term.{Term}
-use Rattle.kx_parse.specs.declared.tree.Term.TheVariants.{Number, Signed, Word, Text, KeyName}
+use Rattle.kx_parse.specs.declared.tree.Term.TheVariants.{Number, Word}
 
 -- 33 and more are alike: no group has such a number
 abbrev pub with_digit : ℕ → ℕ → ℕ

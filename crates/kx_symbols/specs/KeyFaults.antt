@@ -1,17 +1,15 @@
 -- The faults of the statements of a symbols section. Actions, and the fields and statements that nothing reads yet, are
 -- statements and fields that it doesn't have.
-use Rattle.std.specs.Prelude.{ℕ, ◌-◌, nat_lt, Bool, List, [], ◌∷◌, ◌++◌, length, Option, None, Some, if◌then◌else◌}
+use Rattle.std.specs.Prelude.{ℕ, ◌-◌, nat_lt, List, [], ◌∷◌, ◌++◌, length, Option, None, Some, if◌then◌else◌}
 use Rattle.std.specs.List.{flat_map}
 use Rattle.ks_core.specs.Entry.{Entry}
 use Rattle.kx_lex.specs.declared.fault.Fault.{Fault}
 use Rattle.kx_lex.specs.declared.fault.Fault.TheVariants.{BadValue, GroupRange, TooMany, UnknownField}
 use Rattle.kx_lex.specs.declared.token.Span.{Span}
-use Rattle.kx_parse.specs.declared.tree.Braces.{Braces}
 use Rattle.kx_parse.specs.declared.tree.Call.{Call}
 use Rattle.kx_parse.specs.declared.tree.Element.{Element}
 use Rattle.kx_parse.specs.declared.tree.Element.TheVariants as elements
 use Rattle.kx_parse.specs.declared.tree.Expression.{Expression}
-use Rattle.kx_parse.specs.declared.tree.Field.{Field as FieldOf}
 use Rattle.kx_parse.specs.declared.tree.Index.{Index}
 use Rattle.kx_parse.specs.declared.tree.Item.{Item}
 use Rattle.kx_parse.specs.declared.tree.Item.TheVariants.{Include, Statement}
@@ -28,7 +26,6 @@ use Rattle.kx_parse.specs.declared.tree.Statement.{Statement as Said}
 use Rattle.kx_parse.specs.declared.tree.Statement.TheVariants as said
 use Rattle.kx_parse.specs.declared.tree.Symbol.{Symbol}
 use Rattle.kx_parse.specs.declared.tree.Symbol.TheVariants.{Word, Number}
-use Rattle.kx_parse.specs.declared.tree.Value.{Value}
 use Rattle.kx_parse.specs.declared.tree.Value.TheVariants as values
 use Rattle.kx_codes.specs.CodeFaults.{name_faults}
 use Rattle.kx_include.specs.IncludeFaults.{at}

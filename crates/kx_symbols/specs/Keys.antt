@@ -10,7 +10,7 @@ use Rattle.kx_parse.specs.declared.tree.Item.TheVariants.{Include, Statement}
 use Rattle.kx_parse.specs.declared.tree.KeyField.{KeyField}
 use Rattle.kx_parse.specs.declared.tree.Mode.{Mode}
 use Rattle.kx_lex.specs.declared.name.Name.{Name}
-use Rattle.kx_merge.specs.Bodies.{Rules, Moves, offers_of, faults_of}
+use Rattle.kx_merge.specs.Bodies.{Rules, Moves, offers_of}
 use Rattle.kx_merge.specs.Offers.{Offer, value_of, width_of}
 use Rattle.kx_symbols.specs.declared.record.Cell.{Cell}
 use Rattle.kx_symbols.specs.declared.record.Cell.TheVariants.{Keysyms}

@@ -1,12 +1,10 @@
 -- The keysyms that a key's lists stand for, level by level (libxkbcommon's keymap text format, key statements).
 use Rattle.std.specs.Prelude.{ℕ, ◌+◌, ◌≤◌, ◌==◌, ◌||◌, nat_lt, Bool, List, [], ◌∷◌, map, Option, None, Some, if◌then◌else◌, codes}
 use Rattle.std.specs.List.{flat_map}
-use Rattle.std.specs.Option.{option_and_then, option_map}
+use Rattle.std.specs.Option.{option_and_then}
 use Rattle.std.specs.Str.{is_utf8, str_eq_ignore_ascii_case}
 use Rattle.ks_core.specs.Entry.{Entry}
 use Rattle.ks_core.specs.Names.{keysym_named}
-use Rattle.kx_parse.specs.declared.tree.Braces.{Braces}
-use Rattle.kx_parse.specs.declared.tree.Call.{Call}
 use Rattle.kx_parse.specs.declared.tree.Element.{Element}
 use Rattle.kx_parse.specs.declared.tree.Element.TheVariants as elements
 use Rattle.kx_parse.specs.declared.tree.List.{List as Listed}

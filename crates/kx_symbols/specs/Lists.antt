@@ -3,15 +3,12 @@ use Rattle.std.specs.Prelude.{ℕ, ◌+◌, ◌-◌, ◌++◌, Bool, ◌&&◌, n
 use Rattle.std.specs.Option.{option_and_then, option_map_or}
 use Rattle.std.specs.Str.{str_eq_ignore_ascii_case}
 use Rattle.ks_core.specs.Entry.{Entry}
-use Rattle.kx_parse.specs.declared.tree.Field.{Field as FieldOf}
 use Rattle.kx_parse.specs.declared.tree.Index.{Index}
 use Rattle.kx_parse.specs.declared.tree.KeyField.{KeyField}
 use Rattle.kx_parse.specs.declared.tree.KeyField.TheVariants as fields
-use Rattle.kx_parse.specs.declared.tree.List.{List as Listed}
 use Rattle.kx_parse.specs.declared.tree.Place.{Place}
 use Rattle.kx_parse.specs.declared.tree.Setting.{Setting}
-use Rattle.kx_parse.specs.declared.tree.Setting.TheVariants.{Off, On, To}
-use Rattle.kx_parse.specs.declared.tree.Value.{Value}
+use Rattle.kx_parse.specs.declared.tree.Setting.TheVariants.{To}
 use Rattle.kx_parse.specs.declared.tree.Value.TheVariants as values
 use Rattle.kx_symbols.specs.Groups.{group_of}
 use Rattle.kx_symbols.specs.Keysyms.{Level, levels_of}

@@ -1,4 +1,4 @@
-use Rattle.kx_symbols.proofs.Texts.{of_text, of_none}
+use Rattle.kx_symbols.proofs.Texts.{of_none}
 use Rattle.kx_symbols.proofs.keysyms.keysym_of_text.Goals as goal
 
 pub returns-in-Err-clause-value : goal.returns-in-Err-clause-value

@@ -1,4 +1,4 @@
-use Rattle.std.proofs.Common.{◌≡◌, ◌+◌, ◌∙◌, ap, slice_set}
+use Rattle.std.proofs.Common.{◌+◌, ◌∙◌, ap, slice_set}
 use Rattle.kx_symbols.specs.Lists.{widened_to}
 use Rattle.kx_symbols.proofs.Absorbing.{put_levels, put_widths, was_at}
 use Rattle.kx_symbols.proofs.record.absorb_list.Goals as goal

@@ -1,4 +1,4 @@
-use Rattle.std.proofs.Common.{◌≡◌, ◌+◌, ◌∙◌, length, ap, slice_set, arith}
+use Rattle.std.proofs.Common.{◌∙◌, slice_set, arith}
 use Rattle.std.proofs.lemmas.List.{length-set}
 use Rattle.kx_symbols.proofs.Absorbing.{lists_go, lists_levels, lists_widths, taken_at, kept_at}
 use Rattle.kx_symbols.proofs.record.absorb_lists.Goals as goal

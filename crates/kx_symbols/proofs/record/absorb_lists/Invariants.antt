@@ -1,4 +1,3 @@
-use Rattle.std.proofs.Common.{◌≡◌}
 use Rattle.kx_symbols.proofs.Absorbing.{ListsBehind}
 use Rattle.kx_symbols.proofs.record.absorb_lists.Given as goal
 

@@ -1,4 +1,4 @@
-use Rattle.std.proofs.Common.{◌≡◌, ◌+◌, ◌≤◌, ◌<◌, ◌∙◌, length, slice_set, ap, arith}
+use Rattle.std.proofs.Common.{◌∙◌, length, slice_set, ap, arith}
 use Rattle.std.proofs.lemmas.List.{length-set}
 use Rattle.kx_symbols.proofs.Absorbing.{levels_go, levels_end, taken_at, kept_at}
 use Rattle.kx_symbols.proofs.levels.Levels.absorb.Goals as goal

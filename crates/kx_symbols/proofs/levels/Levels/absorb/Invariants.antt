@@ -1,4 +1,3 @@
-use Rattle.std.proofs.Common.{◌≡◌, ℕ, max, length}
 use Rattle.kx_symbols.proofs.Absorbing.{LevelsBehind}
 use Rattle.kx_symbols.proofs.levels.Levels.absorb.Given as goal
 

@@ -1,5 +1,5 @@
 use Rattle.std.proofs.Common.{◌≡◌, ℕ}
-use Rattle.kx_symbols.specs.Keys.{KeyLists, cell_in, width_in_key}
+use Rattle.kx_symbols.specs.Keys.{cell_in, width_in_key}
 use Rattle.kx_symbols.specs.declared.record.Cell.{Cell}
 use Rattle.kx_symbols.proofs.record.KeyRecord.settle.Given as goal
 
