@@ -1,4 +1,4 @@
--- The keymap of a source, and its faults.
+-- What a source means, and its faults.
 use Rattle.std.specs.Prelude.{ℕ, ◌≡◌, ◌⊎◌, ◌≤◌, ◌<◌, List, [], ◌++◌, Contains, length, map, nat_eq}
 use Rattle.std.specs.List.{flat_map}
 use Rattle.ks_core.specs.Entry.{Entry}
@@ -7,7 +7,7 @@ use Rattle.kx_include.specs.Expansion.{body_of}
 use Rattle.kx_include.specs.IncludeFaults.{IsWhole, HasFault as HasIncludeFault, at}
 use Rattle.kx_include.specs.Library.{Library, sections_in}
 use Rattle.kx_include.specs.Texts.{IsLibrary}
-use Rattle.kx_keymap.specs.Meaning.{codes_of, keymap_in}
+use Rattle.kx_keymap.specs.Meaning.{codes_of, keymap_in, resolved_in_library}
 use Rattle.kx_lex.specs.Reading.{IsReading, StopsWith as LexingStopsWith, whole_of}
 use Rattle.kx_lex.specs.declared.fault.Fault.{Fault}
 use Rattle.kx_lex.specs.declared.fault.Fault.TheVariants.{TooLong, TooMany, UnknownField}
@@ -19,7 +19,9 @@ use Rattle.kx_parse.specs.declared.tree.Kind.{Kind}
 use Rattle.kx_parse.specs.declared.tree.Kind.TheVariants.{Compat, Keycodes, Symbols, Types}
 use Rattle.kx_parse.specs.declared.tree.Section.{Section}
 use Rattle.kx_parse.specs.declared.tree.Tree.{Tree}
-use Rattle.kx_resolve.specs.Keymap.{Keymap}
+use Rattle.kx_meaning.specs.Placed.{content_of_resolved}
+use Rattle.kx_resolve.specs.Content.{Content}
+use Rattle.kx_resolve.specs.Keymap.{keymap_of}
 use Rattle.kx_symbols.specs.Keys.{key_moves, key_rules}
 
 -- files by name, as they are handed in
@@ -80,10 +82,13 @@ HasFault source files names e = HasNoTree source e ⊎ (HasTooManyFiles source f
 
 -- ---- Meaning
 
--- a source without a fault means a keymap
-pub record Means (source : List ℕ) (files : Handed) (names : List Entry) (keymap : Keymap) : Type 0 where
+-- a source without a fault means tables and their keymap
+pub record Means (source : List ℕ) (files : Handed) (names : List Entry) (content : Content) : Type 0 where
   pub library : Library
   pub read : IsRead source files library
   pub whole : IsWhole library
   pub faultless : statement_faults names library ≡ []
-  pub is : keymap ≡ keymap_in names library
+  -- the tables hold the keys, with their names, that the statements resolve to, and nothing else
+  pub holds : content ≡ content_of_resolved (resolved_in_library names library)
+  -- and show their keymap
+  pub keymap : keymap_of content ≡ keymap_in names library

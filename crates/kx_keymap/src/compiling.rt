@@ -1,10 +1,11 @@
 //! From a source to tables.
 ghost use Rattle.std.specs.Prelude.{◌≡◌, ◌⊎◌, [], Contains, IfErr, IfOk, OnOk};
 ghost use Rattle.kx_include.specs.IncludeFaults.{IsWhole};
-ghost use Rattle.kx_keymap.specs.Meaning.{keymap_in};
+ghost use Rattle.kx_keymap.specs.Meaning.{keymap_in, resolved_in_library};
 ghost use Rattle.kx_keymap.specs.Source.{HasFault, HasFaultIn, HasNoTree, HasTooManyFiles, IsRead, Means, statement_faults, unread, unread_in};
 ghost use Rattle.kx_lex.specs.Reading.{whole_of};
 ghost use Rattle.kx_lex.specs.declared.fault.Fault.TheVariants.{Memory};
+ghost use Rattle.kx_meaning.specs.Placed.{content_of_resolved};
 ghost use Rattle.kx_resolve.specs.Keymap.{keymap_of};
 
 use crate::resolving::resolve;
@@ -65,6 +66,7 @@ fn read_library<'f>(alloc: Global, source: &[u8], files: &'f Files) -> Result<Li
 fn tables_of(alloc: Global, library: &Library, names: &NameTable) -> Result<(Owned, Notes), Fault>
     ensures whole { OnOk result (IsWhole library.now) }
     ensures faultless { OnOk result (statement_faults names.now library.now ≡ []) }
+    ensures holds { IfOk result (λ made. made.0 ≡ content_of_resolved (resolved_in_library names.now library.now)) }
     ensures keymap { IfOk result (λ made. keymap_of made.0 ≡ keymap_in names.now library.now) }
     ensures fault { IfErr result (λ e. (e ≡ Memory) ⊎ HasFaultIn names.now library.now e) }
 {
@@ -80,7 +82,8 @@ fn tables_of(alloc: Global, library: &Library, names: &NameTable) -> Result<(Own
     }
 }
 
-/// The tables of a source, and what was passed over. Their keymap is the one that the source's statements mean.
+/// The tables of a source, and what was passed over: they hold the keys, with their names, that the source's statements
+/// resolve to, and their keymap is the one that the statements mean.
 ///
 /// # Errors
 /// A fault of the source with its place, or `Memory`.
@@ -90,7 +93,7 @@ pub fn tables(
     files: &Files,
     names: &NameTable,
 ) -> Result<(Owned, Notes), Fault>
-    ensures means { IfOk result (λ made. Means source.now files.now names.now (keymap_of made.0)) }
+    ensures means { IfOk result (λ made. Means source.now files.now names.now made.0) }
     ensures fault { IfErr result (λ e. (e ≡ Memory) ⊎ HasFault source.now files.now names.now e) }
 {
     let library = read_library(alloc, source, files)?;

@@ -10,9 +10,9 @@ use Rattle.kx_run.specs.Replies.{Answer, run}
 use Rattle.kx_run.specs.World.{World}
 use Rattle.kx_run.specs.declared.direction.Event.{Event}
 
--- they are the image of sound tables, whose keymap is the one that the source's statements mean; so that every run over
--- the tables is the run of the source
+-- they are the image of sound tables, which hold what the source's statements resolve to, and whose keymap is the one
+-- that these mean; so that every run over the tables is the run of the source
 pub record IsCompiled (source : List ℕ) (files : Handed) (names : List Entry) (content : Content) (bytes : List ℕ) : Type 0 where
   pub image : IsImage content bytes
-  pub means : Means source files names (keymap_of content)
+  pub means : Means source files names content
   pub runs : (world : World) (events : List Event) → run (keymap_of content) world events ≡ run (keymap_in names means.library) world events

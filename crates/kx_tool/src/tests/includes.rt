@@ -96,3 +96,48 @@ fn a_fault_names_its_file(rt: HostRuntime) -> Result<(), Fail> {
     );
     Ok(())
 }
+
+/// The keys of a source whose keycodes are these items, each as its code and its name.
+fn keys_named(rt: &(impl Abort + AllocGlobal), items: &[u8]) -> Result<String, Fail> {
+    let mut files = Files::new(rt.alloc());
+    files.insert(
+        Vec::from_slice(rt.alloc(), b"keycodes/kc")?,
+        Vec::from_slice(
+            rt.alloc(),
+            b"xkb_keycodes \"a\" { <A>=38; }; xkb_keycodes \"b\" { <B>=38; };",
+        )?,
+    )?;
+    let source = [
+        b"xkb_keymap { xkb_keycodes { ".as_slice(),
+        items,
+        b" }; };".as_slice(),
+    ]
+    .concat(rt.alloc())?;
+    let names = NameTable::builtin();
+    let (image, _) = compile(rt.alloc(), source.as_slice(), &files, &names)?;
+    let view = View::open(image.as_slice())?;
+    let mut keys = String::new(rt.alloc());
+    for index in 0..view.counts().keys {
+        let code = view.key_row(index).code;
+        let name = str::from_utf8(view.key_name(index)).unwrap_or("?");
+        keys.push_str(format!(in rt.alloc(); "{code} {name};")?.as_str())?;
+    }
+    Ok(keys)
+}
+
+#[test]
+fn keycodes_of_included_maps(rt: HostRuntime) -> Result<(), Fail> {
+    let rows: [(&[u8], &str); 7] = [
+        (b"include \"kc\"", "38 A;"),
+        (b"<A>=40; include \"kc\"", "38 A;"),
+        (b"<A>=40; augment \"kc\"", "40 A;"),
+        (b"<C>=9; replace \"kc\"", "9 C;38 A;"),
+        (b"include \"kc+kc(b)\"", "38 B;"),
+        (b"include \"kc|kc(b)\"", "38 A;"),
+        (b"include \"kc(b)\" alias <A>=<B>;", "38 B;"),
+    ];
+    for (items, wanted) in &rows {
+        assert_eq!(rt; keys_named(&rt, items)?.as_str(), *wanted, "{:?}", items);
+    }
+    Ok(())
+}

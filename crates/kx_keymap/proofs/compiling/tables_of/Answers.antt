@@ -10,6 +10,7 @@ use Rattle.kx_keymap.specs.Keys.{resolved_of}
 use Rattle.kx_keymap.specs.Source.{HasFaultIn, unread}
 use Rattle.kx_lex.specs.declared.fault.Fault.{Fault}
 use Rattle.kx_lex.specs.declared.fault.Fault.TheVariants.{Memory}
+use Rattle.kx_meaning.specs.Placed.{content_of_resolved}
 use Rattle.kx_meaning.specs.Resolved.{keymap_of_resolved}
 use Rattle.kx_parse.specs.declared.tree.Kind.TheVariants.{Keycodes, Symbols}
 use Rattle.kx_resolve.specs.Keymap.{keymap_of}
@@ -41,6 +42,12 @@ returns-clause-keymap c =
     ap keymap_of c.in-Ok.ensures.value
     ∙ one_keymap (keymap_of (content_of c.in_ok-parts.parts)) (keymap_of_resolved meant) c.in_ok-parts.ensures.agrees
     ∙ ap keymap_of_resolved (resolved_same c.in_ok-codes.codes c.in_ok-keys.keys c.args.names.now (body_of c.args.library.now Keycodes) (body_of c.args.library.now Symbols) c.in_ok-codes.ensures.shows c.in_ok-keys.ensures.shows)
+
+pub returns-clause-holds : goal.returns-clause-holds
+returns-clause-holds c =
+    c.in-Ok.ensures.value
+    ∙ c.in_ok-parts.ensures.content
+    ∙ ap content_of_resolved (resolved_same c.in_ok-codes.codes c.in_ok-keys.keys c.args.names.now (body_of c.args.library.now Keycodes) (body_of c.args.library.now Symbols) c.in_ok-codes.ensures.shows c.in_ok-keys.ensures.shows)
 
 pub returns-clause-faultless : goal.returns-clause-faultless
 returns-clause-faultless c =

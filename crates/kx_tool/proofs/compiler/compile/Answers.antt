@@ -8,6 +8,6 @@ returns-clause-image c = (
   record {
     image = c.in_ok-image.ensures.image;
     means = c.in_ok-tables.ensures.means;
-    runs = λ world events. ap (λ keymap. run keymap world events) c.in_ok-tables.ensures.means.is;
+    runs = λ world events. ap (λ keymap. run keymap world events) c.in_ok-tables.ensures.means.keymap;
   },
 )
