@@ -1,5 +1,5 @@
 #!/bin/sh
-# Prints the time in which a keymap of 1 MiB and 4,088 keys is compiled by `xkc compile`, the lowest of 20 runs of the
+# Prints the time in which a keymap of 863,487 bytes and 4,088 keys is compiled by `xkc compile`, the lowest of 20 runs of the
 # whole program, and beside it libxkbcommon's where Debian's package libxkbcommon-dev is installed.
 set -eu
 top=$(cd "$(dirname "$0")/.." && pwd)
