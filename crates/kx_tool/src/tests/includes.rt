@@ -1,6 +1,6 @@
 //! Sources that include files.
-use crate::{Files, compile};
-use ks_core::NameTable;
+use crate::{Files, compile, session};
+use ks_core::{MemFeed, MemOut, NameTable};
 use kx_image::View;
 use kx_resolve::Rows;
 use std::process::Abort;
@@ -139,5 +139,27 @@ fn keycodes_of_included_maps(rt: HostRuntime) -> Result<(), Fail> {
     for (items, wanted) in &rows {
         assert_eq!(rt; keys_named(&rt, items)?.as_str(), *wanted, "{:?}", items);
     }
+    Ok(())
+}
+
+#[test]
+fn a_session_takes_files_and_names(rt: HostRuntime) -> Result<(), Fail> {
+    let mut files = Files::new(rt.alloc());
+    files.insert(
+        Vec::from_slice(rt.alloc(), b"us")?,
+        Vec::from_slice(rt.alloc(), US)?,
+    )?;
+    let names = NameTable::with_lines(rt.alloc(), b"frob 0x10081234\n")?;
+    let input: &[u8] =
+        b"xkb_keymap { xkb_keycodes { <A>=38; <B>=39; }; xkb_symbols { include \"us\" key <B> { [ frob ] }; }; };\n%%\ndown 38\ndown 39";
+    let mut feed = MemFeed::new(input);
+    let mut room = [0u8; 1024];
+    let mut out = MemOut::new(&mut room);
+    let ended = session(rt.alloc(), &mut feed, &files, &names, &mut out);
+    assert_eq!(rt;
+        out.written(),
+        b"38 down a consumed=none base=none latched=none locked=none group=1\n39 down frob consumed=none base=none latched=none locked=none group=1\n".as_slice()
+    );
+    assert!(rt; ended.is_ok());
     Ok(())
 }
