@@ -1,6 +1,7 @@
 #!/bin/sh
-# Prints the time in which a keymap of nearly 1 MiB and 4,088 keys, whose names are built in, is compiled by `xkc compile`, the lowest of 20 runs of the
-# whole program, and beside it libxkbcommon's where Debian's package libxkbcommon-dev is installed.
+# Prints the time in which a keymap of nearly 1 MiB and 4,096 keys, whose keysyms' names are built in, is compiled by
+# `xkc compile`, the lowest of 20 runs of the whole program, and beside it libxkbcommon's where Debian's package
+# libxkbcommon-dev is installed.
 set -eu
 top=$(cd "$(dirname "$0")/.." && pwd)
 work=$(mktemp -d)
@@ -9,9 +10,9 @@ trap 'rm -rf "$work"' EXIT
 program=$top/crates/xkc/out/xkc
 awk 'BEGIN {
     print "xkb_keymap {\nxkb_keycodes {"
-    for (code = 8; code <= 4095; code++) printf "<K%d> = %d;\n", code, code
+    for (code = 0; code <= 4095; code++) printf "<K%d> = %d;\n", code, code
     print "};\nxkb_types { };\nxkb_compatibility { };\nxkb_symbols {"
-    for (code = 8; code <= 4095; code++)
+    for (code = 0; code <= 4095; code++)
         printf "key <K%d> { [ adiaeresis, Adiaeresis, threequarters, registered ], [ guillemotleft, guillemotright, dead_acute, questiondown ], [ ISO_Level3_Shift, Scroll_Lock, exclamdown ], [ onehalf, plusminus, paragraph, periodcentered, sterling ] };\n", code
     print "};\n};"
 }' > "$work/source"
@@ -29,7 +30,7 @@ lowest() {
     echo "$least"
 }
 
-echo "$(wc -c < "$work/source") bytes, 4,088 keys"
+echo "$(wc -c < "$work/source") bytes, 4,096 keys"
 ours=$(lowest "$program" compile "$work/source" "$work/image")
 echo "xkc compile: $ours microseconds"
 if pkg-config --exists xkbcommon 2>/dev/null; then
