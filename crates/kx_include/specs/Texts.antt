@@ -1,5 +1,5 @@
 -- What the text of a file gives: its tree, or a fault for which it has none.
-use Rattle.std.specs.Prelude.{◌≡◌, ◌⊎◌, ℕ, ◌+◌, ◌<◌, List, [], ◌∷◌, length, map, Ok, Err}
+use Rattle.std.specs.Prelude.{◌≡◌, ◌⊎◌, ℕ, ◌+◌, ◌<◌, ◌≤◌, List, [], ◌∷◌, length, map, Ok, Err}
 use Rattle.kx_lex.specs.Reading.{IsReading, StopsWith, whole_of}
 use Rattle.kx_lex.specs.declared.fault.At.{At}
 use Rattle.kx_lex.specs.declared.fault.Fault.{Fault}
@@ -33,13 +33,17 @@ in_file file (fault.GroupRange at) = fault.GroupRange (in_text file at)
 in_file file (fault.LevelRange at) = fault.LevelRange (in_text file at)
 in_file file (fault.CodeRange at) = fault.CodeRange (in_text file at)
 
--- the tree that a text's tokens spell
-abbrev pub IsTree : List ℕ → Tree → Type 0
-IsTree bytes tree = (tokens : List Token) × IsReading bytes tokens × SpellsFile bytes tokens tree
+-- a text has at most 1 MiB
+abbrev pub IsShort : List ℕ → Type 0
+IsShort bytes = length bytes ≤ 1048576
 
--- a text is too long, or its reading stops, or the reading of its tokens does
+-- the tree that a short text's tokens spell
+abbrev pub IsTree : List ℕ → Tree → Type 0
+IsTree bytes tree = IsShort bytes × ((tokens : List Token) × IsReading bytes tokens × SpellsFile bytes tokens tree)
+
+-- a text is too long; else its reading stops, or the reading of its tokens does
 abbrev pub IsStop : List ℕ → Fault → Type 0
-IsStop bytes e = ((1048576 < length bytes) × (e ≡ fault.TooLong (whole_of bytes))) ⊎ (StopsWith bytes e ⊎ ((tokens : List Token) × IsReading bytes tokens × FileStopsWith bytes tokens e))
+IsStop bytes e = ((1048576 < length bytes) × (e ≡ fault.TooLong (whole_of bytes))) ⊎ (IsShort bytes × (StopsWith bytes e ⊎ ((tokens : List Token) × IsReading bytes tokens × FileStopsWith bytes tokens e)))
 
 abbrev pub IsText : ℕ → List ℕ → Text → Type 0
 IsText file bytes (Ok tree) = IsTree bytes tree

@@ -1,5 +1,5 @@
 -- What one number more makes of keys and their groups.
-use Rattle.std.proofs.Common.{ℕ, zero, suc, ◌+◌, ◌≡◌, false, ◌||◌, List, [], ◌∷◌, ◌++◌, Option, None, refl, subst, ap, ◌∙◌, arith, if◌then◌else◌}
+use Rattle.std.proofs.Common.{ℕ, zero, suc, ◌+◌, ◌≡◌, ◌<◌, ◌≤◌, min, nat_lt, false, ◌||◌, List, [], ◌∷◌, ◌++◌, Option, None, refl, subst, ap, ◌∙◌, arith, sym, eq-or-lt_of_le, lt-suc_self, lt_trans, inl, inr, if◌then◌else◌}
 use Rattle.kx_keymap.specs.Given.{given_in}
 use Rattle.kx_keymap.specs.Keys.{KeyGiven, group_count, group_of, groups_of, groups_within, has_groups, has_level, key_if_named, keys_below, resolved_of, some_groups_below, types_if}
 
@@ -18,6 +18,23 @@ module _ (key : KeyGiven) where
   pub within_all : groups_within key 32 ≡ group_count key
   unfolding group_count
   within_all = refl
+
+  -- groups without levels at the end don't count
+  within_upto : (n m : ℕ) → n ≤ m → ((group : ℕ) → n ≤ group → group < m → key.width group ≡ 0) → groups_within key m ≡ groups_within key n
+  unfolding groups_within
+  within_upto n zero less none = let last : zero ≡ n = omega (arith, less) in ap (groups_within key) last
+  within_upto n (suc m) less none =
+      elim (eq-or-lt_of_le less) [
+        | inl same ↦ sym (ap (groups_within key) same)
+        | inr before ↦
+            let within : n ≤ m = omega (arith, before) in
+            ap (λ w. if nat_lt 0 w then suc m else groups_within key m) (none m within (lt-suc_self m)) ∙ within_upto n m within (λ group from upto. none group from (lt_trans upto (lt-suc_self m)))
+      ]
+
+  pub within_few : (most end : ℕ) → ((group : ℕ) → most ≤ group → key.width group ≡ 0) → end ≡ min most 32 → groups_within key end ≡ group_count key
+  within_few most end none is =
+      let few : end ≤ 32 = omega (arith, is) in
+      sym (within_upto end 32 few (λ group from upto. let past : most ≤ group = omega (arith, is, from, upto) in none group past)) ∙ within_all
 
   pub groups_none : groups_of key 0 ≡ []
   unfolding groups_of

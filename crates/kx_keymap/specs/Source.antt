@@ -6,7 +6,7 @@ use Rattle.kx_codes.specs.CodeFaults.{faults_of as keycodes_faults}
 use Rattle.kx_include.specs.Expansion.{body_of}
 use Rattle.kx_include.specs.IncludeFaults.{IsWhole, HasFault as HasIncludeFault, at}
 use Rattle.kx_include.specs.Library.{Library, sections_in}
-use Rattle.kx_include.specs.Texts.{IsLibrary}
+use Rattle.kx_include.specs.Texts.{IsLibrary, IsShort}
 use Rattle.kx_keymap.specs.Meaning.{codes_of, keymap_in, resolved_in_library}
 use Rattle.kx_lex.specs.Reading.{IsReading, StopsWith as LexingStopsWith, whole_of}
 use Rattle.kx_lex.specs.declared.fault.Fault.{Fault}
@@ -32,7 +32,7 @@ Handed = List (List ℕ × List ℕ)
 pub record IsRead (source : List ℕ) (files : Handed) (library : Library) : Type 0 where
   pub tokens : List Token
   pub tree : Tree
-  pub short : length source ≤ 1048576
+  pub short : IsShort source
   pub few_files : length files ≤ 65535
   pub reading : IsReading source tokens
   pub spelled : Spells source tokens tree
@@ -40,12 +40,11 @@ pub record IsRead (source : List ℕ) (files : Handed) (library : Library) : Typ
 
 -- ---- Faults
 
--- the source has no tree: it is too long, or its reading stops, or that of its tokens does
+-- the source has no tree: it is too long; else its reading stops, or that of its tokens does
 abbrev pub HasNoTree : List ℕ → Fault → Type 0
 HasNoTree source e =
     ((1048576 < length source) × (e ≡ TooLong (whole_of source)))
-    ⊎ (LexingStopsWith source e
-    ⊎ ((tokens : List Token) × IsReading source tokens × StopsWith source tokens e))
+    ⊎ (IsShort source × (LexingStopsWith source e ⊎ ((tokens : List Token) × IsReading source tokens × StopsWith source tokens e)))
 
 abbrev pub HasTooManyFiles : List ℕ → Handed → Fault → Type 0
 HasTooManyFiles source files e = (65535 < length files) × (e ≡ TooMany (whole_of source))

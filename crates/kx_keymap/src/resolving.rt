@@ -53,7 +53,7 @@ fn group_count(key: &KeyRecord) -> usize
     ensures { result ≡ group_count (given key.now) }
 {
     let mut count = 0;
-    'groups: for group in 0..MOST_GROUPS {
+    'groups: for group in 0..key.group_count().min(MOST_GROUPS) {
         if key.width(group) > 0 {
             count = group + 1;
         }

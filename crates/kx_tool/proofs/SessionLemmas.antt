@@ -1,5 +1,7 @@
 -- What a session answers, by what was read of its source and by the answers to the lines behind it.
-use Rattle.std.proofs.Common.{◌≡◌, ◌⊎◌, ℕ, Bool, true, List, Option, None, Some, Result, Ok, Err, IfSome, inl, inr, refl, subst}
+use Rattle.std.proofs.Common.{◌≡◌, ◌⊎◌, ℕ, Bool, true, false, List, [], Option, None, Some, Result, Ok, Err, IfSome, inl, inr, refl, sym, subst}
+use Rattle.std.proofs.lemmas.List.{append-nil}
+use Rattle.std.specs.Io.KnownBytes.{Appends}
 use Rattle.ks_core.specs.Entry.{Entry}
 use Rattle.kx_image.proofs.Refused.{one_content}
 use Rattle.kx_image.specs.Image.{IsImage}
@@ -80,3 +82,29 @@ module _ {D : Type 0} (written : D → Option (List ℕ)) (failures : D → ℕ)
       → IfSome left (λ text. AnswersSession written failures {A = Unit {0}} text files names d d (Err (Compile fault)))
   session_refused left later k m input source has_lines d fault is read has =
       refused_known left later k m source has_lines d fault (subst (λ (w : Waiting). ReadsSource (coming w left) k later m source has_lines) is read) has
+
+  -- where there are no lines, nothing is answered
+  appends_none : (known : Option (List ℕ)) → Appends known known []
+  appends_none None = tt
+  appends_none (Some bytes) = sym (append-nil bytes)
+
+  silent : (content : Content) (d : D) → Replays written failures {A = Unit {0}} content names (Some []) d d (Ok tt)
+  silent content d = ((refl, appends_none (written d)), refl)
+
+  silent_known : (left later : Option (List ℕ)) (k m : ℕ) (source : List ℕ) (content : Content) (bytes : List ℕ) (d : D)
+      → ReadsSource (coming nothing_read left) k later m source false → IsCompiled source files names content bytes
+      → IfSome left (λ text. Answers written failures {A = Unit {0}} text files names d d (Ok tt))
+  silent_known None later k m source content bytes d read compiled = tt
+  silent_known (Some text) later k m source content bytes d read compiled =
+      record {
+        content = content;
+        bytes = bytes;
+        compiled = subst (λ s. IsCompiled s files names content bytes) read.is compiled;
+        answers = subst (λ lines. Replays written failures {A = Unit {0}} content names (Some lines) d d (Ok tt)) (sym (read.none refl)) (silent content d);
+      }
+
+  pub session_silent : (left later : Option (List ℕ)) (k m : ℕ) (input : Waiting) (source : List ℕ) (bytes : List ℕ) (d : D)
+      → input ≡ nothing_read → ReadsSource (coming input left) k later m source false → (made : Content) × IsCompiled source files names made bytes
+      → IfSome left (λ text. AnswersSession written failures {A = Unit {0}} text files names d d (Ok tt))
+  session_silent left later k m input source bytes d is read made =
+      session_ok left d d (silent_known left later k m source made.0 bytes d (subst (λ (w : Waiting). ReadsSource (coming w left) k later m source false) is read) made.1)

@@ -1,5 +1,6 @@
 ghost use Rattle.std.specs.Prelude.{◌≡◌, ◌⊎◌, IfErr, IfOk};
-ghost use Rattle.kx_image.specs.Image.{IsImage};
+ghost use Rattle.kx_image.specs.Image.{IsImage, image};
+ghost use Rattle.kx_image.specs.declared.header.Edition.TheVariants.{Two};
 ghost use Rattle.kx_keymap.specs.Source.{HasFault};
 ghost use Rattle.kx_lex.specs.declared.fault.Fault.TheVariants.{Memory};
 ghost use Rattle.kx_resolve.specs.Content.{Content};
@@ -15,6 +16,7 @@ use std::alloc::Global;
 /// The image of tables, version 2.
 fn image_of(alloc: Global, tables: &Owned) -> Result<Vec<u8>, Fault>
     ensures image { IfOk result (λ bytes. IsImage tables.now bytes.items) }
+    ensures version_2 { IfOk result (λ bytes. bytes.items ≡ image Two tables.now) }
     ensures err { IfErr result (λ e. e ≡ Memory) }
 {
     let _sound = tables.key_count();

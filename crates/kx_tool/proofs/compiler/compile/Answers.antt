@@ -7,6 +7,7 @@ returns-clause-image c = (
   c.in_ok-tables.tables,
   record {
     image = c.in_ok-image.ensures.image;
+    version_2 = c.in_ok-image.ensures.version_2;
     means = c.in_ok-tables.ensures.means;
     runs = λ world events. ap (λ keymap. run keymap world events) c.in_ok-tables.ensures.means.keymap;
   },

@@ -9,7 +9,7 @@ use Rattle.kx_tool.specs.Sources.{ReadsSource}
 use Rattle.kx_tool.specs.declared.fault.ReplayFault.{ReplayFault}
 use Rattle.kx_tool.specs.declared.fault.ReplayFault.TheVariants.{Read}
 use Rattle.kx_tool.proofs.Reading.{fails_from}
-use Rattle.kx_tool.proofs.SessionLemmas.{fails_all, session_answered, session_refused, session_stopped}
+use Rattle.kx_tool.proofs.SessionLemmas.{fails_all, session_answered, session_refused, session_silent, session_stopped}
 use Rattle.kx_tool.proofs.sessions.session.Goals as goal
 use Rattle.kx_tool.proofs.sessions.session.Goals.{in-Ok-open, in-Err-open}
 
@@ -59,3 +59,9 @@ pub returns-in-Err-clause-answers : goal.returns-in-Err-clause-answers
 returns-in-Err-clause-answers g c =
     session_refused g.O.Out.written g.O.Out.failures c.args.files.now c.args.names.now _ _ _ _ _ _ _ c.args.out.now c.in-Err.fault c.new-input.ensures c.in_ok-source.ensures.source
     (subst (λ s. (c.in-Err.fault ≡ Memory) ⊎ HasFault s c.args.files.now c.args.names.now c.in-Err.fault) c.as_slice.ensures.value c.in-Err.ensures.fault)
+
+pub returns-then-not-source-clause-answers : goal.returns-then-not-source-clause-answers
+returns-then-not-source-clause-answers g c =
+    let read = subst (λ b. ReadsSource (coming c.new-input.result (g.F.Feed.left c.args.feed.now)) (budget c.new-input.result) (coming c.read_source.new.input (g.F.Feed.left c.read_source.new.feed)) (budget c.read_source.new.input) c.in_ok-source.source.text.items b) c.if-not-source.true c.in_ok-source.ensures.source in
+    let made = subst (λ s. (made : Content) × IsCompiled s c.args.files.now c.args.names.now made c.in-Ok.image.items) c.as_slice.ensures.value c.in-Ok.ensures.image in
+    session_silent g.O.Out.written g.O.Out.failures c.args.files.now c.args.names.now _ _ _ _ _ _ _ c.args.out.now c.new-input.ensures read made
