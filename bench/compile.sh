@@ -3,11 +3,7 @@
 # `xkc compile`, the lowest of 20 runs of the whole program, and beside it libxkbcommon's where Debian's package
 # libxkbcommon-dev is installed.
 set -eu
-top=$(cd "$(dirname "$0")/.." && pwd)
-work=$(mktemp -d)
-trap 'rm -rf "$work"' EXIT
-(cd "$top/crates/xkc" && rt run -- dump /dev/null > /dev/null 2>&1) || true
-program=$top/crates/xkc/out/xkc
+. "$(dirname "$0")/program.sh"
 awk 'BEGIN {
     print "xkb_keymap {\nxkb_keycodes {"
     for (code = 0; code <= 4095; code++) printf "<K%d> = %d;\n", code, code

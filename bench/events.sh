@@ -13,7 +13,7 @@ for crate in "$here"/../crates/*/; do
 done
 mkdir -p "$work/crates/events/src"
 cp "$here/events/main.rt.in" "$work/crates/events/src/main.rt"
-echo 'events: kx_run kx_image kx_resolve kx_mods ks_core anyhow' >> "$work/crates.txt"
+echo 'events: kx_run kx_image kx_tables kx_mods ks_core anyhow' >> "$work/crates.txt"
 (cd "$work/crates/events" && rt run | tail -2)
 
 if pkg-config --exists xkbcommon 2>/dev/null; then

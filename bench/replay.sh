@@ -3,11 +3,7 @@
 # and beside it a program's over libxkbcommon that writes the same lines, where Debian's package libxkbcommon-dev is
 # installed. The keymap has one key; the lines press and release it, and name a code without a key, in turn.
 set -eu
-top=$(cd "$(dirname "$0")/.." && pwd)
-work=$(mktemp -d)
-trap 'rm -rf "$work"' EXIT
-(cd "$top/crates/xkc" && rt run -- dump /dev/null > /dev/null 2>&1) || true
-program=$top/crates/xkc/out/xkc
+. "$(dirname "$0")/program.sh"
 printf 'xkb_keymap { xkb_keycodes { <A>=38; }; xkb_types { }; xkb_compat { }; xkb_symbols { key <A> {[a]}; }; };\n' > "$work/source"
 "$program" compile "$work/source" "$work/image" > /dev/null
 awk 'BEGIN { for (i = 0; i < 2500000; i++) print "down 38\ndown 9\nup 38\nup 9" }' > "$work/lines"

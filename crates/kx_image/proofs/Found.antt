@@ -10,8 +10,8 @@ use Rattle.std.proofs.lemmas.Bool.{ltb-false, eqb-true}
 use Rattle.std.proofs.lemmas.List.{append-nil, drop-drop, take-append-drop}
 use Rattle.std.proofs.lemmas.Nat.{le_bytes_2, le_bytes_4}
 use Rattle.std.proofs.lemmas.Slice.Eq.{bytes_eq-Decides}
-use Rattle.kx_resolve.specs.Content.{Content, greatest_groups, part}
-use Rattle.kx_resolve.specs.Sound.{Sound}
+use Rattle.kx_tables.specs.Content.{Content, greatest_groups, part}
+use Rattle.kx_tables.specs.Sound.{Sound}
 use Rattle.kx_image.specs.Cut.{rows_at, record_at}
 use Rattle.kx_image.specs.Image.{IsImage, Tellable, Tells, body, content_in, header_for, image}
 use Rattle.kx_image.specs.Records.{two, four, two_at, four_at, type_bytes, type_of, entry_bytes, entry_of, key_bytes, key_of, group_bytes, group_of, cell_bytes, cell_of, keysym_bytes, keysym_of, indicator_bytes, indicator_of, group_name_bytes, group_name_of}

@@ -2,7 +2,7 @@
 use Rattle.std.proofs.Common.{ℕ, List, ◌≡◌, ◌+◌, ◌*◌, ◌<◌, ◌≤◌, None, Result, Ok, Err, OnOk, IfErr, arith, ap, sym, subst, ◌⊎◌, inl, inr, length}
 use Rattle.std.proofs.lemmas.Bool.{cases_lt}
 use Rattle.std.proofs.Math.Nat.{mul-le-mul_left}
-use Rattle.kx_resolve.specs.declared.check.Part.{Part}
+use Rattle.kx_tables.specs.declared.check.Part.{Part}
 use Rattle.kx_image.specs.Cut.{record_at}
 use Rattle.kx_image.specs.Image.{Tells, HasFault, RecordGarbled, Garbled}
 use Rattle.kx_image.specs.Shape.{shape_fault}

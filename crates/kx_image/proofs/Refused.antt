@@ -6,21 +6,21 @@ use Rattle.std.specs.Option.{option_or}
 use Rattle.std.proofs.Math.Seq.{take-length}
 use Rattle.std.proofs.lemmas.Bool.{le-ltb}
 use Rattle.std.proofs.lemmas.Option.{slice_get_within, slice_get-get_or, slice_get_cases}
-use Rattle.kx_resolve.specs.Bounds.{entries_within, groups_within, cells_within, keysyms_within, type_name_within, key_name_within, indicator_name_within, group_name_within, sum_up_to}
-use Rattle.kx_resolve.specs.Content.{Content, greatest_groups, part}
-use Rattle.kx_resolve.specs.Fit.{CountsFit}
-use Rattle.kx_resolve.specs.Fits.{sound_fits, groups_fit}
-use Rattle.kx_resolve.specs.Sound.{Sound, TypeHolds, KeyHolds, GroupHolds, CellHolds, KeysymHolds, IndicatorHolds, GroupNameHolds}
-use Rattle.kx_resolve.specs.Unsound.{breaks_unsound}
-use Rattle.kx_resolve.specs.declared.check.Part.{Part}
-use Rattle.kx_resolve.specs.declared.check.Part.TheVariants as parts
-use Rattle.kx_resolve.specs.declared.rows.CellRow.{CellRow}
-use Rattle.kx_resolve.specs.declared.rows.EntryRow.{EntryRow}
-use Rattle.kx_resolve.specs.declared.rows.GroupNameRow.{GroupNameRow}
-use Rattle.kx_resolve.specs.declared.rows.GroupRow.{GroupRow}
-use Rattle.kx_resolve.specs.declared.rows.IndicatorRow.{IndicatorRow}
-use Rattle.kx_resolve.specs.declared.rows.KeyRow.{KeyRow}
-use Rattle.kx_resolve.specs.declared.rows.TypeRow.{TypeRow}
+use Rattle.kx_tables.specs.Bounds.{entries_within, groups_within, cells_within, keysyms_within, type_name_within, key_name_within, indicator_name_within, group_name_within, sum_up_to}
+use Rattle.kx_tables.specs.Content.{Content, greatest_groups, part}
+use Rattle.kx_tables.specs.Fit.{CountsFit}
+use Rattle.kx_tables.specs.Fits.{sound_fits, groups_fit}
+use Rattle.kx_tables.specs.Sound.{Sound, TypeHolds, KeyHolds, GroupHolds, CellHolds, KeysymHolds, IndicatorHolds, GroupNameHolds}
+use Rattle.kx_tables.specs.Unsound.{breaks_unsound}
+use Rattle.kx_tables.specs.declared.check.Part.{Part}
+use Rattle.kx_tables.specs.declared.check.Part.TheVariants as parts
+use Rattle.kx_tables.specs.declared.rows.CellRow.{CellRow}
+use Rattle.kx_tables.specs.declared.rows.EntryRow.{EntryRow}
+use Rattle.kx_tables.specs.declared.rows.GroupNameRow.{GroupNameRow}
+use Rattle.kx_tables.specs.declared.rows.GroupRow.{GroupRow}
+use Rattle.kx_tables.specs.declared.rows.IndicatorRow.{IndicatorRow}
+use Rattle.kx_tables.specs.declared.rows.KeyRow.{KeyRow}
+use Rattle.kx_tables.specs.declared.rows.TypeRow.{TypeRow}
 use Rattle.kx_image.specs.Cut.{rows_at, record_at}
 use Rattle.kx_image.specs.Image.{IsImage, Tellable, Tells, Garbled, RecordGarbled, HasFault, body, content_in, header_for, image}
 use Rattle.kx_image.specs.Records.{type_bytes, type_of, entry_bytes, entry_of, key_bytes, key_of, group_bytes, group_of, cell_bytes, cell_of, keysym_bytes, keysym_of, indicator_bytes, indicator_of, group_name_bytes, group_name_of}

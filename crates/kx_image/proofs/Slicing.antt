@@ -3,8 +3,8 @@ use Rattle.std.proofs.Common.{ℕ, zero, suc, List, [], ◌∷◌, ◌++◌, ◌
 use Rattle.std.proofs.lemmas.List.{take-append-drop}
 use Rattle.std.proofs.Math.Seq.{take-append_seam, drop-append_seam}
 use Rattle.std.specs.List.{flat_map}
-use Rattle.kx_resolve.specs.Content.{part}
-use Rattle.kx_resolve.specs.Sound.{EachRow}
+use Rattle.kx_tables.specs.Content.{part}
+use Rattle.kx_tables.specs.Sound.{EachRow}
 use Rattle.kx_image.specs.Cut.{rows_at, record_at}
 
 module _ {X : Type 0} (of : List ℕ → X) (size : ℕ) where

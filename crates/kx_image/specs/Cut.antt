@@ -1,6 +1,6 @@
 -- Tables of records of one size.
 use Rattle.std.specs.Prelude.{ℕ, zero, suc, List, [], ◌∷◌, ◌+◌, ◌*◌}
-use Rattle.kx_resolve.specs.Content.{part}
+use Rattle.kx_tables.specs.Content.{part}
 
 -- the rows that so many records of this size tell, from a place of the bytes on
 abbrev pub rows_at : {X : Type 0} → (List ℕ → X) → ℕ → ℕ → ℕ → List ℕ → List X

@@ -1,11 +1,11 @@
 -- The image of a content.
 use Rattle.std.specs.Prelude.{ℕ, List, [], ◌≡◌, ◌++◌, ◌+◌, ◌<◌, ◌⊎◌, length, Option, None, Some}
 use Rattle.std.specs.List.{flat_map}
-use Rattle.kx_resolve.specs.Broken.{Breaks}
-use Rattle.kx_resolve.specs.Content.{Content, greatest_groups, part}
-use Rattle.kx_resolve.specs.Sound.{Sound}
-use Rattle.kx_resolve.specs.declared.check.Part.{Part}
-use Rattle.kx_resolve.specs.declared.check.Part.TheVariants as parts
+use Rattle.kx_tables.specs.Broken.{Breaks}
+use Rattle.kx_tables.specs.Content.{Content, greatest_groups, part}
+use Rattle.kx_tables.specs.Sound.{Sound}
+use Rattle.kx_tables.specs.declared.check.Part.{Part}
+use Rattle.kx_tables.specs.declared.check.Part.TheVariants as parts
 use Rattle.kx_image.specs.Cut.{rows_at, record_at}
 use Rattle.kx_image.specs.Records.{type_bytes, type_of, entry_bytes, entry_of, key_bytes, key_of, group_bytes, group_of, cell_bytes, cell_of, keysym_bytes, keysym_of, indicator_bytes, indicator_of, group_name_bytes, group_name_of}
 use Rattle.kx_image.specs.Shape.{header_bytes, header_of, header_size, entries_start, keys_start, groups_start, cells_start, keysyms_start, indicators_start, group_names_start, names_start, group_count, shape_fault}

@@ -3,20 +3,20 @@ use Rattle.std.specs.Prelude.{ℕ, ℤ, pos, negsuc, Bool, true, false, not, Lis
 use Rattle.std.specs.Int.{w16, w32, to_le_bytes, from_le_bytes}
 use Rattle.std.specs.Int.RustNames.{bit_and}
 use Rattle.kx_mods.specs.Mods.{mask}
-use Rattle.kx_resolve.specs.States.{state_bits}
-use Rattle.kx_resolve.specs.declared.rows.Action.{Action}
-use Rattle.kx_resolve.specs.declared.rows.Action.TheVariants as actions
-use Rattle.kx_resolve.specs.declared.rows.CellRow.{CellRow}
-use Rattle.kx_resolve.specs.declared.rows.EntryRow.{EntryRow}
-use Rattle.kx_resolve.specs.declared.rows.GroupChange.{GroupChange}
-use Rattle.kx_resolve.specs.declared.rows.GroupChange.TheVariants.{Absolute, Relative}
-use Rattle.kx_resolve.specs.declared.rows.GroupNameRow.{GroupNameRow}
-use Rattle.kx_resolve.specs.declared.rows.GroupRow.{GroupRow}
-use Rattle.kx_resolve.specs.declared.rows.IndicatorRow.{IndicatorRow}
-use Rattle.kx_resolve.specs.declared.rows.KeyRow.{KeyRow}
-use Rattle.kx_resolve.specs.declared.rows.Range.{Range}
-use Rattle.kx_resolve.specs.declared.rows.Range.TheVariants.{Wrap, Clamp, Redirect}
-use Rattle.kx_resolve.specs.declared.rows.TypeRow.{TypeRow}
+use Rattle.kx_tables.specs.States.{state_bits}
+use Rattle.kx_tables.specs.declared.rows.Action.{Action}
+use Rattle.kx_tables.specs.declared.rows.Action.TheVariants as actions
+use Rattle.kx_tables.specs.declared.rows.CellRow.{CellRow}
+use Rattle.kx_tables.specs.declared.rows.EntryRow.{EntryRow}
+use Rattle.kx_tables.specs.declared.rows.GroupChange.{GroupChange}
+use Rattle.kx_tables.specs.declared.rows.GroupChange.TheVariants.{Absolute, Relative}
+use Rattle.kx_tables.specs.declared.rows.GroupNameRow.{GroupNameRow}
+use Rattle.kx_tables.specs.declared.rows.GroupRow.{GroupRow}
+use Rattle.kx_tables.specs.declared.rows.IndicatorRow.{IndicatorRow}
+use Rattle.kx_tables.specs.declared.rows.KeyRow.{KeyRow}
+use Rattle.kx_tables.specs.declared.rows.Range.{Range}
+use Rattle.kx_tables.specs.declared.rows.Range.TheVariants.{Wrap, Clamp, Redirect}
+use Rattle.kx_tables.specs.declared.rows.TypeRow.{TypeRow}
 
 -- a number in two bytes or four
 abbrev pub two : ℕ → List ℕ

@@ -1,6 +1,6 @@
 -- Tables whose records are all the bytes of their rows.
 use Rattle.std.specs.Prelude.{ℕ, List, ◌≡◌, ◌<◌}
-use Rattle.kx_resolve.specs.declared.check.Part.{Part}
+use Rattle.kx_tables.specs.declared.check.Part.{Part}
 use Rattle.kx_image.specs.Cut.{record_at}
 use Rattle.kx_image.specs.Image.{Tells}
 use Rattle.kx_image.specs.Records.{type_bytes, type_of, entry_bytes, entry_of, key_bytes, key_of, group_bytes, group_of, cell_bytes, cell_of, keysym_bytes, keysym_of, indicator_bytes, indicator_of, group_name_bytes, group_name_of}

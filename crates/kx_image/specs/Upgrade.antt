@@ -2,7 +2,7 @@
 use Rattle.std.specs.Prelude.{ℕ, List, ◌≡◌, ◌≢◌, Option, Result, Ok, Err}
 use Rattle.std.specs.Io.KnownBytes.{Appends}
 use Rattle.ks_core.specs.Device.{Begins}
-use Rattle.kx_resolve.specs.Content.{Content}
+use Rattle.kx_tables.specs.Content.{Content}
 use Rattle.kx_image.specs.Image.{IsImage, HasFault, image}
 use Rattle.kx_image.specs.declared.header.Edition.TheVariants.{Two}
 use Rattle.kx_image.specs.declared.upgrading.UpgradeFault.{UpgradeFault}

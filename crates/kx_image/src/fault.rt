@@ -1,4 +1,4 @@
-use kx_resolve::Part;
+use kx_tables::Part;
 use thiserror::Error;
 
 /// Why bytes are no image. The faults of form, `Truncated` to `Length`, are tried in this order.

@@ -1,7 +1,7 @@
 ghost use Rattle.std.specs.Prelude.{◌≡◌, ◌+◌, ◌≤◌, length};
 ghost use Rattle.kx_image.specs.Image.{content_in};
 ghost use Rattle.kx_image.specs.Starts.{IsShape};
-ghost use Rattle.kx_resolve.specs.Content.{part};
+ghost use Rattle.kx_tables.specs.Content.{part};
 
 use crate::header::Header;
 use crate::records::{
@@ -10,7 +10,7 @@ use crate::records::{
     type_at,
 };
 use crate::shape::Starts;
-use kx_resolve::{
+use kx_tables::{
     CellRow, Counts, EntryRow, GroupNameRow, GroupRow, IndicatorRow, KeyRow, Rows, TypeRow,
 };
 use std::marker::Model;
@@ -24,7 +24,7 @@ pub struct Layout<'a> {
 }
 
 impl<'a> Model for Layout<'a> {
-    ghost use Rattle.kx_resolve.specs.Content.{Content};
+    ghost use Rattle.kx_tables.specs.Content.{Content};
 
     ghost Value = { Content };
 

@@ -2,7 +2,7 @@ ghost use Rattle.std.specs.Prelude.{◌≡◌, ◌+◌, ◌≤◌, ◌<ℤ◌, p
 ghost use Rattle.kx_image.specs.Records as spec;
 
 use kx_mods::Mods;
-use kx_resolve::{
+use kx_tables::{
     Action, CellRow, EntryRow, GroupChange, GroupNameRow, GroupRow, IndicatorRow, KeyRow, Range,
     States, TypeRow,
 };

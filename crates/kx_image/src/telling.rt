@@ -15,7 +15,7 @@ use crate::records::{
     type_at, type_bytes,
 };
 use crate::shape::Starts;
-use kx_resolve::{CellRow, EntryRow, GroupNameRow, GroupRow, IndicatorRow, KeyRow, Part, TypeRow};
+use kx_tables::{CellRow, EntryRow, GroupNameRow, GroupRow, IndicatorRow, KeyRow, Part, TypeRow};
 
 /// A kind of record.
 trait Record {

@@ -4,7 +4,7 @@ mod slow;
 use super::*;
 use crate::fault::ImageFault;
 use ks_core::MemOut;
-use kx_resolve::{Part, Rows, Tables};
+use kx_tables::{Part, Rows, Tables};
 use std::test::Fail;
 
 /// One key `<A>` with code 38 and the keysym a, in version 1.

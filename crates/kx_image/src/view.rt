@@ -1,12 +1,12 @@
 ghost use Rattle.std.specs.Prelude.{◌≡◌, ◌<◌, ℕ, List, IfOk, IfErr, IfSome, OnErr, length, slice_get};
 ghost use Rattle.kx_image.specs.Image.{IsImage, HasFault};
-ghost use Rattle.kx_resolve.specs.Content.{Content, key_name, type_name};
+ghost use Rattle.kx_tables.specs.Content.{Content, key_name, type_name};
 
 use crate::fault::ImageFault;
 use crate::layout::Layout;
 use crate::shape::shape;
 use crate::telling::records_tell;
-use kx_resolve::{
+use kx_tables::{
     CellRow, Counts, EntryRow, GroupNameRow, GroupRow, IndicatorRow, KeyRow, Part, Rows, Tables,
     TypeRow, check_tables, most_groups,
 };
@@ -21,11 +21,11 @@ pub struct View<'a> {
 
 impl<'a> Model for View<'a> {
     ghost use Rattle.std.specs.Prelude.{◌≡◌};
-    ghost use Rattle.kx_resolve.specs.Content.{Content, greatest_groups};
+    ghost use Rattle.kx_tables.specs.Content.{Content, greatest_groups};
 
     ghost Value = { Content };
 
-    ghost use Rattle.kx_resolve.specs.Sound.{Sound};
+    ghost use Rattle.kx_tables.specs.Sound.{Sound};
 
     ghost view = { λ v. v.layout };
 

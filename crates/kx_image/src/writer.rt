@@ -13,7 +13,7 @@ use crate::records::{
     keysym_bytes, type_bytes,
 };
 use ks_core::{Out, Press};
-use kx_resolve::Tables;
+use kx_tables::Tables;
 use std::io;
 
 /// The header of the tables' image of version 2.

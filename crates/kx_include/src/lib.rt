@@ -2,6 +2,7 @@
 #![tactic(auto)]
 
 mod checking;
+mod expansion;
 mod files;
 mod part;
 mod place;
@@ -10,6 +11,7 @@ mod sources;
 mod tests;
 mod text;
 
+pub use expansion::{Entry, Expansion, Link, Map};
 pub use files::Files;
 pub use part::{Part, include_parts};
 pub use place::Place;

@@ -1,7 +1,9 @@
-pub mod Entering
-pub mod Finding
-pub mod Growing
-pub mod Naming
-pub mod Sorting
-pub mod Fitting
-pub mod Whole
+mod Fine
+mod Growing
+mod Joining
+mod Keymaps
+mod Names
+mod Refusals
+mod Small
+mod Steps
+mod Whole

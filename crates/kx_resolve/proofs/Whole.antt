@@ -1,96 +1,54 @@
--- Tables whose checks passed are sound.
-use Rattle.std.proofs.Common.{ℕ, List, ◌≡◌, ◌+◌, ◌<◌, length, take, sum_by, arith, ap, ◌∙◌}
-use Rattle.std.proofs.Math.Seq.{take-length}
-use Rattle.std.proofs.lemmas.Option.{slice_get_within}
-use Rattle.kx_resolve.specs.Bounds.{sum_up_to}
-use Rattle.kx_resolve.specs.Content.{Content, levels_of, types_used, type_names, key_names, indicator_names, type_name, key_name, indicator_name}
-use Rattle.kx_resolve.specs.Fit.{CountsFit}
-use Rattle.kx_resolve.specs.SoFar.{EachBelow, TypesAre, TypeNumbers, KeysAre, GroupsAre, CellsAre, IndicatorsAre, GroupNamesAre, NamesAreNew, EntriesLie}
-use Rattle.kx_resolve.specs.Sound.{Sound, EachRow, EntriesHold, KeysymHolds, NameByteHolds}
+-- What keys resolve to is whole: each group has one level, as its type.
+use Rattle.std.proofs.Common.{ℕ, zero, suc, ◌≡◌, ◌<◌, ◌≤◌, nat_lt, Bool, true, false, ◌||◌, ◌&&◌, All, List, [], ◌∷◌, Option, None, Some, is_some, refl, ap, ◌∙◌, subst, sym, arith, eq-or-lt_of_le, lt-suc_self, lt_trans, inl, inr}
+use Rattle.std.proofs.Math.Bool.{or-true}
+use Rattle.std.proofs.lemmas.Bool.{lt-ltb}
+use Rattle.std.proofs.lemmas.List.Elements.{All-append, All-cons, All-nil, All-push}
+use Rattle.kx_resolve.specs.Keys.{KeyGiven, group_count, group_of, groups_of, has_groups, key_if_named, key_of, keys_below, one_level, resolved_of, some_groups_below, types_if}
+use Rattle.kx_builder.specs.Resolved.{ResolvedType}
+use Rattle.kx_builder.specs.Whole.{GroupIsWhole, IsWhole, KeyIsWhole, LevelExists, TypeIsWhole}
 
-pub each_of : {X : Type 0} (xs : List X) (P : ℕ → X → Type 0) → EachBelow xs P (length xs) → EachRow xs P
-each_of xs P below i x at = below i x (slice_get_within xs i x at) at
+groups_whole : (types : List ResolvedType) (key : KeyGiven) (n : ℕ) → (0 < n → types ≡ one_level ∷ []) → All (GroupIsWhole types) (groups_of key n)
+unfolding groups_of
+groups_whole types key zero h = All-nil (GroupIsWhole types)
+groups_whole types key (suc n) h =
+    let one : types ≡ one_level ∷ [] = h (omega arith) in
+    All-push (GroupIsWhole types) (groups_of key n) (group_of key n) (groups_whole types key n (λ more. one)) (subst (λ ts. GroupIsWhole ts (group_of key n)) (sym one) refl)
 
-pub sum_all : {X : Type 0} (f : X → ℕ) (xs : List X) → sum_by f (take (length xs) xs) ≡ sum_by f xs
-sum_all f xs = ap (sum_by f) (take-length xs)
+type_whole : TypeIsWhole one_level
+type_whole = record { some_level = omega arith; level_of_each = All-nil (LevelExists 1) }
 
-pub entries_lie : (c : Content) (names : ℕ) → TypesAre c (length c.types) (length c.entries) names → EachRow c.types (EntriesLie c)
-entries_lie c names are i t at =
-    let numbers : TypeNumbers t (sum_by (λ u. u.entries) (take i c.types)) (sum_by (λ u. u.name_length) (take i c.types)) = are.each i t (slice_get_within c.types i t at) at in
-    omega (arith, numbers.first_entry, are.entries_sum, sum_all (λ u. u.entries) c.types, sum_up_to (λ u. u.entries) c.types i t at)
+types_whole : (some : Bool) → All TypeIsWhole (types_if some)
+types_whole true = All-cons TypeIsWhole one_level [] type_whole (All-nil TypeIsWhole)
+types_whole false = All-nil TypeIsWhole
 
-pub whole_is_sound : (c : Content) (type_end key_end next indicator_end : ℕ) → CountsFit c
-    → GroupsAre c (length c.groups) (length c.types) (length c.cells)
-    → TypesAre c (length c.types) (length c.entries) type_end
-    → KeysAre c (length c.keys) (length c.groups) key_end next
-    → CellsAre c (length c.cells) (length c.keysyms)
-    → EachBelow c.keysyms (λ i s. KeysymHolds s) (length c.keysyms)
-    → IndicatorsAre c (length c.indicators) indicator_end
-    → GroupNamesAre c (length c.group_names) (length c.names)
-    → EachRow c.types (EntriesHold c)
-    → EachRow c.names (NameByteHolds c)
-    → NamesAreNew c.types (type_name c)
-    → NamesAreNew c.keys (key_name c)
-    → NamesAreNew c.indicators (indicator_name c)
-    → Sound c
-whole_is_sound c type_end key_end next indicator_end fit groups types keys cells keysyms indicators named entries bytes new_types new_keys new_indicators = record {
-  counts = record {
-    types = fit.types;
-    entries = types.entries_sum ∙ sum_all (λ t. t.entries) c.types;
-    entries_fit = fit.entries;
-    keys = fit.keys;
-    groups = keys.groups_sum ∙ sum_all (λ k. k.groups) c.keys;
-    cells = groups.cells_sum ∙ sum_all (levels_of c) c.groups;
-    cells_fit = fit.cells;
-    keysyms = cells.keysyms_sum ∙ sum_all (λ d. d.keysyms) c.cells;
-    keysyms_fit = fit.keysyms;
-    names = named.names_sum ∙ ap (λ n. type_names c + key_names c + indicator_names c + n) (sum_all (λ g. g.name_length) c.group_names);
-    names_fit = fit.names;
-  };
-  types = λ i t at.
-      let within : i < length c.types = slice_get_within c.types i t at in
-      let numbers : TypeNumbers t (sum_by (λ u. u.entries) (take i c.types)) (sum_by (λ u. u.name_length) (take i c.types)) = types.each i t within at in
-      let used : length c.types ≡ types_used c.groups = groups.used_is ∙ ap types_used (take-length c.groups) in
-      record {
-        mods = numbers.mods;
-        some_level = numbers.some_level;
-        levels = numbers.levels;
-        entries = numbers.entries;
-        name_length = numbers.name_length;
-        first_entry = numbers.first_entry;
-        first_name = numbers.first_name;
-        is_used = omega arith;
-        is_new = new_types i t at;
-      };
-  entries = entries;
-  keys = λ i k at.
-      let numbered = keys.each i k (slice_get_within c.keys i k at) at in
-      record {
-        code = numbered.numbers.code;
-        modmap = numbered.numbers.modmap;
-        range = numbered.numbers.range;
-        groups = numbered.numbers.groups;
-        name_length = numbered.numbers.name_length;
-        first_name = numbered.numbers.first_name;
-        first_group = numbered.numbers.first_group;
-        rises = numbered.rises;
-        is_new = new_keys i k at;
-      };
-  groups = each_of c.groups _ groups.each;
-  cells = each_of c.cells _ cells.each;
-  keysyms = each_of c.keysyms _ keysyms;
-  indicators = λ i d at.
-      let numbers = indicators.each i d (slice_get_within c.indicators i d at) at in
-      record {
-        place = numbers.place;
-        mods = numbers.mods;
-        mod_states = numbers.mod_states;
-        group_states = numbers.group_states;
-        groups = numbers.groups;
-        name_length = numbers.name_length;
-        first_name = numbers.first_name;
-        is_new = new_indicators i d at;
-      };
-  group_names = each_of c.group_names _ named.each;
-  names = bytes;
-}
+module _ (name : ℕ → Option (List ℕ)) (key : ℕ → KeyGiven) where
+  pub some_below : (n code : ℕ) → code < n → has_groups name key code ≡ true → some_groups_below name key n ≡ true
+  unfolding some_groups_below
+  some_below zero code less is = absurd (omega arith)
+  some_below (suc n) code less is =
+      let upto : code ≤ n = omega arith in
+      elim (eq-or-lt_of_le upto) [
+        | inl same ↦ ap (λ b. some_groups_below name key n || b) (subst (λ c. has_groups name key c ≡ true) same is) ∙ or-true (some_groups_below name key n)
+        | inr before ↦ ap (λ b. b || has_groups name key n) (some_below n code before is)
+      ]
+
+  named_whole : (types : List ResolvedType) (code : ℕ) (given : Option (List ℕ)) → name code ≡ given → (has_groups name key code ≡ true → types ≡ one_level ∷ []) → All (KeyIsWhole types) (key_if_named code given (key code))
+  named_whole types code None is h = All-nil (KeyIsWhole types)
+  named_whole types code (Some n) is h =
+      let groups = groups_whole types (key code) (group_count (key code)) (λ some. h (subst (λ o. (is_some o && nat_lt 0 (group_count (key code))) ≡ true) (sym is) (lt-ltb 0 (group_count (key code)) some))) in
+      All-cons (KeyIsWhole types) (key_of code n (key code)) [] groups (All-nil (KeyIsWhole types))
+
+  keys_whole : (types : List ResolvedType) (n : ℕ) → ((code : ℕ) → code < n → has_groups name key code ≡ true → types ≡ one_level ∷ []) → All (KeyIsWhole types) (keys_below name key n)
+  unfolding keys_below
+  keys_whole types zero h = All-nil (KeyIsWhole types)
+  keys_whole types (suc n) h =
+      All-append (KeyIsWhole types) (keys_below name key n) (key_if_named n (name n) (key n))
+      (keys_whole types n (λ code less. h code (lt_trans less (lt-suc_self n))))
+      (named_whole types n (name n) refl (h n (lt-suc_self n)))
+
+  pub resolved_whole : IsWhole (resolved_of name key)
+  unfolding resolved_of
+  resolved_whole = record {
+    each_type = types_whole (some_groups_below name key 4096);
+    each_key = keys_whole (types_if (some_groups_below name key 4096)) 4096 (λ code less is. ap types_if (some_below 4096 code less is));
+  }

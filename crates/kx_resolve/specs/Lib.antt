@@ -1,13 +1,5 @@
+pub mod Keys
 pub mod Bounds
-pub mod Broken
-pub mod Content
-pub mod Fit
-pub mod Fits
-pub mod Keymap
-pub mod Names
-pub mod Parts
-pub mod Range
-pub mod Sound
-pub mod SoFar
-pub mod States
-pub mod Unsound
+pub mod Given
+pub mod Meaning
+pub mod Source

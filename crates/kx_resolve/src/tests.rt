@@ -1,115 +1,102 @@
-use super::*;
-use kx_mods::Mods;
-use std::alloc::{AllocError, Global};
+use crate::{resolve, tables};
+use ks_core::{NameTable, Notes};
+use kx_codes::codes;
+use kx_include::{Files, Library};
+use kx_lex::{Fault, Span, lex};
+use kx_parse::parse;
+use kx_symbols::symbols;
+use kx_tables::{Owned, Rows, Tables};
+use std::process::Abort;
 use std::test::Fail;
 
-#[test]
-fn wraps_groups(rt: HostRuntime) {
-    let cases = [
-        (-1, Range::Wrap, 2),
-        (i64::MIN, Range::Wrap, 1),
-        (3, Range::Clamp, 2),
-        (-1, Range::Clamp, 0),
-        (5, Range::Redirect(1), 1),
-        (5, Range::Redirect(3), 0),
-        (1, Range::Redirect(2), 1),
-    ];
-    for (group, range, want) in cases {
-        assert_eq!(rt; wrap_group(group, 3, range), want, "{group} {range:?}");
-    }
-}
-
-/// The tables of one key `<A>` with this code, whose one level has the keysym a.
-fn one_key(alloc: Global, code: u16) -> Result<Parts, AllocError> {
-    let key_type = TypeRow {
-        mods: Mods::NONE,
-        levels: 1,
-        entries: 0,
-        name_length: 9,
-        first_entry: 0,
-        first_name: 0,
-    };
-    let key = KeyRow {
-        code,
-        modmap: Mods::NONE,
-        range: Range::Wrap,
-        groups: 1,
-        name_length: 1,
-        first_name: 9,
-        first_group: 0,
-    };
-    let group = GroupRow {
-        key_type: 0,
-        first_cell: 0,
-    };
-    let cell = CellRow {
-        keysyms: 1,
-        action: Action::None,
-        first_keysym: 0,
-    };
-    Ok(Parts {
-        types: vec![in alloc; key_type]?,
-        entries: Vec::new(alloc),
-        keys: vec![in alloc; key]?,
-        groups: vec![in alloc; group]?,
-        cells: vec![in alloc; cell]?,
-        keysyms: vec![in alloc; 0x61]?,
-        indicators: Vec::new(alloc),
-        group_names: Vec::new(alloc),
-        names: Vec::from_slice(alloc, b"ONE_LEVELA")?,
-    })
+/// The tables of a source without files, and what was passed over.
+fn tables_in(rt: &(impl Abort + AllocGlobal), source: &[u8]) -> Result<(Owned, Notes), Fault> {
+    let files = Files::new(rt.alloc());
+    tables(rt.alloc(), source, &files, &NameTable::builtin())
 }
 
 #[test]
-fn takes_sound_tables(rt: HostRuntime) -> Result<(), Fail> {
-    let tables = Owned::new(one_key(rt.alloc(), 38)?).ok().ok_or("unsound")?;
-    assert_eq!(rt; tables.key_of(38), Some(0));
-    assert_eq!(rt; tables.key_of(37), None);
-    assert_eq!(rt; tables.greatest_groups(), 1);
-    let counts = tables.counts();
-    assert!(rt; counts.keys == 1 && counts.types == 1 && counts.keysyms == 1);
-    assert!(rt; tables.key_name(0) == b"A".as_slice());
-    assert!(rt; tables.type_name(0) == b"ONE_LEVEL".as_slice());
+fn keys_are_those_that_keycodes_name(rt: HostRuntime) -> Result<(), Fail> {
+    let source =
+        b"xkb_keymap { xkb_keycodes { <B>=40; <A>=38; }; xkb_keycodes { <C>=9; }; xkb_symbols { key <A> {[a]}; }; xkb_symbols { key <C> {[c]}; }; };";
+    let (tables, _) = tables_in(&rt, source)?;
+    assert_eq!(rt; tables.counts().keys, 3);
+    assert_eq!(rt; tables.key_row(0).code, 9);
+    assert_eq!(rt; tables.key_name(1), b"A".as_slice());
+    assert_eq!(rt; tables.key_name(2), b"B".as_slice());
+    assert_eq!(rt; tables.counts().types, 1);
+    assert_eq!(rt; tables.type_name(0), b"ONE_LEVEL".as_slice());
+    assert_eq!(rt; tables.counts().keysyms, 2);
+    assert_eq!(rt; tables.keysym(0), 0x63);
+    assert_eq!(rt; tables.keysym(1), 0x61);
+    Ok(())
+}
+
+#[test]
+fn no_group_uses_no_type(rt: HostRuntime) -> Result<(), Fail> {
+    let (tables, _) = tables_in(&rt, b"xkb_keymap { xkb_keycodes { <A>=38; }; };")?;
+    assert_eq!(rt; tables.counts().keys, 1);
+    assert_eq!(rt; tables.counts().types, 0);
+    Ok(())
+}
+
+#[test]
+fn groups_of_one_level(rt: HostRuntime) -> Result<(), Fail> {
+    let source =
+        b"xkb_keymap { xkb_keycodes { <A>=38; }; xkb_symbols { key <A> { [a, A], [], [b] }; }; };";
+    let (tables, notes) = tables_in(&rt, source)?;
+    assert_eq!(rt; tables.counts().groups, 3);
+    assert_eq!(rt; tables.counts().keysyms, 3);
+    // The second group takes the content of the first.
     assert_eq!(rt; tables.keysym(0), 0x61);
+    assert_eq!(rt; tables.keysym(1), 0x61);
+    assert_eq!(rt; tables.keysym(2), 0x62);
+    assert_eq!(rt; notes.types, 2);
+    assert_eq!(rt; notes.levels, 2);
     Ok(())
 }
 
 #[test]
-fn refuses_unsound_tables(rt: HostRuntime) -> Result<(), Fail> {
-    let key_0 = Broken {
-        part: Part::Key,
-        index: 0,
-    };
-    let refused = Owned::new(one_key(rt.alloc(), 4096)?).err();
-    assert_eq!(rt; refused, Some(key_0));
+fn resolves_codes_and_keys(rt: HostRuntime) -> Result<(), Fail> {
+    let text =
+        b"xkb_keymap { xkb_keycodes { <A>=38; alias <C>=<A>; }; xkb_symbols { key <C> {[7]}; }; };";
+    let tokens = lex(rt.alloc(), text)?;
+    let tree = parse(rt.alloc(), text, tokens.as_slice())?;
+    let files = Files::new(rt.alloc());
+    let whole = Span { start: 0, stop: 0 };
+    let library = Library::read(rt.alloc(), tree, whole, &files)?;
+    let codes = codes(rt.alloc(), &library)?;
+    let mut notes = Notes::new();
+    let names = NameTable::builtin();
+    let keys = symbols(rt.alloc(), &library, &codes, &names, &mut notes)?;
+    let parts = resolve(rt.alloc(), &codes, &keys, &mut notes)?;
+    assert_eq!(rt; parts.keysyms.as_slice(), [0x37].as_slice());
     Ok(())
 }
 
-/// The tables of one key, with so many indicators.
-fn with_indicators(alloc: Global, count: u32) -> Result<Parts, AllocError> {
-    let mut parts = one_key(alloc, 38)?;
-    for _ in 0..count {
-        parts.indicators.push(IndicatorRow {
-            mods: Mods::NONE,
-            mod_states: States::from_mask(0),
-            group_states: States::from_mask(0),
-            groups: 0,
-            name_length: 0,
-            first_name: 10,
-        })?;
-    }
-    Ok(parts)
-}
-
 #[test]
-fn names_the_indicator_past_the_last_place(rt: HostRuntime) -> Result<(), Fail> {
-    let indicator_32 = Broken {
-        part: Part::Indicator,
-        index: 32,
-    };
-    for count in [33, 65_536] {
-        let refused = Owned::new(with_indicators(rt.alloc(), count)?).err();
-        assert_eq!(rt; refused, Some(indicator_32), "{count}");
+fn refusals_name_their_place(rt: HostRuntime) -> Result<(), Fail> {
+    let rows: [(&[u8], &str); 4] = [
+        (
+            b"xkb_keymap { xkb_types { type \"X\" { modifiers = None; }; }; };",
+            "F14 UnknownField at 0:25-29",
+        ),
+        (
+            b"xkb_keymap { xkb_compat { }; xkb_compat { group 1 = 1; }; };",
+            "F14 UnknownField at 0:42-47",
+        ),
+        (
+            b"xkb_keymap { xkb_keycodes { <A>=4096; }; };",
+            "F18 CodeRange at 0:32-36",
+        ),
+        (b"xkb_keymap { xkb_symbols { key", "F6 Syntax at 0:30-30"),
+    ];
+    for (source, line) in rows {
+        let refusal = match tables_in(&rt, source) {
+            Ok(_) => String::from_str(rt.alloc(), "taken")?,
+            Err(fault) => format!(in rt.alloc(); "{fault}")?,
+        };
+        assert_eq!(rt; refusal.as_str(), line);
     }
     Ok(())
 }

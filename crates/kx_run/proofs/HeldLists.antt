@@ -24,10 +24,10 @@ use Rattle.std.proofs.Common.{inl, inr, Some, None}
 use Rattle.std.proofs.lemmas.Map.Steps.{length-le_from_distinct_below}
 use Rattle.std.proofs.lemmas.Map.Made.{IsDistinct-from_AllPairs}
 use Rattle.std.proofs.lemmas.List.Quantifiers.{all_pairs_push, all_pairs_remove}
-use Rattle.kx_resolve.specs.declared.rows.Action.{Action}
-use Rattle.kx_resolve.specs.declared.rows.Action.TheVariants as actions
-use Rattle.kx_resolve.specs.declared.rows.GroupChange.{GroupChange}
-use Rattle.kx_resolve.specs.declared.rows.GroupChange.TheVariants.{Absolute, Relative}
+use Rattle.kx_tables.specs.declared.rows.Action.{Action}
+use Rattle.kx_tables.specs.declared.rows.Action.TheVariants as actions
+use Rattle.kx_tables.specs.declared.rows.GroupChange.{GroupChange}
+use Rattle.kx_tables.specs.declared.rows.GroupChange.TheVariants.{Absolute, Relative}
 use Rattle.kx_run.specs.declared.held.HeldKey.{HeldKey}
 use Rattle.kx_run.specs.World.{World}
 use Rattle.kx_run.specs.Laws.{IsBounded}

@@ -2,9 +2,9 @@
 use Rattle.std.proofs.Common.{◌≡◌, ℕ, ◌<◌, ◌≤◌, ◌==◌, Bool, true, false, not, cond, ◌&&◌, ◌||◌, eqb, List, [], ◌∷◌, ◌++◌, map, Option, Some, None, refl, sym, ap, ◌∙◌, arith, inl, inr, ℤ, pos, negsuc, ◌⊎◌}
 use Rattle.std.proofs.lemmas.Bool.{false≢true, eqb-true, eqb-false, eq-eqb, ne_eqb, or_cases}
 use Rattle.kx_mods.specs.Mods.{mask}
-use Rattle.kx_resolve.specs.Keymap.{Keymap, Shown}
-use Rattle.kx_resolve.specs.declared.rows.Action.{Action}
-use Rattle.kx_resolve.specs.declared.rows.Action.TheVariants as actions
+use Rattle.kx_tables.specs.Keymap.{Keymap, Shown}
+use Rattle.kx_tables.specs.declared.rows.Action.{Action}
+use Rattle.kx_tables.specs.declared.rows.Action.TheVariants as actions
 use Rattle.kx_run.specs.declared.direction.Direction.{Direction}
 use Rattle.kx_run.specs.declared.direction.Direction.TheVariants.{Down, Up}
 use Rattle.kx_run.specs.declared.direction.Event.{Event}

@@ -3,22 +3,22 @@ use Rattle.std.proofs.Common.{◌≡◌, ℕ, zero, suc, ◌+◌, ◌-◌, ◌<�
 use Rattle.std.specs.Prelude.{find, sum_by, IfSome}
 use Rattle.std.proofs.Common.{◌*◌, ◌^◌}
 use Rattle.std.proofs.lemmas.List.Sums.{sum_by-cons}
-use Rattle.kx_resolve.specs.declared.rows.EntryRow.{EntryRow}
+use Rattle.kx_tables.specs.declared.rows.EntryRow.{EntryRow}
 use Rattle.std.proofs.lemmas.Int.{ints}
 use Rattle.std.proofs.lemmas.Bool.{eqb-true}
-use Rattle.kx_resolve.specs.Bounds.{groups_within}
-use Rattle.kx_resolve.specs.Content.{Content, part, greatest_groups}
-use Rattle.kx_resolve.specs.Keymap.{key_with, level_of, keymap_of}
-use Rattle.kx_resolve.specs.Sound.{Sound, KeyHolds, ActionHolds, GroupChangeHolds, EntryHolds}
-use Rattle.kx_resolve.specs.declared.rows.Action.{Action}
-use Rattle.kx_resolve.specs.declared.rows.Action.TheVariants as actions
-use Rattle.kx_resolve.specs.declared.rows.GroupChange.{GroupChange}
-use Rattle.kx_resolve.specs.declared.rows.GroupChange.TheVariants.{Absolute, Relative}
-use Rattle.kx_resolve.specs.declared.rows.KeyRow.{KeyRow}
-use Rattle.kx_resolve.specs.declared.rows.TypeRow.{TypeRow}
-use Rattle.kx_resolve.specs.Keymap.{lamp_of}
-use Rattle.kx_resolve.specs.Sound.{IndicatorHolds}
-use Rattle.kx_resolve.specs.declared.rows.IndicatorRow.{IndicatorRow}
+use Rattle.kx_tables.specs.Bounds.{groups_within}
+use Rattle.kx_tables.specs.Content.{Content, part, greatest_groups}
+use Rattle.kx_tables.specs.Keymap.{key_with, level_of, keymap_of}
+use Rattle.kx_tables.specs.Sound.{Sound, KeyHolds, ActionHolds, GroupChangeHolds, EntryHolds}
+use Rattle.kx_tables.specs.declared.rows.Action.{Action}
+use Rattle.kx_tables.specs.declared.rows.Action.TheVariants as actions
+use Rattle.kx_tables.specs.declared.rows.GroupChange.{GroupChange}
+use Rattle.kx_tables.specs.declared.rows.GroupChange.TheVariants.{Absolute, Relative}
+use Rattle.kx_tables.specs.declared.rows.KeyRow.{KeyRow}
+use Rattle.kx_tables.specs.declared.rows.TypeRow.{TypeRow}
+use Rattle.kx_tables.specs.Keymap.{lamp_of}
+use Rattle.kx_tables.specs.Sound.{IndicatorHolds}
+use Rattle.kx_tables.specs.declared.rows.IndicatorRow.{IndicatorRow}
 use Rattle.std.proofs.lemmas.Option.{slice_get_within, get_or_from_slice_get}
 use Rattle.std.proofs.Common.{map}
 use Rattle.std.proofs.Math.Nat.{pow-suc, pow-le-pow_right}

@@ -9,9 +9,9 @@ use Rattle.std.proofs.lemmas.List.{get_or-set_same, get_or-set_other, get_or_app
 use Rattle.std.proofs.lemmas.Nat.{and_assoc}
 use Rattle.std.proofs.lemmas.Option.{slice_get_within}
 use Rattle.kx_mods.specs.Mods.{mask}
-use Rattle.kx_resolve.specs.Content.{Content, part}
-use Rattle.kx_resolve.specs.Keymap.{entry_for}
-use Rattle.kx_resolve.specs.declared.rows.TypeRow.{TypeRow}
+use Rattle.kx_tables.specs.Content.{Content, part}
+use Rattle.kx_tables.specs.Keymap.{entry_for}
+use Rattle.kx_tables.specs.declared.rows.TypeRow.{TypeRow}
 use Rattle.kx_run.specs.Lookup.{IsChoice, TellsChoices}
 use Rattle.kx_run.specs.declared.choices.Choice.{Choice}
 

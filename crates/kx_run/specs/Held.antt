@@ -4,10 +4,10 @@ use Rattle.std.specs.Int.{bit_at}
 use Rattle.std.specs.Int.RustNames.{bit_or, unsigned_abs}
 use Rattle.std.specs.List.{list_any}
 use Rattle.kx_mods.specs.Mods.{mask}
-use Rattle.kx_resolve.specs.declared.rows.Action.{Action}
-use Rattle.kx_resolve.specs.declared.rows.Action.TheVariants.{SetMods, LatchMods, LockMods, SetGroup, LatchGroup, LockGroup}
-use Rattle.kx_resolve.specs.declared.rows.GroupChange.{GroupChange}
-use Rattle.kx_resolve.specs.declared.rows.GroupChange.TheVariants.{Absolute, Relative}
+use Rattle.kx_tables.specs.declared.rows.Action.{Action}
+use Rattle.kx_tables.specs.declared.rows.Action.TheVariants.{SetMods, LatchMods, LockMods, SetGroup, LatchGroup, LockGroup}
+use Rattle.kx_tables.specs.declared.rows.GroupChange.{GroupChange}
+use Rattle.kx_tables.specs.declared.rows.GroupChange.TheVariants.{Absolute, Relative}
 use Rattle.kx_run.specs.declared.held.HeldKey.{HeldKey}
 
 -- the modifiers that an action sets for as long as its key is down

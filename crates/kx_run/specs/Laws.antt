@@ -1,6 +1,6 @@
 -- What is true of a keyboard after any events.
 use Rattle.std.specs.Prelude.{◌≡◌, ℕ, ◌==◌, ◌<◌, ◌≤◌, ◌≤ℤ◌, Bool, true, false, if◌then◌else◌, List, [], ◌∷◌, length, pos, negsuc}
-use Rattle.kx_resolve.specs.Keymap.{Keymap}
+use Rattle.kx_tables.specs.Keymap.{Keymap}
 use Rattle.kx_run.specs.declared.direction.Direction.{Direction}
 use Rattle.kx_run.specs.declared.direction.Direction.TheVariants.{Down, Up}
 use Rattle.kx_run.specs.declared.direction.Event.{Event}

@@ -1,11 +1,11 @@
 -- What a look-up in tables finds.
 use Rattle.std.specs.Prelude.{ℕ, ◌≡◌, ◌+◌, ◌^◌, ◌<◌, ◌≤◌, List, length, Option, Some, None, slice_get, get_or, IfSome}
 use Rattle.kx_mods.specs.Mods.{mask}
-use Rattle.kx_resolve.specs.Content.{Content, part}
-use Rattle.kx_resolve.specs.Keymap.{Shown, entry_for, key_with}
-use Rattle.kx_resolve.specs.declared.rows.EntryRow.{EntryRow}
-use Rattle.kx_resolve.specs.declared.rows.KeyRow.{KeyRow}
-use Rattle.kx_resolve.specs.declared.rows.TypeRow.{TypeRow}
+use Rattle.kx_tables.specs.Content.{Content, part}
+use Rattle.kx_tables.specs.Keymap.{Shown, entry_for, key_with}
+use Rattle.kx_tables.specs.declared.rows.EntryRow.{EntryRow}
+use Rattle.kx_tables.specs.declared.rows.KeyRow.{KeyRow}
+use Rattle.kx_tables.specs.declared.rows.TypeRow.{TypeRow}
 use Rattle.kx_run.specs.Held.{action_size}
 use Rattle.kx_run.specs.declared.choices.Choice.{Choice}
 use Rattle.kx_run.specs.declared.lookup.Found.{Found}

@@ -1,8 +1,8 @@
 -- A player and a follower as contracts see them: what their tables hold, and the state that they keep.
 use Rattle.std.specs.Prelude.{◌≡◌, ℕ, List, Option}
-use Rattle.kx_resolve.specs.Content.{Content}
-use Rattle.kx_resolve.specs.Keymap.{keymap_of}
-use Rattle.kx_resolve.specs.declared.rows.KeyRow.{KeyRow}
+use Rattle.kx_tables.specs.Content.{Content}
+use Rattle.kx_tables.specs.Keymap.{keymap_of}
+use Rattle.kx_tables.specs.declared.rows.KeyRow.{KeyRow}
 use Rattle.kx_run.specs.Laws.{IsBounded}
 use Rattle.kx_run.specs.Lookup.{TellsChoices, TellsKeys}
 use Rattle.kx_run.specs.declared.choices.Choice.{Choice}

@@ -3,7 +3,7 @@ use Rattle.std.specs.Prelude.{ℕ, ◌+◌, ◌*◌, ◌%◌, ◌==◌, Bool, fa
 use Rattle.std.specs.Int.{bit_at}
 use Rattle.std.specs.Int.RustNames.{bit_and, bit_or}
 use Rattle.kx_mods.specs.Mods.{mask}
-use Rattle.kx_resolve.specs.Keymap.{Keymap, Lamp}
+use Rattle.kx_tables.specs.Keymap.{Keymap, Lamp}
 use Rattle.kx_run.specs.declared.direction.Event.{Event}
 use Rattle.kx_run.specs.declared.direction.Direction.{Direction}
 use Rattle.kx_run.specs.declared.reply.Components.{Components}

@@ -5,12 +5,12 @@ use Rattle.std.specs.Int.{int_rem_euclid}
 use Rattle.std.specs.Int.RustNames.{bit_and, bit_or, unsigned_abs}
 use Rattle.kx_mods.specs.Mods.{mask, mask_without}
 use Rattle.kx_mods.specs.declared.mods.Mods.{Mods}
-use Rattle.kx_resolve.specs.Keymap.{Keymap}
-use Rattle.kx_resolve.specs.declared.rows.Action.{Action}
-use Rattle.kx_resolve.specs.declared.rows.Action.TheVariants.{SetMods, LatchMods, LockMods, SetGroup, LatchGroup, LockGroup}
-use Rattle.kx_resolve.specs.declared.rows.Action.TheVariants.{None as NoAction}
-use Rattle.kx_resolve.specs.declared.rows.GroupChange.{GroupChange}
-use Rattle.kx_resolve.specs.declared.rows.GroupChange.TheVariants.{Absolute, Relative}
+use Rattle.kx_tables.specs.Keymap.{Keymap}
+use Rattle.kx_tables.specs.declared.rows.Action.{Action}
+use Rattle.kx_tables.specs.declared.rows.Action.TheVariants.{SetMods, LatchMods, LockMods, SetGroup, LatchGroup, LockGroup}
+use Rattle.kx_tables.specs.declared.rows.Action.TheVariants.{None as NoAction}
+use Rattle.kx_tables.specs.declared.rows.GroupChange.{GroupChange}
+use Rattle.kx_tables.specs.declared.rows.GroupChange.TheVariants.{Absolute, Relative}
 use Rattle.kx_run.specs.declared.held.HeldKey.{HeldKey}
 use Rattle.kx_run.specs.declared.direction.Direction.{Direction}
 use Rattle.kx_run.specs.declared.direction.Direction.TheVariants.{Down, Up}

@@ -1,11 +1,11 @@
 ghost use Rattle.std.specs.Prelude.{◌≡◌, ◌≤◌, slice_get, Some, IfOk, IfSome};
 ghost use Rattle.kx_mods.specs.Mods.{mask};
-ghost use Rattle.kx_resolve.specs.Keymap.{entry_for};
+ghost use Rattle.kx_tables.specs.Keymap.{entry_for};
 ghost use Rattle.kx_run.specs.Lookup.{TellsChoices};
 
 use crate::lookup::find_entry;
 use kx_mods::Mods;
-use kx_resolve::{EntryRow, Tables, TypeRow};
+use kx_tables::{EntryRow, Tables, TypeRow};
 use std::alloc::{AllocError, Global};
 use std::marker::Model;
 

@@ -1,5 +1,5 @@
 ghost use Rattle.std.specs.Prelude.{◌≡◌};
-ghost use Rattle.kx_resolve.specs.Keymap.{keymap_of};
+ghost use Rattle.kx_tables.specs.Keymap.{keymap_of};
 ghost use Rattle.kx_run.specs.Replies.{answer, lit_in, look_at, looked, status_in, told};
 ghost use Rattle.kx_run.specs.World.{World, opening};
 ghost use Rattle.kx_run.specs.declared.direction.Direction.{Direction};
@@ -10,7 +10,7 @@ use crate::lookup::{key_of, look_up, read_keysyms};
 use crate::reply::{Components, Look};
 use arrayvec::ArrayVec;
 use kx_mods::Mods;
-use kx_resolve::Tables;
+use kx_tables::Tables;
 use std::marker::Model;
 
 /// A view of a keyboard whose state is told from elsewhere, as by a compositor to its clients.
@@ -23,7 +23,7 @@ pub struct Follower<T: Tables> {
 
 impl<T: Tables> Model for Follower<T> {
     ghost use Rattle.std.specs.Prelude.{◌≡◌};
-    ghost use Rattle.kx_resolve.specs.Keymap.{keymap_of};
+    ghost use Rattle.kx_tables.specs.Keymap.{keymap_of};
     ghost use Rattle.kx_run.specs.Player.{Followed};
     ghost use Rattle.kx_run.specs.Replies.{told};
 

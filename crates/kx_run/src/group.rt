@@ -2,7 +2,7 @@ ghost use Rattle.std.specs.Prelude.{◌≡◌, ◌<◌, ◌≤◌, ◌≤ℤ◌,
 ghost use Rattle.kx_run.specs.Held.{group_after, base_group_after};
 ghost use Rattle.kx_run.specs.World.{group_modulo, latch_number};
 
-use kx_resolve::{Action, GroupChange, Range, wrap_group};
+use kx_tables::{Action, GroupChange, Range, wrap_group};
 
 /// A group after a change.
 pub fn changed(change: GroupChange, old: i32) -> i32

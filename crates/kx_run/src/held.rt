@@ -6,7 +6,7 @@ use crate::counts::{Counts, counted, counted_mods, uncounted};
 use crate::group::base_group_with;
 use crate::presses::Presses;
 use kx_mods::Mods;
-use kx_resolve::Action;
+use kx_tables::Action;
 use std::alloc::{AllocError, Global};
 use std::marker::Model;
 

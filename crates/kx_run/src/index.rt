@@ -1,11 +1,11 @@
 ghost use Rattle.std.specs.Prelude.{◌≡◌, IfOk};
-ghost use Rattle.kx_resolve.specs.Content.{Content};
-ghost use Rattle.kx_resolve.specs.Keymap.{key_with};
+ghost use Rattle.kx_tables.specs.Content.{Content};
+ghost use Rattle.kx_tables.specs.Keymap.{key_with};
 ghost use Rattle.kx_run.specs.Lookup.{TellsKeys};
 
 use crate::lookup::key_of;
 use crate::presses::CODES;
-use kx_resolve::{KeyRow, Tables};
+use kx_tables::{KeyRow, Tables};
 use std::alloc::{AllocError, Global};
 use std::marker::Model;
 
@@ -17,7 +17,7 @@ pub struct KeyIndex {
 
 impl Model for KeyIndex {
     ghost use Rattle.std.specs.Prelude.{List, Option};
-    ghost use Rattle.kx_resolve.specs.declared.rows.KeyRow.{KeyRow};
+    ghost use Rattle.kx_tables.specs.declared.rows.KeyRow.{KeyRow};
 
     ghost Value = { List (Option KeyRow) };
 

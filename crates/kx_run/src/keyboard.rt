@@ -11,7 +11,7 @@ use crate::group::{difference, effective, locked_after, number_of, sum};
 use crate::held::{HeldKey, HeldKeys};
 use crate::reply::Components;
 use kx_mods::Mods;
-use kx_resolve::Action;
+use kx_tables::Action;
 use std::alloc::{AllocError, Global};
 use std::marker::Model;
 

@@ -1,13 +1,13 @@
 ghost use Rattle.std.specs.Prelude.{◌≡◌, ◌<◌, ◌≤◌, ◌&&◌, if◌then◌else◌};
 ghost use Rattle.kx_mods.specs.Mods.{mask};
-ghost use Rattle.kx_resolve.specs.Keymap.{keymap_of, lamp_of};
-ghost use Rattle.kx_resolve.specs.States.{state_bits};
+ghost use Rattle.kx_tables.specs.Keymap.{keymap_of, lamp_of};
+ghost use Rattle.kx_tables.specs.States.{state_bits};
 ghost use Rattle.kx_run.specs.Replies.{told, has_bit, chosen_mods, has_chosen_group, is_lit, lit_in};
 
 use crate::group::{effective, modulo};
 use crate::reply::Components;
 use kx_mods::Mods;
-use kx_resolve::{IndicatorRow, States, Tables};
+use kx_tables::{IndicatorRow, States, Tables};
 
 /// The indicators that are lit in a state: bit i is indicator i of the tables. `groups` is the tables' number of
 /// groups. The effective group of the state isn't read.

@@ -1,14 +1,14 @@
 ghost use Rattle.std.specs.Prelude.{◌≡◌, ◌+◌, ◌^◌, ◌<◌, ◌≤◌, [], length, slice_get, Some, IfSome};
 ghost use Rattle.kx_mods.specs.Mods.{mask};
-ghost use Rattle.kx_resolve.specs.Content.{part};
-ghost use Rattle.kx_resolve.specs.Keymap.{key_with, cell_shows, entry_for, level_of, consumed_by, group_shows, key_shows};
-ghost use Rattle.kx_resolve.specs.Sound.{Sound};
+ghost use Rattle.kx_tables.specs.Content.{part};
+ghost use Rattle.kx_tables.specs.Keymap.{key_with, cell_shows, entry_for, level_of, consumed_by, group_shows, key_shows};
+ghost use Rattle.kx_tables.specs.Sound.{Sound};
 ghost use Rattle.kx_run.specs.Lookup.{found_shows, IsReadable, NamesLevels, TellsChoices};
 
 use crate::choices::Choices;
 use arrayvec::ArrayVec;
 use kx_mods::Mods;
-use kx_resolve::{Action, CellRow, EntryRow, GroupRow, KeyRow, Tables, TypeRow, wrap_group};
+use kx_tables::{Action, CellRow, EntryRow, GroupRow, KeyRow, Tables, TypeRow, wrap_group};
 
 /// What a key gives in a state.
 #[derive(Clone, Copy, Debug)]

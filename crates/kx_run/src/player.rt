@@ -1,5 +1,5 @@
 ghost use Rattle.std.specs.Prelude.{◌≡◌, ◌<◌, ◌≤◌, [], map, IfOk, OnOk, OnErr};
-ghost use Rattle.kx_resolve.specs.Keymap.{Keymap, keymap_of};
+ghost use Rattle.kx_tables.specs.Keymap.{Keymap, keymap_of};
 ghost use Rattle.kx_run.specs.Held.{action_size};
 ghost use Rattle.kx_run.specs.Laws.{Agree, IsBounded, IsLetGo, ReleasesAll};
 ghost use Rattle.kx_run.specs.Replies.{answer, answered, lit_in, run, status_in, told, unknown, world_after};
@@ -14,7 +14,7 @@ use crate::lookup::{look_up_chosen, read_keysyms};
 use crate::reply::{Components, Reply};
 use arrayvec::ArrayVec;
 use kx_mods::Mods;
-use kx_resolve::{Action, Tables};
+use kx_tables::{Action, Tables};
 use std::alloc::{AllocError, Global};
 use std::marker::Model;
 

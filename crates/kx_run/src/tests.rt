@@ -9,7 +9,7 @@ use crate::follower::Follower;
 use crate::player::Player;
 use crate::reply::Components;
 use kx_mods::Mods;
-use kx_resolve::{Action, GroupChange, Owned, States};
+use kx_tables::{Action, GroupChange, Owned, States};
 use rows::{
     BOTH, CAPS_OFF, CAPS_ON, FIFTH_GROUP, FIVE_GROUPS_ON, GROUP_CHANGED, GROUP_LATCHED,
     LATCH_DISTURBED, LATCH_LOCKED, LATCH_USED, NO_THIRD_LEVEL, PRESSED_TWICE, RANGES, SHIFT,

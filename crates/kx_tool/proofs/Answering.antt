@@ -2,8 +2,8 @@
 use Rattle.std.proofs.Common.{◌≡◌, ℕ, List, [], ◌∷◌, ◌++◌, refl, sym, ap, ◌∙◌, append_assoc}
 use Rattle.std.proofs.lemmas.List.Elements.{filter_map-append}
 use Rattle.ks_core.specs.Entry.{Entry}
-use Rattle.kx_resolve.specs.Content.{Content}
-use Rattle.kx_resolve.specs.Keymap.{keymap_of}
+use Rattle.kx_tables.specs.Content.{Content}
+use Rattle.kx_tables.specs.Keymap.{keymap_of}
 use Rattle.kx_run.specs.Replies.{answer, world_after}
 use Rattle.kx_run.specs.World.{World, step}
 use Rattle.kx_run.specs.declared.direction.Event.{Event}

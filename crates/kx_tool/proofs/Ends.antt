@@ -8,8 +8,8 @@ use Rattle.ks_core.specs.Lines.{lines_of}
 use Rattle.ks_core.specs.Press.{Finishes, Gathered, Tells, nothing_gathered}
 use Rattle.ks_core.proofs.DeviceLemmas.{Begins-longer}
 use Rattle.ks_core.proofs.PressLemmas.{tells_nothing, tells_then, tells_finish}
-use Rattle.kx_resolve.specs.Content.{Content}
-use Rattle.kx_resolve.specs.Keymap.{keymap_of}
+use Rattle.kx_tables.specs.Content.{Content}
+use Rattle.kx_tables.specs.Keymap.{keymap_of}
 use Rattle.kx_run.specs.Player.{Played}
 use Rattle.kx_run.specs.Replies.{world_after}
 use Rattle.kx_run.specs.World.{World, opening}

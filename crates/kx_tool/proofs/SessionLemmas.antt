@@ -5,10 +5,10 @@ use Rattle.std.specs.Io.KnownBytes.{Appends}
 use Rattle.ks_core.specs.Entry.{Entry}
 use Rattle.kx_image.proofs.Refused.{one_content}
 use Rattle.kx_image.specs.Image.{IsImage}
-use Rattle.kx_keymap.specs.Source.{Handed, HasFault}
+use Rattle.kx_resolve.specs.Source.{Handed, HasFault}
 use Rattle.kx_lex.specs.declared.fault.Fault.{Fault}
 use Rattle.kx_lex.specs.declared.fault.Fault.TheVariants.{Memory}
-use Rattle.kx_resolve.specs.Content.{Content}
+use Rattle.kx_tables.specs.Content.{Content}
 use Rattle.kx_tool.specs.Compiled.{IsCompiled}
 use Rattle.kx_tool.specs.Input.{FailsToRead, IsOver, Waiting, budget, coming, nothing_read}
 use Rattle.kx_tool.specs.Replay.{Answers, AnswersSession, Replays, known_lines}

@@ -2,8 +2,8 @@
 use Rattle.std.specs.Prelude.{ℕ, ◌+◌, ◌==◌, List, [], ◌∷◌, ◌++◌, codes, decimal, length, map, if◌then◌else◌}
 use Rattle.ks_core.specs.Entry.{Entry}
 use Rattle.ks_core.specs.Names.{name_of_keysym}
-use Rattle.kx_resolve.specs.Content.{Content, indicator_name}
-use Rattle.kx_resolve.specs.Keymap.{keymap_of}
+use Rattle.kx_tables.specs.Content.{Content, indicator_name}
+use Rattle.kx_tables.specs.Keymap.{keymap_of}
 use Rattle.kx_run.specs.Replies.{Answer, Glance, Status, run}
 use Rattle.kx_run.specs.World.{World}
 use Rattle.kx_run.specs.declared.direction.Direction.{Direction}

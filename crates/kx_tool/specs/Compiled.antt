@@ -3,10 +3,10 @@ use Rattle.std.specs.Prelude.{◌≡◌, ℕ, List}
 use Rattle.ks_core.specs.Entry.{Entry}
 use Rattle.kx_image.specs.Image.{IsImage, image as image_of}
 use Rattle.kx_image.specs.declared.header.Edition.TheVariants.{Two}
-use Rattle.kx_keymap.specs.Meaning.{keymap_in}
-use Rattle.kx_keymap.specs.Source.{Handed, Means}
-use Rattle.kx_resolve.specs.Content.{Content}
-use Rattle.kx_resolve.specs.Keymap.{keymap_of}
+use Rattle.kx_resolve.specs.Meaning.{keymap_in}
+use Rattle.kx_resolve.specs.Source.{Handed, Means}
+use Rattle.kx_tables.specs.Content.{Content}
+use Rattle.kx_tables.specs.Keymap.{keymap_of}
 use Rattle.kx_run.specs.Replies.{run}
 use Rattle.kx_run.specs.World.{World}
 use Rattle.kx_run.specs.declared.direction.Event.{Event}

@@ -9,8 +9,8 @@ use crate::listing::{tell_keysym_names, tell_lit, tell_mod_names};
 use itoa::Buffer;
 use ks_core::{NameTable, Out, Press};
 use kx_mods::Mods;
-use kx_resolve::Tables;
 use kx_run::{Components, Direction, Event, Reply};
+use kx_tables::Tables;
 
 fn tell_number<O: Out>(press: &mut Press, out: &mut O, number: u16)
     ensures { Tells O.written O.failures out.old press.old out.new press.new (decimal number) }

@@ -1,16 +1,16 @@
 ghost use Rattle.std.specs.Prelude.{◌≡◌, ◌⊎◌, IfErr, IfOk};
 ghost use Rattle.kx_image.specs.Image.{IsImage, image};
 ghost use Rattle.kx_image.specs.declared.header.Edition.TheVariants.{Two};
-ghost use Rattle.kx_keymap.specs.Source.{HasFault};
+ghost use Rattle.kx_resolve.specs.Source.{HasFault};
 ghost use Rattle.kx_lex.specs.declared.fault.Fault.TheVariants.{Memory};
-ghost use Rattle.kx_resolve.specs.Content.{Content};
+ghost use Rattle.kx_tables.specs.Content.{Content};
 ghost use Rattle.kx_tool.specs.Compiled.{IsCompiled};
 
 use ks_core::{Lent, NameTable, Notes};
 use kx_include::Files;
-use kx_keymap::tables;
 use kx_lex::Fault;
-use kx_resolve::{Owned, Tables};
+use kx_resolve::tables;
+use kx_tables::{Owned, Tables};
 use std::alloc::Global;
 
 /// The image of tables, version 2.

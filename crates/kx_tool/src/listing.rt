@@ -3,14 +3,14 @@ ghost use Rattle.std.specs.Prelude.{◌≡◌, ◌++◌, ◌<◌, Some, codes, l
 ghost use Rattle.ks_core.specs.Names.{name_of_keysym};
 ghost use Rattle.ks_core.specs.Press.{Tells};
 ghost use Rattle.kx_mods.specs.Mods.{mask};
-ghost use Rattle.kx_resolve.specs.Content.{indicator_name};
+ghost use Rattle.kx_tables.specs.Content.{indicator_name};
 ghost use Rattle.kx_tool.specs.Answer.{keysym_names, lit_text, mod_names};
 ghost use Rattle.kx_tool.specs.Listing.{chosen, listed};
 
 use arrayvec::ArrayString;
 use ks_core::{Keysym, NameTable, Out, Press};
 use kx_mods::Mods;
-use kx_resolve::Tables;
+use kx_tables::Tables;
 
 /// How many real modifiers there are.
 const MODS: u8 = 8;

@@ -2,7 +2,7 @@
 ghost use Rattle.std.specs.Prelude.{◌≡◌, ◌≤◌, ◌⊎◌, ◌∷◌, [], ℕ, List, true, false, IfErr, IfOk, IfNone, IfSome, OnOk};
 ghost use Rattle.std.specs.Io.KnownBytes.{IsAtEnd};
 ghost use Rattle.ks_core.specs.Press.{Finishes, Tells, nothing_gathered};
-ghost use Rattle.kx_resolve.specs.Keymap.{keymap_of};
+ghost use Rattle.kx_tables.specs.Keymap.{keymap_of};
 ghost use Rattle.kx_run.specs.Replies.{world_after};
 ghost use Rattle.kx_tool.specs.Answer.{answers_from};
 ghost use Rattle.kx_tool.specs.EventLines.{KeepsLine, events_in, is_fine};
@@ -17,8 +17,8 @@ use crate::fault::ReplayFault;
 use crate::input::Input;
 use ks_core::{Feed, NameTable, Out, Press};
 use kx_image::View;
-use kx_resolve::Tables;
 use kx_run::Player;
+use kx_tables::Tables;
 use std::alloc::Global;
 use std::mem;
 

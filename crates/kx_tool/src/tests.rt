@@ -4,7 +4,7 @@ mod includes;
 use crate::{Files, compile, session};
 use ks_core::{MemFeed, MemOut, NameTable};
 use kx_image::View;
-use kx_resolve::Rows;
+use kx_tables::Rows;
 use std::process::Abort;
 use std::test::Fail;
 

@@ -3,7 +3,7 @@ use super::{fault_of, slow};
 use crate::fault::ImageFault;
 use crate::{View, upgrade};
 use ks_core::MemOut;
-use kx_resolve::{Part, Rows, Tables};
+use kx_tables::{Part, Rows, Tables};
 use std::test::Fail;
 
 const LENGTH: usize = 317;

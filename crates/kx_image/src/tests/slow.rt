@@ -1,6 +1,6 @@
 //! A slow reader that follows the rules of an image one by one, and shares nothing with the code under test.
 use crate::fault::ImageFault;
-use kx_resolve::Part;
+use kx_tables::Part;
 
 /// The number in so many bytes at a place; bytes past the end are 0.
 fn number(bytes: &[u8], place: u64, count: u32) -> u64 {

@@ -1,7 +1,7 @@
 //! Tables that are built row by row.
 
 use kx_mods::Mods;
-use kx_resolve::{
+use kx_tables::{
     Action, CellRow, EntryRow, GroupChange, GroupRow, IndicatorRow, KeyRow, Owned, Parts, Range,
     States, TypeRow,
 };

@@ -2,7 +2,7 @@
 
 use super::rows::Step;
 use crate::player::Player;
-use kx_resolve::Owned;
+use kx_tables::Owned;
 use std::process::Abort;
 
 /// Plays events, and compares each reply with the one that is expected.

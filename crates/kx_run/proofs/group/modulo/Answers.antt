@@ -2,8 +2,8 @@ use Rattle.std.proofs.Common.{◌≡◌, ℕ, ◌%◌, ◌∙◌, Bool, true, fa
 use Rattle.std.proofs.Math.Nat.{mod-eq_of_lt}
 use Rattle.std.proofs.lemmas.Int.{to_z-of_z}
 use borrow.Author.Tests.{ltb-true}
-use Rattle.kx_resolve.specs.Range.{in_range}
-use Rattle.kx_resolve.specs.declared.rows.Range.TheVariants.{Wrap}
+use Rattle.kx_tables.specs.Range.{in_range}
+use Rattle.kx_tables.specs.declared.rows.Range.TheVariants.{Wrap}
 use Rattle.kx_run.specs.World.{group_modulo}
 use Rattle.kx_run.proofs.group.modulo.Goals as goal
 

@@ -1,6 +1,6 @@
 use Rattle.std.proofs.Common.{◌≡◌, ◌+◌, ◌*◌, ◌-◌, ◌≤◌, ◌∙◌, sym, ap, refl, Bool, true, false, cond, length, map, drop, arith}
 use mir.Val.{bool_byte}
-use Rattle.kx_resolve.specs.Keymap.{lamp_of}
+use Rattle.kx_tables.specs.Keymap.{lamp_of}
 use Rattle.kx_run.specs.Replies.{told, lit_mask, is_lit}
 use Rattle.kx_run.proofs.TableReads.{groups_few, few_lamps, lit_more, small_more, small_width}
 use Rattle.kx_run.proofs.lamps.lit.Goals as goal

@@ -1,5 +1,5 @@
 use Rattle.std.proofs.Common.{◌≡◌, ◌^◌, ◌-◌, ◌<◌, ◌≤◌, length, map, drop}
-use Rattle.kx_resolve.specs.Keymap.{lamp_of}
+use Rattle.kx_tables.specs.Keymap.{lamp_of}
 use Rattle.kx_run.specs.Replies.{told, lit_mask}
 use Rattle.kx_run.proofs.lamps.lit.Given as goal
 

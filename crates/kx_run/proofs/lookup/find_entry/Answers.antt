@@ -1,7 +1,7 @@
 use Rattle.std.proofs.Common.{◌≡◌, ◌<◌, ◌+◌, ◌==◌, ◌∙◌, sym, arith, eq-eqb}
 use Rattle.std.specs.Int.RustNames.{bit_and}
 use Rattle.kx_mods.specs.Mods.{mask}
-use Rattle.kx_resolve.specs.declared.rows.EntryRow.{EntryRow}
+use Rattle.kx_tables.specs.declared.rows.EntryRow.{EntryRow}
 use Rattle.kx_run.proofs.TableReads.{found_in_part, none_in_part}
 use Rattle.kx_run.proofs.lookup.find_entry.Goals as goal
 

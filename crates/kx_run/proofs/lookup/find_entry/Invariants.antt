@@ -1,7 +1,7 @@
 use Rattle.std.proofs.Common.{◌≡◌, ℕ, ◌<◌, ◌≤◌, ◌==◌, false, Some, slice_get}
 use Rattle.std.specs.Int.RustNames.{bit_and}
 use Rattle.kx_mods.specs.Mods.{mask}
-use Rattle.kx_resolve.specs.declared.rows.EntryRow.{EntryRow}
+use Rattle.kx_tables.specs.declared.rows.EntryRow.{EntryRow}
 use Rattle.kx_run.proofs.lookup.find_entry.Given as goal
 
 abbrev pub invariant-loop-place : goal.invariant-loop-place

@@ -1,5 +1,5 @@
-use Rattle.kx_resolve.specs.Bounds.{entries_within, cells_within}
-use Rattle.kx_resolve.specs.Sound.{TypeHolds}
+use Rattle.kx_tables.specs.Bounds.{entries_within, cells_within}
+use Rattle.kx_tables.specs.Sound.{TypeHolds}
 use Rattle.kx_run.proofs.TableReads.{names_levels}
 use Rattle.kx_run.proofs.lookup.look_up_group.Goals as goal
 

@@ -1,6 +1,6 @@
 use Rattle.std.proofs.Common.{◌≡◌, ◌-◌, ◌+◌}
 use Rattle.arrayvec.specs.ArrayVec.{array_vec_len}
-use Rattle.kx_resolve.specs.Content.{part}
+use Rattle.kx_tables.specs.Content.{part}
 use Rattle.kx_run.proofs.lookup.read_keysyms.Given as goal
 
 abbrev pub invariant-loop-place : goal.invariant-loop-place

@@ -1,7 +1,7 @@
 use Rattle.std.proofs.Common.{◌<◌, [], ◌∷◌, ◌++◌, codes, length, map, ap, arith}
 use Rattle.std.proofs.lemmas.List.{length-map}
-use Rattle.kx_resolve.specs.Content.{indicator_name}
-use Rattle.kx_resolve.specs.declared.tables.Counts.{Counts}
+use Rattle.kx_tables.specs.Content.{indicator_name}
+use Rattle.kx_tables.specs.declared.tables.Counts.{Counts}
 use Rattle.kx_tool.proofs.Listings.{chosen_no, chosen_nothing, chosen_yes, listed_more, listed_nothing, named_at}
 use Rattle.kx_tool.proofs.listing.tell_lit.Goals as goal
 use Rattle.kx_tool.proofs.listing.tell_lit.Goals.{then-bits-eq1, else-bits-eq1}

@@ -1,5 +1,5 @@
 use Rattle.std.proofs.Common.{List, ℕ, codes, map}
-use Rattle.kx_resolve.specs.Content.{indicator_name}
+use Rattle.kx_tables.specs.Content.{indicator_name}
 use Rattle.kx_tool.proofs.Listings.{ChosenSoFar, Listed}
 use Rattle.kx_tool.proofs.listing.tell_lit.Given as goal
 

@@ -1,7 +1,7 @@
 use Rattle.std.proofs.Common.{sym, ap, subst}
 use Rattle.ks_core.specs.Press.{Tells}
 use Rattle.ks_core.proofs.PressLemmas.{tells_nothing}
-use Rattle.kx_resolve.specs.Keymap.{keymap_of}
+use Rattle.kx_tables.specs.Keymap.{keymap_of}
 use Rattle.kx_run.specs.Player.{Played}
 use Rattle.kx_run.specs.Replies.{world_after}
 use Rattle.kx_tool.specs.Answer.{answers_from}

@@ -1,8 +1,8 @@
 use Rattle.std.proofs.Common.{◌≡◌, ◌⊎◌, IfErr, refl, sym, subst, ◌∙◌}
 use Rattle.kx_image.specs.Image.{IsImage}
-use Rattle.kx_keymap.specs.Source.{HasFault}
+use Rattle.kx_resolve.specs.Source.{HasFault}
 use Rattle.kx_lex.specs.declared.fault.Fault.TheVariants.{Memory}
-use Rattle.kx_resolve.specs.Content.{Content}
+use Rattle.kx_tables.specs.Content.{Content}
 use Rattle.kx_tool.specs.Compiled.{IsCompiled}
 use Rattle.kx_tool.specs.Input.{FailsToRead, budget, coming}
 use Rattle.kx_tool.specs.Sources.{ReadsSource}

@@ -1,5 +1,5 @@
 use Rattle.std.proofs.Common.{ap, ◌∙◌}
-use Rattle.kx_resolve.specs.Content.{counts_of}
+use Rattle.kx_tables.specs.Content.{counts_of}
 use Rattle.kx_image.proofs.Reading.{counts_told}
 use Rattle.kx_image.proofs.layout.LayoutRows.counts.Goals as goal
 

@@ -1,10 +1,10 @@
 use Rattle.std.proofs.Common.{◌≡◌, ℕ, ◌∙◌, List, Some, slice_get, ap, arith, get_or, length, set, subst, sym}
 use Rattle.std.proofs.lemmas.Option.{slice_get_within}
 use Rattle.kx_mods.specs.Mods.{mask}
-use Rattle.kx_resolve.specs.Bounds.{entries_within}
-use Rattle.kx_resolve.specs.Content.{Content}
-use Rattle.kx_resolve.specs.Keymap.{entry_for}
-use Rattle.kx_resolve.specs.declared.rows.TypeRow.{TypeRow}
+use Rattle.kx_tables.specs.Bounds.{entries_within}
+use Rattle.kx_tables.specs.Content.{Content}
+use Rattle.kx_tables.specs.Keymap.{entry_for}
+use Rattle.kx_tables.specs.declared.rows.TypeRow.{TypeRow}
 use Rattle.kx_run.specs.Lookup.{IsChoice, TellsChoices}
 use Rattle.kx_run.specs.declared.choices.Choice.{Choice}
 use Rattle.kx_run.proofs.TableReads.{names_levels}

@@ -1,5 +1,5 @@
 use Rattle.std.proofs.Common.{◌≡◌, ℕ, ◌<◌, ◌≤◌, Some, get_or, length, slice_get, vec_capacity}
-use Rattle.kx_resolve.specs.declared.rows.TypeRow.{TypeRow}
+use Rattle.kx_tables.specs.declared.rows.TypeRow.{TypeRow}
 use Rattle.kx_run.specs.Lookup.{IsChoice}
 use Rattle.kx_run.specs.declared.choices.Choice.{Choice}
 use Rattle.kx_run.proofs.choices.Choices.new.Given as goal

@@ -1,6 +1,6 @@
 use Rattle.std.proofs.Common.{◌≡◌, ℕ, ◌<◌, ◌≤◌, Option, get_or, length, vec_capacity}
-use Rattle.kx_resolve.specs.Keymap.{key_with}
-use Rattle.kx_resolve.specs.declared.rows.KeyRow.{KeyRow}
+use Rattle.kx_tables.specs.Keymap.{key_with}
+use Rattle.kx_tables.specs.declared.rows.KeyRow.{KeyRow}
 use Rattle.kx_run.proofs.index.KeyIndex.new.Given as goal
 
 abbrev pub invariant-loop-code : goal.invariant-loop-code

@@ -1,6 +1,6 @@
 use Rattle.std.proofs.Common.{◌≡◌, ◌∙◌, Some, ap, is_some, subst, sym, true}
 use Rattle.kx_mods.specs.Mods.{mask}
-use Rattle.kx_resolve.specs.Keymap.{key_shows, key_with, keymap_of}
+use Rattle.kx_tables.specs.Keymap.{key_shows, key_with, keymap_of}
 use Rattle.kx_run.specs.Lookup.{found_shows}
 use Rattle.kx_run.specs.Player.{Played}
 use Rattle.kx_run.specs.Replies.{Answer, Status, answer, answered, lit_in, status_in, unknown}

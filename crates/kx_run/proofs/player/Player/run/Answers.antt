@@ -1,6 +1,6 @@
 use Rattle.std.proofs.Common.{◌≡◌, ◌+◌, ◌++◌, ◌∷◌, [], ◌∙◌, sym, ap, subst, map, take, get_or, arith}
 use Rattle.std.proofs.lemmas.List.{take_more, take_all, map-append}
-use Rattle.kx_resolve.specs.Keymap.{keymap_of}
+use Rattle.kx_tables.specs.Keymap.{keymap_of}
 use Rattle.kx_run.specs.declared.direction.Direction.TheVariants.{Down}
 use Rattle.kx_run.specs.declared.direction.Event.{Event}
 use Rattle.kx_run.specs.Laws.{IsLetGo}

@@ -1,5 +1,5 @@
 use Rattle.std.proofs.Common.{◌≡◌, ◌≤◌, map, take, length, vec_len, vec_capacity}
-use Rattle.kx_resolve.specs.Keymap.{keymap_of}
+use Rattle.kx_tables.specs.Keymap.{keymap_of}
 use Rattle.kx_run.specs.Replies.{answered, run, world_after}
 use Rattle.kx_run.proofs.player.Player.run.Given as goal
 

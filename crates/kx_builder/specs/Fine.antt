@@ -1,0 +1,86 @@
+-- What is resolved is fine: its numbers are within their bounds, names and codes tell things apart, and types stand in
+-- the order in which groups use them first.
+use Rattle.std.specs.Prelude.{ℕ, ◌≡◌, ◌≢◌, ◌+◌, ◌<◌, ◌≤◌, ◌^◌, All, List, [], ◌∷◌, Some, length, max, slice_get, take}
+use Rattle.std.proofs.lemmas.List.Elements.{All-weaker}
+use Rattle.std.specs.Int.RustNames.{bit_and}
+use Rattle.kx_builder.specs.Placed.{all_groups}
+use Rattle.kx_builder.specs.Resolved.{Resolved, ResolvedCell, ResolvedEntry, ResolvedGroup, ResolvedKey, ResolvedType}
+use Rattle.kx_builder.specs.Whole.{GroupIsWhole, IsWhole, KeyIsWhole, LevelExists, TypeIsWhole}
+use Rattle.kx_mods.specs.Mods.{mask}
+use Rattle.kx_tables.specs.Sound.{ActionHolds, IsKeyNameByte, KeysymHolds, RangeHolds}
+
+-- the modifiers of a set are within those of another
+abbrev pub MaskWithin : ℕ → ℕ → Type 0
+MaskWithin m n = bit_and m n ≡ m
+
+-- no two things of the list have the same f
+abbrev pub Apart : {X Y : Type 0} → (X → Y) → List X → Type 0
+Apart {X} f xs = (i j : ℕ) (x y : X) → j < i → slice_get xs i ≡ Some x → slice_get xs j ≡ Some y → f y ≢ f x
+
+-- f rises along the list
+abbrev pub Rising : {X : Type 0} → (X → ℕ) → List X → Type 0
+Rising {X} f xs = (i j : ℕ) (x y : X) → j < i → slice_get xs i ≡ Some x → slice_get xs j ≡ Some y → f y < f x
+
+pub record EntryIsFine (t : ResolvedType) (e : ResolvedEntry) : Type 0 where
+  pub level : LevelExists t.levels e
+  pub mods : mask e.mods < 2 ^ 8
+  pub preserve : mask e.preserve < 2 ^ 8
+  pub mods_within : MaskWithin (mask e.mods) (mask t.mods)
+  pub preserve_within : MaskWithin (mask e.preserve) (mask e.mods)
+
+pub record TypeIsFine (t : ResolvedType) : Type 0 where
+  pub mods : mask t.mods < 2 ^ 8
+  pub some_level : 1 ≤ t.levels
+  pub levels : t.levels ≤ 64
+  pub each_entry : All (EntryIsFine t) t.entries
+  pub entries_apart : Apart (λ (e : ResolvedEntry). mask e.mods) t.entries
+  pub entries_fit : length t.entries < 2 ^ 16
+  pub name_fits : length t.name ≤ 255
+  pub each_byte : All (λ b. b < 2 ^ 8) t.name
+
+pub record CellIsFine (d : ResolvedCell) : Type 0 where
+  pub few : length d.syms ≤ 8
+  pub each_keysym : All KeysymHolds d.syms
+  pub does : ActionHolds d.action
+
+pub record GroupIsFine (types : List ResolvedType) (g : ResolvedGroup) : Type 0 where
+  pub whole : GroupIsWhole types g
+  pub each_cell : All CellIsFine g.cells
+
+pub record KeyIsFine (types : List ResolvedType) (k : ResolvedKey) : Type 0 where
+  pub code_fits : k.code ≤ 4095
+  pub mapped : mask k.modmap < 2 ^ 8
+  pub range_holds : RangeHolds k.range
+  pub few : length k.groups ≤ 32
+  pub each_group : All (GroupIsFine types) k.groups
+  pub name_fits : length k.name ≤ 255
+  pub each_byte : All IsKeyNameByte k.name
+
+-- how many types the groups use, where types are numbered by first use
+abbrev pub types_met : List ResolvedGroup → ℕ
+types_met [] = 0
+types_met (g ∷ gs) = max (g.key_type + 1) (types_met gs)
+
+-- a group's type is one that an earlier group uses, or the next, and each type is used
+pub record InOrderOfUse (types : ℕ) (gs : List ResolvedGroup) : Type 0 where
+  pub each_first : (i : ℕ) (g : ResolvedGroup) → slice_get gs i ≡ Some g → g.key_type ≤ types_met (take i gs)
+  pub all_used : types ≤ types_met gs
+
+pub record IsFine (r : Resolved) : Type 0 where
+  pub each_type : All TypeIsFine r.types
+  pub types_fit : length r.types < 2 ^ 16
+  pub types_apart : Apart (λ (t : ResolvedType). t.name) r.types
+  pub order : InOrderOfUse (length r.types) (all_groups r.keys)
+  pub each_key : All (KeyIsFine r.types) r.keys
+  pub codes_rise : Rising (λ (k : ResolvedKey). k.code) r.keys
+  pub keys_apart : Apart (λ (k : ResolvedKey). k.name) r.keys
+
+-- what is fine is whole
+pub fine_is_whole : (r : Resolved) → IsFine r → IsWhole r
+fine_is_whole r fine = record {
+  each_type = All-weaker TypeIsFine TypeIsWhole (λ t holds. record {
+    some_level = holds.some_level;
+    level_of_each = All-weaker (EntryIsFine t) (LevelExists t.levels) (λ e entry. entry.level) t.entries holds.each_entry;
+  }) r.types fine.each_type;
+  each_key = All-weaker (KeyIsFine r.types) (KeyIsWhole r.types) (λ k holds. All-weaker (GroupIsFine r.types) (GroupIsWhole r.types) (λ g group. group.whole) k.groups holds.each_group) r.keys fine.each_key;
+}

@@ -1,0 +1,44 @@
+//! The expanded body of a section kind as a value, in which each map stands once, however often it is included.
+use crate::place::Place;
+use kx_parse::{Item, Mode};
+
+/// A part of an include's text.
+#[derive(Clone, Copy)]
+pub struct Link {
+    /// How it joins what the parts before it bring.
+    pub mode: Mode,
+    /// The group, counted from 1, that the map's first group becomes, where the map is moved to one.
+    pub group: Option<u8>,
+    /// Which of the expansion's maps it names, counted from 0.
+    pub map: usize,
+}
+
+/// An item of a section.
+#[derive(Drop)]
+pub enum Entry<'l> {
+    /// A statement.
+    Own(&'l Item),
+    /// An include, with the parts of its text in order.
+    Include { mode: Mode, links: Vec<Link> },
+}
+
+/// A section's items in order.
+#[derive(Drop)]
+pub struct Map<'l> {
+    /// Where the section stands.
+    pub place: Place,
+    pub entries: Vec<Entry<'l>>,
+    /// How many includes deep it is at the most: 0 where it includes nothing.
+    pub(crate) depth: u8,
+    /// How many parts of includes are expanded in it.
+    pub(crate) parts: u32,
+}
+
+/// The expanded body of a section kind.
+#[derive(Drop)]
+pub struct Expansion<'l> {
+    /// The maps that includes name, in an order in which each stands behind those that it includes.
+    pub maps: Vec<Map<'l>>,
+    /// The source's own sections of the kind, in order.
+    pub sections: Vec<Map<'l>>,
+}

@@ -1,9 +1,0 @@
-mod Fine
-mod Growing
-mod Joining
-mod Keymaps
-mod Names
-mod Refusals
-mod Small
-mod Steps
-mod Whole

@@ -1,5 +1,0 @@
-use Rattle.kx_resolve.specs.SoFar.{CellsAre}
-use Rattle.kx_resolve.proofs.check.cells.check_cells.Given as goal
-
-abbrev pub invariant-loop-index : goal.invariant-loop-index
-invariant-loop-index g l = CellsAre (g.R.Rows.content l.rows) l.index l.keysyms

@@ -1,6 +1,0 @@
-use Rattle.kx_resolve.specs.SoFar.{EachBelow}
-use Rattle.kx_resolve.specs.Sound.{KeysymHolds}
-use Rattle.kx_resolve.proofs.check.cells.check_keysyms.Given as goal
-
-abbrev pub invariant-loop-index : goal.invariant-loop-index
-invariant-loop-index g l = EachBelow (g.R.Rows.content l.rows).keysyms (λ i s. KeysymHolds s) l.index

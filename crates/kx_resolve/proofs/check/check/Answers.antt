@@ -1,5 +1,0 @@
-use Rattle.kx_resolve.proofs.Fitting.{refusal_unsound}
-use Rattle.kx_resolve.proofs.check.check.Goals as goal
-
-pub returns-clause-unsound : goal.returns-clause-unsound
-returns-clause-unsound g c = refusal_unsound (g.R.Rows.content c.args.rows.now) c.check_rules.result c.check_rules.ensures.broken

@@ -1,6 +1,0 @@
-use Rattle.kx_resolve.specs.SoFar.{EachBelow}
-use Rattle.kx_resolve.specs.Sound.{EntriesHold}
-use Rattle.kx_resolve.proofs.check.entries.check_entries.Given as goal
-
-abbrev pub invariant-loop-index : goal.invariant-loop-index
-invariant-loop-index g l = EachBelow (g.R.Rows.content l.rows).types (EntriesHold (g.R.Rows.content l.rows)) l.index

@@ -1,5 +1,0 @@
-use Rattle.kx_resolve.specs.SoFar.{EntriesAre}
-use Rattle.kx_resolve.proofs.check.entries.check_entries_of.Given as goal
-
-abbrev pub invariant-loop-place : goal.invariant-loop-place
-invariant-loop-place g l = EntriesAre (g.R.Rows.content l.rows) l.key_type l.place l.seen

@@ -1,5 +1,0 @@
-use Rattle.kx_resolve.specs.SoFar.{GroupsAre}
-use Rattle.kx_resolve.proofs.check.groups.check_groups.Given as goal
-
-abbrev pub invariant-loop-index : goal.invariant-loop-index
-invariant-loop-index g l = GroupsAre (g.R.Rows.content l.rows) l.index l.used l.cells

@@ -1,5 +1,0 @@
-use Rattle.kx_resolve.specs.SoFar.{IndicatorsAre}
-use Rattle.kx_resolve.proofs.check.indicators.check_indicators.Given as goal
-
-abbrev pub invariant-loop-index : goal.invariant-loop-index
-invariant-loop-index g l = IndicatorsAre (g.R.Rows.content l.rows) l.index l.names

@@ -1,6 +1,0 @@
-use Rattle.std.proofs.Common.{◌≡◌, take}
-use Rattle.kx_resolve.specs.Content.{greatest_groups}
-use Rattle.kx_resolve.proofs.tables.most_groups.Given as goal
-
-abbrev pub invariant-loop-index : goal.invariant-loop-index
-invariant-loop-index g l = l.greatest ≡ greatest_groups (take l.index (g.R.Rows.content l.rows).keys)
