@@ -10,7 +10,8 @@ use Rattle.std.specs.Str.Parse.{digits_value}
 use Rattle.ks_core.specs.BuiltIn.{built_in}
 use Rattle.ks_core.specs.Entry.{Entry, keysym_in, name_in}
 use Rattle.ks_core.specs.Lines.{is_sound, is_given_name}
-use Rattle.ks_core.specs.Name.{is_word, is_word_start, is_word_byte, is_hex, is_u_form, is_hex_form, is_decimal, is_between, is_nameable, keysym_of_character, u_keysym, hex_keysym}
+use Rattle.ks_core.specs.Name.{is_word, is_word_start, is_word_byte, is_hex, is_u_form, is_hex_form, is_decimal, is_between, keysym_of_character, u_keysym, hex_keysym}
+use Rattle.kx_basics.specs.Keysyms.{is_keysym}
 use Rattle.ks_core.specs.Names.{keysym_named, hex_digits, four_digits, name_of_number, is_word_or_number, is_written_back}
 use Rattle.ks_core.proofs.BuiltInLemmas.{built_in-free, built_in-zero}
 use Rattle.ks_core.proofs.IndexLemmas.{keysym_in-entry, name_in-entry}
@@ -37,8 +38,8 @@ not-some (Some x) h = cc
 pub sound-parts : (e : Entry) → is_sound e ≡ true → Sound e.0
 unfolding is_sound is_given_name
 sound-parts e h =
-    let all = and_parts (is_given_name e.0 && is_nameable e.1) (not (is_some (keysym_in built_in e.0))) h in
-    let name = (and_parts (is_given_name e.0) (is_nameable e.1) all.0).0 in
+    let all = and_parts (is_given_name e.0 && is_keysym e.1) (not (is_some (keysym_in built_in e.0))) h in
+    let name = (and_parts (is_given_name e.0) (is_keysym e.1) all.0).0 in
     let shape = and_parts (is_word e.0 && nat_le (length e.0) 63) (not (is_u_form e.0)) name in
     let word = and_parts (is_word e.0) (nat_le (length e.0) 63) shape.0 in
     record { word = word.0; short = leb-true (length e.0) 63 word.1; no_u_form = shape.1; not_built_in = not-some (keysym_in built_in e.0) all.1 }
@@ -119,11 +120,11 @@ module _ (k : ℕ) (some : 0 < k) (small : k < 2 ^ 32) where
   unfolding u_keysym
   x_name-no_u_keysym = ap (λ b. cond b (keysym_of_character (digits_value 16 (drop 1 x_name))) None) x_name-no_u_form
 
-  x_name-keysym : is_nameable k ≡ true → hex_keysym x_name ≡ Some k
+  x_name-keysym : is_keysym k ≡ true → hex_keysym x_name ≡ Some k
   unfolding hex_keysym x_name
   x_name-keysym nameable =
-      ap (λ b. cond (b && is_nameable (digits_value 16 (hex_digits false k))) (Some (digits_value 16 (hex_digits false k))) None) x_name-is_hex_form
-      ∙ ap (λ n. cond (is_nameable n) (Some n) None) (value-hex_digits false k) ∙ ap (λ b. cond b (Some k) None) nameable
+      ap (λ b. cond (b && is_keysym (digits_value 16 (hex_digits false k))) (Some (digits_value 16 (hex_digits false k))) None) x_name-is_hex_form
+      ∙ ap (λ n. cond (is_keysym n) (Some n) None) (value-hex_digits false k) ∙ ap (λ b. cond b (Some k) None) nameable
 
 -- neither built in nor given
 named-free : (given : List Entry) (name : List ℕ) → list_all is_sound given ≡ true → (is_u_form name || is_hex_form name) ≡ true → keysym_named given name ≡ option_or (u_keysym name) (hex_keysym name)
@@ -158,7 +159,7 @@ name_of_number-named given k sound none small back = by (is_between 0x1000100 0x
     by false out =
         let some = some-digits k none in
         let nonzero : (k == 0) ≡ false = grind (arith, nat_tests) in
-        let nameable = or_false (k == 0) (is_nameable k) back nonzero in
+        let nameable = or_false (k == 0) (is_keysym k) back nonzero in
         let form = x_name-is_hex_form k some small in
         named-free given (x_name k some small) sound (ap (λ b. b || is_hex_form (x_name k some small)) (x_name-no_u_form k some small) ∙ form)
         ∙ ap (λ o. option_or o (hex_keysym (x_name k some small))) (x_name-no_u_keysym k some small) ∙ x_name-keysym k some small nameable
@@ -228,6 +229,6 @@ unfolding is_sound
 sound-written_back given name None sound h = tt
 sound-written_back given name (Some keysym) sound h =
     let e = keysym_in-entry is_sound given name keysym sound (sym h) in
-    let fine = and_parts (is_given_name e.0.0 && is_nameable e.0.1) (not (is_some (keysym_in built_in e.0.0))) e.1 in
-    let nameable = (and_parts (is_given_name e.0.0) (is_nameable e.0.1) fine.0).1 in
-    subst (λ k. is_written_back k ≡ true) e.3 (or_second (e.0.1 == 0) (is_nameable e.0.1) nameable)
+    let fine = and_parts (is_given_name e.0.0 && is_keysym e.0.1) (not (is_some (keysym_in built_in e.0.0))) e.1 in
+    let nameable = (and_parts (is_given_name e.0.0) (is_keysym e.0.1) fine.0).1 in
+    subst (λ k. is_written_back k ≡ true) e.3 (or_second (e.0.1 == 0) (is_keysym e.0.1) nameable)

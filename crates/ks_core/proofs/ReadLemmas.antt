@@ -9,7 +9,7 @@ use Rattle.std.specs.Option.{option_or}
 use Rattle.ks_core.specs.BuiltIn.{built_in}
 use Rattle.ks_core.specs.Entry.{Entry, keysym_in}
 use Rattle.ks_core.specs.Lines.{is_skipped, has_shape, is_given_name, is_number, name_part, value_part, number_in, entry_of, known_keysym, own_fault, fault_of_line, with_entry, given_after, given_by, fault_at, is_sound, AreFaultless, IsFirstFault}
-use Rattle.ks_core.specs.Name.{is_nameable}
+use Rattle.kx_basics.specs.Keysyms.{is_keysym}
 use Rattle.ks_core.specs.declared.fault.NameFault.{NameFault}
 use Rattle.ks_core.specs.declared.fault.NameFault.TheVariants.{LineShape, Value}
 
@@ -83,25 +83,25 @@ not-false : (b : Bool) → not b ≡ false → b ≡ true
 not-false true h = refl
 not-false false h = sym h
 
-shaped : (number : ℕ) (line : List ℕ) → own_fault number line ≡ None → is_skipped line ≡ false → (is_given_name (name_part line) ≡ true) × (is_nameable (entry_of line).1 ≡ true)
+shaped : (number : ℕ) (line : List ℕ) → own_fault number line ≡ None → is_skipped line ≡ false → (is_given_name (name_part line) ≡ true) × (is_keysym (entry_of line).1 ≡ true)
 unfolding own_fault
 shaped number line none read =
-    let rest = subst (λ s. cond s None (cond (not (has_shape line)) (Some (LineShape number)) (cond (not (is_nameable (entry_of line).1)) (Some (Value number)) None)) ≡ None) read none in
-    let shape = some_fault (not (has_shape line)) (LineShape number) (cond (not (is_nameable (entry_of line).1)) (Some (Value number)) None) rest in
-    let value = some_fault (not (is_nameable (entry_of line).1)) (Value number) None shape.1 in (
+    let rest = subst (λ s. cond s None (cond (not (has_shape line)) (Some (LineShape number)) (cond (not (is_keysym (entry_of line).1)) (Some (Value number)) None)) ≡ None) read none in
+    let shape = some_fault (not (has_shape line)) (LineShape number) (cond (not (is_keysym (entry_of line).1)) (Some (Value number)) None) rest in
+    let value = some_fault (not (is_keysym (entry_of line).1)) (Value number) None shape.1 in (
       (and_parts (is_given_name (name_part line)) (is_number (value_part line)) (not-false (has_shape line) shape.0)).0,
-      not-false (is_nameable (entry_of line).1) value.0,
+      not-false (is_keysym (entry_of line).1) value.0,
     )
 
 is_some-none : {X : Type 0} (o : Option X) → is_some o ≡ false → o ≡ None
 is_some-none None h = refl
 is_some-none (Some x) h = cc
 
-sound_entry : (given : List Entry) (line : List ℕ) → is_given_name (name_part line) ≡ true → is_nameable (entry_of line).1 ≡ true → is_some (known_keysym given (entry_of line).0) ≡ false → is_sound (entry_of line) ≡ true
+sound_entry : (given : List Entry) (line : List ℕ) → is_given_name (name_part line) ≡ true → is_keysym (entry_of line).1 ≡ true → is_some (known_keysym given (entry_of line).0) ≡ false → is_sound (entry_of line) ≡ true
 unfolding is_sound entry_of known_keysym
 sound_entry given line name value new =
     let absent : keysym_in built_in (name_part line) ≡ None = option_or-none _ _ (is_some-none (option_or (keysym_in built_in (name_part line)) (keysym_in given (name_part line))) new) in
-    ap (λ b. b && is_nameable (number_in (value_part line)) && not (is_some (keysym_in built_in (name_part line)))) name
+    ap (λ b. b && is_keysym (number_in (value_part line)) && not (is_some (keysym_in built_in (name_part line)))) name
     ∙ ap (λ b. b && not (is_some (keysym_in built_in (name_part line)))) value ∙ ap (λ o. not (is_some o)) absent
 
 pub sound_after : (given : List Entry) (number : ℕ) (line : List ℕ) → list_all is_sound given ≡ true → fault_of_line given number line ≡ None → list_all is_sound (given_after given line) ≡ true

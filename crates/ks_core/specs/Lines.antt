@@ -5,7 +5,8 @@ use Rattle.std.specs.Option.{option_or}
 use Rattle.std.specs.Str.Parse.{digits_value}
 use Rattle.ks_core.specs.BuiltIn.{built_in}
 use Rattle.ks_core.specs.Entry.{Entry, keysym_in}
-use Rattle.ks_core.specs.Name.{is_word, is_u_form, is_hex_form, is_decimal, is_nameable}
+use Rattle.ks_core.specs.Name.{is_word, is_u_form, is_hex_form, is_decimal}
+use Rattle.kx_basics.specs.Keysyms.{is_keysym}
 use Rattle.ks_core.specs.declared.fault.NameFault.{NameFault}
 use Rattle.ks_core.specs.declared.fault.NameFault.TheVariants.{LineShape, Twice, Value}
 
@@ -73,7 +74,7 @@ unfoldable pub own_fault : ℕ → List ℕ → Option NameFault
 own_fault number line =
     if is_skipped line then None
     else if not (has_shape line) then Some (LineShape number)
-    else if not (is_nameable (entry_of line).1) then Some (Value number)
+    else if not (is_keysym (entry_of line).1) then Some (Value number)
     else None
 
 -- the fault of a line after others, which gave those names: its own, else that its name has another keysym
@@ -111,4 +112,4 @@ pub record IsFirstFault (lines : List (List ℕ)) (fault : NameFault) : Type 0 w
 
 -- what each entry that lines gave is: a name that a line may give, of a keysym that it may name, and not built in
 unfoldable pub is_sound : Entry → Bool
-is_sound entry = is_given_name entry.0 && is_nameable entry.1 && not (is_some (keysym_in built_in entry.0))
+is_sound entry = is_given_name entry.0 && is_keysym entry.1 && not (is_some (keysym_in built_in entry.0))

@@ -3,6 +3,7 @@ use Rattle.std.specs.Prelude.{ℕ, ◌+◌, Bool, ◌&&◌, ◌||◌, ◌==◌, 
 use Rattle.std.specs.Char.{is_ascii_alphabetic, is_ascii_digit, is_ascii_hexdigit}
 use Rattle.std.specs.List.{list_all}
 use Rattle.std.specs.Str.Parse.{digits_value}
+use Rattle.kx_basics.specs.Keysyms.{is_keysym}
 
 -- a letter or `_`
 abbrev pub is_word_start : ℕ → Bool
@@ -41,10 +42,6 @@ keysym_of_character c =
     else if is_between 0x100 0x10ffff c then Some (0x1000000 + c)
     else None
 
--- the keysyms that a line can name
-abbrev pub is_nameable : ℕ → Bool
-is_nameable keysym = is_between 10 0x1fffffff keysym
-
 -- the keysym of a name of the U form
 unfoldable pub u_keysym : List ℕ → Option ℕ
 u_keysym name = if is_u_form name then keysym_of_character (digits_value 16 (drop 1 name)) else None
@@ -53,4 +50,4 @@ u_keysym name = if is_u_form name then keysym_of_character (digits_value 16 (dro
 unfoldable pub hex_keysym : List ℕ → Option ℕ
 hex_keysym name =
     let keysym = digits_value 16 (drop 2 name) in
-    if is_hex_form name && is_nameable keysym then Some keysym else None
+    if is_hex_form name && is_keysym keysym then Some keysym else None

@@ -5,7 +5,8 @@ use Rattle.std.specs.Int.Digits.{digits_of}
 use Rattle.std.specs.Option.{option_or}
 use Rattle.ks_core.specs.BuiltIn.{built_in}
 use Rattle.ks_core.specs.Entry.{Entry, keysym_in, name_in}
-use Rattle.ks_core.specs.Name.{is_word, is_decimal, is_hex_form, is_between, is_nameable, u_keysym, hex_keysym}
+use Rattle.ks_core.specs.Name.{is_word, is_decimal, is_hex_form, is_between, u_keysym, hex_keysym}
+use Rattle.kx_basics.specs.Keysyms.{is_keysym}
 
 -- the keysym of a name: of the built-in one, else of the one that a line gave, else of the U form, else of the 0x form
 unfoldable pub keysym_named : List Entry → List ℕ → Option ℕ
@@ -35,4 +36,4 @@ is_word_or_number name = is_word name || is_decimal name || is_hex_form name
 
 -- the keysyms whose written names are read back
 abbrev pub is_written_back : ℕ → Bool
-is_written_back keysym = (keysym == 0) || is_nameable keysym
+is_written_back keysym = (keysym == 0) || is_keysym keysym

@@ -10,21 +10,21 @@ ghost use Rattle.ks_core.specs.Name.{is_hex};
 ghost use Rattle.ks_core.specs.Names.{hex_digits};
 
 use arrayvec::ArrayString;
+use kx_basics::digits_value;
 
 /// The number that the digits spell in the base, where it fits 32 bits.
 #[tactic(auto, unfolding(crate::specs::Digits::in_32_bits))]
 pub(crate) fn number_of(digits: &[u8], radix: u32) -> Option<u32>
     requires base { 2 ≤ radix }
     requires letters { radix ≤ 36 }
-    requires digits { AllDigits radix digits.now }
     ensures { result ≡ in_32_bits (digits_value radix digits.now) }
 {
-    let mut value = 0u32;
-    for byte in digits {
-        let digit = (*byte as char).to_digit(radix)?;
-        value = value.checked_mul(radix)?.checked_add(digit)?;
+    let value = digits_value(digits, u64::from(radix));
+    if value < 1 << 32 {
+        Some(value as u32)
+    } else {
+        None
     }
-    Some(value)
 }
 
 /// The number that at most 8 hexadecimal digits spell.

@@ -6,10 +6,12 @@ ghost use Rattle.std.specs.Option.{option_map};
 ghost use Rattle.std.specs.Str.Parse.{AllDigits};
 ghost use Rattle.ks_core.specs.Digits.{in_32_bits};
 ghost use Rattle.ks_core.specs.Lines.{lines_of, lines_left, is_skipped, is_blank, place_of, is_given_name, is_number, number_in, name_part, value_part, entry_of, own_fault};
-ghost use Rattle.ks_core.specs.Name.{is_word, is_word_start, is_word_byte, is_u_form, is_hex_form, is_decimal, is_nameable};
+ghost use Rattle.ks_core.specs.Name.{is_word, is_word_start, is_word_byte, is_u_form, is_hex_form, is_decimal};
+ghost use Rattle.kx_basics.specs.Keysyms.{is_keysym};
 
 use crate::digits::{is_hex, number_of};
 use crate::fault::NameFault;
+use kx_basics::is_keysym;
 use std::str;
 
 /// The most bytes of a name that a line gives.
@@ -108,13 +110,6 @@ fn is_blank(byte: u8) -> bool
     ensures { result ≡ is_blank byte }
 {
     byte == b' ' || byte == b'\t' || byte == 0x0b || byte == 0x0c || byte == b'\r'
-}
-
-/// Whether a line can name the keysym.
-pub(crate) fn is_nameable(keysym: u32) -> bool
-    ensures { result ≡ is_nameable keysym }
-{
-    10 <= keysym && keysym <= 0x1fff_ffff
 }
 
 /// The name as text, where a line may give it.
@@ -228,10 +223,10 @@ fn are_digits(text: &[u8]) -> bool
 #[tactic(auto, unfolding(crate::specs::Digits::in_32_bits))]
 fn nameable_in(text: &[u8]) -> Option<u32>
     requires { is_number text.now ≡ true }
-    ensures { result ≡ (if is_nameable (number_in text.now) then Some (number_in text.now) else None) }
+    ensures { result ≡ (if is_keysym (number_in text.now) then Some (number_in text.now) else None) }
 {
     match number_in(text) {
-        Some(keysym) if is_nameable(keysym) => Some(keysym),
+        Some(keysym) if is_keysym(keysym) => Some(keysym),
         _ => None,
     }
 }

@@ -13,8 +13,9 @@ use crate::digits::{hex_number, push_hex};
 use crate::fault::NameFault;
 use crate::given::Given;
 use crate::keysym::Keysym;
-use crate::line::{first_line, hex_digits, is_nameable, u_digits};
+use crate::line::{first_line, hex_digits, u_digits};
 use arrayvec::ArrayString;
+use kx_basics::is_keysym;
 use std::alloc::Global;
 use std::marker::Model;
 
@@ -179,7 +180,7 @@ fn hex_form(name: &[u8]) -> Option<u32>
         return None;
     };
     let keysym = hex_number(digits);
-    if is_nameable(keysym) {
+    if is_keysym(keysym) {
         Some(keysym)
     } else {
         None

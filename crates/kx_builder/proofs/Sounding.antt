@@ -5,6 +5,7 @@ use Rattle.std.proofs.lemmas.List.{length-append}
 use Rattle.std.proofs.lemmas.List.Elements.{All-append, All-weaker}
 use Rattle.std.proofs.lemmas.Option.{none-some, slice_get_within}
 use Rattle.std.specs.Option.{IsSomeAnd, option_map_or}
+use Rattle.kx_basics.proofs.KeyBytes.{key_byte_small}
 use Rattle.kx_builder.proofs.Agreeing.{All_at, get_within}
 use Rattle.kx_builder.proofs.Counting.{each_row, row_from, rows_take, sum_before, sum_of_rows}
 use Rattle.kx_builder.proofs.Placing.{element_at, get_behind, row_at, rows_length}
@@ -14,7 +15,9 @@ use Rattle.kx_builder.specs.Small.{All_flat, CellIsSmall, GroupIsSmall, IsSmall,
 use Rattle.kx_builder.specs.Placed.{all_cells, all_entries, all_groups, all_keysyms, cell_row, content_of_resolved, group_row, key_row, names_of_keys, names_of_types, rows_behind, rows_of, type_row}
 use Rattle.kx_builder.specs.Resolved.{Resolved, ResolvedCell, ResolvedEntry, ResolvedGroup, ResolvedKey, ResolvedType}
 use Rattle.kx_tables.specs.Content.{Content, key_name, key_names, levels_of, type_name, type_names, types_used}
-use Rattle.kx_tables.specs.Sound.{CellHolds, CountsHold, EachRow, EntriesHold, GroupHolds, IsKeyNameByte, IsNewName, KeyHolds, KeysymHolds, NameByteHolds, Sound, TypeHolds}
+use Rattle.kx_basics.specs.KeyNames.{IsKeyByte}
+use Rattle.kx_basics.specs.Keysyms.{IsKeysym}
+use Rattle.kx_tables.specs.Sound.{CellHolds, CountsHold, EachRow, EntriesHold, GroupHolds, IsNewName, KeyHolds, NameByteHolds, Sound, TypeHolds}
 use Rattle.kx_tables.specs.declared.rows.CellRow.{CellRow}
 use Rattle.kx_tables.specs.declared.rows.KeyRow.{KeyRow}
 use Rattle.kx_tables.specs.declared.rows.TypeRow.{TypeRow}
@@ -71,14 +74,14 @@ module _ (r : Resolved) (fine : IsFine r) where
   cells_fine : All CellIsFine (all_cells (all_groups r.keys))
   cells_fine = All_flat (λ (g : ResolvedGroup). g.cells) CellIsFine (all_groups r.keys) (All-weaker (GroupIsFine r.types) (λ (g : ResolvedGroup). All CellIsFine g.cells) (λ g holds. holds.each_cell) (all_groups r.keys) groups_fine)
 
-  keysyms_fine : All KeysymHolds (all_keysyms (all_cells (all_groups r.keys)))
-  keysyms_fine = All_flat (λ (d : ResolvedCell). d.syms) KeysymHolds (all_cells (all_groups r.keys)) (All-weaker CellIsFine (λ (d : ResolvedCell). All KeysymHolds d.syms) (λ d holds. holds.each_keysym) (all_cells (all_groups r.keys)) cells_fine)
+  keysyms_fine : All IsKeysym (all_keysyms (all_cells (all_groups r.keys)))
+  keysyms_fine = All_flat (λ (d : ResolvedCell). d.syms) IsKeysym (all_cells (all_groups r.keys)) (All-weaker CellIsFine (λ (d : ResolvedCell). All IsKeysym d.syms) (λ d holds. holds.each_keysym) (all_cells (all_groups r.keys)) cells_fine)
 
   type_bytes : All (λ b. b < 2 ^ 8) (names_of_types r.types)
   type_bytes = All_flat (λ (t : ResolvedType). t.name) (λ b. b < 2 ^ 8) r.types (All-weaker TypeIsFine (λ (t : ResolvedType). All (λ b. b < 2 ^ 8) t.name) (λ t holds. holds.each_byte) r.types fine.each_type)
 
-  key_bytes : All IsKeyNameByte (names_of_keys r.keys)
-  key_bytes = All_flat (λ (k : ResolvedKey). k.name) IsKeyNameByte r.keys (All-weaker (KeyIsFine r.types) (λ (k : ResolvedKey). All IsKeyNameByte k.name) (λ k holds. holds.each_byte) r.keys fine.each_key)
+  key_bytes : All IsKeyByte (names_of_keys r.keys)
+  key_bytes = All_flat (λ (k : ResolvedKey). k.name) IsKeyByte r.keys (All-weaker (KeyIsFine r.types) (λ (k : ResolvedKey). All IsKeyByte k.name) (λ k holds. holds.each_byte) r.keys fine.each_key)
 
   -- ---- Counts
 
@@ -233,11 +236,11 @@ module _ (r : Resolved) (fine : IsFine r) where
   name_holds i b at = record {
     byte =
         All_at (λ c. c < 2 ^ 8) (names_of_types r.types ++ names_of_keys r.keys) i b
-        (All-append (λ c. c < 2 ^ 8) (names_of_types r.types) (names_of_keys r.keys) type_bytes (All-weaker IsKeyNameByte (λ c. c < 2 ^ 8) (λ c holds. let h : c ≤ 126 = holds.high in omega (arith, h)) (names_of_keys r.keys) key_bytes))
+        (All-append (λ c. c < 2 ^ 8) (names_of_types r.types) (names_of_keys r.keys) type_bytes (All-weaker IsKeyByte (λ c. c < 2 ^ 8) (λ c holds. omega (arith, key_byte_small c holds)) (names_of_keys r.keys) key_bytes))
         at;
     of_key = λ from below.
         let place : length (names_of_types r.types) + (i - length (names_of_types r.types)) ≡ i = omega (arith, from, type_names_are) in
-        All_at IsKeyNameByte (names_of_keys r.keys) (i - length (names_of_types r.types)) b key_bytes
+        All_at IsKeyByte (names_of_keys r.keys) (i - length (names_of_types r.types)) b key_bytes
         (sym (get_behind (names_of_types r.types) (names_of_keys r.keys) (i - length (names_of_types r.types)))
         ∙ ap (slice_get (names_of_types r.types ++ names_of_keys r.keys)) place ∙ at);
   }
@@ -250,7 +253,7 @@ module _ (r : Resolved) (fine : IsFine r) where
     keys = each_row (key_row r.types) r.keys (KeyHolds (content_of_resolved r)) key_holds;
     groups = each_row group_row (all_groups r.keys) (GroupHolds (content_of_resolved r)) group_holds;
     cells = each_row cell_row (all_cells (all_groups r.keys)) (CellHolds (content_of_resolved r)) cell_holds;
-    keysyms = λ i s at. All_at KeysymHolds (all_keysyms (all_cells (all_groups r.keys))) i s keysyms_fine at;
+    keysyms = λ i s at. All_at IsKeysym (all_keysyms (all_cells (all_groups r.keys))) i s keysyms_fine at;
     indicators = λ i d at. absurd (none-some d at);
     group_names = λ i g at. absurd (none-some g at);
     names = name_holds;

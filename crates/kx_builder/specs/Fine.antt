@@ -3,11 +3,14 @@
 use Rattle.std.specs.Prelude.{ℕ, ◌≡◌, ◌≢◌, ◌+◌, ◌<◌, ◌≤◌, ◌^◌, All, List, [], ◌∷◌, Some, length, max, slice_get, take}
 use Rattle.std.proofs.lemmas.List.Elements.{All-weaker}
 use Rattle.std.specs.Int.RustNames.{bit_and}
+use Rattle.kx_basics.specs.declared.limits.TheConstants.{GREATEST_CODE, MOST_GROUPS, MOST_KEYSYMS, MOST_NAME_BYTES, MOST_LEVELS}
 use Rattle.kx_builder.specs.Placed.{all_groups}
 use Rattle.kx_builder.specs.Resolved.{Resolved, ResolvedCell, ResolvedEntry, ResolvedGroup, ResolvedKey, ResolvedType}
 use Rattle.kx_builder.specs.Whole.{GroupIsWhole, IsWhole, KeyIsWhole, LevelExists, TypeIsWhole}
 use Rattle.kx_mods.specs.Mods.{mask}
-use Rattle.kx_tables.specs.Sound.{ActionHolds, IsKeyNameByte, KeysymHolds, RangeHolds}
+use Rattle.kx_basics.specs.KeyNames.{IsKeyByte}
+use Rattle.kx_basics.specs.Keysyms.{IsKeysym}
+use Rattle.kx_tables.specs.Sound.{ActionHolds, RangeHolds}
 
 -- the modifiers of a set are within those of another
 abbrev pub MaskWithin : ℕ → ℕ → Type 0
@@ -31,16 +34,16 @@ pub record EntryIsFine (t : ResolvedType) (e : ResolvedEntry) : Type 0 where
 pub record TypeIsFine (t : ResolvedType) : Type 0 where
   pub mods : mask t.mods < 2 ^ 8
   pub some_level : 1 ≤ t.levels
-  pub levels : t.levels ≤ 64
+  pub levels : t.levels ≤ MOST_LEVELS
   pub each_entry : All (EntryIsFine t) t.entries
   pub entries_apart : Apart (λ (e : ResolvedEntry). mask e.mods) t.entries
   pub entries_fit : length t.entries < 2 ^ 16
-  pub name_fits : length t.name ≤ 255
+  pub name_fits : length t.name ≤ MOST_NAME_BYTES
   pub each_byte : All (λ b. b < 2 ^ 8) t.name
 
 pub record CellIsFine (d : ResolvedCell) : Type 0 where
-  pub few : length d.syms ≤ 8
-  pub each_keysym : All KeysymHolds d.syms
+  pub few : length d.syms ≤ MOST_KEYSYMS
+  pub each_keysym : All IsKeysym d.syms
   pub does : ActionHolds d.action
 
 pub record GroupIsFine (types : List ResolvedType) (g : ResolvedGroup) : Type 0 where
@@ -48,13 +51,13 @@ pub record GroupIsFine (types : List ResolvedType) (g : ResolvedGroup) : Type 0 
   pub each_cell : All CellIsFine g.cells
 
 pub record KeyIsFine (types : List ResolvedType) (k : ResolvedKey) : Type 0 where
-  pub code_fits : k.code ≤ 4095
+  pub code_fits : k.code ≤ GREATEST_CODE
   pub mapped : mask k.modmap < 2 ^ 8
   pub range_holds : RangeHolds k.range
-  pub few : length k.groups ≤ 32
+  pub few : length k.groups ≤ MOST_GROUPS
   pub each_group : All (GroupIsFine types) k.groups
-  pub name_fits : length k.name ≤ 255
-  pub each_byte : All IsKeyNameByte k.name
+  pub name_fits : length k.name ≤ MOST_NAME_BYTES
+  pub each_byte : All IsKeyByte k.name
 
 -- how many types the groups use, where types are numbered by first use
 abbrev pub types_met : List ResolvedGroup → ℕ

@@ -1,180 +1,191 @@
 -- Going over a body: what is behind and what is left of it.
-use Rattle.std.proofs.Common.{◌≡◌, ℕ, ◌+◌, ◌-◌, ◌<◌, ◌≤◌, zero, suc, Bool, true, false, cond, List, [], ◌∷◌, ◌++◌, length, drop, get_or, Contains, Result, Ok, Err, IfErr, refl, sym, ap, ◌∙◌, subst, arith}
+use Rattle.std.proofs.Common.{IfErr, ◌≡◌, ℕ, ◌+◌, ◌<◌, ◌≤◌, zero, suc, List, [], ◌∷◌, ◌++◌, length, drop, get_or, Contains, Option, None, Result, Ok, Err, refl, sym, ap, ◌∙◌, subst, arith}
 use Rattle.std.proofs.lemmas.List.{drop_all, drop_more}
 use Rattle.std.proofs.lemmas.List.Elements.{Contains-append_left}
+use Rattle.std.specs.List.{slice_get}
 use Rattle.std.specs.Result.{IsErrAnd}
 use Rattle.kx_lex.specs.declared.fault.Fault.{Fault}
 use Rattle.kx_lex.specs.declared.fault.Fault.TheVariants.{Memory}
-use Rattle.kx_parse.specs.declared.tree.Item.{Item}
-use Rattle.kx_parse.specs.declared.tree.Item.TheVariants.{Include, Statement}
-use Rattle.kx_parse.specs.declared.tree.Kind.TheVariants.{Keycodes}
-use Rattle.kx_parse.specs.declared.tree.Section.{Section}
-use Rattle.kx_include.specs.Expansion.{Body, End, Begin, items_body, parts_body, map_body, sections_body}
-use Rattle.kx_include.specs.IncludeText.{Part}
-use Rattle.kx_include.specs.Library.{Library, is_of, items_in}
+use Rattle.kx_parse.specs.declared.tree.Mode.{Mode}
+use Rattle.kx_include.specs.Expansion.{Body, End, Own, Inc}
+use Rattle.kx_include.specs.Shared.{body_at, bodies_behind, entries_body, links_body, shared_body, shared_sections}
+use Rattle.kx_include.specs.declared.expansion.Entry.{Entry}
+use Rattle.kx_include.specs.declared.expansion.Entry.TheVariants as entry
+use Rattle.kx_include.specs.declared.expansion.Link.{Link}
+use Rattle.kx_include.specs.declared.expansion.Map.{Map}
 use Rattle.kx_include.specs.declared.place.Place.{Place}
-use Rattle.kx_codes.specs.Aliases.{Alias, aliases_from}
-use Rattle.kx_codes.specs.CodeFaults.{faults_of}
-use Rattle.kx_codes.specs.Pairs.{Pair, pairs_from}
-use Rattle.kx_codes.specs.Walks.{part_body, item_aliases, item_faults, item_pairs, part_aliases, part_pairs}
+use Rattle.kx_codes.proofs.Distinct.{from_distinct}
+use Rattle.kx_codes.proofs.Alone.{alone_aliases}
+use Rattle.kx_codes.proofs.Standing.{once_stands}
+use Rattle.kx_codes.specs.Aliases.{Alias, aliases_from, aliases_taken}
+use Rattle.kx_codes.specs.CodeFaults.{faults_of, own_faults}
+use Rattle.kx_codes.specs.Gathering.{AreGathered, Blames, IsFound, IsGathered, Leaves, Took}
+use Rattle.kx_codes.specs.Indexed.{Stands}
+use Rattle.kx_codes.specs.Pairs.{Pair, all_taken, pairs_from, pairs_of}
+use Rattle.kx_codes.specs.declared.gathered.Gathered.{Gathered}
 
--- from pairs, aliases and a body, some of the body is behind in the pairs and aliases of now, without a fault
-pub record Left (ps : List Pair) (bs : List Alias) (whole : Body) (now_ps : List Pair) (now_bs : List Alias) (left : Body) : Type 0 where
-  pub pairs_are : pairs_from now_ps left ≡ pairs_from ps whole
-  pub aliases_are : aliases_from now_bs left ≡ aliases_from bs whole
-  pub faults_are : faults_of whole ≡ faults_of left
+-- from pairs and aliases and a body, some of the body is behind in what is gathered now, without a fault
+pub record Going (Old : List Pair → Type 0) (bs : List Alias) (now : Gathered) (whole left : Body) : Type 0 where
+  pub pairs_go : (ps : List Pair) → Old ps → (qs : List Pair) × Stands now.pairs qs × (pairs_from qs left ≡ pairs_from ps whole)
+  pub aliases_go : aliases_from now.aliases left ≡ aliases_from bs whole
+  pub faults_go : faults_of whole ≡ faults_of left
 
-pub left_all : (ps : List Pair) (bs : List Alias) (whole : Body) → Left ps bs whole ps bs whole
-left_all ps bs whole = record { pairs_are = refl; aliases_are = refl; faults_are = refl }
+-- a body is one and then another
+pub record Splits (left one rest : Body) : Type 0 where
+  pub pairs_split : (ps : List Pair) → pairs_from ps left ≡ pairs_from (pairs_from ps one) rest
+  pub aliases_split : (bs : List Alias) → aliases_from bs left ≡ aliases_from (aliases_from bs one) rest
+  pub faults_split : faults_of left ≡ faults_of one ++ faults_of rest
 
-left-step : (ps : List Pair) (bs : List Alias) (whole : Body) (p1 : List Pair) (a1 : List Alias) (b1 : Body) (p2 : List Pair) (a2 : List Alias) (b2 : Body) (fs : List Fault)
-    → Left ps bs whole p1 a1 b1 → pairs_from p1 b1 ≡ pairs_from p2 b2 → aliases_from a1 b1 ≡ aliases_from a2 b2 → faults_of b1 ≡ fs ++ faults_of b2 → fs ≡ [] → Left ps bs whole p2 a2 b2
-left-step ps bs whole p1 a1 b1 p2 a2 b2 fs l p a f none = record {
-  pairs_are = sym p ∙ l.pairs_are;
-  aliases_are = sym a ∙ l.aliases_are;
-  faults_are = l.faults_are ∙ f ∙ ap (λ gs. gs ++ faults_of b2) none;
+module _ (Old : List Pair → Type 0) (bs : List Alias) where
+  pub going_on : (whole left one rest : Body) (now new : Gathered) → Splits left one rest → Going Old bs now whole left → Took now new one → Going Old bs new whole rest
+  going_on whole left one rest now new split g t = record {
+    pairs_go = λ ps old. (pairs_from (g.pairs_go ps old).0 one, t.pairs_are (g.pairs_go ps old).0 (g.pairs_go ps old).1, sym (split.pairs_split (g.pairs_go ps old).0) ∙ (g.pairs_go ps old).2);
+    aliases_go = ap (λ cs. aliases_from cs rest) t.aliases_are ∙ sym (split.aliases_split now.aliases) ∙ g.aliases_go;
+    faults_go = g.faults_go ∙ split.faults_split ∙ ap (λ fs. fs ++ faults_of rest) t.faultless;
+  }
+
+  pub going_blames : (whole left one rest : Body) (now : Gathered) (e : Fault) → Splits left one rest → Going Old bs now whole left → Blames one e → Blames whole e
+  going_blames whole left one rest now e split g has = subst (λ fs. Contains (Memory ∷ fs) e) (sym (g.faults_go ∙ split.faults_split)) (Contains-append_left (Memory ∷ faults_of one) (faults_of rest) e has)
+
+pub took_all : (old now : Gathered) (whole : Body) → Going (Stands old.pairs) old.aliases now whole End → Took old now whole
+took_all old now whole g = record {
+  pairs_are = λ ps s. subst (Stands now.pairs) (g.pairs_go ps s).2 (g.pairs_go ps s).1;
+  aliases_are = g.aliases_go;
+  faultless = g.faults_go;
 }
 
-left-fault : (ps : List Pair) (bs : List Alias) (whole : Body) (p1 : List Pair) (a1 : List Alias) (b1 : Body) (fs rest : List Fault) (e : Fault) → Left ps bs whole p1 a1 b1 → faults_of b1 ≡ fs ++ rest → Contains (Memory ∷ fs) e → Contains (Memory ∷ faults_of whole) e
-left-fault ps bs whole p1 a1 b1 fs rest e l fs_are has = subst (λ gs. Contains (Memory ∷ gs) e) (sym (l.faults_are ∙ fs_are)) (Contains-append_left (Memory ∷ fs) rest e has)
+pub leaves_all : (now : Gathered) (whole : Body) → Going (λ ps. ps ≡ []) [] now whole End → Leaves whole now
+leaves_all now whole g = record {
+  pairs_are = subst (Stands now.pairs) (g.pairs_go [] refl).2 (g.pairs_go [] refl).1;
+  aliases_are = g.aliases_go;
+  faultless = g.faults_go;
+}
 
-drop-next : {X : Type 0} (xs : List X) (i : ℕ) (x : X) → i < length xs → x ≡ get_or xs i x → drop i xs ≡ x ∷ drop (i + 1) xs
-drop-next xs i x within h = drop_more xs i x within ∙ ap (λ y. y ∷ drop (i + 1) xs) (sym h)
+pub going_new : (g : Gathered) (whole left : Body) → Stands g.pairs [] → g.aliases ≡ [] → ((ps : List Pair) → pairs_from ps left ≡ pairs_from ps whole) → aliases_from [] left ≡ aliases_from [] whole → faults_of whole ≡ faults_of left → Going (λ ps. ps ≡ []) [] g whole left
+going_new g whole left s none p a f = record {
+  pairs_go = λ ps is. ([], s, p [] ∙ ap (λ qs. pairs_from qs whole) (sym is));
+  aliases_go = ap (λ cs. aliases_from cs left) none ∙ a;
+  faults_go = f;
+}
 
--- an item, and what is behind it
-module _ (inner : Part → Body) (place : Place) where
-  pairs-first : (x : Item) (xs : List Item) (rest : Body) (ps : List Pair) → pairs_from ps (items_body inner place (x ∷ xs) rest) ≡ pairs_from (item_pairs inner x ps) (items_body inner place xs rest)
-  pairs-first (Include mode text span) xs rest ps = refl
-  pairs-first (Statement mode statement first span) xs rest ps = refl
+append-none : (fs : List Fault) → fs ++ [] ≡ fs
+append-none [] = refl
+append-none (f ∷ fs) = ap (λ gs. f ∷ gs) (append-none fs)
 
-  aliases-first : (x : Item) (xs : List Item) (rest : Body) (bs : List Alias) → aliases_from bs (items_body inner place (x ∷ xs) rest) ≡ aliases_from (item_aliases inner x bs) (items_body inner place xs rest)
-  aliases-first (Include mode text span) xs rest bs = refl
-  aliases-first (Statement mode statement first span) xs rest bs = refl
+append-inner : (fs gs hs : List Fault) → (fs ++ gs) ++ hs ≡ fs ++ (gs ++ hs)
+append-inner [] gs hs = refl
+append-inner (f ∷ fs) gs hs = ap (λ all. f ∷ all) (append-inner fs gs hs)
 
-  faults-first : (x : Item) (xs : List Item) (rest : Body) → faults_of (items_body inner place (x ∷ xs) rest) ≡ item_faults inner place x ++ faults_of (items_body inner place xs rest)
-  faults-first (Include mode text span) xs rest = refl
-  faults-first (Statement mode statement first span) xs rest = refl
+pub drop_next : {X : Type 0} (xs : List X) (i : ℕ) (x : X) → i < length xs → x ≡ get_or xs i x → drop i xs ≡ x ∷ drop (i + 1) xs
+drop_next xs i x within h = drop_more xs i x within ∙ ap (λ y. y ∷ drop (i + 1) xs) (sym h)
 
-  pairs-behind : (xs : List Item) (rest : Body) (ps : List Pair) → pairs_from ps (items_body inner place xs rest) ≡ pairs_from (pairs_from ps (items_body inner place xs End)) rest
-  pairs-behind [] rest ps = refl
-  pairs-behind (x ∷ xs) rest ps = pairs-first x xs rest ps ∙ pairs-behind xs rest (item_pairs inner x ps) ∙ sym (ap (λ qs. pairs_from qs rest) (pairs-first x xs End ps))
+pub read_again : {X : Type 0} (xs : List X) (i : ℕ) (d : X) → i < length xs → get_or xs i d ≡ get_or xs i (get_or xs i d)
+read_again [] i d h = absurd (omega (arith, h))
+read_again (x ∷ xs) zero d h = refl
+read_again (x ∷ xs) (suc i) d h = read_again xs i d (omega (arith, h))
 
-  aliases-behind : (xs : List Item) (rest : Body) (bs : List Alias) → aliases_from bs (items_body inner place xs rest) ≡ aliases_from (aliases_from bs (items_body inner place xs End)) rest
-  aliases-behind [] rest bs = refl
-  aliases-behind (x ∷ xs) rest bs = aliases-first x xs rest bs ∙ aliases-behind xs rest (item_aliases inner x bs) ∙ sym (ap (λ all. aliases_from all rest) (aliases-first x xs End bs))
+module _ (bodies : List Body) where
+  split-entry : (place : Place) (x : Entry) (xs : List Entry) → Splits (entries_body bodies place (x ∷ xs) End) (entries_body bodies place (x ∷ []) End) (entries_body bodies place xs End)
+  split-entry place (entry.Own item) xs = record { pairs_split = λ ps. refl; aliases_split = λ cs. refl; faults_split = ap (λ fs. fs ++ faults_of (entries_body bodies place xs End)) (sym (append-none _)) }
+  split-entry place (entry.Include mode links) xs = record { pairs_split = λ ps. refl; aliases_split = λ cs. refl; faults_split = ap (λ fs. fs ++ faults_of (entries_body bodies place xs End)) (sym (append-none _)) }
 
-  append-inner : (fs gs hs : List Fault) → (fs ++ gs) ++ hs ≡ fs ++ (gs ++ hs)
-  append-inner [] gs hs = refl
-  append-inner (f ∷ fs) gs hs = ap (λ all. f ∷ all) (append-inner fs gs hs)
+  pub split_entry : (place : Place) (es : List Entry) (i : ℕ) (x : Entry) → i < length es → x ≡ get_or es i x → Splits (entries_body bodies place (drop i es) End) (entries_body bodies place (x ∷ []) End) (entries_body bodies place (drop (i + 1) es) End)
+  split_entry place es i x within is = subst (λ xs. Splits (entries_body bodies place xs End) (entries_body bodies place (x ∷ []) End) (entries_body bodies place (drop (i + 1) es) End)) (sym (drop_next es i x within is)) (split-entry place x (drop (i + 1) es))
 
-  faults-behind : (xs : List Item) (rest : Body) → faults_of (items_body inner place xs rest) ≡ faults_of (items_body inner place xs End) ++ faults_of rest
-  faults-behind [] rest = refl
-  faults-behind (x ∷ xs) rest = faults-first x xs rest ∙ ap (λ gs. item_faults inner place x ++ gs) (faults-behind xs rest) ∙ sym (append-inner (item_faults inner place x) (faults_of (items_body inner place xs End)) (faults_of rest)) ∙ sym (ap (λ gs. gs ++ faults_of rest) (faults-first x xs End))
+  pub split_link : (ls : List Link) (i : ℕ) (l : Link) → i < length ls → l ≡ get_or ls i l → Splits (links_body bodies (drop i ls)) (links_body bodies (l ∷ [])) (links_body bodies (drop (i + 1) ls))
+  split_link ls i l within is = subst (λ xs. Splits (links_body bodies xs) (links_body bodies (l ∷ [])) (links_body bodies (drop (i + 1) ls))) (sym (drop_next ls i l within is))
+      (record { pairs_split = λ ps. refl; aliases_split = λ cs. refl; faults_split = ap (λ fs. fs ++ faults_of (links_body bodies (drop (i + 1) ls))) (sym (append-none (faults_of (body_at bodies l.map)))) })
 
-  -- the loop over a map's items
-  pub item_goes : (ps : List Pair) (bs : List Alias) (whole : Body) (p1 p2 : List Pair) (a1 a2 : List Alias) (xs : List Item) (i : ℕ) (x : Item) → i < length xs → x ≡ get_or xs i x → Left ps bs whole p1 a1 (items_body inner place (drop i xs) End)
-      → p2 ≡ item_pairs inner x p1 → a2 ≡ item_aliases inner x a1 → item_faults inner place x ≡ [] → Left ps bs whole p2 a2 (items_body inner place (drop (i + 1) xs) End)
-  item_goes ps bs whole p1 p2 a1 a2 xs i x within is l p a none =
-      let next = drop-next xs i x within is in
-      let rest = drop (i + 1) xs in
-      left-step ps bs whole p1 a1 (items_body inner place (x ∷ rest) End) p2 a2 (items_body inner place rest End) (item_faults inner place x)
-      (subst (λ ys. Left ps bs whole p1 a1 (items_body inner place ys End)) next l)
-      (pairs-first x rest End p1 ∙ sym (ap (λ qs. pairs_from qs (items_body inner place rest End)) p))
-      (aliases-first x rest End a1 ∙ sym (ap (λ all. aliases_from all (items_body inner place rest End)) a))
-      (faults-first x rest End) none
+  pairs-behind : (place : Place) (xs : List Entry) (rest : Body) (ps : List Pair) → pairs_from ps (entries_body bodies place xs rest) ≡ pairs_from (pairs_from ps (entries_body bodies place xs End)) rest
+  pairs-behind place [] rest ps = refl
+  pairs-behind place (entry.Own item ∷ xs) rest ps = pairs-behind place xs rest (pairs_from ps (Own place item.now End))
+  pairs-behind place (entry.Include mode links ∷ xs) rest ps = pairs-behind place xs rest (pairs_from ps (Inc mode None (links_body bodies links.items) End))
 
-  pub item_blames : (ps : List Pair) (bs : List Alias) (whole : Body) (p1 : List Pair) (a1 : List Alias) (xs : List Item) (i : ℕ) (x : Item) (e : Fault) → i < length xs → x ≡ get_or xs i x → Left ps bs whole p1 a1 (items_body inner place (drop i xs) End)
-      → Contains (Memory ∷ item_faults inner place x) e → Contains (Memory ∷ faults_of whole) e
-  item_blames ps bs whole p1 a1 xs i x e within is l has =
-      let rest = drop (i + 1) xs in
-      left-fault ps bs whole p1 a1 (items_body inner place (x ∷ rest) End) (item_faults inner place x) (faults_of (items_body inner place rest End)) e
-      (subst (λ ys. Left ps bs whole p1 a1 (items_body inner place ys End)) (drop-next xs i x within is) l) (faults-first x rest End) has
+  aliases-behind : (place : Place) (xs : List Entry) (rest : Body) (cs : List Alias) → aliases_from cs (entries_body bodies place xs rest) ≡ aliases_from (aliases_from cs (entries_body bodies place xs End)) rest
+  aliases-behind place [] rest cs = refl
+  aliases-behind place (entry.Own item ∷ xs) rest cs = aliases-behind place xs rest (aliases_from cs (Own place item.now End))
+  aliases-behind place (entry.Include mode links ∷ xs) rest cs = aliases-behind place xs rest (aliases_from cs (Inc mode None (links_body bodies links.items) End))
 
-  pub items_done : (ps : List Pair) (bs : List Alias) (whole : Body) (p1 : List Pair) (a1 : List Alias) (xs : List Item) (i : ℕ) → length xs ≤ i → Left ps bs whole p1 a1 (items_body inner place (drop i xs) End) → Left ps bs whole p1 a1 End
-  items_done ps bs whole p1 a1 xs i over l = subst (λ ys. Left ps bs whole p1 a1 (items_body inner place ys End)) (drop_all i xs over) l
+  faults-behind : (place : Place) (xs : List Entry) (rest : Body) → faults_of (entries_body bodies place xs rest) ≡ faults_of (entries_body bodies place xs End) ++ faults_of rest
+  faults-behind place [] rest = refl
+  faults-behind place (entry.Own item ∷ xs) rest = ap (λ gs. own_faults place.file item.now ++ gs) (faults-behind place xs rest) ∙ sym (append-inner (own_faults place.file item.now) (faults_of (entries_body bodies place xs End)) (faults_of rest))
+  faults-behind place (entry.Include mode links ∷ xs) rest = ap (λ gs. faults_of (links_body bodies links.items) ++ gs) (faults-behind place xs rest) ∙ sym (append-inner (faults_of (links_body bodies links.items)) (faults_of (entries_body bodies place xs End)) (faults_of rest))
 
--- the loop over the parts of a text
-module _ (inner : Part → Body) where
-  pub part_goes : (ps : List Pair) (bs : List Alias) (whole : Body) (p1 p2 : List Pair) (a1 a2 : List Alias) (xs : List Part) (i : ℕ) (x : Part) → i < length xs → x ≡ get_or xs i x → Left ps bs whole p1 a1 (parts_body inner (drop i xs))
-      → p2 ≡ part_pairs inner x p1 → a2 ≡ part_aliases inner x a1 → faults_of (inner x) ≡ [] → Left ps bs whole p2 a2 (parts_body inner (drop (i + 1) xs))
-  part_goes ps bs whole p1 p2 a1 a2 xs i x within is l p a none =
-      let rest = drop (i + 1) xs in
-      left-step ps bs whole p1 a1 (parts_body inner (x ∷ rest)) p2 a2 (parts_body inner rest) (faults_of (inner x))
-      (subst (λ ys. Left ps bs whole p1 a1 (parts_body inner ys)) (drop-next xs i x within is) l)
-      (sym (ap (λ qs. pairs_from qs (parts_body inner rest)) p))
-      (sym (ap (λ all. aliases_from all (parts_body inner rest)) a))
-      refl none
+  pub split_section : (ms : List Map) (i : ℕ) (m : Map) → i < length ms → m ≡ get_or ms i m → Splits (shared_sections bodies (drop i ms)) (shared_body bodies m End) (shared_sections bodies (drop (i + 1) ms))
+  split_section ms i m within is = subst (λ xs. Splits (shared_sections bodies xs) (shared_body bodies m End) (shared_sections bodies (drop (i + 1) ms))) (sym (drop_next ms i m within is)) (record {
+    pairs_split = pairs-behind m.place m.entries.items (shared_sections bodies (drop (i + 1) ms));
+    aliases_split = aliases-behind m.place m.entries.items (shared_sections bodies (drop (i + 1) ms));
+    faults_split = faults-behind m.place m.entries.items (shared_sections bodies (drop (i + 1) ms));
+  })
 
-  pub part_blames : (ps : List Pair) (bs : List Alias) (whole : Body) (p1 : List Pair) (a1 : List Alias) (xs : List Part) (i : ℕ) (x : Part) (e : Fault) → i < length xs → x ≡ get_or xs i x → Left ps bs whole p1 a1 (parts_body inner (drop i xs))
-      → Contains (Memory ∷ faults_of (inner x)) e → Contains (Memory ∷ faults_of whole) e
-  part_blames ps bs whole p1 a1 xs i x e within is l has =
-      let rest = drop (i + 1) xs in
-      left-fault ps bs whole p1 a1 (parts_body inner (x ∷ rest)) (faults_of (inner x)) (faults_of (parts_body inner rest)) e
-      (subst (λ ys. Left ps bs whole p1 a1 (parts_body inner ys)) (drop-next xs i x within is) l) refl has
+-- an include of what was gathered of a body
+pub took_included : (old new g : Gathered) (mode : Mode) (group : Option ℕ) (body : Body) → Leaves body g → ((ps qs : List Pair) → Stands old.pairs ps → Stands g.pairs qs → Stands new.pairs (all_taken mode ps qs)) → new.aliases ≡ aliases_taken mode old.aliases g.aliases
+    → Took old new (Inc mode group body End)
+took_included old new g mode group body is pairs aliases = record {
+  pairs_are = λ ps s. pairs ps (pairs_of body) s is.pairs_are;
+  aliases_are = aliases ∙ ap (aliases_taken mode old.aliases) is.aliases_are;
+  faultless = ap (λ fs. fs ++ []) is.faultless;
+}
 
-  pub parts_done : (ps : List Pair) (bs : List Alias) (whole : Body) (p1 : List Pair) (a1 : List Alias) (xs : List Part) (i : ℕ) → length xs ≤ i → Left ps bs whole p1 a1 (parts_body inner (drop i xs)) → Left ps bs whole p1 a1 End
-  parts_done ps bs whole p1 a1 xs i over l = subst (λ ys. Left ps bs whole p1 a1 (parts_body inner ys)) (drop_all i xs over) l
+pub took_nothing : (g : Gathered) (mode : Mode) (group : Option ℕ) (body : Body) → body ≡ End → Took g g (Inc mode group body End)
+took_nothing g mode group body is = subst (λ b. Took g g (Inc mode group b End)) (sym is) (record { pairs_are = λ ps s. s; aliases_are = refl; faultless = refl })
 
--- a map's items, where there is room for it
-pub map_some : (depth : ℕ) (library : Library) (place : Place) → 0 < depth → map_body depth library Keycodes place End ≡ Begin (items_body (part_body (depth - 1) library) place (items_in library place) End)
-map_some zero library place some = absurd (omega (arith, some))
-map_some (suc depth) library place some = let same : suc depth - 1 ≡ depth = omega arith in rw same refl
+pub blamed_included : (mode : Mode) (group : Option ℕ) (body : Body) (e : Fault) → Blames body e → Blames (Inc mode group body End) e
+blamed_included mode group body e has = Contains-append_left (Memory ∷ faults_of body) [] e has
 
--- a fault that `?` passes on
-pub fault_passed : {X : Type 0} (r : Result X Fault) (fs : List Fault) (e : Fault) → IsErrAnd r (λ y. y ≡ e) → Contains (Memory ∷ fs) e → IfErr r (λ y. Contains (Memory ∷ fs) y)
-fault_passed (Ok x) fs e is has = absurd is
-fault_passed (Err y) fs e is has = subst (Contains (Memory ∷ fs)) (sym is) has
+-- want of memory, and faults that `?` passes on
+pub memory_blamed : (body : Body) (e : Fault) → e ≡ Memory → Blames body e
+memory_blamed body e is = (0, omega arith, sym is)
 
--- the loop over the source's sections
-module _ (library : Library) where
-  abbrev pub sections_from : ℕ → List Section → Body
-  sections_from n ss = sections_body (map_body 17 library Keycodes) Keycodes n ss
+pub err_gathered : (r : Result Gathered Fault) (body : Body) (e : Fault) → IsErrAnd r (λ y. y ≡ e) → Blames body e → IsGathered body r
+err_gathered (Ok g) body e is has = absurd is
+err_gathered (Err y) body e is has = subst (Blames body) (sym is) has
 
-  abbrev pub section_place : ℕ → Place
-  section_place n = record { file = 0; section = n }
+-- one more map is gathered
+pushed-at : (done : List (Result Gathered Fault)) (bodies : List Body) (r : Result Gathered Fault) (b : Body) → length done ≡ length bodies → ((n : ℕ) → IsFound (body_at bodies n) (slice_get done n)) → IsGathered b r
+    → (n : ℕ) → IsFound (body_at (bodies ++ b ∷ []) n) (slice_get (done ++ r ∷ []) n)
+pushed-at [] [] r b same each is zero = is
+pushed-at [] [] r b same each is (suc n) = refl
+pushed-at [] (c ∷ bodies) r b same each is n = absurd (omega (arith, same))
+pushed-at (d ∷ done) [] r b same each is n = absurd (omega (arith, same))
+pushed-at (d ∷ done) (c ∷ bodies) r b same each is zero = each zero
+pushed-at (d ∷ done) (c ∷ bodies) r b same each is (suc n) = pushed-at done bodies r b (omega (arith, same)) (λ k. each (suc k)) is n
 
-  abbrev pub one_section : ℕ → Body
-  one_section n = map_body 17 library Keycodes (section_place n) End
+length-pushed : {X : Type 0} (xs : List X) (x : X) → length (xs ++ x ∷ []) ≡ length xs + 1
+length-pushed [] x = refl
+length-pushed (y ∷ ys) x = omega (arith, length-pushed ys x)
 
-  pub section_goes : (ps : List Pair) (bs : List Alias) (whole : Body) (p1 p2 : List Pair) (a1 a2 : List Alias) (n : ℕ) (ss : List Section) (s : Section) (rest : List Section) → ss ≡ s ∷ rest → Left ps bs whole p1 a1 (sections_from n ss)
-      → p2 ≡ cond (is_of Keycodes s) (pairs_from p1 (one_section n)) p1 → a2 ≡ cond (is_of Keycodes s) (aliases_from a1 (one_section n)) a1 → cond (is_of Keycodes s) (faults_of (one_section n)) [] ≡ [] → Left ps bs whole p2 a2 (sections_from (n + 1) rest)
-  section_goes ps bs whole p1 p2 a1 a2 n ss s rest e l p a none =
-      by (is_of Keycodes s) (subst (λ xs. Left ps bs whole p1 a1 (sections_from n xs)) e l) p a none
-    where
-      by : (b : Bool) → Left ps bs whole p1 a1 (cond b (map_body 17 library Keycodes (section_place n) (sections_from (n + 1) rest)) (sections_from (n + 1) rest))
-          → p2 ≡ cond b (pairs_from p1 (one_section n)) p1 → a2 ≡ cond b (aliases_from a1 (one_section n)) a1 → cond b (faults_of (one_section n)) [] ≡ [] → Left ps bs whole p2 a2 (sections_from (n + 1) rest)
-      by true l p a none = left-step ps bs whole p1 a1 (map_body 17 library Keycodes (section_place n) (sections_from (n + 1) rest)) p2 a2 (sections_from (n + 1) rest) (faults_of (one_section n)) l
-          (pairs-behind (part_body 16 library) (section_place n) (items_in library (section_place n)) (sections_from (n + 1) rest) p1 ∙ sym (ap (λ qs. pairs_from qs (sections_from (n + 1) rest)) p))
-          (aliases-behind (part_body 16 library) (section_place n) (items_in library (section_place n)) (sections_from (n + 1) rest) a1 ∙ sym (ap (λ all. aliases_from all (sections_from (n + 1) rest)) a))
-          (faults-behind (part_body 16 library) (section_place n) (items_in library (section_place n)) (sections_from (n + 1) rest)) none
-      by false l p a none = left-step ps bs whole p1 a1 (sections_from (n + 1) rest) p2 a2 (sections_from (n + 1) rest) [] l
-          (sym (ap (λ qs. pairs_from qs (sections_from (n + 1) rest)) p)) (sym (ap (λ all. aliases_from all (sections_from (n + 1) rest)) a)) refl refl
+pub none_gathered : AreGathered [] []
+none_gathered = record { count_is = refl; each_is = λ n. refl }
 
-  pub section_blames : (ps : List Pair) (bs : List Alias) (whole : Body) (p1 : List Pair) (a1 : List Alias) (n : ℕ) (ss : List Section) (s : Section) (rest : List Section) (e : Fault) → ss ≡ s ∷ rest → Left ps bs whole p1 a1 (sections_from n ss)
-      → Contains (Memory ∷ cond (is_of Keycodes s) (faults_of (one_section n)) []) e → Contains (Memory ∷ faults_of whole) e
-  section_blames ps bs whole p1 a1 n ss s rest e is l has = by (is_of Keycodes s) (subst (λ xs. Left ps bs whole p1 a1 (sections_from n xs)) is l) has
-    where
-      by : (b : Bool) → Left ps bs whole p1 a1 (cond b (map_body 17 library Keycodes (section_place n) (sections_from (n + 1) rest)) (sections_from (n + 1) rest))
-          → Contains (Memory ∷ cond b (faults_of (one_section n)) []) e → Contains (Memory ∷ faults_of whole) e
-      by true l has = left-fault ps bs whole p1 a1 (map_body 17 library Keycodes (section_place n) (sections_from (n + 1) rest)) (faults_of (one_section n)) (faults_of (sections_from (n + 1) rest)) e l
-          (faults-behind (part_body 16 library) (section_place n) (items_in library (section_place n)) (sections_from (n + 1) rest)) has
-      by false l has = Contains-append_left (Memory ∷ []) (faults_of whole) e has
+pub one_gathered : (done : List (Result Gathered Fault)) (bodies : List Body) (r : Result Gathered Fault) (b : Body) → AreGathered done bodies → IsGathered b r → AreGathered (done ++ r ∷ []) (bodies ++ b ∷ [])
+one_gathered done bodies r b are is = record {
+  count_is = length-pushed done r ∙ ap (λ n. n + 1) are.count_is ∙ sym (length-pushed bodies b);
+  each_is = pushed-at done bodies r b are.count_is are.each_is is;
+}
 
-  none-left : (ss : List Section) → length ss ≡ 0 → ss ≡ []
-  none-left [] h = refl
-  none-left (s ∷ ss) h = absurd (omega (arith, h))
+pub behind_next : (bodies : List Body) (ms : List Map) (i : ℕ) (m : Map) (all : List Body) → i < length ms → m ≡ get_or ms i m → bodies_behind bodies (drop i ms) ≡ all → bodies_behind (bodies ++ shared_body bodies m End ∷ []) (drop (i + 1) ms) ≡ all
+behind_next bodies ms i m all within is before = sym (ap (bodies_behind bodies) (drop_next ms i m within is)) ∙ before
 
-  pub sections_done : (ps : List Pair) (bs : List Alias) (whole : Body) (p1 : List Pair) (a1 : List Alias) (n : ℕ) (ss : List Section) → length ss ≡ 0 → Left ps bs whole p1 a1 (sections_from n ss) → Left ps bs whole p1 a1 End
-  sections_done ps bs whole p1 a1 n ss h l = subst (λ xs. Left ps bs whole p1 a1 (sections_from n xs)) (none-left ss h) l
+pub behind_all : (bodies : List Body) (ms : List Map) (i : ℕ) (all : List Body) → length ms ≤ i → bodies_behind bodies (drop i ms) ≡ all → bodies ≡ all
+behind_all bodies ms i all over before = sym (ap (bodies_behind bodies) (drop_all i ms over)) ∙ before
 
--- want of memory
-pub memory_passed : {X : Type 0} (r : Result X Fault) (fs : List Fault) → IsErrAnd r (λ y. y ≡ Memory) → IfErr r (λ e. Contains (Memory ∷ fs) e)
-memory_passed (Ok x) fs is = absurd is
-memory_passed (Err e) fs is = (0, omega arith, sym is)
+-- a single part of an include, taken under the include's mode
+pub took_once : (old new : Gathered) (mode inner : Mode) (group : Option ℕ) (body : Body) → Took old new (Inc mode group body End) → Took old new (Inc mode None (Inc inner group body End) End)
+took_once old new mode inner group body t = record {
+  pairs_are = λ ps s. once_stands mode inner new.pairs ps (pairs_of body) s.distinct_are (from_distinct [] body refl) (t.pairs_are ps s);
+  aliases_are = t.aliases_are ∙ sym (ap (aliases_taken mode old.aliases) (alone_aliases inner body));
+  faultless = ap (λ fs. fs ++ []) t.faultless;
+}
 
-pub memory_answered : {X : Type 0} (r : Result X Fault) (fs : List Fault) → IfErr r (λ y. y ≡ Memory) → IfErr r (λ e. Contains (Memory ∷ fs) e)
-memory_answered (Ok x) fs is = is
-memory_answered (Err e) fs is = (0, omega arith, sym is)
+pub blamed_once : (mode inner : Mode) (group : Option ℕ) (body : Body) (e : Fault) → Blames (Inc mode group body End) e → Blames (Inc mode None (Inc inner group body End) End) e
+blamed_once mode inner group body e has = Contains-append_left (Memory ∷ faults_of (Inc mode group body End)) [] e has
 
-pub memory_is : (fs : List Fault) (e : Fault) → e ≡ Memory → Contains (Memory ∷ fs) e
-memory_is fs e is = (0, omega arith, sym is)
+pub single : (ls : List Link) (d : Link) → 1 ≤ length ls → length ls < 2 → ls ≡ get_or ls 0 d ∷ []
+single [] d h k = absurd (omega (arith, h))
+single (l ∷ []) d h k = refl
+single (l ∷ m ∷ ls) d h k = absurd (omega (arith, k))
+
+pub err_passed : {X : Type 0} (r : Result X Fault) (P : Fault → Type 0) (e : Fault) → IsErrAnd r (λ y. y ≡ e) → P e → IfErr r P
+err_passed (Ok x) P e is p = tt
+err_passed (Err y) P e is p = subst P (sym is) p

@@ -13,11 +13,8 @@ use Rattle.kx_parse.specs.declared.tree.Mode.TheVariants.{Augment, Override, Rep
 use Rattle.kx_parse.specs.declared.tree.Statement.{Statement as Said}
 use Rattle.kx_parse.specs.declared.tree.Statement.TheVariants as said
 use Rattle.kx_include.specs.Expansion.{Body, End, Begin, Own, Inc}
+use Rattle.kx_codes.specs.Indexed.{distinct}
 use Rattle.kx_codes.specs.Pairs.{Pair, shares, without, taken, all_taken, said_pairs, own_pairs, pairs_from, pairs_of, code_in, name_in}
-
-abbrev distinct : List Pair → Bool
-distinct [] = true
-distinct (p ∷ ps) = not (list_any (shares p) ps) && distinct ps
 
 either-way : (a b c d : Bool) → (c ≡ true → a ≡ true) → (d ≡ true → b ≡ true) → (a || b) ≡ false → (c || d) ≡ false
 either-way true b c d f g h = absurd (false≢true (sym h))
@@ -26,82 +23,82 @@ either-way false false true d f g h = absurd (false≢true (f refl))
 either-way false false false true f g h = absurd (false≢true (g refl))
 either-way false false false false f g h = refl
 
-shares-sym : (p q : Pair) → shares p q ≡ false → shares q p ≡ false
-shares-sym p q = either-way (bytes_eq p.name q.name) (p.code == q.code) (bytes_eq q.name p.name) (q.code == p.code)
+shares_sym : (p q : Pair) → shares p q ≡ false → shares q p ≡ false
+shares_sym p q = either-way (bytes_eq p.name q.name) (p.code == q.code) (bytes_eq q.name p.name) (q.code == p.code)
     (λ h. (bytes_eq-Decides p.name q.name).1 (sym ((bytes_eq-Decides q.name p.name).0 h)))
     (λ h. (unsigned_Decides p.code q.code).1 (sym ((unsigned_Decides q.code p.code).0 h)))
 
-first-of : (a b : Bool) → (a || b) ≡ false → a ≡ false
-first-of true b h = h
-first-of false b h = refl
+pub first_of : (a b : Bool) → (a || b) ≡ false → a ≡ false
+first_of true b h = h
+first_of false b h = refl
 
-second-of : (a b : Bool) → (a || b) ≡ false → b ≡ false
-second-of true b h = absurd (false≢true (sym h))
-second-of false b h = h
+pub second_of : (a b : Bool) → (a || b) ≡ false → b ≡ false
+second_of true b h = absurd (false≢true (sym h))
+second_of false b h = h
 
-no-first : (a b : Bool) → (not a && b) ≡ true → a ≡ false
-no-first true b h = absurd (false≢true h)
-no-first false b h = refl
+pub no_first : (a b : Bool) → (not a && b) ≡ true → a ≡ false
+no_first true b h = absurd (false≢true h)
+no_first false b h = refl
 
-no-second : (a b : Bool) → (not a && b) ≡ true → b ≡ true
-no-second true b h = absurd (false≢true h)
-no-second false b h = h
+pub no_second : (a b : Bool) → (not a && b) ≡ true → b ≡ true
+no_second true b h = absurd (false≢true h)
+no_second false b h = h
 
-both-of : (a b : Bool) → a ≡ false → b ≡ true → (not a && b) ≡ true
-both-of true b h k = absurd (false≢true (sym h))
-both-of false b h k = k
+pub both_of : (a b : Bool) → a ≡ false → b ≡ true → (not a && b) ≡ true
+both_of true b h k = absurd (false≢true (sym h))
+both_of false b h k = k
 
-neither-of : (a b : Bool) → a ≡ false → b ≡ false → (a || b) ≡ false
-neither-of true b h k = h
-neither-of false b h k = k
+pub neither_of : (a b : Bool) → a ≡ false → b ≡ false → (a || b) ≡ false
+neither_of true b h k = h
+neither_of false b h k = k
 
-pushed : (ps : List Pair) (p : Pair) → distinct ps ≡ true → list_any (shares p) ps ≡ false → distinct (ps ++ p ∷ []) ≡ true
+pub pushed : (ps : List Pair) (p : Pair) → distinct ps ≡ true → list_any (shares p) ps ≡ false → distinct (ps ++ p ∷ []) ≡ true
 pushed [] p h k = refl
 pushed (q ∷ qs) p h k =
-    both-of (list_any (shares q) (qs ++ p ∷ [])) (distinct (qs ++ p ∷ []))
-    (list_any-append (shares q) qs (p ∷ []) ∙ neither-of (list_any (shares q) qs) (shares q p || false) (no-first (list_any (shares q) qs) (distinct qs) h) (neither-of (shares q p) false (shares-sym p q (first-of (shares p q) (list_any (shares p) qs) k)) refl))
-    (pushed qs p (no-second (list_any (shares q) qs) (distinct qs) h) (second-of (shares p q) (list_any (shares p) qs) k))
+    both_of (list_any (shares q) (qs ++ p ∷ [])) (distinct (qs ++ p ∷ []))
+    (list_any-append (shares q) qs (p ∷ []) ∙ neither_of (list_any (shares q) qs) (shares q p || false) (no_first (list_any (shares q) qs) (distinct qs) h) (neither_of (shares q p) false (shares_sym p q (first_of (shares p q) (list_any (shares p) qs) k)) refl))
+    (pushed qs p (no_second (list_any (shares q) qs) (distinct qs) h) (second_of (shares p q) (list_any (shares p) qs) k))
 
 module _ (keep : Pair → Bool) where
   any-kept : (test : Pair → Bool) (ps : List Pair) → list_any test ps ≡ false → list_any test (filter keep ps) ≡ false
   any-kept test [] h = refl
-  any-kept test (q ∷ qs) h = by (keep q) (first-of (test q) (list_any test qs) h) (any-kept test qs (second-of (test q) (list_any test qs) h))
+  any-kept test (q ∷ qs) h = by (keep q) (first_of (test q) (list_any test qs) h) (any-kept test qs (second_of (test q) (list_any test qs) h))
     where
       by : (b : Bool) → test q ≡ false → list_any test (filter keep qs) ≡ false → list_any test (cond b (q ∷ filter keep qs) (filter keep qs)) ≡ false
-      by true one rest = neither-of (test q) (list_any test (filter keep qs)) one rest
+      by true one rest = neither_of (test q) (list_any test (filter keep qs)) one rest
       by false one rest = rest
 
-  kept-distinct : (ps : List Pair) → distinct ps ≡ true → distinct (filter keep ps) ≡ true
-  kept-distinct [] h = refl
-  kept-distinct (q ∷ qs) h = by (keep q) (any-kept (shares q) qs (no-first (list_any (shares q) qs) (distinct qs) h)) (kept-distinct qs (no-second (list_any (shares q) qs) (distinct qs) h))
+  pub kept_distinct : (ps : List Pair) → distinct ps ≡ true → distinct (filter keep ps) ≡ true
+  kept_distinct [] h = refl
+  kept_distinct (q ∷ qs) h = by (keep q) (any-kept (shares q) qs (no_first (list_any (shares q) qs) (distinct qs) h)) (kept_distinct qs (no_second (list_any (shares q) qs) (distinct qs) h))
     where
       by : (b : Bool) → list_any (shares q) (filter keep qs) ≡ false → distinct (filter keep qs) ≡ true → distinct (cond b (q ∷ filter keep qs) (filter keep qs)) ≡ true
-      by true one rest = both-of (list_any (shares q) (filter keep qs)) (distinct (filter keep qs)) one rest
+      by true one rest = both_of (list_any (shares q) (filter keep qs)) (distinct (filter keep qs)) one rest
       by false one rest = rest
 
-none-left : (p : Pair) (ps : List Pair) → list_any (shares p) (without p ps) ≡ false
-none-left p [] = refl
-none-left p (q ∷ qs) = by (shares p q) refl (none-left p qs)
+pub none_left : (p : Pair) (ps : List Pair) → list_any (shares p) (without p ps) ≡ false
+none_left p [] = refl
+none_left p (q ∷ qs) = by (shares p q) refl (none_left p qs)
   where
     by : (b : Bool) → shares p q ≡ b → list_any (shares p) (without p qs) ≡ false → list_any (shares p) (cond (not b) (q ∷ without p qs) (without p qs)) ≡ false
     by true e rest = rest
-    by false e rest = neither-of (shares p q) (list_any (shares p) (without p qs)) e rest
+    by false e rest = neither_of (shares p q) (list_any (shares p) (without p qs)) e rest
 
-taken-distinct : (mode : Mode) (ps : List Pair) (p : Pair) → distinct ps ≡ true → distinct (taken mode ps p) ≡ true
-taken-distinct Augment ps p h = by (list_any (shares p) ps) refl
+pub taken_distinct : (mode : Mode) (ps : List Pair) (p : Pair) → distinct ps ≡ true → distinct (taken mode ps p) ≡ true
+taken_distinct Augment ps p h = by (list_any (shares p) ps) refl
   where
     by : (b : Bool) → list_any (shares p) ps ≡ b → distinct (cond b ps (ps ++ p ∷ [])) ≡ true
     by true e = h
     by false e = pushed ps p h e
-taken-distinct Override ps p h = pushed (without p ps) p (kept-distinct (λ q. not (shares p q)) ps h) (none-left p ps)
-taken-distinct Replace ps p h = pushed (without p ps) p (kept-distinct (λ q. not (shares p q)) ps h) (none-left p ps)
+taken_distinct Override ps p h = pushed (without p ps) p (kept_distinct (λ q. not (shares p q)) ps h) (none_left p ps)
+taken_distinct Replace ps p h = pushed (without p ps) p (kept_distinct (λ q. not (shares p q)) ps h) (none_left p ps)
 
-all-distinct : (mode : Mode) (ps qs : List Pair) → distinct ps ≡ true → distinct (all_taken mode ps qs) ≡ true
-all-distinct mode ps [] h = h
-all-distinct mode ps (q ∷ qs) h = all-distinct mode (taken mode ps q) qs (taken-distinct mode ps q h)
+pub all_distinct : (mode : Mode) (ps qs : List Pair) → distinct ps ≡ true → distinct (all_taken mode ps qs) ≡ true
+all_distinct mode ps [] h = h
+all_distinct mode ps (q ∷ qs) h = all_distinct mode (taken mode ps q) qs (taken_distinct mode ps q h)
 
 said-distinct : (mode : Mode) (s : Said) (ps : List Pair) → distinct ps ≡ true → distinct (said_pairs mode s ps) ≡ true
-said-distinct mode (said.Keycode name code) ps h = taken-distinct mode ps (record { name = name.bytes; code = code.value }) h
+said-distinct mode (said.Keycode name code) ps h = taken_distinct mode ps (record { name = name.bytes; code = code.value }) h
 said-distinct mode (said.Alias name target) ps h = h
 said-distinct mode (said.IndicatorName number name) ps h = h
 said-distinct mode (said.VirtualModifiers ds) ps h = h
@@ -117,11 +114,11 @@ own-distinct : (item : Item) (ps : List Pair) → distinct ps ≡ true → disti
 own-distinct (Statement mode statement first span) ps h = said-distinct mode statement ps h
 own-distinct (Include mode text span) ps h = h
 
-from-distinct : (ps : List Pair) (body : Body) → distinct ps ≡ true → distinct (pairs_from ps body) ≡ true
-from-distinct ps End h = h
-from-distinct ps (Begin rest) h = from-distinct ps rest h
-from-distinct ps (Own place item rest) h = from-distinct (own_pairs item ps) rest (own-distinct item ps h)
-from-distinct ps (Inc mode group body rest) h = from-distinct (all_taken mode ps (pairs_from [] body)) rest (all-distinct mode ps (pairs_from [] body) h)
+pub from_distinct : (ps : List Pair) (body : Body) → distinct ps ≡ true → distinct (pairs_from ps body) ≡ true
+from_distinct ps End h = h
+from_distinct ps (Begin rest) h = from_distinct ps rest h
+from_distinct ps (Own place item rest) h = from_distinct (own_pairs item ps) rest (own-distinct item ps h)
+from_distinct ps (Inc mode group body rest) h = from_distinct (all_taken mode ps (pairs_from [] body)) rest (all_distinct mode ps (pairs_from [] body) h)
 
 or-left : (a b r : Bool) → a ≡ true → ((a || b) || r) ≡ true
 or-left true b r h = refl
@@ -153,24 +150,24 @@ name-any code n p (q ∷ qs) is h = by (code == q.code) refl (name-any code n p 
     by true e rest h = or-middle (bytes_eq p.name q.name) (p.code == q.code) (list_any (shares p) qs) (ap (λ c. c == q.code) is ∙ e)
     by false e rest h = or-right (shares p q) (list_any (shares p) qs) (rest h)
 
-code-of-name : (ps : List Pair) (code : ℕ) (name : List ℕ) → distinct ps ≡ true → name_in ps code ≡ Some name → code_in ps name ≡ Some code
-code-of-name [] code name d h = absurd (false≢true (ap is_some h))
-code-of-name (p ∷ ps) code name d h = by (code == p.code) (unsigned_Decides code p.code).0 (code-of-name ps code name (no-second (list_any (shares p) ps) (distinct ps) d)) h
+pub code_of_name : (ps : List Pair) (code : ℕ) (name : List ℕ) → distinct ps ≡ true → name_in ps code ≡ Some name → code_in ps name ≡ Some code
+code_of_name [] code name d h = absurd (false≢true (ap is_some h))
+code_of_name (p ∷ ps) code name d h = by (code == p.code) (unsigned_Decides code p.code).0 (code_of_name ps code name (no_second (list_any (shares p) ps) (distinct ps) d)) h
   where
     other : (b : Bool) → (b ≡ true → name ≡ p.name) → code_in ps name ≡ Some code → cond b (Some p.code) (code_in ps name) ≡ Some code
-    other true same g = absurd (false≢true (sym (no-first (list_any (shares p) ps) (distinct ps) d) ∙ code-any name code p ps (sym (same refl)) g))
+    other true same g = absurd (false≢true (sym (no_first (list_any (shares p) ps) (distinct ps) d) ∙ code-any name code p ps (sym (same refl)) g))
     other false same g = g
 
     by : (b : Bool) → (b ≡ true → code ≡ p.code) → (name_in ps code ≡ Some name → code_in ps name ≡ Some code) → cond b (Some p.name) (name_in ps code) ≡ Some name → cond (bytes_eq name p.name) (Some p.code) (code_in ps name) ≡ Some code
     by true same rest h = ap (λ b. cond b (Some p.code) (code_in ps name)) ((bytes_eq-Decides name p.name).1 (sym (ap (λ o. unwrap_or o name) h))) ∙ ap Some (sym (same refl))
     by false same rest h = other (bytes_eq name p.name) (bytes_eq-Decides name p.name).0 (rest h)
 
-name-of-code : (ps : List Pair) (code : ℕ) (name : List ℕ) → distinct ps ≡ true → code_in ps name ≡ Some code → name_in ps code ≡ Some name
-name-of-code [] code name d h = absurd (false≢true (ap is_some h))
-name-of-code (p ∷ ps) code name d h = by (bytes_eq name p.name) (bytes_eq-Decides name p.name).0 (name-of-code ps code name (no-second (list_any (shares p) ps) (distinct ps) d)) h
+pub name_of_code : (ps : List Pair) (code : ℕ) (name : List ℕ) → distinct ps ≡ true → code_in ps name ≡ Some code → name_in ps code ≡ Some name
+name_of_code [] code name d h = absurd (false≢true (ap is_some h))
+name_of_code (p ∷ ps) code name d h = by (bytes_eq name p.name) (bytes_eq-Decides name p.name).0 (name_of_code ps code name (no_second (list_any (shares p) ps) (distinct ps) d)) h
   where
     other : (b : Bool) → (b ≡ true → code ≡ p.code) → name_in ps code ≡ Some name → cond b (Some p.name) (name_in ps code) ≡ Some name
-    other true same g = absurd (false≢true (sym (no-first (list_any (shares p) ps) (distinct ps) d) ∙ name-any code name p ps (sym (same refl)) g))
+    other true same g = absurd (false≢true (sym (no_first (list_any (shares p) ps) (distinct ps) d) ∙ name-any code name p ps (sym (same refl)) g))
     other false same g = g
 
     by : (b : Bool) → (b ≡ true → name ≡ p.name) → (code_in ps name ≡ Some code → name_in ps code ≡ Some name) → cond b (Some p.code) (code_in ps name) ≡ Some code → cond (code == p.code) (Some p.name) (name_in ps code) ≡ Some name
@@ -181,8 +178,8 @@ name-of-code (p ∷ ps) code name d h = by (bytes_eq name p.name) (bytes_eq-Deci
 pub joined : (body : Body) (named : ℕ → Option (List ℕ)) (coded : List ℕ → Option ℕ) → ((code : ℕ) → named code ≡ name_in (pairs_of body) code) → ((name : List ℕ) → coded name ≡ code_in (pairs_of body) name)
     → (code : ℕ) (name : List ℕ) → (named code ≡ Some name) ↔ (coded name ≡ Some code)
 joined body named coded names codes code name = (
-  λ h. codes name ∙ code-of-name (pairs_of body) code name (from-distinct [] body refl) (sym (names code) ∙ h),
-  λ h. names code ∙ name-of-code (pairs_of body) code name (from-distinct [] body refl) (sym (codes name) ∙ h),
+  λ h. codes name ∙ code_of_name (pairs_of body) code name (from_distinct [] body refl) (sym (names code) ∙ h),
+  λ h. names code ∙ name_of_code (pairs_of body) code name (from_distinct [] body refl) (sym (codes name) ∙ h),
 )
 
 pub joined_answer : {C F : Type 0} (named : C → ℕ → Option (List ℕ)) (coded : C → List ℕ → Option ℕ) (r : Result C F) (ps : List Pair) (body : Body) → ps ≡ pairs_of body → IfOk r (λ c. (name : List ℕ) → coded c name ≡ code_in ps name) → IfOk r (λ c. (code : ℕ) → named c code ≡ name_in ps code)

@@ -1,5 +1,7 @@
+mod Alone
 mod Behind
 mod Distinct
+mod Entries
+mod Matching
 mod Putting
-mod Sharing
-mod Tables
+mod Standing

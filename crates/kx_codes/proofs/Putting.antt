@@ -7,6 +7,7 @@ use Rattle.std.specs.Str.{bytes_eq}
 use Rattle.std.proofs.lemmas.Bool.{false≢true}
 use Rattle.indexmap.specs.IndexMap.{insert_entry}
 use Rattle.kx_parse.specs.declared.tree.Mode.{Mode}
+use Rattle.kx_parse.specs.declared.tree.Mode.TheVariants.{Augment, Override, Replace}
 use Rattle.kx_codes.specs.Aliases.{Alias, aliases_taken, alias_taken, has_alias, put, target_in}
 
 put-next : (t r : Bool) (b : Alias) (one : Alias) (bs cs all : List Alias) → (t || r) ≡ false → (r ≡ false → cs ≡ all) → cond t (one ∷ bs) (b ∷ cs) ≡ b ∷ all
@@ -16,6 +17,31 @@ put-next false r b one bs cs all h rest = ap (λ xs. b ∷ xs) (rest h)
 pub put_none : (a : Alias) (bs : List Alias) → has_alias a.name bs ≡ false → put bs a ≡ bs ++ a ∷ []
 put_none a [] h = refl
 put_none a (b ∷ bs) h = put-next (bytes_eq a.name b.name) (has_alias a.name bs) b (record { name = b.name; target = a.target }) bs (put bs a) (bs ++ a ∷ []) h (put_none a bs)
+
+some-target : (a : Alias) (bs : List Alias) → target_in bs a.name ≡ Some a.target → has_alias a.name bs ≡ true
+some-target a [] h = absurd (false≢true (ap is_some h))
+some-target a (b ∷ bs) h = by (bytes_eq a.name b.name) h (some-target a bs)
+  where
+    by : (c : Bool) → cond c (Some b.target) (target_in bs a.name) ≡ Some a.target → (target_in bs a.name ≡ Some a.target → has_alias a.name bs ≡ true) → (c || has_alias a.name bs) ≡ true
+    by true h rest = refl
+    by false h rest = rest h
+
+abbrev held : List ℕ → Option (List ℕ) → List ℕ
+held n None = n
+held n (Some m) = m
+
+put-same : (a : Alias) (bs : List Alias) → target_in bs a.name ≡ Some a.target → put bs a ≡ bs
+put-same a [] h = absurd (false≢true (ap is_some h))
+put-same a (b ∷ bs) h = by (bytes_eq a.name b.name) h (put-same a bs)
+  where
+    by : (c : Bool) → cond c (Some b.target) (target_in bs a.name) ≡ Some a.target → (target_in bs a.name ≡ Some a.target → put bs a ≡ bs) → cond c (record { name = b.name; target = a.target } ∷ bs) (b ∷ put bs a) ≡ b ∷ bs
+    by true h rest = λ i. record { name = b.name; target = held b.target (sym h i) } ∷ bs
+    by false h rest = ap (λ cs. b ∷ cs) (rest h)
+
+pub taken_same : (mode : Mode) (bs : List Alias) (a : Alias) → target_in bs a.name ≡ Some a.target → alias_taken mode bs a ≡ bs
+taken_same Augment bs a h = ap (λ c. cond c bs (bs ++ a ∷ [])) (some-target a bs h)
+taken_same Override bs a h = put-same a bs h
+taken_same Replace bs a h = put-same a bs h
 
 module _ {K V : Type 0} (f : K → List ℕ) (g : V → List ℕ) where
   abbrev pub shown : List (K × V) → List Alias

@@ -1,6 +1,7 @@
 -- The faults of the statements of a keycodes body.
 use Rattle.std.specs.Prelude.{ℕ, Bool, true, false, ◌||◌, nat_lt, List, [], ◌∷◌, ◌++◌, length, Option, None, Some, if◌then◌else◌, codes}
 use Rattle.std.specs.Str.{str_eq_ignore_ascii_case}
+use Rattle.kx_basics.specs.declared.limits.TheConstants.{GREATEST_CODE, MOST_NAME_BYTES}
 use Rattle.kx_lex.specs.declared.fault.Fault.{Fault}
 use Rattle.kx_lex.specs.declared.fault.Fault.TheVariants.{TooMany, CodeRange, UnknownField}
 use Rattle.kx_lex.specs.declared.token.Span.{Span}
@@ -16,11 +17,11 @@ use Rattle.kx_include.specs.IncludeFaults.{at}
 
 -- a name has at most 255 bytes
 abbrev pub name_faults : ℕ → Span → Name → List Fault
-name_faults file whole name = if nat_lt 255 (length name.bytes) then TooMany (at file whole) ∷ [] else []
+name_faults file whole name = if nat_lt MOST_NAME_BYTES (length name.bytes) then TooMany (at file whole) ∷ [] else []
 
 -- the greatest keycode is 4,095
 abbrev pub code_faults : ℕ → Number → List Fault
-code_faults file code = if nat_lt 4095 code.value then CodeRange (at file code.span) ∷ [] else []
+code_faults file code = if nat_lt GREATEST_CODE code.value then CodeRange (at file code.span) ∷ [] else []
 
 abbrev pub has_member : Option Name → Bool
 has_member None = false

@@ -1,4 +1,4 @@
-ghost use Rattle.std.specs.Prelude.{◌≡◌, ◌<◌, ◌+◌, [], drop, length, slice_get, IfErr, OnOk};
+ghost use Rattle.std.specs.Prelude.{◌≡◌, ◌<◌, ◌+◌, [], drop, length, slice_get, true, IfErr, OnOk, Some};
 ghost use Rattle.std.specs.Option.{option_map};
 ghost use Rattle.kx_lex.specs.declared.fault.Fault.TheVariants.{Memory};
 ghost use Rattle.kx_codes.specs.Aliases.{Alias as AliasValue, alias_taken, aliases_taken, has_alias, put, target_in};
@@ -65,6 +65,15 @@ impl Aliases {
         self.targets.contains_key(name)
     }
 
+    fn has_target(&self, name: &[u8], target: &[u8]) -> bool
+        ensures { result ≡ true → target_in self.now name.now ≡ Some target.now }
+    {
+        match self.target(name) {
+            Some(held) => held == target,
+            None => false,
+        }
+    }
+
     fn put(&mut self, alloc: Global, name: &[u8], target: &[u8]) -> Result<(), Fault>
         ensures put { OnOk result (self.new ≡ put self.old (record { name = name.now; target = target.now })) }
         ensures err { IfErr result (λ e. e ≡ Memory) }
@@ -76,7 +85,7 @@ impl Aliases {
     }
 
     /// Takes a target: the last that is taken under override or replace stands, else the first under augment.
-    #[tactic(auto, using(crate::proofs::Putting::put_none))]
+    #[tactic(auto, using(crate::proofs::Putting::put_none, crate::proofs::Putting::taken_same))]
     pub(crate) fn take(
         &mut self,
         alloc: Global,
@@ -88,6 +97,9 @@ impl Aliases {
         ensures err { IfErr result (λ e. e ≡ Memory) }
     {
         if mode == Mode::Augment && self.has(name) {
+            return Ok(());
+        }
+        if self.has_target(name, target) {
             return Ok(());
         }
         self.put(alloc, name, target)

@@ -1,21 +1,16 @@
 ghost use Rattle.std.specs.Prelude.{◌≡◌, ◌⊎◌, ◌≤◌, ◌++◌, ◌∷◌, [], Contains, IfErr, IfOk, OnOk};
 ghost use Rattle.kx_lex.specs.declared.fault.Fault.TheVariants.{Memory};
 ghost use Rattle.kx_codes.specs.CodeFaults.{name_faults, code_faults, is_limit};
-ghost use Rattle.kx_codes.specs.Names.{IsName};
+ghost use Rattle.kx_basics.specs.KeyNames.{IsKeyName};
 
+use kx_basics::{GREATEST_CODE, MOST_NAME_BYTES};
 use kx_lex::{At, Fault, Span};
 use kx_parse::{KeyName, Number, Place};
-
-/// The greatest keycode.
-pub const GREATEST_CODE: u32 = 4095;
-
-/// A name may have this many bytes.
-pub const MOST_NAME_BYTES: usize = 255;
 
 /// The bytes of a name; `whole` is the statement in which it stands.
 pub(crate) fn check_name(file: u32, whole: Span, name: &KeyName) -> Result<&[u8], Fault>
     ensures value { IfOk result (λ bytes. bytes.now ≡ name.now.bytes) }
-    ensures fine { IfOk result (λ bytes. IsName bytes.now) }
+    ensures fine { IfOk result (λ bytes. IsKeyName bytes.now) }
     ensures faultless { OnOk result (name_faults file whole name.now ≡ []) }
     ensures fault { IfErr result (λ e. Contains (Memory ∷ name_faults file whole name.now) e) }
 {
@@ -31,7 +26,7 @@ pub(crate) fn check_code(file: u32, code: Number) -> Result<u16, Fault>
     ensures faultless { OnOk result (code_faults file code ≡ []) }
     ensures fault { IfErr result (λ e. Contains (Memory ∷ code_faults file code) e) }
 {
-    if code.value > GREATEST_CODE {
+    if code.value > u32::from(GREATEST_CODE) {
         return Err(Fault::CodeRange(At {
             file,
             span: code.span,

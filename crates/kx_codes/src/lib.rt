@@ -12,6 +12,5 @@ mod table;
 mod tests;
 mod walking;
 
-pub use checks::{GREATEST_CODE, MOST_NAME_BYTES};
 pub use reader::codes;
 pub use table::Codes;

@@ -1,6 +1,6 @@
 ghost use Rattle.std.specs.Prelude.{◌≡◌, IfErr, IfOk};
 ghost use Rattle.kx_lex.specs.declared.fault.Fault.TheVariants.{Memory};
-ghost use Rattle.kx_codes.specs.Names.{IsName};
+ghost use Rattle.kx_basics.specs.KeyNames.{IsKeyName};
 
 use kx_lex::Fault;
 use std::alloc::Global;
@@ -14,18 +14,18 @@ pub(crate) struct PairName {
 
 impl Model for PairName {
     ghost use Rattle.std.specs.Prelude.{List, ℕ};
-    ghost use Rattle.kx_codes.specs.Names.{IsName};
+    ghost use Rattle.kx_basics.specs.KeyNames.{IsKeyName};
 
     ghost Value = { List ℕ };
 
     ghost view = { λ n. n.bytes.items };
 
-    ghost invariant = { λ n. IsName n.bytes.items };
+    ghost invariant = { λ n. IsKeyName n.bytes.items };
 }
 
 impl PairName {
     pub(crate) fn of(alloc: Global, name: &[u8]) -> Result<PairName, Fault>
-        requires { IsName name.now }
+        requires { IsKeyName name.now }
         ensures value { IfOk result (λ n. n ≡ name.now) }
         ensures err { IfErr result (λ e. e ≡ Memory) }
     {
@@ -35,7 +35,7 @@ impl PairName {
 
     pub(crate) fn as_slice(&self) -> &[u8]
         ensures value { result.now ≡ self.now }
-        ensures fine { IsName result.now }
+        ensures fine { IsKeyName result.now }
     {
         self.bytes.as_slice()
     }

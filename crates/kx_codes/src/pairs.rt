@@ -1,129 +1,99 @@
-ghost use Rattle.std.specs.Prelude.{◌≡◌, ◌++◌, ◌∷◌, [], ◌≤◌, false, true, IfErr, OnOk, List, ℕ, Bool};
+ghost use Rattle.std.specs.Prelude.{◌≡◌, ◌++◌, ◌∷◌, [], ◌≤◌, false, not, nat_eq, filter, slice_get, IfErr, IfSome, OnOk, List, Some};
 ghost use Rattle.std.specs.List.{list_any};
+ghost use Rattle.std.specs.Option.{option_map};
+ghost use Rattle.std.specs.Str.{bytes_eq};
 ghost use Rattle.kx_lex.specs.declared.fault.Fault.TheVariants.{Memory};
-ghost use Rattle.kx_codes.specs.Names.{IsName};
-ghost use Rattle.kx_codes.specs.Pairs.{shares, taken, all_taken, without};
+ghost use Rattle.kx_codes.specs.Indexed.{Stands};
+ghost use Rattle.kx_basics.specs.KeyNames.{IsKeyName};
+ghost use Rattle.kx_codes.specs.Pairs.{Pair as PairValue, shares, taken, all_taken, code_in, name_in};
 
 use crate::name::PairName;
-use indexmap::IndexSet;
+use indexmap::IndexMap;
 use kx_lex::Fault;
 use kx_parse::Mode;
 use std::alloc::Global;
 use std::marker::Model;
 
-/// A name and its keycode.
-#[derive(Drop)]
-pub(crate) struct Pair {
-    name: PairName,
-    code: u16,
-}
-
-impl Model for Pair {
-    ghost use Rattle.kx_codes.specs.Pairs.{Pair};
-
-    ghost Value = { Pair };
-
-    ghost view = { λ p. record { name = p.name; code = p.code } };
-}
-
-impl Pair {
-    pub(crate) fn name(&self) -> &[u8]
-        ensures value { result.now ≡ self.now.name }
-        ensures fine { IsName result.now }
-    {
-        self.name.as_slice()
-    }
-
-    pub(crate) fn code(&self) -> u16
-        ensures { result ≡ self.now.code }
-    {
-        self.code
-    }
-
-    fn shares(&self, name: &[u8], code: u16) -> bool
-        ensures { result ≡ shares (record { name = name.now; code = code }) self.now }
-    {
-        name == self.name.as_slice() || code == self.code
-    }
-}
-
-/// Pairs in the order in which they were taken.
+/// Pairs of a name and a keycode, of which no two share either.
 #[derive(Drop)]
 pub(crate) struct Pairs {
-    pairs: Vec<Pair>,
-    // What any pair so far had: where neither name nor code is among them, no pair shares them.
-    names: IndexSet<Vec<u8>>,
-    codes: IndexSet<u16>,
+    codes: IndexMap<Vec<u8>, u16>,
+    names: IndexMap<u16, PairName>,
 }
 
 impl Model for Pairs {
-    ghost use Rattle.std.specs.Prelude.{List};
-    ghost use Rattle.indexmap.specs.IndexSet.{keys};
-    ghost use Rattle.kx_codes.specs.Pairs.{Pair};
-    ghost use Rattle.kx_codes.specs.Seen.{AreSeen};
+    ghost use Rattle.kx_codes.specs.Codes.{named, coded};
+    ghost use Rattle.kx_codes.specs.Indexed.{Indexed};
 
-    ghost Value = { List Pair };
+    ghost Value = { Indexed };
 
-    ghost view = { λ p. p.pairs.items };
-
-    ghost invariant = { λ p. AreSeen (λ k. k.items) p.names.keys p.codes.keys p.pairs.items };
+    ghost view = { λ p. record { by_name = named (λ k. k.items) p.codes.entries; by_code = coded p.names.entries } };
 }
 
 impl Pairs {
     pub(crate) fn new(alloc: Global) -> Pairs
-        ensures { result ≡ [] }
+        ensures { Stands result [] }
     {
         Pairs {
-            pairs: Vec::new(alloc),
-            names: IndexSet::new(alloc),
-            codes: IndexSet::new(alloc),
+            codes: IndexMap::new(alloc),
+            names: IndexMap::new(alloc),
         }
     }
 
-    pub(crate) fn as_slice(&self) -> &[Pair]
-        ensures { result.now ≡ self.now }
+    pub(crate) fn code_of(&self, name: &[u8]) -> Option<u16>
+        ensures { result ≡ code_in self.now.by_name name.now }
     {
-        self.pairs.as_slice()
+        self.codes.get(name).copied()
     }
 
-    /// Whether a pair had the name or the code.
-    fn has_seen(&self, name: &[u8], code: u16) -> bool
-        ensures { result ≡ false → list_any (shares (record { name = name.now; code = code })) self.now ≡ false }
+    pub(crate) fn name_of(&self, code: u16) -> Option<&[u8]>
+        ensures value { option_map (λ n. n.now) result ≡ name_in self.now.by_code code }
+        ensures fine { IfSome result (λ name. IsKeyName name.now) }
     {
-        self.names.contains(name) || self.codes.contains(&code)
+        match self.names.get(&code) {
+            Some(name) => Some(name.as_slice()),
+            None => None,
+        }
     }
 
+    /// Whether a pair has the name or the code.
     fn has_sharing(&self, name: &[u8], code: u16) -> bool
-        ensures { result ≡ list_any (shares (record { name = name.now; code = code })) self.now }
+        ensures { (ps : List PairValue) → Stands self.now ps → result ≡ list_any (shares (record { name = name.now; code = code })) ps }
     {
-        self.pairs
-            .as_slice()
-            .iter()
-            .any(|pair| pair.shares(name, code))
+        self.codes.contains_key(name) || self.names.contains_key(&code)
     }
 
-    fn remove_sharing(&mut self, name: &[u8], code: u16)
-        ensures { self.new ≡ without (record { name = name.now; code = code }) self.old }
+    fn remove_name(&mut self, name: &[u8])
+        ensures { (ps : List PairValue) → Stands self.old ps → Stands self.new (filter (λ q. not (bytes_eq name.now q.name)) ps) }
     {
-        self.pairs.retain(|pair| !pair.shares(name, code));
+        if let Some(code) = self.codes.swap_remove(name) {
+            let _ = self.names.swap_remove(&code);
+        }
     }
 
-    fn push(&mut self, alloc: Global, name: &[u8], code: u16) -> Result<(), Fault>
-        requires { IsName name.now }
-        ensures pushed { OnOk result (self.new ≡ self.old ++ record { name = name.now; code = code } ∷ []) }
+    fn remove_code(&mut self, code: u16)
+        ensures { (ps : List PairValue) → Stands self.old ps → Stands self.new (filter (λ q. not (nat_eq code q.code)) ps) }
+    {
+        if let Some(name) = self.names.swap_remove(&code) {
+            let _ = self.codes.swap_remove(name.as_slice());
+        }
+    }
+
+    /// Puts in a pair that shares nothing with another.
+    fn insert(&mut self, alloc: Global, name: &[u8], code: u16) -> Result<(), Fault>
+        requires { IsKeyName name.now }
+        ensures inserted { OnOk result ((ps : List PairValue) → Stands self.old ps → list_any (shares (record { name = name.now; code = code })) ps ≡ false → Stands self.new (ps ++ record { name = name.now; code = code } ∷ [])) }
         ensures err { IfErr result (λ e. e ≡ Memory) }
     {
         let key = Vec::from_slice(alloc, name)?;
-        self.names.insert(key)?;
-        self.codes.insert(code)?;
-        let name = PairName::of(alloc, name)?;
-        self.pairs.push(Pair { name, code })?;
+        let value = PairName::of(alloc, name)?;
+        self.codes.insert(key, code)?;
+        self.names.insert(code, value)?;
         Ok(())
     }
 
     /// Takes a pair. Under override and replace it removes every pair that shares its name or its code; under augment
     /// it is dropped where there is such a pair.
-    #[tactic(auto, using(crate::proofs::Sharing::without_none))]
     pub(crate) fn take(
         &mut self,
         alloc: Global,
@@ -131,29 +101,54 @@ impl Pairs {
         name: &[u8],
         code: u16,
     ) -> Result<(), Fault>
-        requires { IsName name.now }
-        ensures took { OnOk result (self.new ≡ taken mode self.old (record { name = name.now; code = code })) }
+        requires { IsKeyName name.now }
+        ensures took { OnOk result ((ps : List PairValue) → Stands self.old ps → Stands self.new (taken mode ps (record { name = name.now; code = code }))) }
         ensures err { IfErr result (λ e. e ≡ Memory) }
     {
-        if self.has_seen(name, code) {
-            if mode == Mode::Augment {
-                if self.has_sharing(name, code) {
-                    return Ok(());
-                }
-            } else {
-                self.remove_sharing(name, code);
-            }
+        if self.code_of(name) == Some(code) {
+            return Ok(());
         }
-        self.push(alloc, name, code)
+        if !self.has_sharing(name, code) {
+            self.insert(alloc, name, code)?;
+            return Ok(());
+        }
+        if mode == Mode::Augment {
+            return Ok(());
+        }
+        self.remove_name(name);
+        self.remove_code(code);
+        self.insert(alloc, name, code)?;
+        Ok(())
     }
 
-    /// Takes others in order.
-    pub(crate) fn take_all(&mut self, alloc: Global, mode: Mode, given: &Pairs) -> Result<(), Fault>
-        ensures took { OnOk result (self.new ≡ all_taken mode self.old given.now) }
+    /// Takes the pair at a place of others.
+    fn take_at(
+        &mut self,
+        alloc: Global,
+        mode: Mode,
+        given: &Pairs,
+        place: usize,
+    ) -> Result<(), Fault>
+        ensures took { OnOk result ((ps : List PairValue) (p : PairValue) → Stands self.old ps → slice_get given.now.by_code place ≡ Some p → Stands self.new (taken mode ps p)) }
         ensures err { IfErr result (λ e. e ≡ Memory) }
     {
-        'given: for pair in given.as_slice() {
-            self.take(alloc, mode, pair.name(), pair.code())?;
+        match given.names.get_index(place) {
+            None => Ok(()),
+            Some((code, name)) => {
+                self.take(alloc, mode, name.as_slice(), *code)?;
+                Ok(())
+            }
+        }
+    }
+
+    /// Takes others.
+    pub(crate) fn take_all(&mut self, alloc: Global, mode: Mode, given: &Pairs) -> Result<(), Fault>
+        ensures took { OnOk result ((ps qs : List PairValue) → Stands self.old ps → Stands given.now qs → Stands self.new (all_taken mode ps qs)) }
+        ensures err { IfErr result (λ e. e ≡ Memory) }
+    {
+        let count = given.names.len();
+        'given: for place in 0..count {
+            self.take_at(alloc, mode, given, place)?;
         }
         Ok(())
     }

@@ -5,8 +5,12 @@ use kx_parse::parse;
 use std::process::Abort;
 use std::test::Fail;
 
-/// The codes of these items, which begin at byte 28.
-fn codes_of(rt: &(impl Abort + AllocGlobal), items: &[u8]) -> Result<Codes, Fault> {
+/// The codes of these items, which begin at byte 28, over these files.
+fn codes_over(
+    rt: &(impl Abort + AllocGlobal),
+    items: &[u8],
+    given: &[(&[u8], &[u8])],
+) -> Result<Codes, Fault> {
     let text = [
         b"xkb_keymap { xkb_keycodes { ".as_slice(),
         items,
@@ -15,15 +19,25 @@ fn codes_of(rt: &(impl Abort + AllocGlobal), items: &[u8]) -> Result<Codes, Faul
     .concat(rt.alloc())?;
     let tokens = lex(rt.alloc(), text.as_slice())?;
     let tree = parse(rt.alloc(), text.as_slice(), tokens.as_slice())?;
-    let files = Files::new(rt.alloc());
+    let mut files = Files::new(rt.alloc());
+    for (name, bytes) in given {
+        files.insert(
+            Vec::from_slice(rt.alloc(), name)?,
+            Vec::from_slice(rt.alloc(), bytes)?,
+        )?;
+    }
     let whole = Span { start: 0, stop: 0 };
     let library = Library::read(rt.alloc(), tree, whole, &files)?;
-    codes(rt.alloc(), &library)
+    let bodies = library.expand(rt.alloc())?;
+    codes(rt.alloc(), &bodies.keycodes)
+}
+
+fn codes_of(rt: &(impl Abort + AllocGlobal), items: &[u8]) -> Result<Codes, Fault> {
+    codes_over(rt, items, [].as_slice())
 }
 
 /// The codes of A, B and C, and the names of 38 and 39.
-fn shown(rt: &(impl Abort + AllocGlobal), items: &[u8]) -> Result<String, Fail> {
-    let codes = codes_of(rt, items)?;
+fn shown(rt: &(impl Abort + AllocGlobal), codes: &Codes) -> Result<String, Fail> {
     let a = codes.code_of(b"A").unwrap_or(0);
     let b = codes.code_of(b"B").unwrap_or(0);
     let c = codes.code_of(b"C").unwrap_or(0);
@@ -36,8 +50,9 @@ fn shown(rt: &(impl Abort + AllocGlobal), items: &[u8]) -> Result<String, Fail> 
 
 #[test]
 fn pairs_and_aliases(rt: HostRuntime) -> Result<(), Fail> {
-    let rows: [(&[u8], &str); 11] = [
+    let rows: [(&[u8], &str); 12] = [
         (b"<A>=38; <B>=39; <A>=39;", "39 0 0 - A"),
+        (b"<A>=38; <B>=39; <A>=39; <C>=38; <B>=38;", "39 38 0 B A"),
         (b"<A>=38; augment <B>=38;", "38 0 0 A -"),
         (b"<A>=38; <B>=38;", "0 38 0 B -"),
         (b"<A>=38; augment <A>=39; <C>=39;", "38 0 39 A C"),
@@ -52,14 +67,50 @@ fn pairs_and_aliases(rt: HostRuntime) -> Result<(), Fail> {
             "38 39 38 A B",
         ),
         (b"<A>=38; <B>=39; alias <A>=<B>;", "38 39 0 A B"),
-        (b"include \"x\" <A>=4095;", "4095 0 0 - -"),
+        (b"<A>=4095;", "4095 0 0 - -"),
         (
             b"minimum = 8; Maximum = 255; indicator 1 = \"Caps Lock\"; <A>=38;",
             "38 0 0 A -",
         ),
     ];
     for (items, wanted) in rows {
-        assert_eq!(rt; shown(&rt, items)?.as_str(), wanted, "{:?}", items);
+        let codes = codes_of(&rt, items)?;
+        assert_eq!(rt; shown(&rt, &codes)?.as_str(), wanted, "{:?}", items);
+    }
+    Ok(())
+}
+
+#[test]
+fn includes_bring_what_their_maps_leave(rt: HostRuntime) -> Result<(), Fail> {
+    let evdev = b"xkb_keycodes { <A>=38; <B>=39; <A>=39; alias <C>=<A>; };".as_slice();
+    let other = b"xkb_keycodes { <B>=38; <A>=38; };".as_slice();
+    let outer = b"xkb_keycodes { include \"evdev\" <B>=38; };".as_slice();
+    let wrong = b"xkb_keycodes { <A>=5000; };".as_slice();
+    let given = [
+        (b"evdev".as_slice(), evdev),
+        (b"other".as_slice(), other),
+        (b"outer".as_slice(), outer),
+        (b"wrong".as_slice(), wrong),
+    ];
+    let rows: [(&[u8], &str); 7] = [
+        (b"include \"evdev\"", "39 0 39 - A"),
+        (b"include \"evdev\" include \"evdev\"", "39 0 39 - A"),
+        (b"include \"outer\"", "39 38 39 B A"),
+        (b"include \"outer+other\"", "38 0 38 A -"),
+        (b"include \"outer|other\"", "39 38 39 B A"),
+        (b"<A>=38; augment \"evdev+other\"", "38 0 38 A -"),
+        (b"include \"other\" include \"evdev\"", "39 0 39 - A"),
+    ];
+    for (items, wanted) in rows {
+        let codes = codes_over(&rt, items, given.as_slice())?;
+        assert_eq!(rt; shown(&rt, &codes)?.as_str(), wanted, "{:?}", items);
+    }
+    match codes_over(&rt, b"<A>=38; include \"wrong\"", given.as_slice()) {
+        Ok(_) => assert_eq!(rt; "", "refused"),
+        Err(fault) => {
+            let text = format!(in rt.alloc(); "{fault}")?;
+            assert_eq!(rt; text.as_str(), "F18 CodeRange at 4:19-23");
+        }
     }
     Ok(())
 }

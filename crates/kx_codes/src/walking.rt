@@ -1,201 +1,136 @@
-ghost use Rattle.std.specs.Prelude.{◌≡◌, ◌<◌, ◌∷◌, [], Contains, IfErr, IfOk, OnOk, if◌then◌else◌};
-ghost use Rattle.kx_include.specs.Expansion.{End, body_of, map_body, parts_body};
-ghost use Rattle.kx_include.specs.IncludeText.{parts_of};
-ghost use Rattle.kx_include.specs.Library.{is_of};
-ghost use Rattle.kx_lex.specs.declared.fault.Fault.TheVariants.{Memory};
-ghost use Rattle.kx_parse.specs.declared.tree.Kind.TheVariants.{Keycodes};
-ghost use Rattle.kx_codes.specs.Aliases.{aliases_from, aliases_of};
-ghost use Rattle.kx_codes.specs.CodeFaults.{faults_of};
-ghost use Rattle.kx_codes.specs.Pairs.{pairs_from, pairs_of};
-ghost use Rattle.kx_codes.specs.Walks.{part_body, item_aliases, item_faults, item_pairs, part_aliases, part_pairs, text_aliases, text_faults, text_pairs};
+ghost use Rattle.std.specs.Prelude.{◌≡◌, ◌∷◌, [], IfErr, List, None, OnOk};
+ghost use Rattle.kx_include.specs.Expansion.{Body, End, Inc};
+ghost use Rattle.kx_include.specs.Shared.{entries_body, expanded_body, links_body, shared_body, shared_sections};
+ghost use Rattle.kx_codes.specs.Gathering.{AreGathered, Blames, IsGathered, Took};
 
 use crate::gathered::Gathered;
-use kx_include::{Library, Part, Place, include_parts, is_of};
+use kx_include::{Entry, Expansion, Link, Map, Place};
 use kx_lex::Fault;
-use kx_parse::{Item, Kind, Mode, Section};
+use kx_parse::Mode;
 use std::alloc::Global;
 
-/// Includes in the source are nested at most 16 deep, so that maps stand in one another 17 deep.
-const MOST_MAPS: u8 = 17;
-
 /// What the keycodes of a source leave.
-pub(crate) fn gather(alloc: Global, library: &Library) -> Result<Gathered, Fault>
-    ensures pairs { IfOk result (λ g. g.pairs ≡ pairs_of (body_of library.now Keycodes)) }
-    ensures aliases { IfOk result (λ g. g.aliases ≡ aliases_of (body_of library.now Keycodes)) }
-    ensures faultless { OnOk result (faults_of (body_of library.now Keycodes) ≡ []) }
-    ensures fault { IfErr result (λ e. Contains (Memory ∷ faults_of (body_of library.now Keycodes)) e) }
+pub(crate) fn gather(alloc: Global, expansion: &Expansion) -> Result<Gathered, Fault>
+    ensures { IsGathered (expanded_body expansion.now) result }
+{
+    // A fault in a map is one of the source only where the map is included, and is answered there.
+    let mut done = Vec::new(alloc);
+    'maps: for map in expansion.maps.as_slice() {
+        let gathered = gather_map(alloc, done.as_slice(), map);
+        done.push(gathered)?;
+    }
+    gather_sections(alloc, done.as_slice(), expansion.sections.as_slice())
+}
+
+/// What the source's sections leave together, where `done` is what each map leaves.
+fn gather_sections(
+    alloc: Global,
+    done: &[Result<Gathered, Fault>],
+    sections: &[Map],
+) -> Result<Gathered, Fault>
+    ensures { (bodies : List Body) → AreGathered done.now bodies → IsGathered (shared_sections bodies sections.now) result }
 {
     let mut gathered = Gathered::new(alloc);
-    let mut section = 0;
-    let mut left = library.sections_in(0);
-    'sections: while let Some((first, rest)) = left.split_first() {
-        gather_section(alloc, library, section, first, &mut gathered)?;
-        section += 1;
-        left = rest;
+    'sections: for section in sections {
+        gather_section(alloc, done, section, &mut gathered)?;
     }
     Ok(gathered)
 }
 
-/// Takes what a section of the source says, where it is of keycodes; it is the source's `section`-th from 0.
-fn gather_section(
-    alloc: Global,
-    library: &Library,
-    section: usize,
-    first: &Section,
-    gathered: &mut Gathered,
-) -> Result<(), Fault>
-    ensures pairs { OnOk result (gathered.new.pairs ≡ (if is_of Keycodes first.now then pairs_from gathered.old.pairs (map_body 17 library.now Keycodes (record { file = 0; section = section }) End) else gathered.old.pairs)) }
-    ensures aliases { OnOk result (gathered.new.aliases ≡ (if is_of Keycodes first.now then aliases_from gathered.old.aliases (map_body 17 library.now Keycodes (record { file = 0; section = section }) End) else gathered.old.aliases)) }
-    ensures faultless { OnOk result ((if is_of Keycodes first.now then faults_of (map_body 17 library.now Keycodes (record { file = 0; section = section }) End) else []) ≡ []) }
-    ensures fault { IfErr result (λ e. Contains (Memory ∷ (if is_of Keycodes first.now then faults_of (map_body 17 library.now Keycodes (record { file = 0; section = section }) End) else [])) e) }
+/// What a map leaves.
+fn gather_map(alloc: Global, done: &[Result<Gathered, Fault>], map: &Map) -> Result<Gathered, Fault>
+    ensures { (bodies : List Body) → AreGathered done.now bodies → IsGathered (shared_body bodies map.now End) result }
 {
-    if !is_of(Kind::Keycodes, first) {
-        return Ok(());
-    }
-    gather_map(
-        alloc,
-        library,
-        MOST_MAPS,
-        Place { file: 0, section },
-        gathered,
-    )
+    let mut gathered = Gathered::new(alloc);
+    gather_section(alloc, done, map, &mut gathered)?;
+    Ok(gathered)
 }
 
-/// Takes what the items of a map say; includes in it are nested less deep than `depth`.
-#[cycle(maps)]
-fn gather_map(
+/// Takes what the items of a section say.
+fn gather_section(
     alloc: Global,
-    library: &Library,
-    depth: u8,
-    place: Place,
+    done: &[Result<Gathered, Fault>],
+    section: &Map,
     gathered: &mut Gathered,
 ) -> Result<(), Fault>
-    requires { 0 < depth }
-    ensures pairs { OnOk result (gathered.new.pairs ≡ pairs_from gathered.old.pairs (map_body depth library.now Keycodes place End)) }
-    ensures aliases { OnOk result (gathered.new.aliases ≡ aliases_from gathered.old.aliases (map_body depth library.now Keycodes place End)) }
-    ensures faultless { OnOk result (faults_of (map_body depth library.now Keycodes place End) ≡ []) }
-    ensures fault { IfErr result (λ e. Contains (Memory ∷ faults_of (map_body depth library.now Keycodes place End)) e) }
+    ensures took { OnOk result ((bodies : List Body) → AreGathered done.now bodies → Took gathered.old gathered.new (shared_body bodies section.now End)) }
+    ensures fault { IfErr result (λ e. (bodies : List Body) → AreGathered done.now bodies → Blames (shared_body bodies section.now End) e) }
 {
-    'items: for item in library.items_in(place) {
-        gather_item(alloc, library, depth - 1, place, item, gathered)?;
+    'entries: for entry in section.entries.as_slice() {
+        gather_entry(alloc, done, section.place, entry, gathered)?;
     }
     Ok(())
 }
 
 /// Takes what an item says.
-#[cycle(maps)]
-fn gather_item(
+fn gather_entry(
     alloc: Global,
-    library: &Library,
-    depth: u8,
+    done: &[Result<Gathered, Fault>],
     place: Place,
-    item: &Item,
+    entry: &Entry,
     gathered: &mut Gathered,
 ) -> Result<(), Fault>
-    ensures pairs { OnOk result (gathered.new.pairs ≡ item_pairs (part_body depth library.now) item.now gathered.old.pairs) }
-    ensures aliases { OnOk result (gathered.new.aliases ≡ item_aliases (part_body depth library.now) item.now gathered.old.aliases) }
-    ensures faultless { OnOk result (item_faults (part_body depth library.now) place item.now ≡ []) }
-    ensures fault { IfErr result (λ e. Contains (Memory ∷ item_faults (part_body depth library.now) place item.now) e) }
+    ensures took { OnOk result ((bodies : List Body) → AreGathered done.now bodies → Took gathered.old gathered.new (entries_body bodies place (entry.now ∷ []) End)) }
+    ensures fault { IfErr result (λ e. (bodies : List Body) → AreGathered done.now bodies → Blames (entries_body bodies place (entry.now ∷ []) End) e) }
 {
-    match item {
-        Item::Statement {
-            mode,
-            statement,
-            first,
-            span,
-        } => { gathered.take_said(alloc, place.file, *mode, statement, *first, *span) }
-        Item::Include { mode, text, .. } => {
-            gather_text(
-                alloc,
-                library,
-                depth,
-                text.bytes.as_slice(),
-                *mode,
-                gathered,
-            )
+    match entry {
+        Entry::Own(item) => gathered.take_item(alloc, place, item),
+        Entry::Include { mode, links } => {
+            gather_include(alloc, done, *mode, links.as_slice(), gathered)
         }
     }
 }
 
-/// Takes what an include's text brings under a mode.
-#[cycle(maps)]
-fn gather_text(
+/// Takes what the parts of an include's text bring together, under the include's mode.
+fn gather_include(
     alloc: Global,
-    library: &Library,
-    depth: u8,
-    text: &[u8],
+    done: &[Result<Gathered, Fault>],
     mode: Mode,
+    links: &[Link],
     gathered: &mut Gathered,
 ) -> Result<(), Fault>
-    ensures pairs { OnOk result (gathered.new.pairs ≡ text_pairs (part_body depth library.now) mode (parts_of text.now) gathered.old.pairs) }
-    ensures aliases { OnOk result (gathered.new.aliases ≡ text_aliases (part_body depth library.now) mode (parts_of text.now) gathered.old.aliases) }
-    ensures faultless { OnOk result (text_faults (part_body depth library.now) (parts_of text.now) ≡ []) }
-    ensures fault { IfErr result (λ e. Contains (Memory ∷ text_faults (part_body depth library.now) (parts_of text.now)) e) }
+    ensures took { OnOk result ((bodies : List Body) → AreGathered done.now bodies → Took gathered.old gathered.new (Inc mode None (links_body bodies links.now) End)) }
+    ensures fault { IfErr result (λ e. (bodies : List Body) → AreGathered done.now bodies → Blames (Inc mode None (links_body bodies links.now) End) e) }
 {
-    match include_parts(alloc, text)? {
-        None => Ok(()),
-        Some(parts) => {
-            let joined = gather_parts(alloc, library, depth, parts.as_slice())?;
-            gathered.take_all(alloc, mode, &joined)
-        }
+    // What a map leaves names nothing twice, so that a single part need not be joined first.
+    if let [link] = links {
+        let whole = Link { mode, ..*link };
+        gather_link(alloc, done, whole, gathered)?;
+        return Ok(());
     }
+    let joined = gather_links(alloc, done, links)?;
+    gathered.take_all(alloc, mode, &joined)?;
+    Ok(())
 }
 
 /// What the parts of an include's text leave together.
-#[cycle(maps)]
-fn gather_parts(
+fn gather_links(
     alloc: Global,
-    library: &Library,
-    depth: u8,
-    parts: &[Part],
+    done: &[Result<Gathered, Fault>],
+    links: &[Link],
 ) -> Result<Gathered, Fault>
-    ensures pairs { IfOk result (λ g. g.pairs ≡ pairs_of (parts_body (part_body depth library.now) parts.now)) }
-    ensures aliases { IfOk result (λ g. g.aliases ≡ aliases_of (parts_body (part_body depth library.now) parts.now)) }
-    ensures faultless { OnOk result (faults_of (parts_body (part_body depth library.now) parts.now) ≡ []) }
-    ensures fault { IfErr result (λ e. Contains (Memory ∷ faults_of (parts_body (part_body depth library.now) parts.now)) e) }
+    ensures { (bodies : List Body) → AreGathered done.now bodies → IsGathered (links_body bodies links.now) result }
 {
     let mut joined = Gathered::new(alloc);
-    'parts: for part in parts {
-        gather_part(alloc, library, depth, part, &mut joined)?;
+    'links: for link in links {
+        gather_link(alloc, done, *link, &mut joined)?;
     }
     Ok(joined)
 }
 
-/// Takes what a part of an include's text brings.
-#[cycle(maps)]
-fn gather_part(
+/// Takes what a part of an include's text brings; nothing where there is no such map.
+fn gather_link(
     alloc: Global,
-    library: &Library,
-    depth: u8,
-    part: &Part,
+    done: &[Result<Gathered, Fault>],
+    link: Link,
     gathered: &mut Gathered,
 ) -> Result<(), Fault>
-    ensures pairs { OnOk result (gathered.new.pairs ≡ part_pairs (part_body depth library.now) part.now gathered.old.pairs) }
-    ensures aliases { OnOk result (gathered.new.aliases ≡ part_aliases (part_body depth library.now) part.now gathered.old.aliases) }
-    ensures faultless { OnOk result (faults_of (part_body depth library.now part.now) ≡ []) }
-    ensures fault { IfErr result (λ e. Contains (Memory ∷ faults_of (part_body depth library.now part.now)) e) }
+    ensures took { OnOk result ((bodies : List Body) → AreGathered done.now bodies → Took gathered.old gathered.new (links_body bodies (link ∷ []))) }
+    ensures fault { IfErr result (λ e. (bodies : List Body) → AreGathered done.now bodies → Blames (links_body bodies (link ∷ [])) e) }
 {
-    let inner = gather_found(alloc, library, depth, part)?;
-    gathered.take_all(alloc, part.mode(), &inner)
-}
-
-/// What the map that a part names leaves; nothing where there is no such map.
-#[cycle(maps)]
-fn gather_found(alloc: Global, library: &Library, depth: u8, part: &Part) -> Result<Gathered, Fault>
-    ensures pairs { IfOk result (λ g. g.pairs ≡ pairs_of (part_body depth library.now part.now)) }
-    ensures aliases { IfOk result (λ g. g.aliases ≡ aliases_of (part_body depth library.now part.now)) }
-    ensures faultless { OnOk result (faults_of (part_body depth library.now part.now) ≡ []) }
-    ensures fault { IfErr result (λ e. Contains (Memory ∷ faults_of (part_body depth library.now part.now)) e) }
-{
-    let mut gathered = Gathered::new(alloc);
-    if depth == 0 {
-        return Ok(gathered);
-    }
-    match library.place_of(alloc, Kind::Keycodes, part)? {
-        None => Ok(gathered),
-        Some(place) => {
-            gather_map(alloc, library, depth, place, &mut gathered)?;
-            Ok(gathered)
-        }
+    match done.get(link.map) {
+        None => Ok(()),
+        Some(Ok(brought)) => gathered.take_all(alloc, link.mode, brought),
+        Some(Err(fault)) => Err(*fault),
     }
 }

@@ -10,7 +10,8 @@ use Rattle.kx_tables.specs.Bounds.{entries_within, groups_within, cells_within, 
 use Rattle.kx_tables.specs.Content.{Content, greatest_groups, part}
 use Rattle.kx_tables.specs.Fit.{CountsFit}
 use Rattle.kx_tables.specs.Fits.{sound_fits, groups_fit}
-use Rattle.kx_tables.specs.Sound.{Sound, TypeHolds, KeyHolds, GroupHolds, CellHolds, KeysymHolds, IndicatorHolds, GroupNameHolds}
+use Rattle.kx_basics.specs.Keysyms.{IsKeysym}
+use Rattle.kx_tables.specs.Sound.{Sound, TypeHolds, KeyHolds, GroupHolds, CellHolds, IndicatorHolds, GroupNameHolds}
 use Rattle.kx_tables.specs.Unsound.{breaks_unsound}
 use Rattle.kx_tables.specs.declared.check.Part.{Part}
 use Rattle.kx_tables.specs.declared.check.Part.TheVariants as parts
@@ -92,7 +93,7 @@ module _ (c : Content) (sound : Sound c) where
       (refl, cell_again d holds.action (omega arith))
 
   keysym_rereads : (i : ℕ) (n : ℕ) → slice_get c.keysyms i ≡ Some n → (length (keysym_bytes n) ≡ 4) × (keysym_of (keysym_bytes n) ≡ n)
-  keysym_rereads i n at = let holds : KeysymHolds n = sound.keysyms i n at in (refl, keysym_again n (let h = holds.high in omega arith))
+  keysym_rereads i n at = let holds : IsKeysym n = sound.keysyms i n at in (refl, keysym_again n (let h = holds.most in omega arith))
 
   indicator_rereads : (i : ℕ) (d : IndicatorRow) → slice_get c.indicators i ≡ Some d → (length (indicator_bytes d) ≡ 16) × (indicator_of (indicator_bytes d) ≡ d)
   indicator_rereads i d at =

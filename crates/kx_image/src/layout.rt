@@ -1,3 +1,4 @@
+//! Rows read from the bytes of an image.
 ghost use Rattle.std.specs.Prelude.{◌≡◌, ◌+◌, ◌≤◌, length};
 ghost use Rattle.kx_image.specs.Image.{content_in};
 ghost use Rattle.kx_image.specs.Starts.{IsShape};

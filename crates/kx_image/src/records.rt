@@ -1,3 +1,4 @@
+//! Records as rows and as bytes.
 ghost use Rattle.std.specs.Prelude.{◌≡◌, ◌+◌, ◌≤◌, ◌<ℤ◌, pos, length};
 ghost use Rattle.kx_image.specs.Records as spec;
 
@@ -7,20 +8,28 @@ use kx_tables::{
     States, TypeRow,
 };
 
+/// The size in bytes of a record of a type.
 pub const TYPE_SIZE: usize = 16;
 
+/// The size in bytes of a record of an entry.
 pub const ENTRY_SIZE: usize = 4;
 
+/// The size in bytes of a record of a key.
 pub const KEY_SIZE: usize = 16;
 
+/// The size in bytes of a record of a group.
 pub const GROUP_SIZE: usize = 8;
 
+/// The size in bytes of a record of a cell.
 pub const CELL_SIZE: usize = 12;
 
+/// The size in bytes of a record of a keysym.
 pub const KEYSYM_SIZE: usize = 4;
 
+/// The size in bytes of a record of an indicator.
 pub const INDICATOR_SIZE: usize = 16;
 
+/// The size in bytes of a record of a group name.
 pub const GROUP_NAME_SIZE: usize = 8;
 
 const CLEAR_LOCKS: u8 = 1;
@@ -54,6 +63,7 @@ pub fn u32_at(bytes: &[u8], place: usize) -> u32
     ])
 }
 
+/// The row that the bytes of a type tell.
 pub fn type_at(bytes: &[u8]) -> TypeRow
     requires { length bytes.now ≡ 16 }
     ensures { result ≡ spec.type_of bytes.now }
@@ -68,6 +78,7 @@ pub fn type_at(bytes: &[u8]) -> TypeRow
     }
 }
 
+/// The bytes of the record of a type.
 pub fn type_bytes(row: TypeRow) -> [u8; TYPE_SIZE]
     ensures { result ≡ spec.type_bytes row }
 {
@@ -95,6 +106,7 @@ pub fn type_bytes(row: TypeRow) -> [u8; TYPE_SIZE]
     ]
 }
 
+/// The row that the bytes of an entry tell.
 pub fn entry_at(bytes: &[u8]) -> EntryRow
     requires { length bytes.now ≡ 4 }
     ensures { result ≡ spec.entry_of bytes.now }
@@ -106,6 +118,7 @@ pub fn entry_at(bytes: &[u8]) -> EntryRow
     }
 }
 
+/// The bytes of the record of an entry.
 pub fn entry_bytes(row: EntryRow) -> [u8; ENTRY_SIZE]
     ensures { result ≡ spec.entry_bytes row }
 {
@@ -142,6 +155,7 @@ fn redirect_of(range: Range) -> u8
     }
 }
 
+/// The row that the bytes of a key tell.
 pub fn key_at(bytes: &[u8]) -> KeyRow
     requires { length bytes.now ≡ 16 }
     ensures { result ≡ spec.key_of bytes.now }
@@ -157,6 +171,7 @@ pub fn key_at(bytes: &[u8]) -> KeyRow
     }
 }
 
+/// The bytes of the record of a key.
 pub fn key_bytes(row: KeyRow) -> [u8; KEY_SIZE]
     ensures { result ≡ spec.key_bytes row }
 {
@@ -172,6 +187,7 @@ pub fn key_bytes(row: KeyRow) -> [u8; KEY_SIZE]
     ]
 }
 
+/// The row that the bytes of a group tell.
 pub fn group_at(bytes: &[u8]) -> GroupRow
     requires { length bytes.now ≡ 8 }
     ensures { result ≡ spec.group_of bytes.now }
@@ -182,6 +198,7 @@ pub fn group_at(bytes: &[u8]) -> GroupRow
     }
 }
 
+/// The bytes of the record of a group.
 pub fn group_bytes(row: GroupRow) -> [u8; GROUP_SIZE]
     ensures { result ≡ spec.group_bytes row }
 {
@@ -357,6 +374,7 @@ fn action_of(code: u8, flags: u8, mods: u8, group: u8) -> Action
     }
 }
 
+/// The row that the bytes of a cell tell.
 pub fn cell_at(bytes: &[u8]) -> CellRow
     requires { length bytes.now ≡ 12 }
     ensures { result ≡ spec.cell_of bytes.now }
@@ -368,6 +386,7 @@ pub fn cell_at(bytes: &[u8]) -> CellRow
     }
 }
 
+/// The bytes of the record of a cell.
 pub fn cell_bytes(row: CellRow) -> [u8; CELL_SIZE]
     ensures { result ≡ spec.cell_bytes row }
 {
@@ -392,6 +411,7 @@ pub fn cell_bytes(row: CellRow) -> [u8; CELL_SIZE]
     ]
 }
 
+/// The keysym that four bytes tell.
 pub fn keysym_at(bytes: &[u8]) -> u32
     requires { length bytes.now ≡ 4 }
     ensures { result ≡ spec.keysym_of bytes.now }
@@ -399,12 +419,14 @@ pub fn keysym_at(bytes: &[u8]) -> u32
     u32_at(bytes, 0)
 }
 
+/// The bytes of a keysym.
 pub fn keysym_bytes(keysym: u32) -> [u8; KEYSYM_SIZE]
     ensures { result ≡ spec.keysym_bytes keysym }
 {
     keysym.to_le_bytes()
 }
 
+/// The row that the bytes of an indicator tell.
 pub fn indicator_at(bytes: &[u8]) -> IndicatorRow
     requires { length bytes.now ≡ 16 }
     ensures { result ≡ spec.indicator_of bytes.now }
@@ -419,6 +441,7 @@ pub fn indicator_at(bytes: &[u8]) -> IndicatorRow
     }
 }
 
+/// The bytes of the record of an indicator.
 pub fn indicator_bytes(row: IndicatorRow) -> [u8; INDICATOR_SIZE]
     ensures { result ≡ spec.indicator_bytes row }
 {
@@ -448,6 +471,7 @@ pub fn indicator_bytes(row: IndicatorRow) -> [u8; INDICATOR_SIZE]
     ]
 }
 
+/// The row that the bytes of a group's name tell.
 pub fn group_name_at(bytes: &[u8]) -> GroupNameRow
     requires { length bytes.now ≡ 8 }
     ensures { result ≡ spec.group_name_of bytes.now }
@@ -458,6 +482,7 @@ pub fn group_name_at(bytes: &[u8]) -> GroupNameRow
     }
 }
 
+/// The bytes of the record of a group's name.
 pub fn group_name_bytes(row: GroupNameRow) -> [u8; GROUP_NAME_SIZE]
     ensures { result ≡ spec.group_name_bytes row }
 {

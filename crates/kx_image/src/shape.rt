@@ -1,3 +1,4 @@
+//! Where the tables of an image begin and end.
 ghost use Rattle.std.specs.Prelude.{◌≡◌, ◌≤◌, ◌<◌, ◌+◌, ◌*◌, ◌^◌, None, Some, MatchResult, length};
 ghost use Rattle.kx_image.specs.Shape as spec;
 ghost use Rattle.kx_image.specs.Starts.{starts_of, IsShape};

@@ -1,3 +1,4 @@
+//! Whether bytes tell records: each row, written again, gives its bytes.
 ghost use Rattle.std.specs.Prelude.{◌≡◌, ◌+◌, ◌*◌, ◌≤◌, ◌↔◌, ℕ, List, IsTrue, OnOk, IfErr, length};
 ghost use Rattle.kx_image.specs.Cut.{record_at};
 ghost use Rattle.kx_image.specs.Image.{Tells, HasFault};

@@ -1,3 +1,4 @@
+//! The tables that an image shows.
 ghost use Rattle.std.specs.Prelude.{◌≡◌, ◌<◌, ℕ, List, IfOk, IfErr, IfSome, OnErr, length, slice_get};
 ghost use Rattle.kx_image.specs.Image.{IsImage, HasFault};
 ghost use Rattle.kx_tables.specs.Content.{Content, key_name, type_name};

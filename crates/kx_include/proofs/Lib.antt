@@ -2,3 +2,8 @@ pub mod Cutting
 pub mod TextLists
 pub mod Numbers
 pub mod Progress
+pub mod Knowing
+pub mod Walking
+pub mod Visiting
+pub mod Sections
+pub mod Complete

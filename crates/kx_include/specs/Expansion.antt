@@ -7,6 +7,7 @@ use Rattle.kx_parse.specs.declared.tree.Mode.{Mode}
 use Rattle.kx_parse.specs.declared.tree.Section.{Section}
 use Rattle.kx_include.specs.IncludeText.{Part, parts_of}
 use Rattle.kx_include.specs.Library.{Library, items_in, sections_in, place_of, is_of}
+use Rattle.kx_include.specs.Limits.{most_depth}
 use Rattle.kx_include.specs.declared.place.Place.{Place}
 
 -- items in order, from where each section begins: the statement of a section, or what an include brings under a mode,
@@ -46,6 +47,6 @@ abbrev pub sections_body : (Place → Body → Body) → Kind → ℕ → List S
 sections_body body kind n [] = End
 sections_body body kind n (s ∷ ss) = cond (is_of kind s) (body (record { file = 0; section = n }) (sections_body body kind (n + 1) ss)) (sections_body body kind (n + 1) ss)
 
--- includes in the source are nested at most 16 deep
+-- the body of the source's sections of a kind
 abbrev pub body_of : Library → Kind → Body
-body_of library kind = sections_body (map_body 17 library kind) kind 0 (sections_in library 0)
+body_of library kind = sections_body (map_body (suc most_depth) library kind) kind 0 (sections_in library 0)

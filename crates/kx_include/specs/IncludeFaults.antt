@@ -1,5 +1,5 @@
 -- The faults of the includes of a keymap, and the includes in the order in which they are expanded.
-use Rattle.std.specs.Prelude.{◌≡◌, ◌⊎◌, ℕ, ◌+◌, ◌-◌, ◌≤◌, suc, zero, length, List, [], ◌∷◌, ◌++◌, Contains, Option, None, Some, Result, Ok, Err, slice_get}
+use Rattle.std.specs.Prelude.{◌≡◌, ◌⊎◌, ℕ, ◌+◌, ◌-◌, ◌≤◌, suc, zero, length, List, [], ◌∷◌, ◌++◌, Contains, Option, None, Some, Ok, Err, slice_get}
 use Rattle.kx_lex.specs.declared.fault.At.{At}
 use Rattle.kx_lex.specs.declared.fault.Fault.{Fault}
 use Rattle.kx_lex.specs.declared.fault.Fault.TheVariants as fault
@@ -10,6 +10,7 @@ use Rattle.kx_parse.specs.declared.tree.Kind.{Kind}
 use Rattle.kx_parse.specs.declared.tree.Section.{Section}
 use Rattle.kx_include.specs.IncludeText.{Part, parts_of}
 use Rattle.kx_include.specs.Library.{Library, Text, items_in, sections_in, file_of, place_in}
+use Rattle.kx_include.specs.Limits.{most_depth, most_parts}
 use Rattle.kx_include.specs.declared.place.Place.{Place}
 
 abbrev pub at : ℕ → Span → At
@@ -81,21 +82,16 @@ in_sections inner n [] = nothing
 in_sections inner n (s ∷ ss) = both (inner s.kind (record { file = 0; section = n })) (in_sections inner (n + 1) ss)
 
 abbrev pub findings : Library → Findings
-findings library = in_sections (λ kind place. in_map 16 library kind place) 0 (sections_in library 0)
+findings library = in_sections (λ kind place. in_map most_depth library kind place) 0 (sections_in library 0)
 
--- where a number of parts was expanded before, a fault of these: more than 4,096 are too many, from the first beyond on
+-- where a number of parts was expanded before, a fault of these: too many parts are one from the first beyond on
 abbrev pub HasFaultFrom : ℕ → Findings → Fault → Type 0
-HasFaultFrom n a e = Contains a.faults e ⊎ ((place : At) × (slice_get a.visits (4096 - n) ≡ Some place) × (e ≡ fault.TooMany place))
+HasFaultFrom n a e = Contains a.faults e ⊎ ((place : At) × (slice_get a.visits (most_parts - n) ≡ Some place) × (e ≡ fault.TooMany place))
 
 -- a fault of a keymap's includes
 abbrev pub HasFault : Library → Fault → Type 0
 HasFault library e = HasFaultFrom 0 (findings library) e
 
--- none has a fault, and there are no more than 4,096
+-- none has a fault, and there are not too many parts
 abbrev pub IsWhole : Library → Type 0
-IsWhole library = ((findings library).faults ≡ []) × (length (findings library).visits ≤ 4096)
-
--- what going over maps answers: the count of parts with those of the maps, or a fault
-abbrev pub Goes : ℕ → Findings → Result ℕ Fault → Type 0
-Goes n a (Ok m) = (a.faults ≡ []) × (m ≡ n + length a.visits) × (m ≤ 4096)
-Goes n a (Err e) = (e ≡ fault.Memory) ⊎ HasFaultFrom n a e
+IsWhole library = ((findings library).faults ≡ []) × (length (findings library).visits ≤ most_parts)

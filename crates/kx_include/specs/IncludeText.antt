@@ -1,9 +1,11 @@
 -- The text of an include, as libxkbcommon's format has it: parts joined by + and |, each the name of a file, then a map's
 -- in parentheses where one is named, then a colon and a group where the map is moved to one.
-use Rattle.std.specs.Prelude.{ℕ, ◌+◌, ◌-◌, ◌*◌, Bool, not, ◌==◌, ◌&&◌, nat_le, List, [], ◌∷◌, length, take, drop, Option, None, Some, codes, if◌then◌else◌}
+use Rattle.std.specs.Prelude.{ℕ, Bool, not, ◌==◌, ◌&&◌, nat_le, List, [], ◌∷◌, length, take, drop, Option, None, Some, codes, if◌then◌else◌}
 use Rattle.std.specs.Char.{is_ascii_digit}
-use Rattle.std.specs.List.{list_any, prefix_len}
+use Rattle.std.specs.List.{list_all, list_any, prefix_len}
 use Rattle.std.specs.Option.{option_map}
+use Rattle.std.specs.Str.Parse.{digits_value}
+use Rattle.kx_basics.specs.declared.limits.TheConstants.{MOST_GROUPS}
 use Rattle.kx_parse.specs.declared.tree.Mode.{Mode}
 use Rattle.kx_parse.specs.declared.tree.Mode.TheVariants.{Augment, Override}
 
@@ -22,14 +24,15 @@ abbrev pub name_len : List ℕ → ℕ
 name_len = prefix_len is_name_byte
 
 abbrev pub in_groups : ℕ → Option ℕ
-in_groups n = if nat_le 1 n && nat_le n 32 then Some n else None
+in_groups n = if nat_le 1 n && nat_le n MOST_GROUPS then Some n else None
 
--- a group from 1 to 32, of one digit or two
+-- one digit or more
+abbrev pub is_number : List ℕ → Bool
+is_number bs = nat_le 1 (length bs) && list_all is_ascii_digit bs
+
+-- a group of a key, counted from 1, in decimal; leading zeros don't count
 unfoldable pub group_of : List ℕ → Option ℕ
-group_of [] = None
-group_of (a ∷ []) = if is_ascii_digit a then in_groups (a - 48) else None
-group_of (a ∷ b ∷ []) = if is_ascii_digit a && is_ascii_digit b then in_groups ((a - 48) * 10 + (b - 48)) else None
-group_of (a ∷ b ∷ c ∷ bs) = None
+group_of bs = if is_number bs then in_groups (digits_value 10 bs) else None
 
 -- what may stand behind the names of a file and a map: nothing, or a colon and a group
 unfoldable pub ending : Mode → List ℕ → Option (List ℕ) → List ℕ → Option Part

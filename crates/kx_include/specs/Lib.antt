@@ -1,7 +1,12 @@
+pub mod Limits
 pub mod IncludeText
 pub mod Library
 pub mod Expansion
 pub mod Shared
 pub mod IncludeFaults
+pub mod Complete
+pub mod Bodies
+pub mod Sharing
 pub mod Splits
 pub mod Texts
+pub mod Source

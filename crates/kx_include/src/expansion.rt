@@ -1,6 +1,10 @@
 //! The expanded body of a section kind as a value, in which each map stands once, however often it is included.
+ghost use Rattle.std.specs.Prelude.{◌≡◌, []};
+ghost use Rattle.kx_parse.specs.declared.tree.Kind.{Kind};
+
 use crate::place::Place;
 use kx_parse::{Item, Mode};
+use std::alloc::Global;
 
 /// A part of an include's text.
 #[derive(Clone, Copy)]
@@ -41,4 +45,46 @@ pub struct Expansion<'l> {
     pub maps: Vec<Map<'l>>,
     /// The source's own sections of the kind, in order.
     pub sections: Vec<Map<'l>>,
+}
+
+impl<'l> Expansion<'l> {
+    /// Of no sections.
+    fn new(alloc: Global) -> Expansion<'l>
+        ensures maps { result.maps.items ≡ [] }
+        ensures sections { result.sections.items ≡ [] }
+    {
+        Expansion {
+            maps: Vec::new(alloc),
+            sections: Vec::new(alloc),
+        }
+    }
+}
+
+/// The expanded bodies of a source, a kind each.
+#[derive(Drop)]
+pub struct Bodies<'l> {
+    pub keycodes: Expansion<'l>,
+    pub types: Expansion<'l>,
+    pub compat: Expansion<'l>,
+    pub symbols: Expansion<'l>,
+    pub geometry: Expansion<'l>,
+}
+
+impl<'l> Bodies<'l> {
+    ghost use Rattle.std.specs.Prelude.{◌≡◌, []};
+    ghost use Rattle.kx_include.specs.Bodies.{expansion_of};
+
+    /// Of a source with no sections.
+    pub(crate) fn new(alloc: Global) -> Bodies<'l>
+        ensures maps { (kind : Kind) → (expansion_of kind result).maps.items ≡ [] }
+        ensures sections { (kind : Kind) → (expansion_of kind result).sections.items ≡ [] }
+    {
+        Bodies {
+            keycodes: Expansion::new(alloc),
+            types: Expansion::new(alloc),
+            compat: Expansion::new(alloc),
+            symbols: Expansion::new(alloc),
+            geometry: Expansion::new(alloc),
+        }
+    }
 }

@@ -1,17 +1,18 @@
 //! Includes: what their texts name among the files handed in, and the body of each section kind.
 #![tactic(auto)]
 
-mod checking;
+mod expanding;
 mod expansion;
 mod files;
 mod part;
 mod place;
+mod reading;
 mod sources;
 #[cfg(test)]
 mod tests;
 mod text;
 
-pub use expansion::{Entry, Expansion, Link, Map};
+pub use expansion::{Bodies, Entry, Expansion, Link, Map};
 pub use files::Files;
 pub use part::{Part, include_parts};
 pub use place::Place;

@@ -1,15 +1,14 @@
 ghost use Rattle.std.specs.Prelude.{◌≡◌, ◌<◌, ◌≤◌, length, IfOk, IfSome};
 ghost use Rattle.std.specs.Option.{option_map};
-ghost use Rattle.kx_include.specs.IncludeText.{is_name_byte, name_len, group_of, in_groups, ending, closing, behind_file, part_of, join_of, split, parts_of};
+ghost use Rattle.kx_include.specs.IncludeText.{is_name_byte, is_number, name_len, group_of, ending, closing, behind_file, part_of, join_of, split, parts_of};
 ghost use Rattle.kx_include.specs.Splits.{is_inner, cut_at};
-ghost use Rattle.std.specs.List.{prefix_len};
+ghost use Rattle.std.specs.Char.{is_ascii_digit};
+ghost use Rattle.std.specs.List.{list_all, prefix_len};
 
+use kx_basics::{MOST_GROUPS, digits_value};
 use kx_parse::Mode;
 use std::alloc::{AllocError, Global};
 use std::marker::Model;
-
-/// The greatest group.
-const GREATEST_GROUP: u8 = 32;
 
 /// A part of an include's text: what it names, and how that joins what stands before it.
 #[derive(Debug, Drop)]
@@ -73,26 +72,30 @@ fn name_len(bytes: &[u8]) -> usize
     bytes.iter().take_while(|byte| is_name_byte(**byte)).count()
 }
 
-fn in_groups(number: u8) -> Option<u8>
-    ensures { result ≡ in_groups number }
+fn are_digits(bytes: &[u8]) -> bool
+    ensures { result ≡ list_all is_ascii_digit bytes.now }
 {
-    if 1 <= number && number <= GREATEST_GROUP {
-        Some(number)
-    } else {
-        None
-    }
+    bytes.iter().all(|byte| byte.is_ascii_digit())
+}
+
+fn is_number(bytes: &[u8]) -> bool
+    ensures { result ≡ is_number bytes.now }
+{
+    !bytes.is_empty() && are_digits(bytes)
 }
 
 #[tactic(auto, unfolding(crate::specs::IncludeText::group_of))]
 fn group_of(bytes: &[u8]) -> Option<u8>
     ensures { result ≡ group_of bytes.now }
 {
-    match bytes {
-        [one] if one.is_ascii_digit() => in_groups(*one - b'0'),
-        [ten, one] if ten.is_ascii_digit() && one.is_ascii_digit() => {
-            in_groups((*ten - b'0') * 10 + (*one - b'0'))
-        }
-        _ => None,
+    if !is_number(bytes) {
+        return None;
+    }
+    let number = digits_value(bytes, 10);
+    if 1 <= number && number <= u64::from(MOST_GROUPS) {
+        Some(number as u8)
+    } else {
+        None
     }
 }
 

@@ -203,10 +203,7 @@ impl<'a> Library<'a> {
     pub(crate) fn place_in(&self, kind: Kind, map: Option<&[u8]>, file: u32) -> Option<Place>
         ensures { result ≡ place_in self.now kind (option_map (λ m. m.now) map.entry) file }
     {
-        match map_of(self.sections_in(file), kind, map) {
-            None => None,
-            Some(section) => Some(Place { file, section }),
-        }
+        map_of(self.sections_in(file), kind, map).map(|section| Place { file, section })
     }
 
     /// The map that a part of an include's text names.

@@ -1,15 +1,11 @@
-use crate::{Files, Library, Part, Place, include_parts, is_of};
-use kx_lex::{Span, lex};
+use crate::{Entry, Expansion, Files, Library, Link, Part, Place, include_parts, is_of};
+use kx_lex::lex;
 use kx_parse::{Kind, Mode, parse};
 use std::process::Abort;
 use std::test::Fail;
 
-/// `ok`, or the first fault of the includes of a source with these files.
-fn verdict(
-    rt: &(impl Abort + AllocGlobal),
-    text: &[u8],
-    given: &[(&[u8], &[u8])],
-) -> Result<String, Fail> {
+/// The files handed in under these names.
+fn handed(rt: &(impl Abort + AllocGlobal), given: &[(&[u8], &[u8])]) -> Result<Files, Fail> {
     let mut files = Files::new(rt.alloc());
     for (name, bytes) in given {
         files.insert(
@@ -17,31 +13,45 @@ fn verdict(
             Vec::from_slice(rt.alloc(), bytes)?,
         )?;
     }
-    let tokens = lex(rt.alloc(), text)?;
-    let tree = parse(rt.alloc(), text, tokens.as_slice())?;
-    let whole = Span {
-        start: 0,
-        stop: text.len() as u32,
-    };
-    let library = Library::read(rt.alloc(), tree, whole, &files)?;
-    match library.check(rt.alloc()) {
-        Ok(()) => Ok(String::from_str(rt.alloc(), "ok")?),
+    Ok(files)
+}
+
+/// `ok`, or the first fault of the includes of a source with these files.
+fn verdict(
+    rt: &(impl Abort + AllocGlobal),
+    text: &[u8],
+    given: &[(&[u8], &[u8])],
+) -> Result<String, Fail> {
+    let files = handed(rt, given)?;
+    let library = Library::of_source(rt.alloc(), text, &files)?;
+    match library.expand(rt.alloc()) {
+        Ok(_) => Ok(String::from_str(rt.alloc(), "ok")?),
         Err(fault) => Ok(format!(in rt.alloc(); "{fault}")?),
     }
 }
 
-/// The verdict on a source whose symbols are these items, which begin at byte 27.
+/// A source whose symbols are these items, which begin at byte 27.
+fn symbols_of(rt: &(impl Abort + AllocGlobal), items: &[u8]) -> Result<Vec<u8>, Fail> {
+    let before = b"xkb_keymap { xkb_symbols { ".as_slice();
+    Ok([before, items, b" }; };".as_slice()].concat(rt.alloc())?)
+}
+
+/// A text so many times, one behind another.
+fn repeated(rt: &(impl Abort + AllocGlobal), times: usize, text: &[u8]) -> Result<Vec<u8>, Fail> {
+    let mut all = Vec::new(rt.alloc());
+    for _ in 0..times {
+        all.extend_from_slice(text)?;
+    }
+    Ok(all)
+}
+
+/// The verdict on a source whose symbols are these items.
 fn inside(
     rt: &(impl Abort + AllocGlobal),
     items: &[u8],
     given: &[(&[u8], &[u8])],
 ) -> Result<String, Fail> {
-    let text = [
-        b"xkb_keymap { xkb_symbols { ".as_slice(),
-        items,
-        b" }; };".as_slice(),
-    ]
-    .concat(rt.alloc())?;
+    let text = symbols_of(rt, items)?;
     verdict(rt, text.as_slice(), given)
 }
 
@@ -55,7 +65,7 @@ fn faults_of_includes(rt: HostRuntime) -> Result<(), Fail> {
         (b"broken".as_slice(), broken),
         (b"types".as_slice(), types),
     ];
-    let rows: [(&[u8], &str); 20] = [
+    let rows: [(&[u8], &str); 23] = [
         (b"include \"us\"", "ok"),
         (b"include \"us(basic)\"", "ok"),
         (b"include \"us(basic):2+us|us:32\"", "ok"),
@@ -70,6 +80,9 @@ fn faults_of_includes(rt: HostRuntime) -> Result<(), Fail> {
         (b"include \"us()\"", "F8 BadInclude at 0:35-41"),
         (b"include \"us:0\"", "F8 BadInclude at 0:35-41"),
         (b"include \"us:33\"", "F8 BadInclude at 0:35-42"),
+        (b"include \"us:001\"", "ok"),
+        (b"include \"us:0032\"", "ok"),
+        (b"include \"us:4294967297\"", "F8 BadInclude at 0:35-50"),
         (b"include \"us:\"", "F8 BadInclude at 0:35-40"),
         (b"include \"us:2(basic)\"", "F8 BadInclude at 0:35-48"),
         (b"include \"us(basic)x\"", "F8 BadInclude at 0:35-47"),
@@ -159,29 +172,102 @@ fn depth_and_count(rt: HostRuntime) -> Result<(), Fail> {
     Ok(())
 }
 
+/// Asserts that the one section of a body includes one map, the first of the file 1, 4,096 times.
+fn stands_once(rt: &impl Abort, symbols: &Expansion) {
+    assert_eq!(rt; symbols.maps.len(), 1);
+    let map = &symbols.maps[0];
+    assert_eq!(rt;
+        map.place,
+        Place {
+            file: 1,
+            section: 0
+        }
+    );
+    assert_eq!(rt; map.entries.len(), 1);
+    assert_eq!(rt; symbols.sections.len(), 1);
+    assert_eq!(rt; symbols.sections[0].entries.len(), 4096);
+}
+
+#[test]
+fn a_map_stands_once_however_often_it_is_included(rt: HostRuntime) -> Result<(), Fail> {
+    let us = b"xkb_symbols { key <A> { [ a ] }; };".as_slice();
+    let files = handed(&rt, &[(b"us".as_slice(), us)])?;
+    let items = repeated(&rt, 4096, b"include \"us\" ")?;
+    let text = symbols_of(&rt, items.as_slice())?;
+    let library = Library::of_source(rt.alloc(), text.as_slice(), &files)?;
+    stands_once(&rt, &library.expand(rt.alloc())?.symbols);
+    Ok(())
+}
+
+/// The mode and the links of the include that a body begins with.
+fn first_include<'b>(body: &'b Expansion) -> Option<(Mode, &'b [Link])> {
+    let section = body.sections.first()?;
+    match section.entries.first()? {
+        Entry::Own(_) => None,
+        Entry::Include { mode, links } => Some((*mode, links.as_slice())),
+    }
+}
+
+/// Asserts that an include augments, by the first map in three groups.
+fn is_in_three_groups(rt: &impl Abort, include: Option<(Mode, &[Link])>) {
+    let (mode, links) = include.expect(rt, "no include");
+    assert_eq!(rt; mode, Mode::Augment);
+    let wanted = [
+        (Mode::Override, None),
+        (Mode::Override, Some(2)),
+        (Mode::Augment, Some(3)),
+    ];
+    assert_eq!(rt; links.len(), wanted.len());
+    for (link, (mode, group)) in links.iter().zip(wanted) {
+        assert_eq!(rt; link.mode, mode);
+        assert_eq!(rt; link.group, group);
+        assert_eq!(rt; link.map, 0);
+    }
+}
+
+#[test]
+fn a_map_in_three_groups_has_three_links(rt: HostRuntime) -> Result<(), Fail> {
+    let us = b"xkb_symbols { };".as_slice();
+    let files = handed(&rt, &[(b"us".as_slice(), us)])?;
+    let text = symbols_of(&rt, b"augment \"us+us:2|us:3\"")?;
+    let library = Library::of_source(rt.alloc(), text.as_slice(), &files)?;
+    let bodies = library.expand(rt.alloc())?;
+    is_in_three_groups(&rt, first_include(&bodies.symbols));
+    Ok(())
+}
+
+#[test]
+fn parts_of_one_text_count_each(rt: HostRuntime) -> Result<(), Fail> {
+    let given = [(b"us".as_slice(), b"xkb_symbols { };".as_slice())];
+    let parts = repeated(&rt, 4095, b"+us")?;
+    let most = [
+        b"include \"us".as_slice(),
+        parts.as_slice(),
+        b"\"".as_slice(),
+    ]
+    .concat(rt.alloc())?;
+    assert_eq!(rt; inside(&rt, most.as_slice(), &given)?.as_str(), "ok");
+    let over = [most.as_slice(), b" include \"us\"".as_slice()].concat(rt.alloc())?;
+    let fault = inside(&rt, over.as_slice(), &given)?;
+    assert!(rt; fault.as_str().starts_with("F13 TooMany at 0:"));
+    Ok(())
+}
+
 #[test]
 fn maps_by_name_and_without(rt: HostRuntime) -> Result<(), Fail> {
     let text = b"xkb_keymap { };".as_slice();
-    let mut files = Files::new(rt.alloc());
-    for (name, bytes) in [
-        (
-            b"us".as_slice(),
-            b"xkb_symbols \"x\" {}; xkb_types {}; default xkb_symbols \"y\" {}; xkb_symbols \"x\" {};".as_slice(),
-        ),
+    let us =
+        b"xkb_symbols \"x\" {}; xkb_types {}; default xkb_symbols \"y\" {}; xkb_symbols \"x\" {};";
+    let given = [
+        (b"us".as_slice(), us.as_slice()),
         (
             b"symbols/us".as_slice(),
             b"xkb_types {}; xkb_symbols \"z\" {};".as_slice(),
         ),
-    ] {
-        files.insert(
-            Vec::from_slice(rt.alloc(), name)?,
-            Vec::from_slice(rt.alloc(), bytes)?,
-        )?;
-    }
+    ];
+    let files = handed(&rt, &given)?;
     assert_eq!(rt; files.len(), 2);
-    let tokens = lex(rt.alloc(), text)?;
-    let tree = parse(rt.alloc(), text, tokens.as_slice())?;
-    let library = Library::read(rt.alloc(), tree, Span { start: 0, stop: 15 }, &files)?;
+    let library = Library::of_source(rt.alloc(), text, &files)?;
     let rows: [(Kind, &[u8], Option<Place>); 6] = [
         (
             Kind::Symbols,

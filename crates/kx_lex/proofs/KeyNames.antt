@@ -3,9 +3,10 @@ use Rattle.std.proofs.Common.{◌≡◌, ℕ, zero, suc, ◌+◌, ◌-◌, Bool,
 use Rattle.std.proofs.lemmas.List.{drop-drop}
 use Rattle.std.specs.Char.{is_ascii_digit, is_ascii_hexdigit}
 use Rattle.std.specs.List.{list_all, prefix_len}
-use Rattle.kx_lex.specs.Bytes.{is_word_start, is_word_byte, is_mark, is_blank, is_key_byte, is_not_line_feed}
+use Rattle.kx_basics.specs.KeyNames.{is_key_byte}
+use Rattle.kx_lex.specs.Bytes.{is_word_start, is_word_byte, is_mark, is_blank, is_not_line_feed}
 use Rattle.kx_lex.specs.Kinds.{inner_of, is_key_name, is_key_name_kind}
-use Rattle.kx_lex.specs.Pieces.{piece, begins_comment, begins_hex, extent, string_piece, number_piece, key_name_piece}
+use Rattle.kx_lex.specs.Pieces.{piece, begins_comment, begins_hex, extent, string_piece, number_piece, key_name_piece, word_piece}
 use Rattle.kx_lex.specs.Reading.{Reads, ended, skipped, taken, token_of, IsReading}
 use Rattle.kx_lex.specs.declared.scan.Extent.{Extent}
 use Rattle.kx_lex.specs.declared.scan.Extent.TheVariants.{Closed, Open}
@@ -45,7 +46,7 @@ unfolding piece
 key_name_begins b bs n h = by (is_blank b) (begins_comment (b ∷ bs)) (is_word_start b) (is_ascii_digit b) (b == 34) (b == 60) (is_mark b) h
   where
     by : (blank comment word digit quote angle mark : Bool)
-        → cond blank (Gap (prefix_len is_blank (b ∷ bs))) (cond comment (Gap (prefix_len is_not_line_feed (b ∷ bs))) (cond word (Lexeme Word (prefix_len is_word_byte (b ∷ bs))) (cond digit (number_piece (b ∷ bs)) (cond quote (string_piece (extent false bs)) (cond angle (key_name_piece bs) (cond mark (Lexeme Mark 1) BadByte)))))) ≡ Lexeme KeyName n
+        → cond blank (Gap (prefix_len is_blank (b ∷ bs))) (cond comment (Gap (prefix_len is_not_line_feed (b ∷ bs))) (cond word (word_piece (prefix_len is_word_byte (b ∷ bs)) (b ∷ bs)) (cond digit (number_piece (b ∷ bs)) (cond quote (string_piece (extent false bs)) (cond angle (key_name_piece bs) (cond mark (Lexeme (Mark b) 1) BadByte)))))) ≡ Lexeme KeyName n
         → key_name_piece bs ≡ Lexeme KeyName n
     by true comment word digit quote angle mark h = cc
     by false true word digit quote angle mark h = cc
@@ -79,11 +80,11 @@ taken_name text offset n (b ∷ bs) here h =
 
 one_token : (text : List ℕ) (kind : TokenKind) (offset n : ℕ) (bs : List ℕ) → bs ≡ drop offset text → piece bs ≡ Lexeme kind n → is_key_name_kind kind ≡ true → list_all is_key_byte (inner_of text (token_of kind offset n)) ≡ true
 one_token text KeyName offset n bs here h key = taken_name text offset n bs here h
-one_token text Word offset n bs here h key = cc
+one_token text (Word k) offset n bs here h key = cc
 one_token text Number offset n bs here h key = cc
 one_token text Decimal offset n bs here h key = cc
 one_token text Text offset n bs here h key = cc
-one_token text Mark offset n bs here h key = cc
+one_token text (Mark b) offset n bs here h key = cc
 
 reads-key_names : (text : List ℕ) {offset : ℕ} {bs : List ℕ} {ts : List Token} → bs ≡ drop offset text → Reads offset bs ts → All (λ t. is_key_name t ≡ true → list_all is_key_byte (inner_of text t) ≡ true) ts
 reads-key_names text here (ended e) k d within = absurd (omega arith)

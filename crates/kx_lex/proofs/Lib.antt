@@ -1,6 +1,6 @@
 mod Readings
 pub mod Strings
-mod Digits
 mod Rounds
 mod Takes
 mod KeyNames
+pub mod Keywords

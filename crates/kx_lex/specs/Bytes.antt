@@ -2,6 +2,7 @@
 use Rattle.std.specs.Prelude.{ℕ, ◌≡◌, All, List, Bool, true, ◌==◌, nat_le, ◌&&◌, ◌||◌, not, codes}
 use Rattle.std.specs.Char.{is_ascii_alphabetic, is_ascii_alphanumeric}
 use Rattle.std.specs.List.{list_any}
+use Rattle.kx_basics.specs.KeyNames.{IsKeyByte}
 
 -- a letter or an underscore
 abbrev pub is_word_start : ℕ → Bool
@@ -19,12 +20,8 @@ is_blank b = (b == 32) || (nat_le 9 b && nat_le b 13)
 abbrev pub is_mark : ℕ → Bool
 is_mark b = list_any (λ m. m == b) (codes "{}[]();,.=+-*/!~")
 
--- what a key name may have between < and >
-abbrev pub is_key_byte : ℕ → Bool
-is_key_byte b = (nat_le 33 b && nat_le b 126) && not (b == 62)
-
 abbrev pub AreKeyBytes : List ℕ → Type 0
-AreKeyBytes bytes = All (λ b. is_key_byte b ≡ true) bytes
+AreKeyBytes bytes = All IsKeyByte bytes
 
 abbrev pub is_not_line_feed : ℕ → Bool
 is_not_line_feed b = not (b == 10)

@@ -1,8 +1,9 @@
 -- Tokens by their kind and their bytes in the text.
-use Rattle.std.specs.Prelude.{ℕ, Bool, true, false, List, [], ◌∷◌, ◌+◌, ◌-◌, ◌*◌, ◌==◌, ◌&&◌, slice_index, drop, if◌then◌else◌, slice_range}
-use Rattle.std.specs.Char.{digit_value}
-use Rattle.std.specs.Str.{str_eq_ignore_ascii_case}
+use Rattle.std.specs.Prelude.{ℕ, Bool, true, false, List, [], ◌∷◌, ◌+◌, ◌-◌, ◌*◌, ◌==◌, drop, if◌then◌else◌, slice_range, Option, None, Some}
+use Rattle.std.specs.Str.Parse.{digits_value}
+use Rattle.kx_lex.specs.Keywords.{keyword_number}
 use Rattle.kx_lex.specs.Pieces.{begins_hex}
+use Rattle.kx_lex.specs.declared.keyword.Keyword.{Keyword}
 use Rattle.kx_lex.specs.declared.token.Token.{Token}
 use Rattle.kx_lex.specs.declared.token.TokenKind.{TokenKind}
 use Rattle.kx_lex.specs.declared.token.TokenKind.TheVariants.{Word, Number, KeyName, Text, Mark}
@@ -15,7 +16,7 @@ abbrev pub inner_of : List ℕ → Token → List ℕ
 inner_of text t = slice_range text (t.span.start + 1) (t.span.stop - 1)
 
 abbrev pub is_word_kind : TokenKind → Bool
-is_word_kind Word = true
+is_word_kind (Word k) = true
 is_word_kind _ = false
 
 abbrev pub is_number_kind : TokenKind → Bool
@@ -30,9 +31,13 @@ abbrev pub is_text_kind : TokenKind → Bool
 is_text_kind Text = true
 is_text_kind _ = false
 
-abbrev pub is_mark_kind : TokenKind → Bool
-is_mark_kind Mark = true
-is_mark_kind _ = false
+abbrev pub is_mark_kind : ℕ → TokenKind → Bool
+is_mark_kind byte (Mark b) = b == byte
+is_mark_kind byte _ = false
+
+abbrev pub is_keyword_kind : Keyword → TokenKind → Bool
+is_keyword_kind keyword (Word (Some k)) = keyword_number k == keyword_number keyword
+is_keyword_kind keyword _ = false
 
 abbrev pub is_word : Token → Bool
 is_word t = is_word_kind t.kind
@@ -47,12 +52,12 @@ abbrev pub is_text : Token → Bool
 is_text t = is_text_kind t.kind
 
 -- the mark of this byte
-abbrev pub is_mark : List ℕ → ℕ → Token → Bool
-is_mark text byte t = is_mark_kind t.kind && (slice_index text t.span.start == byte)
+abbrev pub is_mark : ℕ → Token → Bool
+is_mark byte t = is_mark_kind byte t.kind
 
 -- this word, in capital letters or small
-unfoldable pub is_keyword : List ℕ → List ℕ → Token → Bool
-is_keyword text keyword t = is_word_kind t.kind && str_eq_ignore_ascii_case (slice_of text t) keyword
+unfoldable pub is_keyword : Keyword → Token → Bool
+is_keyword keyword t = is_keyword_kind keyword t.kind
 
 -- the first token passes the test
 abbrev pub front : (Token → Bool) → List Token → Bool
@@ -62,14 +67,6 @@ front test (t ∷ ts) = test t
 -- the second token does
 abbrev pub second : (Token → Bool) → List Token → Bool
 second test ts = front test (drop 1 ts)
-
--- digits behind a number, whose value so far is given
-abbrev pub digits_from : ℕ → ℕ → List ℕ → ℕ
-digits_from base value [] = value
-digits_from base value (digit ∷ digits) = digits_from base (value * base + digit_value digit) digits
-
-abbrev pub digits_value : ℕ → List ℕ → ℕ
-digits_value base digits = digits_from base 0 digits
 
 -- hexadecimal behind 0x, else decimal
 unfoldable pub number_value : List ℕ → ℕ

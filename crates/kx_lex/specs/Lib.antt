@@ -3,6 +3,7 @@ pub mod Pieces
 pub mod Reading
 pub mod Strings
 pub mod Kept
+pub mod Keywords
 pub mod Kinds
 pub mod Stops
 pub mod Reasons

@@ -1,62 +1,68 @@
 -- A token that passes one test fails another: for the tests by which lists go on up to their closing mark.
-use Rattle.std.specs.Prelude.{ℕ, Bool, true, false, not, ◌&&◌, ◌==◌, List, [], ◌∷◌, ◌≡◌, slice_index}
+use Rattle.std.specs.Prelude.{ℕ, Bool, true, false, not, ◌==◌, List, [], ◌∷◌, ◌≡◌, Some, None}
 use Rattle.std.proofs.Common.{refl}
 use Rattle.std.proofs.lemmas.Bool.{eqb-true}
+use Rattle.kx_lex.specs.declared.keyword.Keyword.{Keyword}
 use Rattle.kx_lex.specs.declared.token.Token.{Token}
 use Rattle.kx_lex.specs.declared.token.TokenKind.{TokenKind}
-use Rattle.kx_lex.specs.declared.token.TokenKind.TheVariants.{Mark}
-use Rattle.kx_lex.specs.Kinds.{is_word_kind, is_number_kind, is_key_name_kind, is_text_kind, is_mark_kind, is_word, is_number, is_key_name, is_text, is_mark, is_keyword, front}
+use Rattle.kx_lex.specs.declared.token.TokenKind.TheVariants.{Word, Mark}
+use Rattle.kx_lex.specs.Kinds.{is_word_kind, is_number_kind, is_key_name_kind, is_text_kind, is_mark_kind, is_keyword_kind, is_word, is_number, is_key_name, is_text, is_mark, is_keyword, front}
 
 -- the first token isn't this mark
-abbrev pub before_mark : List ℕ → ℕ → List Token → Bool
-before_mark text byte ts = front (λ t. not (is_mark text byte t)) ts
+abbrev pub before_mark : ℕ → List Token → Bool
+before_mark byte ts = front (λ t. not (is_mark byte t)) ts
 
-word_kind : (k : TokenKind) (b : Bool) → is_word_kind k ≡ true → not (is_mark_kind k && b) ≡ true
-word_kind Mark b h = cc
-word_kind _ b h = refl
+word_kind : (k : TokenKind) (close : ℕ) → is_word_kind k ≡ true → not (is_mark_kind close k) ≡ true
+word_kind (Mark b) close h = cc
+word_kind _ close h = refl
 
-number_kind : (k : TokenKind) (b : Bool) → is_number_kind k ≡ true → not (is_mark_kind k && b) ≡ true
-number_kind Mark b h = cc
-number_kind _ b h = refl
+number_kind : (k : TokenKind) (close : ℕ) → is_number_kind k ≡ true → not (is_mark_kind close k) ≡ true
+number_kind (Mark b) close h = cc
+number_kind _ close h = refl
 
-key_name_kind : (k : TokenKind) (b : Bool) → is_key_name_kind k ≡ true → not (is_mark_kind k && b) ≡ true
-key_name_kind Mark b h = cc
-key_name_kind _ b h = refl
+key_name_kind : (k : TokenKind) (close : ℕ) → is_key_name_kind k ≡ true → not (is_mark_kind close k) ≡ true
+key_name_kind (Mark b) close h = cc
+key_name_kind _ close h = refl
 
-text_kind : (k : TokenKind) (b : Bool) → is_text_kind k ≡ true → not (is_mark_kind k && b) ≡ true
-text_kind Mark b h = cc
-text_kind _ b h = refl
+text_kind : (k : TokenKind) (close : ℕ) → is_text_kind k ≡ true → not (is_mark_kind close k) ≡ true
+text_kind (Mark b) close h = cc
+text_kind _ close h = refl
 
-other_byte : (a b n : ℕ) (k : Bool) → (a == b) ≡ false → (k && (n == a)) ≡ true → not (k && (n == b)) ≡ true
-other_byte a b n false d h = refl
-other_byte a b n true d h = rw (eqb-true n a h) (rw d refl)
+other_mark : (byte close : ℕ) (k : TokenKind) → (byte == close) ≡ false → is_mark_kind byte k ≡ true → not (is_mark_kind close k) ≡ true
+other_mark byte close (Mark b) d h = rw (eqb-true b byte h) (rw d refl)
+other_mark byte close _ d h = refl
 
-pub word-before : (text : List ℕ) (close : ℕ) (ts : List Token) → front is_word ts ≡ true → before_mark text close ts ≡ true
-word-before text close [] h = cc
-word-before text close (t ∷ ts) h = word_kind t.kind (slice_index text t.span.start == close) h
+keyword_kind : (keyword : Keyword) (k : TokenKind) → is_keyword_kind keyword k ≡ true → is_word_kind k ≡ true
+keyword_kind keyword (Word w) h = refl
+keyword_kind keyword _ h = cc
 
-pub number-before : (text : List ℕ) (close : ℕ) (ts : List Token) → front is_number ts ≡ true → before_mark text close ts ≡ true
-number-before text close [] h = cc
-number-before text close (t ∷ ts) h = number_kind t.kind (slice_index text t.span.start == close) h
+-- no other token is a keyword
+pub other-keyword : (keyword : Keyword) (k : TokenKind) → is_word_kind k ≡ false → is_keyword_kind keyword k ≡ false
+other-keyword keyword (Word w) h = cc
+other-keyword keyword _ h = refl
 
-pub key_name-before : (text : List ℕ) (close : ℕ) (ts : List Token) → front is_key_name ts ≡ true → before_mark text close ts ≡ true
-key_name-before text close [] h = cc
-key_name-before text close (t ∷ ts) h = key_name_kind t.kind (slice_index text t.span.start == close) h
+pub word-before : (close : ℕ) (ts : List Token) → front is_word ts ≡ true → before_mark close ts ≡ true
+word-before close [] h = cc
+word-before close (t ∷ ts) h = word_kind t.kind close h
 
-pub text-before : (text : List ℕ) (close : ℕ) (ts : List Token) → front is_text ts ≡ true → before_mark text close ts ≡ true
-text-before text close [] h = cc
-text-before text close (t ∷ ts) h = text_kind t.kind (slice_index text t.span.start == close) h
+pub number-before : (close : ℕ) (ts : List Token) → front is_number ts ≡ true → before_mark close ts ≡ true
+number-before close [] h = cc
+number-before close (t ∷ ts) h = number_kind t.kind close h
 
-pub mark-before : (text : List ℕ) (byte close : ℕ) → (byte == close) ≡ false → (ts : List Token) → front (is_mark text byte) ts ≡ true → before_mark text close ts ≡ true
-mark-before text byte close d [] h = cc
-mark-before text byte close d (t ∷ ts) h = other_byte byte close (slice_index text t.span.start) (is_mark_kind t.kind) d h
+pub key_name-before : (close : ℕ) (ts : List Token) → front is_key_name ts ≡ true → before_mark close ts ≡ true
+key_name-before close [] h = cc
+key_name-before close (t ∷ ts) h = key_name_kind t.kind close h
 
-both-first : (a b : Bool) → (a && b) ≡ true → a ≡ true
-both-first true b h = refl
-both-first false b h = cc
+pub text-before : (close : ℕ) (ts : List Token) → front is_text ts ≡ true → before_mark close ts ≡ true
+text-before close [] h = cc
+text-before close (t ∷ ts) h = text_kind t.kind close h
+
+pub mark-before : (byte close : ℕ) → (byte == close) ≡ false → (ts : List Token) → front (is_mark byte) ts ≡ true → before_mark close ts ≡ true
+mark-before byte close d [] h = cc
+mark-before byte close d (t ∷ ts) h = other_mark byte close t.kind d h
 
 -- a keyword is a word
-pub keyword-word : (text words : List ℕ) (ts : List Token) → front (is_keyword text words) ts ≡ true → front is_word ts ≡ true
+pub keyword-word : (keyword : Keyword) (ts : List Token) → front (is_keyword keyword) ts ≡ true → front is_word ts ≡ true
 unfolding is_keyword
-keyword-word text words [] h = cc
-keyword-word text words (t ∷ ts) h = both-first (is_word t) _ h
+keyword-word keyword [] h = cc
+keyword-word keyword (t ∷ ts) h = keyword_kind keyword t.kind h

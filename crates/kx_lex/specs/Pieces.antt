@@ -1,8 +1,10 @@
 -- What the front of a text begins: the tokens of the text format v1 of libxkbcommon, each the longest of its kind.
-use Rattle.std.specs.Prelude.{ℕ, Bool, false, List, [], ◌∷◌, ◌+◌, ◌==◌, ◌&&◌, ◌||◌, not, if◌then◌else◌, drop, slice_index}
+use Rattle.std.specs.Prelude.{ℕ, Bool, false, List, [], ◌∷◌, ◌+◌, ◌==◌, ◌&&◌, ◌||◌, not, if◌then◌else◌, drop, slice_index, take}
 use Rattle.std.specs.Char.{is_ascii_digit, is_ascii_hexdigit}
 use Rattle.std.specs.List.{prefix_len}
-use Rattle.kx_lex.specs.Bytes.{is_word_start, is_word_byte, is_mark, is_blank, is_key_byte, is_not_line_feed}
+use Rattle.kx_basics.specs.KeyNames.{is_key_byte}
+use Rattle.kx_lex.specs.Bytes.{is_word_start, is_word_byte, is_mark, is_blank, is_not_line_feed}
+use Rattle.kx_lex.specs.Keywords.{keyword_of}
 use Rattle.kx_lex.specs.declared.scan.Extent.{Extent}
 use Rattle.kx_lex.specs.declared.scan.Extent.TheVariants.{Closed, Open}
 use Rattle.kx_lex.specs.declared.scan.Piece.{Piece}
@@ -56,15 +58,19 @@ decimal_piece n bs = if slice_index bs n == 46 then Lexeme Decimal (n + 1 + pref
 unfoldable pub number_piece : List ℕ → Piece
 number_piece bs = if begins_hex bs then Lexeme Number (2 + prefix_len is_ascii_hexdigit (drop 2 bs)) else decimal_piece (prefix_len is_ascii_digit bs) bs
 
+-- so many bytes as a word, with the keyword that they spell
+abbrev pub word_piece : ℕ → List ℕ → Piece
+word_piece n bs = Lexeme (Word (keyword_of (take n bs))) n
+
 -- a comment is taken wherever one can begin
 unfoldable pub piece : List ℕ → Piece
 piece [] = End
 piece (b ∷ bs) =
     if is_blank b then Gap (prefix_len is_blank (b ∷ bs))
     else (if begins_comment (b ∷ bs) then Gap (prefix_len is_not_line_feed (b ∷ bs))
-    else (if is_word_start b then Lexeme Word (prefix_len is_word_byte (b ∷ bs))
+    else (if is_word_start b then word_piece (prefix_len is_word_byte (b ∷ bs)) (b ∷ bs)
     else (if is_ascii_digit b then number_piece (b ∷ bs)
     else (if b == 34 then string_piece (extent false bs)
     else (if b == 60 then key_name_piece bs
-    else (if is_mark b then Lexeme Mark 1
+    else (if is_mark b then Lexeme (Mark b) 1
     else BadByte))))))

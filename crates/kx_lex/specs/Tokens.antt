@@ -3,9 +3,10 @@ use Rattle.std.specs.Prelude.{ℕ, List, ◌≡◌, ◌≤◌, ◌^◌, Bool, tr
 use Rattle.std.proofs.Common.{arith, inl, inr, sym, refl}
 use Rattle.std.proofs.lemmas.Bool.{ltb-false}
 use Rattle.std.specs.List.{list_all}
-use Rattle.kx_lex.specs.Bytes.{is_key_byte}
+use Rattle.kx_basics.specs.KeyNames.{is_key_byte}
 use Rattle.kx_lex.specs.Strings.{text_value}
 use Rattle.kx_lex.specs.declared.string.Reading.TheVariants.{Plain}
+use Rattle.kx_lex.specs.declared.keyword.Keyword.{Keyword}
 use Rattle.kx_lex.specs.declared.token.Token.{Token}
 use Rattle.kx_lex.specs.declared.token.Span.{Span}
 use Rattle.kx_lex.specs.declared.fault.Fault.{Fault}
@@ -57,9 +58,9 @@ abbrev pub bang : ℕ
 bang = 33
 
 unfoldable pub mark : (text : List ℕ) → ℕ → Production text Token
-mark text byte = one text (is_mark text byte)
+mark text byte = one text (is_mark byte)
 
-pub mark-front : (text : List ℕ) (byte : ℕ) → Admits (front (is_mark text byte)) (mark text byte)
+pub mark-front : (text : List ℕ) (byte : ℕ) → Admits (front (is_mark byte)) (mark text byte)
 unfolding mark
 mark-front text byte ts t rest s = rw s.0 s.1
 
@@ -68,16 +69,16 @@ pub mark-least : (text : List ℕ) (byte : ℕ) → 1 ≤ (mark text byte).least
 unfolding mark
 mark-least text byte = omega arith
 
-unfoldable pub keyword : (text : List ℕ) → List ℕ → Production text Token
-keyword text word = one text (is_keyword text word)
+unfoldable pub keyword : (text : List ℕ) → Keyword → Production text Token
+keyword text wanted = one text (is_keyword wanted)
 
-pub keyword-front : (text words : List ℕ) → Admits (front (is_keyword text words)) (keyword text words)
+pub keyword-front : (text : List ℕ) (wanted : Keyword) → Admits (front (is_keyword wanted)) (keyword text wanted)
 unfolding keyword
-keyword-front text words ts t rest s = rw s.0 s.1
+keyword-front text wanted ts t rest s = rw s.0 s.1
 
-pub keyword-behind : (text words : List ℕ) (ts : List Token) (t : Token) (rest : List Token) → (keyword text words).spells ts t rest → drop 1 ts ≡ rest
+pub keyword-behind : (text : List ℕ) (wanted : Keyword) (ts : List Token) (t : Token) (rest : List Token) → (keyword text wanted).spells ts t rest → drop 1 ts ≡ rest
 unfolding keyword
-keyword-behind text words ts t rest s = rw s.0 refl
+keyword-behind text wanted ts t rest s = rw s.0 refl
 
 -- a word as it is written
 unfoldable pub word : (text : List ℕ) → Production text Name

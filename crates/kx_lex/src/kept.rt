@@ -1,3 +1,4 @@
+//! Values and bytes that trees keep in little room.
 ghost use Rattle.std.specs.Prelude.{◌≡◌, take};
 
 use std::alloc::{AllocError, Global};

@@ -4,6 +4,7 @@
 
 pub mod fault;
 pub mod kept;
+pub mod keyword;
 pub mod name;
 pub mod repeated;
 pub mod scan;
@@ -15,6 +16,7 @@ pub mod tokens;
 
 pub use fault::{At, Fault};
 pub use kept::{Apart, Bytes};
+pub use keyword::Keyword;
 pub use name::{KeyName, Name, Number, Row};
 pub use scan::{MOST_TEXT_BYTES, begins_hex, key_names_of_readings, lex, one_reading};
 pub use string::text_bytes;

@@ -77,7 +77,8 @@ impl Model for KeyName {
 impl KeyName {
     ghost use Rattle.std.specs.Prelude.{◌≡◌, true, if◌then◌else◌, None, Some};
     ghost use Rattle.std.specs.List.{list_all};
-    ghost use Rattle.kx_lex.specs.Bytes.{AreKeyBytes, is_key_byte};
+    ghost use Rattle.kx_basics.specs.KeyNames.{is_key_byte};
+    ghost use Rattle.kx_lex.specs.Bytes.{AreKeyBytes};
 
     /// This name, where a key may have it.
     pub(crate) fn of(name: Name) -> Option<KeyName>

@@ -1,3 +1,4 @@
+//! Values that stand in a row.
 ghost use Rattle.std.specs.Prelude.{◌≡◌, ◌<◌, ℕ, List, Bool, length, suc, []};
 ghost use Rattle.kx_lex.specs.declared.token.Token.{Token as TokenValue};
 ghost use Rattle.kx_lex.specs.Gives.{Gives};
@@ -79,12 +80,12 @@ struct AfterComma<R>(PhantomData<R>);
 impl<R: Repeated> Repeated for AfterComma<R> {
     type Value = R::Value;
 
-    ghost test = { λ text ts. front (is_mark text comma) ts };
+    ghost test = { λ text ts. front (is_mark comma) ts };
 
     ghost reading = { λ text. after_comma_read text (R.reading text) };
 
     fn is_next(text: &[u8], tokens: &[Token]) -> bool {
-        front_is_mark(text, b',', tokens)
+        front_is_mark(b',', tokens)
     }
 
     fn read_next<'a>(alloc: Global, text: &[u8], tokens: &'a [Token]) -> Reading<'a, R::Value> {
@@ -126,18 +127,18 @@ pub fn read_listed<'a, R: Repeated>(
 ) -> Reading<'a, Row<R::Value>>
     ensures { Gives result (listed_read text.now close (R.reading text.now) tokens.now) }
 {
-    if !is_before_mark(text, close, tokens) {
+    if !is_before_mark(close, tokens) {
         return Ok((Row::of(Vec::new(alloc)), tokens));
     }
     read_sequence::<R>(alloc, text, tokens)
 }
 
-/// Whether a token stands at the front that is not the mark of this byte in the text.
-pub fn is_before_mark(text: &[u8], byte: u8, tokens: &[Token]) -> bool
-    ensures { result ≡ before_mark text.now byte tokens.now }
+/// Whether a token stands at the front that is not the mark of this byte.
+pub fn is_before_mark(byte: u8, tokens: &[Token]) -> bool
+    ensures { result ≡ before_mark byte tokens.now }
 {
     match tokens.first() {
-        Some(token) => !is_mark(text, byte, token),
+        Some(token) => !is_mark(byte, token),
         None => false,
     }
 }

@@ -1,8 +1,10 @@
+//! From a text to its tokens.
 ghost use Rattle.std.specs.Prelude.{◌≡◌, ◌≢◌, ℕ, true, All, List, IsTrue, ◌+◌, ◌<◌, ◌≤◌, ◌^◌, ◌⊎◌, slice_index, false, length, IfOk, IfErr, OnOk, drop};
 ghost use Rattle.std.specs.List.{list_all, prefix_len};
-ghost use Rattle.kx_lex.specs.Bytes.{is_word_start, is_word_byte, is_mark, is_blank, is_key_byte, is_not_line_feed};
+ghost use Rattle.kx_basics.specs.KeyNames.{is_key_byte};
+ghost use Rattle.kx_lex.specs.Bytes.{is_word_start, is_word_byte, is_mark, is_blank, is_not_line_feed};
 ghost use Rattle.kx_lex.specs.Kinds.{inner_of, is_key_name};
-ghost use Rattle.kx_lex.specs.Pieces.{begins_comment, extent, extent_len, piece_len, string_piece, key_name_piece, number_piece, begins_hex, piece};
+ghost use Rattle.kx_lex.specs.Pieces.{begins_comment, extent, extent_len, piece_len, string_piece, key_name_piece, number_piece, begins_hex, piece, word_piece};
 ghost use Rattle.kx_lex.specs.Reading.{IsReading, StopsWith, mark_len, whole_of, place_of};
 ghost use Rattle.std.specs.Char.{is_ascii_digit, is_ascii_hexdigit};
 ghost use Rattle.kx_lex.specs.declared.fault.Fault.TheVariants.{Memory, TooLong};
@@ -11,7 +13,9 @@ ghost use Rattle.kx_lex.specs.declared.token.Token.{Token as TokenValue};
 ghost use Rattle.kx_lex.specs.declared.fault.Fault.{Fault as FaultValue};
 
 use crate::fault::{At, Fault};
+use crate::keyword::keyword_of;
 use crate::token::{Span, Token, TokenKind};
+use kx_basics::is_key_byte;
 use std::alloc::Global;
 
 /// A text may have this many bytes.
@@ -76,12 +80,6 @@ fn is_mark(byte: u8) -> bool
             | b'!'
             | b'~'
     )
-}
-
-fn is_key_byte(byte: u8) -> bool
-    ensures { result ≡ is_key_byte byte }
-{
-    0x21 <= byte && byte <= 0x7e && byte != b'>'
 }
 
 fn word_len(bytes: &[u8]) -> usize
@@ -232,6 +230,15 @@ fn string_piece(bytes: &[u8]) -> Piece
     }
 }
 
+/// The word at the front.
+fn word_piece(bytes: &[u8]) -> Piece
+    ensures { result ≡ word_piece (prefix_len is_word_byte bytes.now) bytes.now }
+{
+    let len = word_len(bytes);
+    let keyword = keyword_of(bytes.get(..len).unwrap_or(bytes));
+    Piece::Lexeme(TokenKind::Word(keyword), len)
+}
+
 #[tactic(auto, unfolding(crate::specs::Pieces::piece))]
 fn piece_at(bytes: &[u8]) -> Piece
     requires { length bytes.now ≤ 1048576 }
@@ -248,7 +255,7 @@ fn piece_at(bytes: &[u8]) -> Piece
     } else if begins_comment(bytes) {
         Piece::Gap(line_len(bytes))
     } else if is_word_start(first) {
-        Piece::Lexeme(TokenKind::Word, word_len(bytes))
+        word_piece(bytes)
     } else if first.is_ascii_digit() {
         number_piece(bytes)
     } else if first == b'"' {
@@ -256,7 +263,7 @@ fn piece_at(bytes: &[u8]) -> Piece
     } else if first == b'<' {
         key_name_piece(rest)
     } else if is_mark(first) {
-        Piece::Lexeme(TokenKind::Mark, 1)
+        Piece::Lexeme(TokenKind::Mark(first), 1)
     } else {
         Piece::BadByte
     }

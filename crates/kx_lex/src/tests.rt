@@ -9,7 +9,7 @@ use crate::tokens::{
     read_key_name, read_keyword, read_mark, read_number, read_text, read_word, span_between,
     syntax,
 };
-use crate::{Apart, Bytes, Fault, KeyName, Name, Row, Span, Token, TokenKind, lex};
+use crate::{Apart, Bytes, Fault, KeyName, Keyword, Name, Row, Span, Token, TokenKind, lex};
 use std::alloc::Global;
 use std::process::Abort;
 use std::test::Fail;
@@ -23,12 +23,12 @@ fn shown(rt: &(impl Abort + AllocGlobal), text: &[u8]) -> Result<String, Fail> {
     let mut all = String::from_str(rt.alloc(), "")?;
     for token in tokens.as_slice() {
         let letter = match token.kind {
-            TokenKind::Word => "w",
+            TokenKind::Word(_) => "w",
             TokenKind::Number => "n",
             TokenKind::Decimal => "d",
             TokenKind::KeyName => "k",
             TokenKind::Text => "t",
-            TokenKind::Mark => "m",
+            TokenKind::Mark(_) => "m",
         };
         let span = token.span;
         all.push_str(letter)?;
@@ -165,16 +165,16 @@ fn fronts_are_told_apart(rt: HostRuntime) -> Result<(), Fail> {
             front_is_number(tokens),
             front_is_text(tokens),
             front_is_key_name(tokens),
-            front_is_mark(text, b';', tokens),
-            front_is_keyword(text, b"key", tokens),
-            is_before_mark(text, b';', tokens),
+            front_is_mark(b';', tokens),
+            front_is_keyword(Keyword::Key, tokens),
+            is_before_mark(b';', tokens),
         ];
         assert_eq!(rt; found, wanted, "{:?}", text);
         if let Some(token) = tokens.first() {
             assert_eq!(rt; is_word(token), wanted[0]);
             assert_eq!(rt; is_number(token), wanted[1]);
-            assert_eq!(rt; is_mark(text, b';', token), wanted[4]);
-            assert_eq!(rt; is_keyword(text, b"key", token), wanted[5]);
+            assert_eq!(rt; is_mark(b';', token), wanted[4]);
+            assert_eq!(rt; is_keyword(Keyword::Key, token), wanted[5]);
         }
     }
     Ok(())
@@ -281,11 +281,11 @@ fn marks_keywords_and_their_places(rt: HostRuntime) -> Result<(), Fail> {
     let text = b"KEY ; x";
     let all = lex(rt.alloc(), text)?;
     let tokens = all.as_slice();
-    let (word, behind) = read_keyword(text, b"key", tokens)?;
+    let (word, behind) = read_keyword(text, Keyword::Key, tokens)?;
     assert_eq!(rt; word.span, Span { start: 0, stop: 3 });
     let (mark, rest) = read_mark(text, b';', behind)?;
     assert_eq!(rt; mark.span, Span { start: 4, stop: 5 });
-    assert!(rt; read_keyword(text, b"key", behind).is_err());
+    assert!(rt; read_keyword(text, Keyword::Key, behind).is_err());
     assert!(rt; read_mark(text, b',', behind).is_err());
     assert_eq!(rt; front_span(rest), Span { start: 6, stop: 7 });
     assert_eq!(rt; span_between(tokens, rest), Span { start: 0, stop: 5 });
@@ -302,12 +302,12 @@ struct Semicolons;
 impl Repeated for Semicolons {
     type Value = Token;
 
-    ghost test = { λ text ts. front (is_mark text semicolon) ts };
+    ghost test = { λ text ts. front (is_mark semicolon) ts };
 
     ghost reading = { λ text. (mark text semicolon).read };
 
     fn is_next(text: &[u8], tokens: &[Token]) -> bool {
-        front_is_mark(text, b';', tokens)
+        front_is_mark(b';', tokens)
     }
 
     fn read_next<'a>(_alloc: Global, text: &[u8], tokens: &'a [Token]) -> Reading<'a, Token> {

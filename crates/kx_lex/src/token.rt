@@ -1,3 +1,4 @@
+use crate::keyword::Keyword;
 use std::fmt;
 
 /// A range of bytes of a text, counted from 0: `start` is its first byte, `stop` the byte behind
@@ -16,11 +17,11 @@ impl fmt::Display for Span {
     }
 }
 
-/// What a token is; a mark is told from another by its byte in the text.
+/// What a token is.
 #[derive(Clone, Copy, Debug, PartialEq, Eq)]
 pub enum TokenKind {
-    /// A letter or `_`, then letters, digits and `_`.
-    Word,
+    /// A letter or `_`, then letters, digits and `_`; with the keyword that it spells, where it spells one.
+    Word(Option<Keyword>),
     /// Decimal digits, or `0x` and hexadecimal digits.
     Number,
     /// Digits, a point and optional digits; geometry alone has them.
@@ -29,8 +30,8 @@ pub enum TokenKind {
     KeyName,
     /// Text between quotes.
     Text,
-    /// One of `{ } [ ] ( ) ; , . = + - * / ! ~`.
-    Mark,
+    /// One of `{ } [ ] ( ) ; , . = + - * / ! ~`, by its byte.
+    Mark(u8),
 }
 
 /// A token: what it is and the bytes of the text that it takes.

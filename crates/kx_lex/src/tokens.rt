@@ -1,19 +1,21 @@
+//! What is read of a single token.
 ghost use Rattle.std.specs.Prelude.{◌≡◌, ◌<◌, ◌^◌, ◌-◌, ◌⊎◌, Err, List, IfErr, IfOk, Ok, ◌≤◌, slice_range, drop};
 ghost use Rattle.kx_lex.specs.declared.fault.Fault.TheVariants.{Memory};
-ghost use Rattle.std.specs.Char.{digit_value};
 ghost use Rattle.kx_lex.specs.Strings.{text_value};
 ghost use Rattle.kx_lex.specs.declared.string.Reading.TheVariants.{Plain};
 ghost use Rattle.kx_lex.specs.Gives.{Gives};
 ghost use Rattle.kx_lex.specs.Production.{syntax_of, front_span, span_between};
-ghost use Rattle.kx_lex.specs.Kinds.{slice_of, inner_of, is_word, is_number, is_key_name, is_text, is_mark, is_keyword, front, second, digits_value, number_value};
+ghost use Rattle.kx_lex.specs.Kinds.{slice_of, inner_of, is_word, is_number, is_key_name, is_text, is_mark, is_keyword, front, second, number_value};
 ghost use Rattle.kx_lex.specs.Tokens.{mark, keyword, word, key_name, enclosed, text_name, measured, number};
 
 use crate::fault::{At, Fault};
 use crate::kept::Bytes;
+use crate::keyword::Keyword;
 use crate::name::{KeyName, Name, Number};
 use crate::scan::begins_hex;
 use crate::string::text_bytes;
 use crate::token::{Span, Token, TokenKind};
+use kx_basics::digits_value;
 use std::alloc::{AllocError, Global};
 
 /// A value with the tokens that are left behind it, or why there is none.
@@ -49,7 +51,7 @@ fn inner_of<'t>(text: &'t [u8], token: &Token) -> &'t [u8]
 pub fn is_word(token: &Token) -> bool
     ensures { result ≡ is_word token.now }
 {
-    matches!(token.kind, TokenKind::Word)
+    matches!(token.kind, TokenKind::Word(_))
 }
 
 /// Whether the token is a whole number.
@@ -71,20 +73,25 @@ fn is_text(token: &Token) -> bool
     matches!(token.kind, TokenKind::Text)
 }
 
-/// Whether the token is the mark of this byte in the text.
-pub fn is_mark(text: &[u8], byte: u8, token: &Token) -> bool
-    ensures { result ≡ is_mark text.now byte token.now }
+/// Whether the token is the mark of this byte.
+pub fn is_mark(byte: u8, token: &Token) -> bool
+    ensures { result ≡ is_mark byte token.now }
 {
-    let first = text.get(token.span.start as usize).copied().unwrap_or(0);
-    matches!(token.kind, TokenKind::Mark) && first == byte
+    match token.kind {
+        TokenKind::Mark(mark) => mark == byte,
+        _ => false,
+    }
 }
 
-/// Whether the token is this word in the text, in capital letters or small.
+/// Whether the token is this keyword.
 #[tactic(auto, unfolding(crate::specs::Kinds::is_keyword))]
-pub fn is_keyword(text: &[u8], keyword: &[u8], token: &Token) -> bool
-    ensures { result ≡ is_keyword text.now keyword.now token.now }
+pub fn is_keyword(keyword: Keyword, token: &Token) -> bool
+    ensures { result ≡ is_keyword keyword token.now }
 {
-    matches!(token.kind, TokenKind::Word) && slice_of(text, token).eq_ignore_ascii_case(keyword)
+    match token.kind {
+        TokenKind::Word(Some(found)) => found.is(keyword),
+        _ => false,
+    }
 }
 
 /// The fault of the first token, which may not stand where it does, or of the text's end. A place
@@ -112,21 +119,21 @@ pub fn read_mark<'a>(text: &[u8], byte: u8, tokens: &'a [Token]) -> Reading<'a, 
     ensures { Gives result ((mark text.now byte).read tokens.now) }
 {
     match tokens.split_first() {
-        Some((token, rest)) if is_mark(text, byte, token) => Ok((*token, rest)),
+        Some((token, rest)) if is_mark(byte, token) => Ok((*token, rest)),
         _ => Err(syntax(text, tokens)),
     }
 }
 
-/// Takes this word, in capital letters or small.
+/// Takes this keyword.
 ///
 /// # Errors
 /// [`Fault::Syntax`] where another token or none stands.
 #[tactic(auto, unfolding(crate::specs::Tokens::keyword))]
-pub fn read_keyword<'a>(text: &[u8], wanted: &[u8], tokens: &'a [Token]) -> Reading<'a, Token>
-    ensures { Gives result ((keyword text.now wanted.now).read tokens.now) }
+pub fn read_keyword<'a>(text: &[u8], wanted: Keyword, tokens: &'a [Token]) -> Reading<'a, Token>
+    ensures { Gives result ((keyword text.now wanted).read tokens.now) }
 {
     match tokens.split_first() {
-        Some((token, rest)) if is_keyword(text, wanted, token) => Ok((*token, rest)),
+        Some((token, rest)) if is_keyword(wanted, token) => Ok((*token, rest)),
         _ => Err(syntax(text, tokens)),
     }
 }
@@ -222,35 +229,6 @@ pub fn read_text<'a>(alloc: Global, text: &[u8], tokens: &'a [Token]) -> Reading
     }
 }
 
-/// A digit's value folded into the number before it; at most 2^32 in all.
-fn digits_value(digits: &[u8], base: u64) -> u64
-    requires some { 1 ≤ base }
-    requires small { base ≤ 16 }
-    ensures exact { result < 2 ^ 32 → result ≡ digits_value base digits.now }
-    ensures great { 2 ^ 32 ≤ result → 2 ^ 32 ≤ digits_value base digits.now }
-{
-    let mut value = 0;
-    for digit in digits {
-        if value >= 1 << 32 {
-            return value;
-        }
-        value = value * base + digit_of(*digit);
-    }
-    value
-}
-
-fn digit_of(byte: u8) -> u64
-    ensures value { result ≡ digit_value byte }
-    ensures small { result < 37 }
-{
-    match byte {
-        b'0'..=b'9' => u64::from(byte - b'0'),
-        b'A'..=b'Z' => u64::from(byte - b'A') + 10,
-        b'a'..=b'z' => u64::from(byte - b'a') + 10,
-        _ => 36,
-    }
-}
-
 fn measured(value: u64, span: Span) -> Result<Number, Fault>
     requires { value < 2 ^ 64 }
     ensures { result ≡ measured value span }
@@ -292,22 +270,22 @@ pub fn read_number<'a>(text: &[u8], tokens: &'a [Token]) -> Reading<'a, Number>
     }
 }
 
-/// Whether the first token is the mark of this byte in the text.
-pub fn front_is_mark(text: &[u8], byte: u8, tokens: &[Token]) -> bool
-    ensures { result ≡ front (is_mark text.now byte) tokens.now }
+/// Whether the first token is the mark of this byte.
+pub fn front_is_mark(byte: u8, tokens: &[Token]) -> bool
+    ensures { result ≡ front (is_mark byte) tokens.now }
 {
     match tokens.first() {
-        Some(token) => is_mark(text, byte, token),
+        Some(token) => is_mark(byte, token),
         None => false,
     }
 }
 
-/// Whether the first token is this word in the text, in capital letters or small.
-pub fn front_is_keyword(text: &[u8], wanted: &[u8], tokens: &[Token]) -> bool
-    ensures { result ≡ front (is_keyword text.now wanted.now) tokens.now }
+/// Whether the first token is this keyword.
+pub fn front_is_keyword(wanted: Keyword, tokens: &[Token]) -> bool
+    ensures { result ≡ front (is_keyword wanted) tokens.now }
 {
     match tokens.first() {
-        Some(token) => is_keyword(text, wanted, token),
+        Some(token) => is_keyword(wanted, token),
         None => false,
     }
 }

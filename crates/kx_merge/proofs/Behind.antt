@@ -1,5 +1,6 @@
 -- Going over a body: what is behind is in the records, and has no fault.
-use Rattle.std.proofs.Common.{◌≡◌, ℕ, ◌+◌, ◌-◌, ◌<◌, zero, suc, Bool, true, false, cond, List, [], ◌∷◌, ◌++◌, length, drop, get_or, Option, Contains, Result, Ok, Err, IfErr, refl, sym, ap, ◌∙◌, subst, arith}
+use Rattle.std.proofs.Common.{◌≡◌, ℕ, ◌+◌, ◌<◌, ◌≤◌, zero, suc, Bool, List, [], ◌∷◌, ◌++◌, length, drop, get_or, Option, None, Contains, Result, Ok, Err, IfErr, OnOk, refl, sym, ap, ◌∙◌, subst, arith}
+use Rattle.std.proofs.lemmas.List.{drop_all}
 use Rattle.std.proofs.lemmas.List.Elements.{Contains-append_left}
 use Rattle.std.specs.HashMap.{HashMap}
 use Rattle.std.specs.Map.{keys_of, lookup}
@@ -7,18 +8,20 @@ use Rattle.std.specs.Result.{IsErrAnd}
 use Rattle.indexmap.specs.IndexMap.{get, keys}
 use Rattle.kx_lex.specs.declared.fault.Fault.{Fault}
 use Rattle.kx_lex.specs.declared.fault.Fault.TheVariants.{Memory}
-use Rattle.kx_parse.specs.declared.tree.Item.{Item}
-use Rattle.kx_parse.specs.declared.tree.Item.TheVariants.{Include, Statement}
-use Rattle.kx_parse.specs.declared.tree.Kind.{Kind}
-use Rattle.kx_parse.specs.declared.tree.Section.{Section}
-use Rattle.kx_include.specs.Expansion.{Body, End, Begin, items_body, parts_body, map_body, sections_body}
-use Rattle.kx_include.specs.IncludeText.{Part}
-use Rattle.kx_include.specs.Library.{Library, is_of, items_in}
+use Rattle.kx_include.specs.Expansion.{Body, End}
+use Rattle.kx_include.specs.Shared.{bodies_behind, body_at, links_body, entries_body, shared_body, shared_sections}
+use Rattle.kx_include.specs.declared.expansion.Entry.{Entry}
+use Rattle.kx_include.specs.declared.expansion.Entry.TheVariants.{Own, Include}
+use Rattle.kx_include.specs.declared.expansion.Link.{Link}
+use Rattle.kx_include.specs.declared.expansion.Map.{Map}
 use Rattle.kx_include.specs.declared.place.Place.{Place}
-use Rattle.kx_merge.specs.Bodies.{Rules, Moves, offers, faults, offers_of, faults_of}
+use Rattle.kx_parse.specs.declared.tree.Mode.{Mode}
+use Rattle.kx_parse.specs.declared.tree.Mode.TheVariants.{Augment}
+use Rattle.kx_merge.specs.Bodies.{Rules, Moves, moved, gathered, offers, faults, offers_of, faults_of}
+use Rattle.kx_merge.specs.Gatherings.{Adds, AddsBehind, included_by, IsGathered, AreGathered, none, more, entry_offers, entry_faults, entry_next}
 use Rattle.kx_merge.specs.Offers.{Offer}
 use Rattle.kx_merge.specs.Records.{Shows, cell_in, width_in}
-use Rattle.kx_merge.specs.Walks.{item_offers, item_faults, item_next, part_offers, part_faults, part_body}
+use Rattle.kx_merge.specs.declared.gathering.Merged.{Merged}
 use Rattle.kx_merge.proofs.Movings.{append-none, append-inner}
 
 module _ {K C V D R : Type 0} (cell : R → C → Option V) (width : R → ℕ → ℕ) (eq : K → K → Bool) (rules : Rules K C V D) (moves : Moves K C) where
@@ -32,115 +35,226 @@ module _ {K C V D R : Type 0} (cell : R → C → Option V) (width : R → ℕ �
   pub left_all : (names : List K) (at : K → Option R) (d : D) (whole : Body) → Left names at d whole names at d whole
   left_all names at d whole = record { behind = []; shown = λ os shows. subst (Shows cell width eq names at) (sym (append-none os)) shows; offered = refl; blamed = refl }
 
-  pub left_step : (names : List K) (at : K → Option R) (d : D) (whole : Body) (n1 : List K) (a1 : K → Option R) (d1 : D) (b1 : Body) (n2 : List K) (a2 : K → Option R) (d2 : D) (b2 : Body) (added : List (Offer K C V)) (fs : List Fault)
-      → Left names at d whole n1 a1 d1 b1 → offers eq rules moves d1 b1 ≡ added ++ offers eq rules moves d2 b2 → faults eq rules moves d1 b1 ≡ fs ++ faults eq rules moves d2 b2 → fs ≡ []
-      → ((os : List (Offer K C V)) → Shows cell width eq n1 a1 os → Shows cell width eq n2 a2 (os ++ added)) → Left names at d whole n2 a2 d2 b2
-  left_step names at d whole n1 a1 d1 b1 n2 a2 d2 b2 added fs l os_are fs_are none shows = record {
+module _ {K C V D R : Type 0} {cell : R → C → Option V} {width : R → ℕ → ℕ} {eq : K → K → Bool} {rules : Rules K C V D} {moves : Moves K C} {names : List K} {at : K → Option R} {d : D} {whole : Body} where
+  pub left_step : {n1 n2 : List K} {a1 a2 : K → Option R} {d1 : D} {b1 : Body} {X : Type 0} {added : List (Offer K C V)} {fs : List Fault} {x : X} (d2 : D) (b2 : Body)
+      → Left cell width eq rules moves names at d whole n1 a1 d1 b1 → offers eq rules moves d1 b1 ≡ added ++ offers eq rules moves d2 b2 → faults eq rules moves d1 b1 ≡ fs ++ faults eq rules moves d2 b2
+      → Adds cell width eq n1 a1 (Ok x) n2 a2 added fs → Left cell width eq rules moves names at d whole n2 a2 d2 b2
+  left_step {n2 = n2} {a2 = a2} {added = added} {fs = fs} d2 b2 l os_are fs_are adds = record {
     behind = l.behind ++ added;
-    shown = λ os before. subst (Shows cell width eq n2 a2) (append-inner os l.behind added) (shows (os ++ l.behind) (l.shown os before));
+    shown = λ os before. subst (Shows cell width eq n2 a2) (append-inner os l.behind added) (adds.shows (os ++ l.behind) (l.shown os before));
     offered = l.offered ∙ ap (λ rest. l.behind ++ rest) os_are ∙ sym (append-inner l.behind added (offers eq rules moves d2 b2));
-    blamed = l.blamed ∙ fs_are ∙ ap (λ gs. gs ++ faults eq rules moves d2 b2) none;
+    blamed = l.blamed ∙ fs_are ∙ ap (λ gs. gs ++ faults eq rules moves d2 b2) adds.faultless;
   }
 
-  pub left_shown : (names : List K) (at : K → Option R) (d : D) (whole : Body) (n1 : List K) (a1 : K → Option R) (d1 : D) → Left names at d whole n1 a1 d1 End → (os : List (Offer K C V)) → Shows cell width eq names at os → Shows cell width eq n1 a1 (os ++ offers eq rules moves d whole)
-  left_shown names at d whole n1 a1 d1 l os before = subst (λ added. Shows cell width eq n1 a1 (os ++ added)) (sym (l.offered ∙ append-none l.behind)) (l.shown os before)
+  pub left_shown : {n1 : List K} {a1 : K → Option R} {d1 : D} → Left cell width eq rules moves names at d whole n1 a1 d1 End → (os : List (Offer K C V)) → Shows cell width eq names at os → Shows cell width eq n1 a1 (os ++ offers eq rules moves d whole)
+  left_shown {n1 = n1} {a1 = a1} l os before = subst (λ added. Shows cell width eq n1 a1 (os ++ added)) (sym (l.offered ∙ append-none l.behind)) (l.shown os before)
 
-  pub left_fault : (names : List K) (at : K → Option R) (d : D) (whole : Body) (n1 : List K) (a1 : K → Option R) (d1 : D) (b1 : Body) (fs rest : List Fault) (e : Fault) → Left names at d whole n1 a1 d1 b1 → faults eq rules moves d1 b1 ≡ fs ++ rest → Contains (Memory ∷ fs) e → Contains (Memory ∷ faults eq rules moves d whole) e
-  left_fault names at d whole n1 a1 d1 b1 fs rest e l fs_are has = subst (λ gs. Contains (Memory ∷ gs) e) (sym (l.blamed ∙ fs_are)) (Contains-append_left (Memory ∷ fs) rest e has)
+  pub left_fault : {n1 n2 : List K} {a1 a2 : K → Option R} {d1 : D} {b1 : Body} {X : Type 0} {added : List (Offer K C V)} {fs : List Fault} {e : Fault} (rest : List Fault) → Left cell width eq rules moves names at d whole n1 a1 d1 b1 → faults eq rules moves d1 b1 ≡ fs ++ rest
+      → Adds cell width eq {X = X} n1 a1 (Err e) n2 a2 added fs → Contains (Memory ∷ faults eq rules moves d whole) e
+  left_fault {fs = fs} {e = e} rest l fs_are adds = subst (λ gs. Contains (Memory ∷ gs) e) (sym (l.blamed ∙ fs_are)) (Contains-append_left (Memory ∷ fs) rest e adds.fault)
 
-drop-next : {X : Type 0} (xs : List X) (i : ℕ) (x : X) → i < length xs → x ≡ get_or xs i x → drop i xs ≡ x ∷ drop (i + 1) xs
+pub drop-next : {X : Type 0} (xs : List X) (i : ℕ) (x : X) → i < length xs → x ≡ get_or xs i x → drop i xs ≡ x ∷ drop (i + 1) xs
 drop-next [] i x within h = absurd (omega (arith, within))
 drop-next (y ∷ xs) zero x within h = ap (λ z. z ∷ xs) (sym h)
 drop-next (y ∷ xs) (suc i) x within h = let next : suc i + 1 ≡ suc (i + 1) = omega arith in rw next (drop-next xs i x (omega (arith, within)) h)
 
-module _ {K C V D : Type 0} (eq : K → K → Bool) (rules : Rules K C V D) (moves : Moves K C) where
-  item-first : (inner : Part → Body) (d : D) (place : Place) (x : Item) (xs : List Item) (rest : Body) → offers eq rules moves d (items_body inner place (x ∷ xs) rest) ≡ item_offers eq rules moves inner d place x ++ offers eq rules moves (item_next rules d x) (items_body inner place xs rest)
-  item-first inner d place (Include mode text span) xs rest = refl
-  item-first inner d place (Statement mode statement first span) xs rest = refl
+module _ {K C V D : Type 0} (eq : K → K → Bool) (rules : Rules K C V D) (moves : Moves K C) (bodies : List Body) where
+  entry-first : (place : Place) (d : D) (e : Entry) (es : List Entry) (rest : Body) → offers eq rules moves d (entries_body bodies place (e ∷ es) rest) ≡ entry_offers eq rules moves bodies place d e ++ offers eq rules moves (entry_next rules d e) (entries_body bodies place es rest)
+  entry-first place d (Own item) es rest = refl
+  entry-first place d (Include mode links) es rest = refl
 
-  item-blamed : (inner : Part → Body) (d : D) (place : Place) (x : Item) (xs : List Item) (rest : Body) → faults eq rules moves d (items_body inner place (x ∷ xs) rest) ≡ item_faults eq rules moves inner d place x ++ faults eq rules moves (item_next rules d x) (items_body inner place xs rest)
-  item-blamed inner d place (Include mode text span) xs rest = refl
-  item-blamed inner d place (Statement mode statement first span) xs rest = refl
+  entry-blamed : (place : Place) (d : D) (e : Entry) (es : List Entry) (rest : Body) → faults eq rules moves d (entries_body bodies place (e ∷ es) rest) ≡ entry_faults eq rules moves bodies place d e ++ faults eq rules moves (entry_next rules d e) (entries_body bodies place es rest)
+  entry-blamed place d (Own item) es rest = refl
+  entry-blamed place d (Include mode links) es rest = refl
 
   -- at an index of a loop
-  pub item_at : (inner : Part → Body) (d : D) (place : Place) (xs : List Item) (i : ℕ) (x : Item) → i < length xs → x ≡ get_or xs i x → offers eq rules moves d (items_body inner place (drop i xs) End) ≡ item_offers eq rules moves inner d place x ++ offers eq rules moves (item_next rules d x) (items_body inner place (drop (i + 1) xs) End)
-  item_at inner d place xs i x within is = ap (λ ys. offers eq rules moves d (items_body inner place ys End)) (drop-next xs i x within is) ∙ item-first inner d place x (drop (i + 1) xs) End
+  pub entry_at : (place : Place) (d : D) (xs : List Entry) (i : ℕ) (x : Entry) → i < length xs → x ≡ get_or xs i x → offers eq rules moves d (entries_body bodies place (drop i xs) End) ≡ entry_offers eq rules moves bodies place d x ++ offers eq rules moves (entry_next rules d x) (entries_body bodies place (drop (i + 1) xs) End)
+  entry_at place d xs i x within is = ap (λ ys. offers eq rules moves d (entries_body bodies place ys End)) (drop-next xs i x within is) ∙ entry-first place d x (drop (i + 1) xs) End
 
-  pub item_blamed_at : (inner : Part → Body) (d : D) (place : Place) (xs : List Item) (i : ℕ) (x : Item) → i < length xs → x ≡ get_or xs i x → faults eq rules moves d (items_body inner place (drop i xs) End) ≡ item_faults eq rules moves inner d place x ++ faults eq rules moves (item_next rules d x) (items_body inner place (drop (i + 1) xs) End)
-  item_blamed_at inner d place xs i x within is = ap (λ ys. faults eq rules moves d (items_body inner place ys End)) (drop-next xs i x within is) ∙ item-blamed inner d place x (drop (i + 1) xs) End
+  pub entry_blamed_at : (place : Place) (d : D) (xs : List Entry) (i : ℕ) (x : Entry) → i < length xs → x ≡ get_or xs i x → faults eq rules moves d (entries_body bodies place (drop i xs) End) ≡ entry_faults eq rules moves bodies place d x ++ faults eq rules moves (entry_next rules d x) (entries_body bodies place (drop (i + 1) xs) End)
+  entry_blamed_at place d xs i x within is = ap (λ ys. faults eq rules moves d (entries_body bodies place ys End)) (drop-next xs i x within is) ∙ entry-blamed place d x (drop (i + 1) xs) End
 
-  pub part_at : (inner : Part → Body) (xs : List Part) (i : ℕ) (x : Part) → i < length xs → x ≡ get_or xs i x → offers eq rules moves rules.start (parts_body inner (drop i xs)) ≡ part_offers eq rules moves inner x ++ offers eq rules moves rules.start (parts_body inner (drop (i + 1) xs))
-  part_at inner xs i x within is = ap (λ ys. offers eq rules moves rules.start (parts_body inner ys)) (drop-next xs i x within is)
+  pub link_at : (xs : List Link) (i : ℕ) (x : Link) → i < length xs → x ≡ get_or xs i x → offers eq rules moves rules.start (links_body bodies (drop i xs)) ≡ moved moves x.group (gathered eq x.mode (offers_of eq rules moves (body_at bodies x.map))) ++ offers eq rules moves rules.start (links_body bodies (drop (i + 1) xs))
+  link_at xs i x within is = ap (λ ys. offers eq rules moves rules.start (links_body bodies ys)) (drop-next xs i x within is)
 
-  pub part_blamed_at : (inner : Part → Body) (xs : List Part) (i : ℕ) (x : Part) → i < length xs → x ≡ get_or xs i x → faults eq rules moves rules.start (parts_body inner (drop i xs)) ≡ part_faults eq rules moves inner x ++ faults eq rules moves rules.start (parts_body inner (drop (i + 1) xs))
-  part_blamed_at inner xs i x within is = ap (λ ys. faults eq rules moves rules.start (parts_body inner ys)) (drop-next xs i x within is)
+  pub link_blamed_at : (xs : List Link) (i : ℕ) (x : Link) → i < length xs → x ≡ get_or xs i x → faults eq rules moves rules.start (links_body bodies (drop i xs)) ≡ faults_of eq rules moves (body_at bodies x.map) ++ faults eq rules moves rules.start (links_body bodies (drop (i + 1) xs))
+  link_blamed_at xs i x within is = ap (λ ys. faults eq rules moves rules.start (links_body bodies ys)) (drop-next xs i x within is)
 
   -- a map's items, and what stands behind them
-  abbrev pub ended : D → List Item → D
+  ended : D → List Entry → D
   ended d [] = d
-  ended d (x ∷ xs) = ended (item_next rules d x) xs
+  ended d (x ∷ xs) = ended (entry_next rules d x) xs
 
-  items-append : (inner : Part → Body) (d : D) (place : Place) (xs : List Item) (rest : Body) → offers eq rules moves d (items_body inner place xs rest) ≡ offers eq rules moves d (items_body inner place xs End) ++ offers eq rules moves (ended d xs) rest
-  items-append inner d place [] rest = refl
-  items-append inner d place (x ∷ xs) rest =
-      item-first inner d place x xs rest ∙ ap (λ os. item_offers eq rules moves inner d place x ++ os) (items-append inner (item_next rules d x) place xs rest)
-      ∙ sym (append-inner (item_offers eq rules moves inner d place x) (offers eq rules moves (item_next rules d x) (items_body inner place xs End)) (offers eq rules moves (ended (item_next rules d x) xs) rest))
-      ∙ ap (λ os. os ++ offers eq rules moves (ended (item_next rules d x) xs) rest) (sym (item-first inner d place x xs End))
+  entries-append : (place : Place) (d : D) (xs : List Entry) (rest : Body) → offers eq rules moves d (entries_body bodies place xs rest) ≡ offers eq rules moves d (entries_body bodies place xs End) ++ offers eq rules moves (ended d xs) rest
+  unfolding ended
+  entries-append place d [] rest = refl
+  entries-append place d (x ∷ xs) rest =
+      entry-first place d x xs rest ∙ ap (λ os. entry_offers eq rules moves bodies place d x ++ os) (entries-append place (entry_next rules d x) xs rest)
+      ∙ sym (append-inner (entry_offers eq rules moves bodies place d x) (offers eq rules moves (entry_next rules d x) (entries_body bodies place xs End)) (offers eq rules moves (ended (entry_next rules d x) xs) rest))
+      ∙ ap (λ os. os ++ offers eq rules moves (ended (entry_next rules d x) xs) rest) (sym (entry-first place d x xs End))
 
-  items-blamed : (inner : Part → Body) (d : D) (place : Place) (xs : List Item) (rest : Body) → faults eq rules moves d (items_body inner place xs rest) ≡ faults eq rules moves d (items_body inner place xs End) ++ faults eq rules moves (ended d xs) rest
-  items-blamed inner d place [] rest = refl
-  items-blamed inner d place (x ∷ xs) rest =
-      item-blamed inner d place x xs rest ∙ ap (λ os. item_faults eq rules moves inner d place x ++ os) (items-blamed inner (item_next rules d x) place xs rest)
-      ∙ sym (append-inner (item_faults eq rules moves inner d place x) (faults eq rules moves (item_next rules d x) (items_body inner place xs End)) (faults eq rules moves (ended (item_next rules d x) xs) rest))
-      ∙ ap (λ os. os ++ faults eq rules moves (ended (item_next rules d x) xs) rest) (sym (item-blamed inner d place x xs End))
+  entries-blamed : (place : Place) (d : D) (xs : List Entry) (rest : Body) → faults eq rules moves d (entries_body bodies place xs rest) ≡ faults eq rules moves d (entries_body bodies place xs End) ++ faults eq rules moves (ended d xs) rest
+  unfolding ended
+  entries-blamed place d [] rest = refl
+  entries-blamed place d (x ∷ xs) rest =
+      entry-blamed place d x xs rest ∙ ap (λ os. entry_faults eq rules moves bodies place d x ++ os) (entries-blamed place (entry_next rules d x) xs rest)
+      ∙ sym (append-inner (entry_faults eq rules moves bodies place d x) (faults eq rules moves (entry_next rules d x) (entries_body bodies place xs End)) (faults eq rules moves (ended (entry_next rules d x) xs) rest))
+      ∙ ap (λ os. os ++ faults eq rules moves (ended (entry_next rules d x) xs) rest) (sym (entry-blamed place d x xs End))
 
   -- where sections stand, the defaults before them don't count
-  restart : (library : Library) (kind : Kind) (d : D) (depth n : ℕ) (ss : List Section) → offers eq rules moves d (sections_body (map_body (suc depth) library kind) kind n ss) ≡ offers eq rules moves rules.start (sections_body (map_body (suc depth) library kind) kind n ss)
-  restart library kind d depth n [] = refl
-  restart library kind d depth n (s ∷ ss) = by (is_of kind s) (restart library kind d depth (n + 1) ss)
+  restart : (d : D) (ss : List Map) → offers eq rules moves d (shared_sections bodies ss) ≡ offers eq rules moves rules.start (shared_sections bodies ss)
+  restart d [] = refl
+  restart d (s ∷ ss) = refl
+
+  restart-blamed : (d : D) (ss : List Map) → faults eq rules moves d (shared_sections bodies ss) ≡ faults eq rules moves rules.start (shared_sections bodies ss)
+  restart-blamed d [] = refl
+  restart-blamed d (s ∷ ss) = refl
+
+  -- a section, and those behind it
+  pub section_at : (xs : List Map) (i : ℕ) (x : Map) → i < length xs → x ≡ get_or xs i x → offers eq rules moves rules.start (shared_sections bodies (drop i xs)) ≡ offers_of eq rules moves (shared_body bodies x End) ++ offers eq rules moves rules.start (shared_sections bodies (drop (i + 1) xs))
+  section_at xs i x within is =
+      ap (λ ys. offers eq rules moves rules.start (shared_sections bodies ys)) (drop-next xs i x within is)
+      ∙ entries-append x.place rules.start x.entries.items (shared_sections bodies (drop (i + 1) xs))
+      ∙ ap (λ os. offers_of eq rules moves (shared_body bodies x End) ++ os) (restart (ended rules.start x.entries.items) (drop (i + 1) xs))
+
+  pub section_blamed_at : (xs : List Map) (i : ℕ) (x : Map) → i < length xs → x ≡ get_or xs i x → faults eq rules moves rules.start (shared_sections bodies (drop i xs)) ≡ faults_of eq rules moves (shared_body bodies x End) ++ faults eq rules moves rules.start (shared_sections bodies (drop (i + 1) xs))
+  section_blamed_at xs i x within is =
+      ap (λ ys. faults eq rules moves rules.start (shared_sections bodies ys)) (drop-next xs i x within is)
+      ∙ entries-blamed x.place rules.start x.entries.items (shared_sections bodies (drop (i + 1) xs))
+      ∙ ap (λ os. faults_of eq rules moves (shared_body bodies x End) ++ os) (restart-blamed (ended rules.start x.entries.items) (drop (i + 1) xs))
+
+-- records behind what an include offered last, and one entry more
+abbrev pub last_offers : {K C V D : Type 0} → (K → K → Bool) → Rules K C V D → Moves K C → List Body → Mode × List Link → List (Offer K C V)
+last_offers eq rules moves bodies last = gathered eq last.0 (offers_of eq rules moves (links_body bodies last.1))
+
+abbrev pub last_faults : {K C V D : Type 0} → (K → K → Bool) → Rules K C V D → Moves K C → List Body → Mode × List Link → List Fault
+last_faults eq rules moves bodies last = faults_of eq rules moves (links_body bodies last.1)
+
+module _ {K C V D R : Type 0} (cell : R → C → Option V) (width : R → ℕ → ℕ) (eq : K → K → Bool) (rules : Rules K C V D) (moves : Moves K C) where
+  pub record LeftAfter (bodies : List Body) (last : Mode × List Link) (names : List K) (at : K → Option R) (d : D) (whole : Body) (now_names : List K) (now_at : K → Option R) (now_d : D) (rest : Body) : Type 0 where
+    pub so_far : Left cell width eq rules moves names at d whole now_names now_at now_d rest
+    pub front : List (Offer K C V)
+    pub ends : so_far.behind ≡ front ++ last_offers eq rules moves bodies last
+    pub clean : last_faults eq rules moves bodies last ≡ []
+
+  pub after_all : (bodies : List Body) (names : List K) (at : K → Option R) (d : D) (whole : Body) → LeftAfter bodies (Augment, []) names at d whole names at d whole
+  unfolding left_all
+  after_all bodies names at d whole = record { so_far = left_all cell width eq rules moves names at d whole; front = []; ends = refl; clean = refl }
+
+module _ {K C V D R X : Type 0} {cell : R → C → Option V} {width : R → ℕ → ℕ} {eq : K → K → Bool} {rules : Rules K C V D} {moves : Moves K C} {bodies : List Body} {last : Mode × List Link} {names n1 n2 : List K} {at a1 a2 : K → Option R} {d d1 : D} {whole b1 : Body} where
+  pub after_step : (place : Place) (e : Entry) (x : X) (d2 : D) (b2 : Body) → LeftAfter cell width eq rules moves bodies last names at d whole n1 a1 d1 b1
+      → offers eq rules moves d1 b1 ≡ entry_offers eq rules moves bodies place d1 e ++ offers eq rules moves d2 b2 → faults eq rules moves d1 b1 ≡ entry_faults eq rules moves bodies place d1 e ++ faults eq rules moves d2 b2
+      → AddsBehind cell width eq (last_offers eq rules moves bodies last) n1 a1 (Ok x) n2 a2 (entry_offers eq rules moves bodies place d1 e) (entry_faults eq rules moves bodies place d1 e)
+      → LeftAfter cell width eq rules moves bodies (included_by e) names at d whole n2 a2 d2 b2
+  after_step place e x d2 b2 l os_are fs_are adds = record { so_far = next; front = (by e adds.faultless).0; ends = (by e adds.faultless).1; clean = (by e adds.faultless).2 }
     where
-      by : (b : Bool) → offers eq rules moves d (sections_body (map_body (suc depth) library kind) kind (n + 1) ss) ≡ offers eq rules moves rules.start (sections_body (map_body (suc depth) library kind) kind (n + 1) ss)
-          → offers eq rules moves d (cond b (map_body (suc depth) library kind (record { file = 0; section = n }) (sections_body (map_body (suc depth) library kind) kind (n + 1) ss)) (sections_body (map_body (suc depth) library kind) kind (n + 1) ss))
-          ≡ offers eq rules moves rules.start (cond b (map_body (suc depth) library kind (record { file = 0; section = n }) (sections_body (map_body (suc depth) library kind) kind (n + 1) ss)) (sections_body (map_body (suc depth) library kind) kind (n + 1) ss))
-      by true rest = refl
-      by false rest = rest
+      added : List (Offer K C V)
+      added = entry_offers eq rules moves bodies place d1 e
 
-  restart-blamed : (library : Library) (kind : Kind) (d : D) (depth n : ℕ) (ss : List Section) → faults eq rules moves d (sections_body (map_body (suc depth) library kind) kind n ss) ≡ faults eq rules moves rules.start (sections_body (map_body (suc depth) library kind) kind n ss)
-  restart-blamed library kind d depth n [] = refl
-  restart-blamed library kind d depth n (s ∷ ss) = by (is_of kind s) (restart-blamed library kind d depth (n + 1) ss)
-    where
-      by : (b : Bool) → faults eq rules moves d (sections_body (map_body (suc depth) library kind) kind (n + 1) ss) ≡ faults eq rules moves rules.start (sections_body (map_body (suc depth) library kind) kind (n + 1) ss)
-          → faults eq rules moves d (cond b (map_body (suc depth) library kind (record { file = 0; section = n }) (sections_body (map_body (suc depth) library kind) kind (n + 1) ss)) (sections_body (map_body (suc depth) library kind) kind (n + 1) ss))
-          ≡ faults eq rules moves rules.start (cond b (map_body (suc depth) library kind (record { file = 0; section = n }) (sections_body (map_body (suc depth) library kind) kind (n + 1) ss)) (sections_body (map_body (suc depth) library kind) kind (n + 1) ss))
-      by true rest = refl
-      by false rest = rest
+      behind-is : (os : List (Offer K C V)) → os ++ l.so_far.behind ≡ (os ++ l.front) ++ last_offers eq rules moves bodies last
+      behind-is os = ap (λ b. os ++ b) l.ends ∙ sym (append-inner os l.front (last_offers eq rules moves bodies last))
 
-  -- a section of the kind, and those behind it
-  pub section_at : (library : Library) (kind : Kind) (depth n : ℕ) (s : Section) (ss : List Section) → is_of kind s ≡ true → offers eq rules moves rules.start (sections_body (map_body (suc depth) library kind) kind n (s ∷ ss)) ≡ offers_of eq rules moves (map_body (suc depth) library kind (record { file = 0; section = n }) End) ++ offers eq rules moves rules.start (sections_body (map_body (suc depth) library kind) kind (n + 1) ss)
-  section_at library kind depth n s ss h =
-      let rest = sections_body (map_body (suc depth) library kind) kind (n + 1) ss in
-      let place : Place = record { file = 0; section = n } in
-      ap (λ b. offers eq rules moves rules.start (cond b (map_body (suc depth) library kind place rest) rest)) h
-      ∙ items-append (part_body depth library kind) rules.start place (items_in library place) rest
-      ∙ ap (λ os. offers_of eq rules moves (map_body (suc depth) library kind place End) ++ os) (restart library kind (ended rules.start (items_in library place)) depth (n + 1) ss)
+      shown : (os : List (Offer K C V)) → Shows cell width eq names at os → Shows cell width eq n2 a2 (os ++ (l.so_far.behind ++ added))
+      shown os before = subst (Shows cell width eq n2 a2) (ap (λ b. b ++ added) (sym (behind-is os)) ∙ append-inner os l.so_far.behind added) (adds.shows (os ++ l.front) (subst (Shows cell width eq n1 a1) (behind-is os) (l.so_far.shown os before)))
 
-  pub section_blamed_at : (library : Library) (kind : Kind) (depth n : ℕ) (s : Section) (ss : List Section) → is_of kind s ≡ true → faults eq rules moves rules.start (sections_body (map_body (suc depth) library kind) kind n (s ∷ ss)) ≡ faults_of eq rules moves (map_body (suc depth) library kind (record { file = 0; section = n }) End) ++ faults eq rules moves rules.start (sections_body (map_body (suc depth) library kind) kind (n + 1) ss)
-  section_blamed_at library kind depth n s ss h =
-      let rest = sections_body (map_body (suc depth) library kind) kind (n + 1) ss in
-      let place : Place = record { file = 0; section = n } in
-      ap (λ b. faults eq rules moves rules.start (cond b (map_body (suc depth) library kind place rest) rest)) h
-      ∙ items-blamed (part_body depth library kind) rules.start place (items_in library place) rest
-      ∙ ap (λ os. faults_of eq rules moves (map_body (suc depth) library kind place End) ++ os) (restart-blamed library kind (ended rules.start (items_in library place)) depth (n + 1) ss)
+      next : Left cell width eq rules moves names at d whole n2 a2 d2 b2
+      next = record {
+        behind = l.so_far.behind ++ added;
+        shown = shown;
+        offered = l.so_far.offered ∙ ap (λ rest. l.so_far.behind ++ rest) os_are ∙ sym (append-inner l.so_far.behind added (offers eq rules moves d2 b2));
+        blamed = l.so_far.blamed ∙ fs_are ∙ ap (λ gs. gs ++ faults eq rules moves d2 b2) adds.faultless;
+      }
 
-  -- a section of another kind
-  pub section_other : (library : Library) (kind : Kind) (depth n : ℕ) (s : Section) (ss : List Section) → is_of kind s ≡ false → sections_body (map_body (suc depth) library kind) kind n (s ∷ ss) ≡ sections_body (map_body (suc depth) library kind) kind (n + 1) ss
-  section_other library kind depth n s ss h =
-      let rest = sections_body (map_body (suc depth) library kind) kind (n + 1) ss in
-      ap (λ b. cond b (map_body (suc depth) library kind (record { file = 0; section = n }) rest) rest) h
+      by : (f : Entry) → entry_faults eq rules moves bodies place d1 f ≡ [] → (front : List (Offer K C V)) × (l.so_far.behind ++ entry_offers eq rules moves bodies place d1 f ≡ front ++ last_offers eq rules moves bodies (included_by f)) × (last_faults eq rules moves bodies (included_by f) ≡ [])
+      by (Own item) none_met = (l.so_far.behind ++ entry_offers eq rules moves bodies place d1 (Own item), sym (append-none (l.so_far.behind ++ entry_offers eq rules moves bodies place d1 (Own item))), refl)
+      by (Include mode links) none_met = (l.so_far.behind, refl, none_met)
+
+  pub after_fault : (rest added : List Fault) (os : List (Offer K C V)) (e : Fault) → LeftAfter cell width eq rules moves bodies last names at d whole n1 a1 d1 b1 → faults eq rules moves d1 b1 ≡ added ++ rest
+      → AddsBehind cell width eq {X = X} (last_offers eq rules moves bodies last) n1 a1 (Err e) n2 a2 os added → Contains (Memory ∷ faults eq rules moves d whole) e
+  after_fault rest added os e l fs_are adds = subst (λ gs. Contains (Memory ∷ gs) e) (sym (l.so_far.blamed ∙ fs_are)) (Contains-append_left (Memory ∷ added) rest e adds.fault)
+
+pub adds_behind : {K C V R X : Type 0} {cell : R → C → Option V} {width : R → ℕ → ℕ} {eq : K → K → Bool} {n1 n2 : List K} {a1 a2 : K → Option R} {r : Result X Fault} {added last : List (Offer K C V)} {blamed : List Fault} → Adds cell width eq n1 a1 r n2 a2 added blamed → AddsBehind cell width eq last n1 a1 r n2 a2 added blamed
+adds_behind {last = last} adds = record { shows = λ os shows. adds.shows (os ++ last) shows; faultless = adds.faultless; fault = adds.fault }
+
+-- where no section is left
+pub left_over : {K C V D R : Type 0} {cell : R → C → Option V} {width : R → ℕ → ℕ} {eq : K → K → Bool} {rules : Rules K C V D} {moves : Moves K C} {names now_names : List K} {at now_at : K → Option R} {d now_d : D} {whole : Body} (bodies : List Body) (i : ℕ) (xs : List Map) → length xs ≤ i
+    → Left cell width eq rules moves names at d whole now_names now_at now_d (shared_sections bodies (drop i xs)) → Left cell width eq rules moves names at d whole now_names now_at now_d End
+left_over {cell = cell} {width = width} {eq = eq} {rules = rules} {moves = moves} {names = names} {now_names = now_names} {at = at} {now_at = now_at} {d = d} {now_d = now_d} {whole = whole} bodies i xs over l =
+    subst (λ ys. Left cell width eq rules moves names at d whole now_names now_at now_d (shared_sections bodies ys)) (drop_all i xs over) l
+
+-- maps that are done
+module _ {K C V D R N : Type 0} (cell : R → C → Option V) (width : R → ℕ → ℕ) (eq : K → K → Bool) (rules : Rules K C V D) (moves : Moves K C) where
+  pub gathered_at : (rs : List (Result (Merged K R N) Fault)) (bs : List Body) (n : ℕ) (r : Result (Merged K R N) Fault) → AreGathered cell width eq rules moves rs bs → n < length rs → r ≡ get_or rs n r → IsGathered cell width eq rules moves r (body_at bs n)
+  gathered_at [] bs n r are within at = absurd (omega (arith, within))
+  gathered_at (x ∷ rs) [] n r are within at = elim are [ ]
+  gathered_at (x ∷ rs) (b ∷ bs) zero r (more one rest) within at = subst (λ y. IsGathered cell width eq rules moves y b) (sym at) one
+  gathered_at (x ∷ rs) (b ∷ bs) (suc n) r (more one rest) within at = gathered_at rs bs n r rest (omega (arith, within)) at
+
+  pub gathered_past : (rs : List (Result (Merged K R N) Fault)) (bs : List Body) (n : ℕ) → AreGathered cell width eq rules moves rs bs → length rs ≤ n → body_at bs n ≡ End
+  gathered_past [] [] n are over = refl
+  gathered_past [] (b ∷ bs) n are over = elim are [ ]
+  gathered_past (x ∷ rs) [] n are over = elim are [ ]
+  gathered_past (x ∷ rs) (b ∷ bs) zero (more one rest) over = absurd (omega (arith, over))
+  gathered_past (x ∷ rs) (b ∷ bs) (suc n) (more one rest) over = gathered_past rs bs n rest (omega (arith, over))
+
+  pub gathered_more : (rs : List (Result (Merged K R N) Fault)) (bs : List Body) (r : Result (Merged K R N) Fault) (b : Body) → AreGathered cell width eq rules moves rs bs → IsGathered cell width eq rules moves r b → AreGathered cell width eq rules moves (rs ++ r ∷ []) (bs ++ b ∷ [])
+  gathered_more [] [] r b are one = more one none
+  gathered_more [] (c ∷ bs) r b are one = elim are [ ]
+  gathered_more (x ∷ rs) [] r b are one = elim are [ ]
+  gathered_more (x ∷ rs) (c ∷ bs) r b (more first rest) one = more first (gathered_more rs bs r b rest one)
+
+-- records that take up nothing, a fault, and what is left where only memory may be wanting
+module _ {K C V R X : Type 0} {cell : R → C → Option V} {width : R → ℕ → ℕ} {eq : K → K → Bool} {n1 : List K} {a1 : K → Option R} {added : List (Offer K C V)} {blamed : List Fault} where
+  pub adds_nothing : {x : X} → added ≡ [] → blamed ≡ [] → Adds cell width eq n1 a1 (Ok x) n1 a1 added blamed
+  adds_nothing nothing faultless = record { shows = λ os shows. subst (Shows cell width eq n1 a1) (sym (append-none os) ∙ ap (λ os2. os ++ os2) (sym nothing)) shows; faultless = faultless; fault = tt }
+
+module _ {K C V R X : Type 0} {cell : R → C → Option V} {width : R → ℕ → ℕ} {eq : K → K → Bool} {n1 n2 : List K} {a1 a2 : K → Option R} {added : List (Offer K C V)} {blamed : List Fault} where
+  pub adds_fault : {e : Fault} → Contains (Memory ∷ blamed) e → Adds cell width eq {X = X} n1 a1 (Err e) n2 a2 added blamed
+  adds_fault has = record { shows = λ os shows. tt; faultless = tt; fault = has }
+
+  pub adds_all : (r : Result X Fault) → ((os : List (Offer K C V)) → Shows cell width eq n1 a1 os → OnOk r (Shows cell width eq n2 a2 (os ++ added))) → IfErr r (λ e. e ≡ Memory) → blamed ≡ [] → Adds cell width eq n1 a1 r n2 a2 added blamed
+  adds_all (Ok x) shows memory clean = record { shows = shows; faultless = clean; fault = tt }
+  adds_all (Err e) shows memory clean = record { shows = shows; faultless = tt; fault = (0, omega arith, sym memory) }
+
+  pub adds_passed : {e : Fault} (r : Result X Fault) → IsErrAnd r (λ y. y ≡ e) → Contains (Memory ∷ blamed) e → Adds cell width eq n1 a1 r n2 a2 added blamed
+  adds_passed (Ok x) is has = absurd is
+  adds_passed (Err y) is has = record { shows = λ os shows. tt; faultless = tt; fault = subst (Contains (Memory ∷ blamed)) (sym is) has }
+
+pub adds_same : {K C V R X : Type 0} {cell : R → C → Option V} {width : R → ℕ → ℕ} {eq : K → K → Bool} {n1 n2 : List K} {a1 a2 : K → Option R} {r : Result X Fault} {added same_added : List (Offer K C V)} {blamed same_blamed : List Fault} → added ≡ same_added → blamed ≡ same_blamed → Adds cell width eq n1 a1 r n2 a2 added blamed → Adds cell width eq n1 a1 r n2 a2 same_added same_blamed
+adds_same {cell = cell} {width = width} {eq = eq} {n1 = n1} {n2 = n2} {a1 = a1} {a2 = a2} {r = r} {same_added = same_added} {blamed = blamed} e f adds = subst (λ fs. Adds cell width eq n1 a1 r n2 a2 same_added fs) f (subst (λ os. Adds cell width eq n1 a1 r n2 a2 os blamed) e adds)
+
+-- a list of one element
+pub only : {X : Type 0} (xs : List X) (d : X) → 1 ≤ length xs → length xs < 2 → xs ≡ get_or xs 0 d ∷ []
+only [] d some few = absurd (omega (arith, some))
+only (x ∷ []) d some few = refl
+only (x ∷ y ∷ xs) d some few = absurd (omega (arith, few))
+
+-- lists that are alike at each place
+abbrev pub no_link : Link
+no_link = record { mode = Augment; group = None; map = 0 }
+
+pub alike : {X : Type 0} (xs ys : List X) (d : X) → length xs ≡ length ys → ((k : ℕ) → k < length xs → get_or xs k d ≡ get_or ys k d) → xs ≡ ys
+alike [] [] d long each = refl
+alike [] (y ∷ ys) d long each = absurd (omega (arith, long))
+alike (x ∷ xs) [] d long each = absurd (omega (arith, long))
+alike (x ∷ xs) (y ∷ ys) d long each =
+    let head : x ≡ y = each 0 (omega arith) in
+    let tail : xs ≡ ys = alike xs ys d (omega (arith, long)) (λ k within. each (suc k) (omega (arith, within))) in
+    λ i. head i ∷ tail i
+
+-- an element, however it is read
+pub read_again : {X : Type 0} (xs : List X) (i : ℕ) (d : X) → i < length xs → get_or xs i d ≡ get_or xs i (get_or xs i d)
+read_again [] i d within = absurd (omega (arith, within))
+read_again (x ∷ xs) zero d within = refl
+read_again (x ∷ xs) (suc i) d within = read_again xs i d (omega (arith, within))
+
+-- the next of the maps
+pub behind_at : (bodies : List Body) (xs : List Map) (i : ℕ) (x : Map) → i < length xs → x ≡ get_or xs i x → bodies_behind bodies (drop i xs) ≡ bodies_behind (bodies ++ shared_body bodies x End ∷ []) (drop (i + 1) xs)
+behind_at bodies xs i x within is = ap (bodies_behind bodies) (drop-next xs i x within is)
 
 -- records of which there are none
 pub shows_none : {K C V R S : Type 0} (cell : R → C → Option V) (width : R → ℕ → ℕ) (eq : K → K → Bool) (m : HashMap K R S) (os : List (Offer K C V)) → m.entries ≡ [] → os ≡ [] → Shows cell width eq (keys m) (get eq m) os
-shows_none cell width eq m os empty none = subst (Shows cell width eq (keys m) (get eq m)) (sym none) (record {
+shows_none cell width eq m os empty nothing = subst (Shows cell width eq (keys m) (get eq m)) (sym nothing) (record {
   names_are = ap keys_of empty;
   cells_are = λ k c. ap (λ es. cell_in cell (lookup (eq k) es) c) empty;
   widths_are = λ k g. ap (λ es. width_in width (lookup (eq k) es) g) empty;
@@ -158,8 +272,3 @@ memory_answered (Err e) fs is = (0, omega arith, sym is)
 pub fault_passed : {X : Type 0} (r : Result X Fault) (fs : List Fault) (e : Fault) → IsErrAnd r (λ y. y ≡ e) → Contains (Memory ∷ fs) e → IfErr r (λ y. Contains (Memory ∷ fs) y)
 fault_passed (Ok x) fs e is has = absurd is
 fault_passed (Err y) fs e is has = subst (Contains (Memory ∷ fs)) (sym is) has
-
--- a map's items, where there is room for it
-pub map_some : (depth : ℕ) (library : Library) (kind : Kind) (place : Place) → 0 < depth → map_body depth library kind place End ≡ Begin (items_body (part_body (depth - 1) library kind) place (items_in library place) End)
-map_some zero library kind place some = absurd (omega (arith, some))
-map_some (suc depth) library kind place some = let same : suc depth - 1 ≡ depth = omega arith in rw same refl

@@ -2,5 +2,6 @@ pub mod Precedence
 pub mod Steps
 pub mod Movings
 pub mod Behind
-pub mod Loops
+pub mod Single
+pub mod Again
 pub mod Sheets

@@ -122,7 +122,7 @@ module _ {K C V : Type 0} (eq : K → K → Bool) (k : K) (o : Offer K C V) wher
   width-more Override e h os g = ap (greatest g) (seen-kept h (ap is_replace e) os) ∙ greatest-more g o (seen eq k os)
   width-more Replace e h os g = ap (greatest g) (seen-replaced h (ap is_replace e) os) ∙ max-none (o.width g)
 
-names_behind-append : {K C V : Type 0} (eq : K → K → Bool) (ks : List K) (os ps : List (Offer K C V)) → names_behind eq ks (os ++ ps) ≡ names_behind eq (names_behind eq ks os) ps
+pub names_behind-append : {K C V : Type 0} (eq : K → K → Bool) (ks : List K) (os ps : List (Offer K C V)) → names_behind eq ks (os ++ ps) ≡ names_behind eq (names_behind eq ks os) ps
 names_behind-append eq ks [] ps = refl
 names_behind-append eq ks (o ∷ os) ps = names_behind-append eq (with_name eq ks o.name) os ps
 

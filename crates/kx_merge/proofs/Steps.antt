@@ -22,7 +22,38 @@ widened-none Override n = omega arith
 widened-none Replace n = refl
 
 module _ {K C V R : Type 0} (cell : R → C → Option V) (width : R → ℕ → ℕ) (eq : K → K → Bool) (laws : IsEquivalence eq) (same : (j k : K) → eq j k ≡ true → j ≡ k) where
-  -- the record at a key is what the one before and an offered one make, and the others stay
+  -- the record at a key is what the one before and an offer make, and the others stay
+  pub shows_made : (names new_names : List K) (at new_at : K → Option R) (os : List (Offer K C V)) (mode : Mode) (key : K) (made : R) (o : Offer K C V)
+      → Shows cell width eq names at os → o.mode ≡ mode → o.name ≡ key
+      → new_names ≡ with_name eq names key
+      → ((q : K) → new_at q ≡ cond (eq key q) (Some made) (at q))
+      → ((c : C) → cell made c ≡ taken mode (cell_in cell (at key) c) (o.value c))
+      → ((g : ℕ) → width made g ≡ widened mode (width_in width (at key) g) (o.width g))
+      → Shows cell width eq new_names new_at (os ++ o ∷ [])
+  shows_made names new_names at new_at os mode key made o old mode_is name_is named kept cells widths = record {
+    names_are = named ∙ ap (λ ns. with_name eq ns key) old.names_are ∙ ap (with_name eq (names_of eq os)) (sym name_is) ∙ sym (names-more eq os o);
+    cells_are = λ k c. cells_at k c (eq key k) refl;
+    widths_are = λ k g. widths_at k g (eq key k) refl;
+  }
+    where
+      about : (k : K) (b : Bool) → eq key k ≡ b → is_about eq k o ≡ b
+      about k b h = ap (eq k) name_is ∙ laws.symm k key ∙ h
+
+      cells_at : (k : K) (c : C) (b : Bool) → eq key k ≡ b → cell_in cell (new_at k) c ≡ value_of eq (os ++ o ∷ []) k c
+      cells_at k c true h =
+          let here = same key k h in
+          ap (λ found. cell_in cell found c) (kept k ∙ ap (λ b. cond b (Some made) (at k)) h) ∙ cells c ∙ ap (λ j. taken mode (cell_in cell (at j) c) (o.value c)) here
+          ∙ ap (λ v. taken mode v (o.value c)) (old.cells_are k c) ∙ sym (value-more eq k o mode mode_is (about k true h) os c)
+      cells_at k c false h = ap (λ found. cell_in cell found c) (kept k ∙ ap (λ b. cond b (Some made) (at k)) h) ∙ old.cells_are k c ∙ sym (value-other eq k o (about k false h) os c)
+
+      widths_at : (k : K) (g : ℕ) (b : Bool) → eq key k ≡ b → width_in width (new_at k) g ≡ width_of eq (os ++ o ∷ []) k g
+      widths_at k g true h =
+          let here = same key k h in
+          ap (λ found. width_in width found g) (kept k ∙ ap (λ b. cond b (Some made) (at k)) h) ∙ widths g ∙ ap (λ j. widened mode (width_in width (at j) g) (o.width g)) here
+          ∙ ap (λ v. widened mode v (o.width g)) (old.widths_are k g) ∙ sym (width-more eq k o mode mode_is (about k true h) os g)
+      widths_at k g false h = ap (λ found. width_in width found g) (kept k ∙ ap (λ b. cond b (Some made) (at k)) h) ∙ old.widths_are k g ∙ sym (width-other eq k o (about k false h) os g)
+
+  -- the same where the offer is a record's
   pub shows_more : (names new_names : List K) (at new_at : K → Option R) (os : List (Offer K C V)) (mode : Mode) (key : K) (r made : R) (o : Offer K C V)
       → Shows cell width eq names at os → IsOffered mode cell width key r o
       → new_names ≡ with_name eq names key
@@ -30,28 +61,10 @@ module _ {K C V R : Type 0} (cell : R → C → Option V) (width : R → ℕ →
       → ((c : C) → cell made c ≡ taken mode (cell_in cell (at key) c) (cell r c))
       → ((g : ℕ) → width made g ≡ widened mode (width_in width (at key) g) (width r g))
       → Shows cell width eq new_names new_at (os ++ o ∷ [])
-  shows_more names new_names at new_at os mode key r made o old is named kept cells widths = record {
-    names_are = named ∙ ap (λ ns. with_name eq ns key) old.names_are ∙ ap (with_name eq (names_of eq os)) (sym is.name_is) ∙ sym (names-more eq os o);
-    cells_are = λ k c. cells_at k c (eq key k) refl;
-    widths_are = λ k g. widths_at k g (eq key k) refl;
-  }
-    where
-      about : (k : K) (b : Bool) → eq key k ≡ b → is_about eq k o ≡ b
-      about k b h = ap (eq k) is.name_is ∙ laws.symm k key ∙ h
-
-      cells_at : (k : K) (c : C) (b : Bool) → eq key k ≡ b → cell_in cell (new_at k) c ≡ value_of eq (os ++ o ∷ []) k c
-      cells_at k c true h =
-          let here = same key k h in
-          ap (λ found. cell_in cell found c) (kept k ∙ ap (λ b. cond b (Some made) (at k)) h) ∙ cells c ∙ ap (λ j. taken mode (cell_in cell (at j) c) (cell r c)) here
-          ∙ ap (λ v. taken mode v (cell r c)) (old.cells_are k c) ∙ ap (taken mode (value_of eq os k c)) (sym (is.value_is c)) ∙ sym (value-more eq k o mode is.mode_is (about k true h) os c)
-      cells_at k c false h = ap (λ found. cell_in cell found c) (kept k ∙ ap (λ b. cond b (Some made) (at k)) h) ∙ old.cells_are k c ∙ sym (value-other eq k o (about k false h) os c)
-
-      widths_at : (k : K) (g : ℕ) (b : Bool) → eq key k ≡ b → width_in width (new_at k) g ≡ width_of eq (os ++ o ∷ []) k g
-      widths_at k g true h =
-          let here = same key k h in
-          ap (λ found. width_in width found g) (kept k ∙ ap (λ b. cond b (Some made) (at k)) h) ∙ widths g ∙ ap (λ j. widened mode (width_in width (at j) g) (width r g)) here
-          ∙ ap (λ v. widened mode v (width r g)) (old.widths_are k g) ∙ ap (widened mode (width_of eq os k g)) (sym (is.width_is g)) ∙ sym (width-more eq k o mode is.mode_is (about k true h) os g)
-      widths_at k g false h = ap (λ found. width_in width found g) (kept k ∙ ap (λ b. cond b (Some made) (at k)) h) ∙ old.widths_are k g ∙ sym (width-other eq k o (about k false h) os g)
+  shows_more names new_names at new_at os mode key r made o old is named kept cells widths =
+      shows_made names new_names at new_at os mode key made o old is.mode_is is.name_is named kept
+      (λ c. cells c ∙ ap (taken mode (cell_in cell (at key) c)) (sym (is.value_is c)))
+      (λ g. widths g ∙ ap (widened mode (width_in width (at key) g)) (sym (is.width_is g)))
 
   -- a record that is the first at its key
   pub shows_first : (names new_names : List K) (at new_at : K → Option R) (os : List (Offer K C V)) (mode : Mode) (key : K) (r : R) (o : Offer K C V)

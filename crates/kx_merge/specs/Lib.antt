@@ -1,5 +1,6 @@
 pub mod Offers
 pub mod Bodies
 pub mod Records
-pub mod Walks
+pub mod Moved
+pub mod Gatherings
 pub mod Sheet

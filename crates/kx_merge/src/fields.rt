@@ -1,8 +1,8 @@
-ghost use Rattle.std.specs.Prelude.{◌≡◌, ◌⊎◌, ℕ, Bool, true, List, [], ◌∷◌, Option, IfOk, IfErr, IfSome, IfNone, OnOk, Some, None, Contains};
-ghost use Rattle.std.specs.Option.{option_and_then, option_map, option_map_or};
+ghost use Rattle.std.specs.Prelude.{◌≡◌, ℕ, Bool, true, List, [], ◌∷◌, Option, None, Some, IfOk, IfErr, OnOk, Contains};
 ghost use Rattle.kx_merge.specs.Records.{AreOffered, mode_of};
 ghost use Rattle.kx_lex.specs.declared.fault.Fault.TheVariants.{Memory};
 ghost use Rattle.kx_merge.specs.Bodies.{Rules, Moves};
+ghost use Rattle.kx_merge.specs.Moved.{moved_key, moved_value, moved_width};
 ghost use Rattle.kx_merge.specs.Offers.{taken, widened};
 
 use kx_include::Place;
@@ -66,12 +66,36 @@ pub trait Fields<C>: Drop {
         ensures widths { OnOk result ((g : ℕ) → width self.new g ≡ widened mode (width self.old g) (width other g)) }
         ensures err { IfErr result (λ e. e ≡ Memory) };
 
-    /// The record that this one becomes where its map is moved to a group, and what it is told apart by; `None` where
-    /// none is left of it.
-    fn to_group(self, key: Self::Key, group: u8) -> Option<(Self::Key, Self)>
-        ensures key { option_map (λ p. p.0) result ≡ moves.key group key }
-        ensures cells { IfSome result (λ p. (c : Self.Cell) → cell p.1 c ≡ option_and_then (cell self) (moves.cell group c)) }
-        ensures widths { IfSome result (λ p. (g : ℕ) → width p.1 g ≡ option_map_or (width self) (moves.group group g) 0) };
+    /// A record that nothing was given yet.
+    fn none(alloc: Global) -> Self
+        ensures cells { (c : Self.Cell) → cell result c ≡ None }
+        ensures widths { (g : ℕ) → width result g ≡ 0 };
+
+    /// Takes up what a record of an included map gives, as it stands where its map is moved to a group; as it is where
+    /// it isn't moved.
+    fn absorb_moved(
+        &mut self,
+        alloc: Global,
+        other: &Self,
+        group: Option<u8>,
+        mode: Mode,
+    ) -> Result<(), Fault>
+        ensures cells { OnOk result ((c : Self.Cell) → cell self.new c ≡ taken mode (cell self.old c) (moved_value moves group (cell other.now) c)) }
+        ensures widths { OnOk result ((g : ℕ) → width self.new g ≡ widened mode (width self.old g) (moved_width moves group (width other.now) g)) }
+        ensures err { IfErr result (λ e. e ≡ Memory) };
+
+    /// What a record is told apart by where its map is moved to a group; `None` where none is left of it.
+    fn key_in(key: &Self::Key, group: Option<u8>) -> Option<Self::Key>
+        ensures { result ≡ moved_key moves group key.now };
+
+    /// Nothing is noted.
+    fn no_notes() -> Self::Notes;
+
+    /// Adds what is noted with the records of an included map.
+    fn add_notes(notes: &mut Self::Notes, other: &Self::Notes);
+
+    // No two records of a map that is moved become one.
+    ghost apart: { (n : ℕ) (j k to : Self.Key) → moves.key n j ≡ Some to → moves.key n k ≡ Some to → j ≡ k };
 
     // Keys that are equal are the same.
     ghost same: { (j k : Self.Key) → Self.Key.PartialEq.eq j k ≡ true → j ≡ k };

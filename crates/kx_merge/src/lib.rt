@@ -2,10 +2,10 @@
 #![tactic(auto)]
 
 mod fields;
+mod gathering;
 mod merging;
 #[cfg(test)]
 mod tests;
-mod walking;
 
 pub use fields::Fields;
-pub use walking::merge;
+pub use gathering::{Merged, merge};

@@ -1,11 +1,11 @@
-ghost use Rattle.std.specs.Prelude.{◌≡◌, ◌++◌, ◌∷◌, [], List, Contains, map, IfOk, OnOk, IfErr};
+ghost use Rattle.std.specs.Prelude.{◌≡◌, ◌++◌, ◌∷◌, [], List, IfOk, OnOk, IfErr};
 ghost use Rattle.indexmap.specs.IndexMap.{get, keys};
 ghost use Rattle.kx_lex.specs.declared.fault.Fault.TheVariants.{Memory};
-ghost use Rattle.kx_parse.specs.declared.tree.Mode.{Mode as ModeValue};
 ghost use Rattle.kx_merge.specs.Bodies.{moved, gather, gathered};
+ghost use Rattle.kx_merge.specs.Gatherings.{Adds};
+ghost use Rattle.kx_merge.specs.Moved.{IsOfferedMoved};
 ghost use Rattle.kx_merge.specs.Offers.{Offer};
 ghost use Rattle.kx_merge.specs.Records.{AreOffered, IsGood, IsOffered, Shows, mode_of};
-ghost use Rattle.std.specs.Map.{keys_of};
 
 use crate::fields::Fields;
 use indexmap::IndexMap;
@@ -52,45 +52,98 @@ pub(crate) fn add_all<C, R: Fields<C>>(
     Ok(())
 }
 
-/// Adds a record to others as it stands where its map is moved to a group; as it is where it isn't moved.
-fn push_moved<C, R: Fields<C>>(
-    all: &mut Vec<(R::Key, R)>,
-    group: Option<u8>,
-    key: R::Key,
-    one: R,
+/// Takes up records under a mode, beside those that are there.
+pub(crate) fn add_joined<C, R: Fields<C>>(
+    alloc: Global,
+    records: &mut IndexMap<R::Key, R>,
+    mode: Mode,
+    given: IndexMap<R::Key, R>,
 ) -> Result<(), Fault>
-    ensures moved { (mode : ModeValue) (os : List (Offer R.Key R.Cell R.Value)) (before : List (R.Key × R))
-        → IsGood R.cell R.width R.Key.eq os key one
-        → AreOffered mode R.cell R.width all.old.items (moved R.moves group (map (gather R.Key.eq mode os) (keys_of before)))
-        → OnOk result (AreOffered mode R.cell R.width all.new.items (moved R.moves group (map (gather R.Key.eq mode os) (keys_of (before ++ (key, one) ∷ []))))) }
+    ensures shows { (os inner : List (Offer R.Key R.Cell R.Value))
+        → Shows R.cell R.width R.Key.eq (keys records.old) (get R.Key.eq records.old) os
+        → Shows R.cell R.width R.Key.eq (keys given) (get R.Key.eq given) inner
+        → OnOk result (Shows R.cell R.width R.Key.eq (keys records.new) (get R.Key.eq records.new) (os ++ gathered R.Key.eq mode inner)) }
     ensures err { IfErr result (λ e. e ≡ Memory) }
 {
-    match group {
-        None => all.push((key, one))?,
-        Some(group) => match R::to_group(one, key, group) {
-            None => {}
-            Some(moved) => all.push(moved)?,
-        },
+    'records: for (key, one) in given {
+        add_one::<C, R>(alloc, records, mode, key, one)?;
     }
     Ok(())
 }
 
-/// Records as they stand where their map is moved to a group; as they are where it isn't moved.
-pub(crate) fn moved_all<C, R: Fields<C>>(
+/// Takes up under a mode, as the record of a key, what a record of an included map gives where its map is moved to a
+/// group.
+fn add_moved<C, R: Fields<C>>(
     alloc: Global,
-    given: IndexMap<R::Key, R>,
+    records: &mut IndexMap<R::Key, R>,
+    mode: Mode,
+    key: R::Key,
+    one: &R,
     group: Option<u8>,
-) -> Result<Vec<(R::Key, R)>, Fault>
-    ensures moved { (mode : ModeValue) (os : List (Offer R.Key R.Cell R.Value))
-        → Shows R.cell R.width R.Key.eq (keys given) (get R.Key.eq given) os
-        → IfOk result (λ all. AreOffered mode R.cell R.width all.items (moved R.moves group (gathered R.Key.eq mode os))) }
+) -> Result<(), Fault>
+    ensures shows { (os : List (Offer R.Key R.Cell R.Value)) (o : Offer R.Key R.Cell R.Value)
+        → Shows R.cell R.width R.Key.eq (keys records.old) (get R.Key.eq records.old) os → IsOfferedMoved R.cell R.width R.moves mode group key one.now o
+        → OnOk result (Shows R.cell R.width R.Key.eq (keys records.new) (get R.Key.eq records.new) (os ++ o ∷ [])) }
     ensures err { IfErr result (λ e. e ≡ Memory) }
 {
-    let mut all = Vec::new(alloc);
-    'records: for (key, one) in given {
-        push_moved::<C, R>(&mut all, group, key, one)?;
+    if let Some(old) = records.get_mut(&key) {
+        return old.absorb_moved(alloc, one, group, mode);
     }
-    Ok(all)
+    let mut made = R::none(alloc);
+    made.absorb_moved(alloc, one, group, mode)?;
+    records.insert(key, made)?;
+    Ok(())
+}
+
+/// Takes up a record of an included map under a mode, as it stands where the map is moved to a group.
+fn add_found<C, R: Fields<C>>(
+    alloc: Global,
+    records: &mut IndexMap<R::Key, R>,
+    mode: Mode,
+    key: &R::Key,
+    one: &R,
+    group: Option<u8>,
+) -> Result<(), Fault>
+    ensures shows { (os inner : List (Offer R.Key R.Cell R.Value))
+        → Shows R.cell R.width R.Key.eq (keys records.old) (get R.Key.eq records.old) os → IsGood R.cell R.width R.Key.eq inner key.now one.now
+        → OnOk result (Shows R.cell R.width R.Key.eq (keys records.new) (get R.Key.eq records.new) (os ++ moved R.moves group (gather R.Key.eq mode inner key.now ∷ []))) }
+    ensures err { IfErr result (λ e. e ≡ Memory) }
+{
+    match R::key_in(key, group) {
+        None => Ok(()),
+        Some(to) => add_moved::<C, R>(alloc, records, mode, to, one, group),
+    }
+}
+
+/// Takes up records of an included map under a mode, as they stand where the map is moved to a group, beside those that
+/// are there.
+pub(crate) fn add_included<C, R: Fields<C>>(
+    alloc: Global,
+    records: &mut IndexMap<R::Key, R>,
+    mode: Mode,
+    given: &IndexMap<R::Key, R>,
+    group: Option<u8>,
+) -> Result<(), Fault>
+    ensures shows { (os inner : List (Offer R.Key R.Cell R.Value))
+        → Shows R.cell R.width R.Key.eq (keys records.old) (get R.Key.eq records.old) os
+        → Shows R.cell R.width R.Key.eq (keys given.now) (get R.Key.eq given.now) inner
+        → OnOk result (Shows R.cell R.width R.Key.eq (keys records.new) (get R.Key.eq records.new) (os ++ moved R.moves group (gathered R.Key.eq mode inner))) }
+    ensures err { IfErr result (λ e. e ≡ Memory) }
+{
+    'records: for (key, one) in given {
+        add_found::<C, R>(alloc, records, mode, key, one, group)?;
+    }
+    Ok(())
+}
+
+/// The mode of a statement.
+pub(crate) fn mode_of(item: &Item) -> Mode
+    ensures { result ≡ mode_of item.now }
+{
+    match item {
+        Item::Statement { mode, .. } => *mode,
+        Item::Include { mode, .. } => *mode,
+    }
 }
 
 /// What a statement makes of records, and the defaults after it.
@@ -100,19 +153,13 @@ pub(crate) fn merge_own<C, R: Fields<C>>(
     defaults: R::Defaults,
     place: Place,
     item: &Item,
-    mode: Mode,
     records: &mut IndexMap<R::Key, R>,
     notes: &mut R::Notes,
 ) -> Result<R::Defaults, Fault>
-    requires { mode_of item.now ≡ mode }
-    ensures shows { (os : List (Offer R.Key R.Cell R.Value))
-        → Shows R.cell R.width R.Key.eq (keys records.old) (get R.Key.eq records.old) os
-        → OnOk result (Shows R.cell R.width R.Key.eq (keys records.new) (get R.Key.eq records.new) (os ++ (R.rules context.now).offers defaults place item.now)) }
+    ensures adds { Adds R.cell R.width R.Key.eq (keys records.old) (get R.Key.eq records.old) result (keys records.new) (get R.Key.eq records.new) ((R.rules context.now).offers defaults place item.now) ((R.rules context.now).faults defaults place item.now) }
     ensures next { IfOk result (λ d. d ≡ (R.rules context.now).next defaults item.now) }
-    ensures faultless { OnOk result ((R.rules context.now).faults defaults place item.now ≡ []) }
-    ensures fault { IfErr result (λ e. Contains (Memory ∷ (R.rules context.now).faults defaults place item.now) e) }
 {
     let given = R::read(alloc, context, &defaults, place, item, notes)?;
-    add_all::<C, R>(alloc, records, mode, given)?;
+    add_all::<C, R>(alloc, records, mode_of(item), given)?;
     R::next(alloc, context, defaults, item)
 }

@@ -1,19 +1,19 @@
 //! Rows of precedence, on records with a cell a group, which keycode statements fill: `<A>=1` gives 1 to the first group
 //! of the record A, and `<A>=0` names it and gives nothing. Each statement that is read is noted.
-ghost use Rattle.std.specs.Prelude.{◌≡◌, ◌∷◌, [], slice_index, IfOk, IfErr};
-ghost use Rattle.std.proofs.Common.{eqb-true};
+ghost use Rattle.std.specs.Prelude.{◌≡◌, ℕ, ◌∷◌, [], slice_index, unwrap_or, IfOk, IfErr};
+ghost use Rattle.std.proofs.Common.{◌∙◌, ap, eqb-true, sym};
 ghost use Rattle.kx_lex.specs.declared.fault.Fault.TheVariants.{Memory};
 ghost use Rattle.kx_parse.specs.declared.tree.Mode.{Mode as ModeValue};
+ghost use Rattle.kx_merge.specs.Moved.{moved_value};
 ghost use Rattle.kx_merge.specs.Offers.{taken};
 ghost use Rattle.kx_merge.specs.Records.{AreOffered};
 ghost use Rattle.kx_merge.specs.Sheet.{keycode_in, sheet_cell, sheet_moves, sheet_offer, sheet_rules};
 
 use crate::fields::Fields;
-use crate::walking::merge;
-use indexmap::IndexMap;
+use crate::gathering::{Merged, merge};
 use kx_include::{Files, Library, Place};
 use kx_lex::{Fault, Span, lex};
-use kx_parse::{Item, Kind, Mode, Statement, parse};
+use kx_parse::{Item, Mode, Statement, parse};
 use std::alloc::Global;
 use std::test::Fail;
 
@@ -60,6 +60,20 @@ fn keycode_in(statement: &Statement) -> Option<(u8, u32)>
         Statement::Key { .. } => None,
         Statement::ModifierMap { .. } => None,
         Statement::Field(_) => None,
+    }
+}
+
+impl Sheet {
+    /// The values of the two groups where the map is moved to a group.
+    fn moved(&self, group: Option<u8>) -> (Option<u32>, Option<u32>)
+        ensures { (c : ℕ) → sheet_cell result.0 result.1 c ≡ moved_value sheet_moves group (sheet_cell self.now.one self.now.two) c }
+    {
+        match group {
+            None => (self.one, self.two),
+            Some(1) => (self.one, None),
+            Some(2) => (None, self.one),
+            Some(_) => (None, None),
+        }
     }
 }
 
@@ -132,26 +146,59 @@ impl Fields<()> for Sheet {
         Ok(())
     }
 
-    fn to_group(self, key: u8, group: u8) -> Option<(u8, Sheet)> {
-        let one = if group == 1 { self.one } else { None };
-        let two = if group == 2 { self.one } else { None };
-        Some((key, Sheet { one, two }))
+    fn none(_alloc: Global) -> Sheet {
+        Sheet {
+            one: None,
+            two: None,
+        }
     }
+
+    fn absorb_moved(
+        &mut self,
+        _alloc: Global,
+        other: &Sheet,
+        group: Option<u8>,
+        mode: Mode,
+    ) -> Result<(), Fault> {
+        let (one, two) = other.moved(group);
+        self.one = taken(mode, self.one, one);
+        self.two = taken(mode, self.two, two);
+        Ok(())
+    }
+
+    fn key_in(key: &u8, _group: Option<u8>) -> Option<u8> {
+        Some(*key)
+    }
+
+    fn no_notes() -> u32 {
+        0
+    }
+
+    fn add_notes(notes: &mut u32, other: &u32) {
+        *notes = notes.saturating_add(*other);
+    }
+
+    ghost apart = { λ n j k to one two. ap (λ key. unwrap_or key 0) (one ∙ sym two) };
 
     ghost same = { λ j k e. eqb-true j k e };
 }
 
-/// The records of a kind of a source with these symbols items, where `a` and `b` are files with `<A>=7` and `<A>=8`.
-fn records_in(
-    rt: &impl AllocGlobal,
-    items: &[u8],
-    kind: Kind,
-    notes: &mut u32,
-) -> Result<IndexMap<u8, Sheet>, Fail> {
-    let text = [
-        b"xkb_keymap { xkb_symbols { ".as_slice(),
-        items,
-        b" }; };".as_slice(),
+/// A text, so often.
+fn repeated(rt: &impl AllocGlobal, text: &[u8], count: usize) -> Result<Vec<u8>, Fail> {
+    let mut all = Vec::new(rt.alloc());
+    for _ in 0..count {
+        all.extend_from_slice(text)?;
+    }
+    Ok(all)
+}
+
+/// The files `a` and `b` with `<A>=7` and `<A>=8`, and `c` with a thousand statements.
+fn some_files(rt: &impl AllocGlobal) -> Result<Files, Fail> {
+    let statements = repeated(rt, b"<A>=1; ", 1000)?;
+    let many = [
+        b"xkb_symbols { ".as_slice(),
+        statements.as_slice(),
+        b"};".as_slice(),
     ]
     .concat(rt.alloc())?;
     let mut files = Files::new(rt.alloc());
@@ -161,28 +208,49 @@ fn records_in(
             b"b".as_slice(),
             b"xkb_symbols { augment <A>=8; };".as_slice(),
         ),
+        (b"c".as_slice(), many.as_slice()),
     ] {
         files.insert(
             Vec::from_slice(rt.alloc(), name)?,
             Vec::from_slice(rt.alloc(), bytes)?,
         )?;
     }
+    Ok(files)
+}
+
+/// The library of a source with these symbols items.
+fn library_of<'f>(
+    rt: &impl AllocGlobal,
+    items: &[u8],
+    files: &'f Files,
+) -> Result<Library<'f>, Fail> {
+    let text = [
+        b"xkb_keymap { xkb_symbols { ".as_slice(),
+        items,
+        b" }; };".as_slice(),
+    ]
+    .concat(rt.alloc())?;
     let tokens = lex(rt.alloc(), text.as_slice())?;
     let tree = parse(rt.alloc(), text.as_slice(), tokens.as_slice())?;
     let whole = Span {
         start: 0,
         stop: text.len() as u32,
     };
-    let library = Library::read(rt.alloc(), tree, whole, &files)?;
-    library.check(rt.alloc())?;
-    Ok(merge::<(), Sheet>(rt.alloc(), &(), &library, kind, notes)?)
+    Ok(Library::read(rt.alloc(), tree, whole, files)?)
+}
+
+/// The records of a source with these symbols items, and how many statements were noted.
+fn records_in(rt: &impl AllocGlobal, items: &[u8]) -> Result<Merged<u8, Sheet, u32>, Fail> {
+    let files = some_files(rt)?;
+    let library = library_of(rt, items, &files)?;
+    let bodies = library.expand(rt.alloc())?;
+    Ok(merge::<(), Sheet>(rt.alloc(), &(), &bodies.symbols)?)
 }
 
 /// The value of the record A in the first group or the second of a source with these symbols items.
 fn value_in(rt: &impl AllocGlobal, items: &[u8], group: u8) -> Result<Option<u32>, Fail> {
-    let mut notes = 0;
-    let records = records_in(rt, items, Kind::Symbols, &mut notes)?;
-    match records.get(&b'A') {
+    let merged = records_in(rt, items)?;
+    match merged.records.get(&b'A') {
         None => Ok(None),
         Some(sheet) => Ok(if group == 1 { sheet.one } else { sheet.two }),
     }
@@ -190,7 +258,7 @@ fn value_in(rt: &impl AllocGlobal, items: &[u8], group: u8) -> Result<Option<u32
 
 #[test]
 fn values_by_precedence(rt: HostRuntime) -> Result<(), Fail> {
-    let rows: [(&[u8], Option<u32>); 18] = [
+    let rows: [(&[u8], Option<u32>); 21] = [
         (b"<A>=1; <A>=2;", Some(2)),
         (b"<A>=1; augment <A>=2;", Some(1)),
         (b"augment <A>=1; augment <A>=2; override <A>=3;", Some(3)),
@@ -209,6 +277,9 @@ fn values_by_precedence(rt: HostRuntime) -> Result<(), Fail> {
         (b"include \"b+a\"", Some(7)),
         (b"<A>=1; include \"b|a\"", Some(8)),
         (b"<A>=1; include \"a:2\"", Some(1)),
+        (b"include \"a\" include \"b\" include \"a\"", Some(7)),
+        (b"include \"a\" <A>=1; include \"a\"", Some(7)),
+        (b"<A>=1; augment \"a\" include \"a\"", Some(7)),
     ];
     for (items, wanted) in &rows {
         assert_eq!(rt; value_in(&rt, items, 1)?, *wanted, "{:?}", items);
@@ -229,8 +300,7 @@ fn maps_moved_to_a_group(rt: HostRuntime) -> Result<(), Fail> {
 #[test]
 fn records_in_the_order_of_their_names(rt: HostRuntime) -> Result<(), Fail> {
     let items = b"<C>=1; include \"a\" <B>=2; <C>=3;";
-    let mut notes = 0;
-    let records = records_in(&rt, items, Kind::Symbols, &mut notes)?;
+    let records = records_in(&rt, items)?.records;
     assert_eq!(rt; records.len(), 3);
     for (place, name) in [(0, b'C'), (1, b'A'), (2, b'B')] {
         let found = records.get_index(place).ok_or("no record")?;
@@ -241,26 +311,37 @@ fn records_in_the_order_of_their_names(rt: HostRuntime) -> Result<(), Fail> {
 
 #[test]
 fn sections_of_another_kind_give_nothing(rt: HostRuntime) -> Result<(), Fail> {
-    let mut notes = 0;
-    let records = records_in(&rt, b"<A>=1; include \"a\"", Kind::Types, &mut notes)?;
-    assert_eq!(rt; records.len(), 0);
-    assert_eq!(rt; notes, 0);
+    let files = some_files(&rt)?;
+    let library = library_of(&rt, b"<A>=1; include \"a\"", &files)?;
+    let bodies = library.expand(rt.alloc())?;
+    let merged = merge::<(), Sheet>(rt.alloc(), &(), &bodies.types)?;
+    assert_eq!(rt; merged.records.len(), 0);
+    assert_eq!(rt; merged.notes, 0);
     Ok(())
 }
 
 #[test]
 fn notes_count_a_statement_once_for_each_place(rt: HostRuntime) -> Result<(), Fail> {
-    let rows: [(&[u8], u32); 5] = [
+    let rows: [(&[u8], u32); 6] = [
         (b"", 0),
         (b"<A>=1; <B>=2;", 2),
         (b"<A>=1; replace <A>=2;", 2),
         (b"<A>=1; include \"a+b\" augment \"a\"", 4),
         (b"include \"a:2|a\"", 2),
+        (b"include \"a+b\" include \"a+b\"", 4),
     ];
     for (items, wanted) in &rows {
-        let mut notes = 0;
-        records_in(&rt, items, Kind::Symbols, &mut notes)?;
-        assert_eq!(rt; notes, *wanted, "{:?}", items);
+        assert_eq!(rt; records_in(&rt, items)?.notes, *wanted, "{:?}", items);
     }
+    Ok(())
+}
+
+/// Four million readings take too long for a test.
+#[test]
+fn a_map_included_4096_times_is_read_once(rt: HostRuntime) -> Result<(), Fail> {
+    let items = repeated(&rt, b"include \"c\" ", 4096)?;
+    let merged = records_in(&rt, items.as_slice())?;
+    assert_eq!(rt; merged.notes, 4_096_000);
+    assert_eq!(rt; merged.records.len(), 1);
     Ok(())
 }

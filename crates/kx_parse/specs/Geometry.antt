@@ -13,12 +13,12 @@ use Rattle.kx_lex.specs.Tokens.{open_brace, close_brace}
 -- tokens whose braces stand in pairs, and the rest
 pub data Balanced (text : List ℕ) : List Token → List Token → Type 0 where
   nothing : {ts : List Token} → Balanced text ts ts
-  other : {t : Token} {ts rest : List Token} → is_mark text open_brace t ≡ false → is_mark text close_brace t ≡ false → Balanced text ts rest → Balanced text (t ∷ ts) rest
-  nested : {o c : Token} {ts mid rest : List Token} → is_mark text open_brace o ≡ true → is_mark text open_brace c ≡ false → is_mark text close_brace c ≡ true → Balanced text ts (c ∷ mid) → Balanced text mid rest → Balanced text (o ∷ ts) rest
+  other : {t : Token} {ts rest : List Token} → is_mark open_brace t ≡ false → is_mark close_brace t ≡ false → Balanced text ts rest → Balanced text (t ∷ ts) rest
+  nested : {o c : Token} {ts mid rest : List Token} → is_mark open_brace o ≡ true → is_mark open_brace c ≡ false → is_mark close_brace c ≡ true → Balanced text ts (c ∷ mid) → Balanced text mid rest → Balanced text (o ∷ ts) rest
 
 -- the brace that closes stands next
 abbrev pub IsClosing : List ℕ → List Token → Type 0
-IsClosing text rest = (c : Token) × (more : List Token) × (rest ≡ c ∷ more) × (is_mark text open_brace c ≡ false) × (is_mark text close_brace c ≡ true)
+IsClosing text rest = (c : Token) × (more : List Token) × (rest ≡ c ∷ more) × (is_mark open_brace c ≡ false) × (is_mark close_brace c ≡ true)
 
 -- a closing brace, with so many open before it
 abbrev pub closing_read : ℕ → Token → List Token → (ℕ → Read (Unit {0})) → Read (Unit {0})
@@ -29,13 +29,13 @@ closing_read (suc d) t ts more = more d
 abbrev pub geometry_read : List ℕ → ℕ → List Token → Read (Unit {0})
 geometry_read text depth [] = Err (syntax_end text)
 geometry_read text depth (t ∷ ts) =
-    which (is_mark text open_brace t) (geometry_read text (suc depth) ts)
-    (which (is_mark text close_brace t) (closing_read depth t ts (λ d. geometry_read text d ts))
+    which (is_mark open_brace t) (geometry_read text (suc depth) ts)
+    (which (is_mark close_brace t) (closing_read depth t ts (λ d. geometry_read text d ts))
     (geometry_read text depth ts))
 
 Deep : List ℕ → ℕ → List Token → List Token → Type 0
 Deep text zero ts rest = Balanced text ts rest × IsClosing text rest
-Deep text (suc d) ts rest = (c : Token) × (mid : List Token) × Balanced text ts (c ∷ mid) × (is_mark text open_brace c ≡ false) × (is_mark text close_brace c ≡ true) × Deep text d mid rest
+Deep text (suc d) ts rest = (c : Token) × (mid : List Token) × Balanced text ts (c ∷ mid) × (is_mark open_brace c ≡ false) × (is_mark close_brace c ≡ true) × Deep text d mid rest
 
 Deep-before : (text : List ℕ) (d : ℕ) (ts mid rest : List Token) → ((r : List Token) → Balanced text mid r → Balanced text ts r) → Deep text d mid rest → Deep text d ts rest
 unfolding Deep
@@ -56,13 +56,13 @@ geometry-again text ts x rest s = geometry-skips text s.0 0 ∙ last rest s.1
 geometry-deep : (text : List ℕ) (ts : List Token) (d : ℕ) (rest : List Token) → geometry_read text d ts ≡ done tt rest → Deep text d ts rest
 unfolding Deep
 geometry-deep text [] d rest e = cc
-geometry-deep text (t ∷ ts) d rest e = go (is_mark text open_brace t) refl (is_mark text close_brace t) refl d e (λ k. geometry-deep text ts k rest)
+geometry-deep text (t ∷ ts) d rest e = go (is_mark open_brace t) refl (is_mark close_brace t) refl d e (λ k. geometry-deep text ts k rest)
   where
-    closes : (k : ℕ) → is_mark text open_brace t ≡ false → is_mark text close_brace t ≡ true → closing_read k t ts (λ j. geometry_read text j ts) ≡ done tt rest → ((j : ℕ) → geometry_read text j ts ≡ done tt rest → Deep text j ts rest) → Deep text k (t ∷ ts) rest
+    closes : (k : ℕ) → is_mark open_brace t ≡ false → is_mark close_brace t ≡ true → closing_read k t ts (λ j. geometry_read text j ts) ≡ done tt rest → ((j : ℕ) → geometry_read text j ts ≡ done tt rest → Deep text j ts rest) → Deep text k (t ∷ ts) rest
     closes zero ho hc w ih = let same = done-same w in subst (λ (r : List Token). Balanced text (t ∷ ts) r × IsClosing text r) same.1 (nothing, (t, ts, refl, ho, hc))
     closes (suc j) ho hc w ih = (t, ts, nothing, ho, hc, ih j w)
 
-    go : (o : Bool) → is_mark text open_brace t ≡ o → (c : Bool) → is_mark text close_brace t ≡ c → (k : ℕ) → which o (geometry_read text (suc k) ts) (which c (closing_read k t ts (λ j. geometry_read text j ts)) (geometry_read text k ts)) ≡ done tt rest → ((j : ℕ) → geometry_read text j ts ≡ done tt rest → Deep text j ts rest) → Deep text k (t ∷ ts) rest
+    go : (o : Bool) → is_mark open_brace t ≡ o → (c : Bool) → is_mark close_brace t ≡ c → (k : ℕ) → which o (geometry_read text (suc k) ts) (which c (closing_read k t ts (λ j. geometry_read text j ts)) (geometry_read text k ts)) ≡ done tt rest → ((j : ℕ) → geometry_read text j ts ≡ done tt rest → Deep text j ts rest) → Deep text k (t ∷ ts) rest
     go true ho c hc k w ih = let below = ih (suc k) w in Deep-before text k (t ∷ ts) below.1 rest (λ r b. nested ho below.3 below.4 below.2 b) below.5
     go false ho true hc k w ih = closes k ho hc w ih
     go false ho false hc k w ih = Deep-before text k (t ∷ ts) ts rest (λ r b. other ho hc b) (ih k w)
@@ -77,7 +77,7 @@ GeometryBlames text ts e = (e ≡ syntax_end text) × ((rest : List Token) → B
 
 geometry-fault : (text : List ℕ) (ts : List Token) (d : ℕ) (e : Fault) → geometry_read text d ts ≡ Err e → e ≡ syntax_end text
 geometry-fault text [] d e w = let same : syntax_end text ≡ e = cc in sym same
-geometry-fault text (t ∷ ts) d e w = go (is_mark text open_brace t) (is_mark text close_brace t) d w (λ k. geometry-fault text ts k e)
+geometry-fault text (t ∷ ts) d e w = go (is_mark open_brace t) (is_mark close_brace t) d w (λ k. geometry-fault text ts k e)
   where
     closes : (k : ℕ) → closing_read k t ts (λ j. geometry_read text j ts) ≡ Err e → ((j : ℕ) → geometry_read text j ts ≡ Err e → e ≡ syntax_end text) → e ≡ syntax_end text
     closes zero w ih = cc

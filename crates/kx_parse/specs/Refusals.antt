@@ -1,8 +1,10 @@
 -- What the refusals of a source and of a file mean, in words of tokens: the first token that may not stand there or the
 -- end; or a number of 2^32 or more, in a section that isn't one of geometry.
-use Rattle.std.specs.Prelude.{ℕ, Bool, false, List, [], ◌∷◌, ◌≡◌, Option, Some, None, codes, Err}
+use Rattle.std.specs.Prelude.{ℕ, Bool, false, List, [], ◌∷◌, ◌≡◌, Option, Some, None, Err}
 use Rattle.std.proofs.Common.{inl, inr, refl, sym, ◌∙◌}
 use Rattle.std.specs.Option.{ok_or}
+use Rattle.kx_lex.specs.declared.keyword.Keyword.{Keyword}
+use Rattle.kx_lex.specs.declared.keyword.Keyword.TheVariants as keywords
 use Rattle.kx_lex.specs.declared.token.Token.{Token}
 use Rattle.kx_lex.specs.declared.fault.At.{At}
 use Rattle.kx_lex.specs.declared.fault.Fault.{Fault}
@@ -33,14 +35,14 @@ pub record InPlainSection (text : List ℕ) (body : List Token) (e : Fault) : Ty
   pub section_flags : List Flag
   pub kind : List Token
   pub flagged : (flags text).spells here section_flags kind
-  pub plain : front (is_keyword text (codes "xkb_geometry")) kind ≡ false
+  pub plain : front (is_keyword keywords.XkbGeometry) kind ≡ false
   pub stops : StopsWithin text kind e
 
 -- what stands before the sections of a source
 unfoldable pub source_head : (text : List ℕ) → Production text (Unit {0})
 source_head text = do
   _ ← flags text
-  _ ← keyword text (codes "xkb_keymap")
+  _ ← keyword text keywords.XkbKeymap
   _ ← optional_text text
   _ ← mark text open_brace
   give tt
@@ -66,9 +68,9 @@ mark-syntax : (text : List ℕ) (byte : ℕ) → Blames-syntax (mark text byte)
 unfolding mark
 mark-syntax text byte ts e h = one-syntax text _ ts e h
 
-keyword-syntax : (text words : List ℕ) → Blames-syntax (keyword text words)
+keyword-syntax : (text : List ℕ) (wanted : Keyword) → Blames-syntax (keyword text wanted)
 unfolding keyword
-keyword-syntax text words ts e h = one-syntax text _ ts e h
+keyword-syntax text wanted ts e h = one-syntax text _ ts e h
 
 text_name-syntax : (text : List ℕ) → Blames-syntax (text_name text)
 unfolding text_name
@@ -105,7 +107,7 @@ geometry_body-syntax text ts e (inr (_, _, _, inr (_, _, _, inr h))) = absurd h.
 
 geometry_section-syntax : (text : List ℕ) (fs : List Flag) → Blames-syntax (geometry_section text fs)
 unfolding geometry_section
-geometry_section-syntax text fs ts e (inl h) = keyword-syntax text (codes "xkb_geometry") ts e h
+geometry_section-syntax text fs ts e (inl h) = keyword-syntax text keywords.XkbGeometry ts e h
 geometry_section-syntax text fs ts e (inr (_, m, _, inl h)) = optional_text-syntax text m e h
 geometry_section-syntax text fs ts e (inr (_, _, _, inr (_, m, _, inl h))) = geometry_body-syntax text m e h
 geometry_section-syntax text fs ts e (inr (_, _, _, inr (_, _, _, inr h))) = absurd h.3
@@ -144,7 +146,7 @@ source-number text ts at h = go h.stopped
   where
     go : (source text).blames ts (NumberTooBig at) → InSourceSection text ts (NumberTooBig at)
     go (inl w) = no_number (flags-syntax text ts _ w)
-    go (inr (_, m, _, inl w)) = no_number (keyword-syntax text (codes "xkb_keymap") m _ w)
+    go (inr (_, m, _, inl w)) = no_number (keyword-syntax text keywords.XkbKeymap m _ w)
     go (inr (_, _, _, inr (_, m, _, inl w))) = no_number (optional_text-syntax text m _ w)
     go (inr (_, _, _, inr (_, _, _, inr (_, m, _, inl (inl w))))) = no_number (mark-syntax text open_brace m _ w)
     go (inr (fs, m1, s1, inr (k, m2, s2, inr (n, m3, s3, inl (inr (o, m4, s4, inl w)))))) = record {

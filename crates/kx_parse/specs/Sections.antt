@@ -1,6 +1,8 @@
 -- What sections hold, sections, and what a source and a file are.
-use Rattle.std.specs.Prelude.{ℕ, ◌+◌, ◌≤◌, Bool, true, false, ◌&&◌, ◌||◌, List, [], ◌∷◌, length, drop, ◌≡◌, Option, Some, None, is_some, if◌then◌else◌, codes}
+use Rattle.std.specs.Prelude.{ℕ, ◌+◌, ◌≤◌, Bool, true, false, ◌&&◌, ◌||◌, List, [], ◌∷◌, length, drop, ◌≡◌, Option, Some, None, is_some, if◌then◌else◌}
 use Rattle.std.proofs.Common.{arith, inl, inr, refl, sym, ◌∙◌, subst}
+use Rattle.kx_lex.specs.declared.keyword.Keyword.{Keyword}
+use Rattle.kx_lex.specs.declared.keyword.Keyword.TheVariants as keywords
 use Rattle.kx_lex.specs.declared.token.Token.{Token}
 use Rattle.kx_lex.specs.declared.token.Span.{Span}
 use Rattle.kx_lex.specs.declared.fault.Fault.{Fault}
@@ -10,7 +12,7 @@ use Rattle.kx_lex.specs.Laws.{same-uses, done, done-same}
 use Rattle.kx_lex.specs.Production.{Production, Admits, ◌>>=◌, give, many, either, known, optional, spanned, fronted, at_least, at_end}
 use Rattle.kx_lex.specs.Kinds.{is_word, is_key_name, is_text, is_mark, is_keyword, front, second}
 use Rattle.kx_lex.specs.Tokens.{mark, keyword, keyword-front, text_name, text_name-front, open_brace, close_brace, semicolon, bang}
-use Rattle.kx_lex.specs.Others.{before_mark, word-before, keyword-word}
+use Rattle.kx_lex.specs.Others.{before_mark, other-keyword, word-before, keyword-word}
 use Rattle.kx_parse.specs.Statements.{starts, starts-before, statement, statement-least, statement-starts}
 use Rattle.kx_lex.specs.declared.name.Name.{Name}
 use Rattle.kx_parse.specs.declared.tree.Statement.{Statement}
@@ -27,38 +29,38 @@ use Rattle.kx_parse.specs.declared.tree.Section.{Section}
 use Rattle.kx_parse.specs.declared.tree.Tree.{Tree}
 
 -- alternate is read as override
-unfoldable pub mode_of : List ℕ → Token → Option Mode
-mode_of text t =
-    if is_keyword text (codes "augment") t then Some Augment
-    else (if is_keyword text (codes "override") t then Some Override
-    else (if is_keyword text (codes "replace") t then Some Replace
-    else (if is_keyword text (codes "alternate") t then Some Override
+unfoldable pub mode_of : Token → Option Mode
+mode_of t =
+    if is_keyword keywords.Augment t then Some Augment
+    else (if is_keyword keywords.Override t then Some Override
+    else (if is_keyword keywords.Replace t then Some Replace
+    else (if is_keyword keywords.Alternate t then Some Override
     else None)))
 
 -- include means override
-unfoldable pub join_of : List ℕ → Token → Option Mode
-join_of text t = if is_keyword text (codes "include") t then Some Override else mode_of text t
+unfoldable pub join_of : Token → Option Mode
+join_of t = if is_keyword keywords.Include t then Some Override else mode_of t
 
 -- a word that joins, before text
-abbrev pub begins_include : List ℕ → List Token → Bool
-begins_include text ts = front (λ t. is_some (join_of text t)) ts && second is_text ts
+abbrev pub begins_include : List Token → Bool
+begins_include ts = front (λ t. is_some (join_of t)) ts && second is_text ts
 
 -- a mode, before what can begin a statement; elsewhere its word is a plain one
-abbrev pub begins_moded : List ℕ → List Token → Bool
-begins_moded text ts = front (λ t. is_some (mode_of text t)) ts && ((second is_word ts || second is_key_name ts) || second (is_mark text bang) ts)
+abbrev pub begins_moded : List Token → Bool
+begins_moded ts = front (λ t. is_some (mode_of t)) ts && ((second is_word ts || second is_key_name ts) || second (is_mark bang) ts)
 
-not_word : (text words : List ℕ) (t : Token) → is_word t ≡ false → is_keyword text words t ≡ false
+not_word : (keyword : Keyword) (t : Token) → is_word t ≡ false → is_keyword keyword t ≡ false
 unfolding is_keyword
-not_word text words t h = rw h refl
+not_word keyword t h = other-keyword keyword t.kind h
 
 -- a word that joins is a word, and so are the others below
-mode-none : (text : List ℕ) (t : Token) → is_word t ≡ false → mode_of text t ≡ None
+mode-none : (t : Token) → is_word t ≡ false → mode_of t ≡ None
 unfolding mode_of
-mode-none text t h = rw (not_word text (codes "augment") t h, not_word text (codes "override") t h, not_word text (codes "replace") t h, not_word text (codes "alternate") t h) refl
+mode-none t h = rw (not_word keywords.Augment t h, not_word keywords.Override t h, not_word keywords.Replace t h, not_word keywords.Alternate t h) refl
 
-join-none : (text : List ℕ) (t : Token) → is_word t ≡ false → join_of text t ≡ None
+join-none : (t : Token) → is_word t ≡ false → join_of t ≡ None
 unfolding join_of
-join-none text t h = rw (not_word text (codes "include") t h) (mode-none text t h)
+join-none t h = rw (not_word keywords.Include t h) (mode-none t h)
 
 -- what is known of no token but words is known of words
 only-words : {A : Type 0} (table : Token → Option A) → ((t : Token) → is_word t ≡ false → table t ≡ None) → (ts : List Token) → front (λ t. is_some (table t)) ts ≡ true → front is_word ts ≡ true
@@ -70,9 +72,9 @@ only-words table none (t ∷ ts) h = go (is_word t) refl
     go false w = let unknown = none t w in let is : is_some (table t) ≡ false = rw unknown refl in cc
 
 unfoldable pub join : (text : List ℕ) → Production text Mode
-join text = known text (join_of text)
+join text = known text join_of
 
-pub join-front : (text : List ℕ) → Admits (front (λ t. is_some (join_of text t))) (join text)
+pub join-front : (text : List ℕ) → Admits (front (λ t. is_some (join_of t))) (join text)
 unfolding join
 join-front text ts x rest s = rw s.2.0 s.2.1
 
@@ -81,9 +83,9 @@ unfolding join
 join-behind text ts x rest s = rw s.2.0 s.3.1
 
 unfoldable pub mode : (text : List ℕ) → Production text Mode
-mode text = known text (mode_of text)
+mode text = known text mode_of
 
-pub mode-front : (text : List ℕ) → Admits (front (λ t. is_some (mode_of text t))) (mode text)
+pub mode-front : (text : List ℕ) → Admits (front (λ t. is_some (mode_of t))) (mode text)
 unfolding mode
 mode-front text ts x rest s = rw s.2.0 s.2.1
 
@@ -99,7 +101,7 @@ include text = do
     give (m, n))
   give (items.Include i.0.0 i.0.1 i.1)
 
-pub include-begins : (text : List ℕ) → Admits (begins_include text) (include text)
+pub include-begins : (text : List ℕ) → Admits begins_include (include text)
 unfolding include
 include-begins text ts x rest s =
     let i = s.2.0 in
@@ -121,25 +123,25 @@ modal text = do
   m ← mode text
   moded text m
 
-pub modal-begins : (text : List ℕ) → Admits (begins_moded text) (modal text)
+pub modal-begins : (text : List ℕ) → Admits begins_moded (modal text)
 unfolding modal
 modal-begins text ts x rest s = rw (mode-front text ts s.0 s.1 s.2, mode-behind text ts s.0 s.1 s.2, moded-starts text s.0 s.1 x rest s.3) refl
 
 unfoldable pub own : (text : List ℕ) → Production text Item
 own text = do
-  s ← spanned (either (begins_moded text) (modal text) (modal-begins text) (moded text Override))
+  s ← spanned (either begins_moded (modal text) (modal-begins text) (moded text Override))
   give (items.Statement s.0.0 s.0.1 s.0.2 s.1)
 
 unfoldable pub item : (text : List ℕ) → Production text Item
-item text = either (begins_include text) (include text) (include-begins text) (own text)
+item text = either begins_include (include text) (include-begins text) (own text)
 
-pub item-before : (text : List ℕ) → Admits (before_mark text close_brace) (item text)
+pub item-before : (text : List ℕ) → Admits (before_mark close_brace) (item text)
 unfolding item include own modal
-item-before text ts x rest (inl s) = word-before text close_brace ts (only-words (join_of text) (join-none text) ts (join-front text ts s.1.2.0.0 s.1.2.0.1 s.1.2.0.2))
+item-before text ts x rest (inl s) = word-before close_brace ts (only-words join_of join-none ts (join-front text ts s.1.2.0.0 s.1.2.0.1 s.1.2.0.2))
 item-before text ts x rest (inr s) = go s.1.0.0 s.1.2.0
   where
-    go : (o : Mode × Statement × Span) → (either (begins_moded text) (modal text) (modal-begins text) (moded text Override)).spells ts o s.1.1 → before_mark text close_brace ts ≡ true
-    go o (inl w) = word-before text close_brace ts (only-words (mode_of text) (mode-none text) ts (mode-front text ts w.1.0 w.1.1 w.1.2))
+    go : (o : Mode × Statement × Span) → (either begins_moded (modal text) (modal-begins text) (moded text Override)).spells ts o s.1.1 → before_mark close_brace ts ≡ true
+    go o (inl w) = word-before close_brace ts (only-words mode_of mode-none ts (mode-front text ts w.1.0 w.1.1 w.1.2))
     go o (inr w) = starts-before text ts (moded-starts text Override ts o s.1.1 w.1)
 
 pub item-least : (text : List ℕ) → 1 ≤ (item text).least
@@ -153,40 +155,40 @@ word_span (items.Include mode name span) = span
 word_span (items.Statement mode (statements.Field f) first span) = f.place.word.span
 word_span (items.Statement mode _ first span) = first
 
-unfoldable pub kind_of : List ℕ → Token → Option Kind
-kind_of text t =
-    if is_keyword text (codes "xkb_keycodes") t then Some Keycodes
-    else (if is_keyword text (codes "xkb_types") t then Some Types
-    else (if is_keyword text (codes "xkb_symbols") t then Some Symbols
-    else (if is_keyword text (codes "xkb_compatibility") t then Some Compat
-    else (if is_keyword text (codes "xkb_compat") t then Some Compat
-    else (if is_keyword text (codes "xkb_compat_map") t then Some Compat
-    else (if is_keyword text (codes "xkb_compatibility_map") t then Some Compat
+unfoldable pub kind_of : Token → Option Kind
+kind_of t =
+    if is_keyword keywords.XkbKeycodes t then Some Keycodes
+    else (if is_keyword keywords.XkbTypes t then Some Types
+    else (if is_keyword keywords.XkbSymbols t then Some Symbols
+    else (if is_keyword keywords.XkbCompatibility t then Some Compat
+    else (if is_keyword keywords.XkbCompat t then Some Compat
+    else (if is_keyword keywords.XkbCompatMap t then Some Compat
+    else (if is_keyword keywords.XkbCompatibilityMap t then Some Compat
     else None))))))
 
-unfoldable pub flag_of : List ℕ → Token → Option Flag
-flag_of text t =
-    if is_keyword text (codes "default") t then Some Default
-    else (if is_keyword text (codes "partial") t then Some Partial
-    else (if is_keyword text (codes "hidden") t then Some Hidden
-    else (if is_keyword text (codes "alphanumeric_keys") t then Some AlphanumericKeys
-    else (if is_keyword text (codes "modifier_keys") t then Some ModifierKeys
-    else (if is_keyword text (codes "keypad_keys") t then Some KeypadKeys
-    else (if is_keyword text (codes "function_keys") t then Some FunctionKeys
-    else (if is_keyword text (codes "alternate_group") t then Some AlternateGroup
+unfoldable pub flag_of : Token → Option Flag
+flag_of t =
+    if is_keyword keywords.Default t then Some Default
+    else (if is_keyword keywords.Partial t then Some Partial
+    else (if is_keyword keywords.Hidden t then Some Hidden
+    else (if is_keyword keywords.AlphanumericKeys t then Some AlphanumericKeys
+    else (if is_keyword keywords.ModifierKeys t then Some ModifierKeys
+    else (if is_keyword keywords.KeypadKeys t then Some KeypadKeys
+    else (if is_keyword keywords.FunctionKeys t then Some FunctionKeys
+    else (if is_keyword keywords.AlternateGroup t then Some AlternateGroup
     else None)))))))
 
 unfoldable pub kind : (text : List ℕ) → Production text Kind
-kind text = known text (kind_of text)
+kind text = known text kind_of
 
-pub kind-front : (text : List ℕ) → Admits (front (λ t. is_some (kind_of text t))) (kind text)
+pub kind-front : (text : List ℕ) → Admits (front (λ t. is_some (kind_of t))) (kind text)
 unfolding kind
 kind-front text ts x rest s = rw s.2.0 s.2.1
 
 unfoldable pub flag : (text : List ℕ) → Production text Flag
-flag text = known text (flag_of text)
+flag text = known text flag_of
 
-pub flag-front : (text : List ℕ) → Admits (front (λ t. is_some (flag_of text t))) (flag text)
+pub flag-front : (text : List ℕ) → Admits (front (λ t. is_some (flag_of t))) (flag text)
 unfolding flag
 flag-front text ts x rest s = rw s.2.0 s.2.1
 
@@ -195,7 +197,7 @@ unfolding flag
 flag-least text = omega arith
 
 unfoldable pub flags : (text : List ℕ) → Production text (List Flag)
-flags text = many (front (λ t. is_some (flag_of text t))) (flag text) (flag-front text) (flag-least text)
+flags text = many (front (λ t. is_some (flag_of t))) (flag text) (flag-front text) (flag-least text)
 
 unfoldable pub optional_text : (text : List ℕ) → Production text (Option Name)
 optional_text text = optional (front is_text) (text_name text) (text_name-front text)
@@ -203,7 +205,7 @@ optional_text text = optional (front is_text) (text_name text) (text_name-front 
 unfoldable pub held_items : (text : List ℕ) → Production text (List Item)
 held_items text = do
   _ ← mark text open_brace
-  is ← many (before_mark text close_brace) (item text) (item-before text) (item-least text)
+  is ← many (before_mark close_brace) (item text) (item-before text) (item-least text)
   _ ← mark text close_brace
   give is
 
@@ -224,17 +226,17 @@ geometry_body text = do
 -- geometry is read over, and kept as an empty section
 unfoldable pub geometry_section : (text : List ℕ) → List Flag → Production text Section
 geometry_section text fs = do
-  _ ← keyword text (codes "xkb_geometry")
+  _ ← keyword text keywords.XkbGeometry
   n ← optional_text text
   _ ← geometry_body text
   give (record { flags = fs; kind = Geometry; name = n; items = [] })
 
-pub geometry_section-front : (text : List ℕ) (fs : List Flag) → Admits (front (is_keyword text (codes "xkb_geometry"))) (geometry_section text fs)
+pub geometry_section-front : (text : List ℕ) (fs : List Flag) → Admits (front (is_keyword keywords.XkbGeometry)) (geometry_section text fs)
 unfolding geometry_section
-geometry_section-front text fs ts x rest s = keyword-front text (codes "xkb_geometry") ts s.0 s.1 s.2
+geometry_section-front text fs ts x rest s = keyword-front text keywords.XkbGeometry ts s.0 s.1 s.2
 
 unfoldable pub flagged : (text : List ℕ) → List Flag → Production text Section
-flagged text fs = either (front (is_keyword text (codes "xkb_geometry"))) (geometry_section text fs) (geometry_section-front text fs) (plain_section text fs)
+flagged text fs = either (front (is_keyword keywords.XkbGeometry)) (geometry_section text fs) (geometry_section-front text fs) (plain_section text fs)
 
 pub flagged-least : (text : List ℕ) (fs : List Flag) → 1 ≤ (flagged text fs).least
 unfolding flagged geometry_section plain_section keyword kind
@@ -261,30 +263,30 @@ section-uses text ts x rest s =
 abbrev pub whole_section : (text : List ℕ) → Production text Section
 whole_section text = at_least 1 (section text) (section-uses text)
 
-kind-none : (text : List ℕ) (t : Token) → is_word t ≡ false → kind_of text t ≡ None
+kind-none : (t : Token) → is_word t ≡ false → kind_of t ≡ None
 unfolding kind_of
-kind-none text t h = rw (not_word text (codes "xkb_keycodes") t h, not_word text (codes "xkb_types") t h, not_word text (codes "xkb_symbols") t h, not_word text (codes "xkb_compatibility") t h, not_word text (codes "xkb_compat") t h, not_word text (codes "xkb_compat_map") t h, not_word text (codes "xkb_compatibility_map") t h) refl
+kind-none t h = rw (not_word keywords.XkbKeycodes t h, not_word keywords.XkbTypes t h, not_word keywords.XkbSymbols t h, not_word keywords.XkbCompatibility t h, not_word keywords.XkbCompat t h, not_word keywords.XkbCompatMap t h, not_word keywords.XkbCompatibilityMap t h) refl
 
-flag-none : (text : List ℕ) (t : Token) → is_word t ≡ false → flag_of text t ≡ None
+flag-none : (t : Token) → is_word t ≡ false → flag_of t ≡ None
 unfolding flag_of
-flag-none text t h = rw (not_word text (codes "default") t h, not_word text (codes "partial") t h, not_word text (codes "hidden") t h, not_word text (codes "alphanumeric_keys") t h, not_word text (codes "modifier_keys") t h, not_word text (codes "keypad_keys") t h, not_word text (codes "function_keys") t h, not_word text (codes "alternate_group") t h) refl
+flag-none t h = rw (not_word keywords.Default t h, not_word keywords.Partial t h, not_word keywords.Hidden t h, not_word keywords.AlphanumericKeys t h, not_word keywords.ModifierKeys t h, not_word keywords.KeypadKeys t h, not_word keywords.FunctionKeys t h, not_word keywords.AlternateGroup t h) refl
 
 flagged-word : (text : List ℕ) (fs : List Flag) → Admits (front is_word) (flagged text fs)
 unfolding flagged plain_section
-flagged-word text fs ts x rest (inl s) = keyword-word text (codes "xkb_geometry") ts (geometry_section-front text fs ts x rest s.1)
-flagged-word text fs ts x rest (inr s) = only-words (kind_of text) (kind-none text) ts (kind-front text ts s.1.0 s.1.1 s.1.2)
+flagged-word text fs ts x rest (inl s) = keyword-word keywords.XkbGeometry ts (geometry_section-front text fs ts x rest s.1)
+flagged-word text fs ts x rest (inr s) = only-words kind_of kind-none ts (kind-front text ts s.1.0 s.1.1 s.1.2)
 
 -- a section's first token is a word
 section-word : (text : List ℕ) → Admits (front is_word) (section text)
 unfolding section flags
 section-word text ts x rest s = go s.0 s.2.0 (flagged-word text s.0 s.1 s.3.0 s.3.1 s.3.2)
   where
-    go : (fs : List Flag) → many_front (front (λ t. is_some (flag_of text t))) (flag text).spells fs ts s.1 → front is_word s.1 ≡ true → front is_word ts ≡ true
+    go : (fs : List Flag) → many_front (front (λ t. is_some (flag_of t))) (flag text).spells fs ts s.1 → front is_word s.1 ≡ true → front is_word ts ≡ true
     go [] same h = rw same h
-    go (f ∷ fs) more h = only-words (flag_of text) (flag-none text) ts more.0
+    go (f ∷ fs) more h = only-words flag_of flag-none ts more.0
 
-pub whole_section-before : (text : List ℕ) → Admits (before_mark text close_brace) (whole_section text)
-whole_section-before text ts x rest s = word-before text close_brace ts (section-word text ts x rest s)
+pub whole_section-before : (text : List ℕ) → Admits (before_mark close_brace) (whole_section text)
+whole_section-before text ts x rest s = word-before close_brace ts (section-word text ts x rest s)
 
 pub whole_section-some : (text : List ℕ) → Admits (front (λ _. true)) (whole_section text)
 whole_section-some text ts x rest s = go ts (section-word text ts x rest s)
@@ -299,7 +301,7 @@ whole_section-least text = omega arith
 unfoldable pub held_sections : (text : List ℕ) → Production text (List Section)
 held_sections text = do
   _ ← mark text open_brace
-  ss ← many (before_mark text close_brace) (whole_section text) (whole_section-before text) (whole_section-least text)
+  ss ← many (before_mark close_brace) (whole_section text) (whole_section-before text) (whole_section-least text)
   _ ← mark text close_brace
   give ss
 
@@ -307,7 +309,7 @@ held_sections text = do
 unfoldable pub source : (text : List ℕ) → Production text Tree
 source text = do
   _ ← flags text
-  _ ← keyword text (codes "xkb_keymap")
+  _ ← keyword text keywords.XkbKeymap
   _ ← optional_text text
   ss ← held_sections text
   _ ← mark text semicolon

@@ -43,12 +43,12 @@ after_comma text p = do
 abbrev pub sequence : {A : Type 0} (text : List ℕ) → Production text A → Production text (List A)
 sequence text p = do
   x ← p
-  xs ← many (front (is_mark text comma)) (after_comma text p) (λ ts _ _ s. mark-front text comma ts s.0 s.1 s.2) (mark-least text comma)
+  xs ← many (front (is_mark comma)) (after_comma text p) (λ ts _ _ s. mark-front text comma ts s.0 s.1 s.2) (mark-least text comma)
   give (x ∷ xs)
 
 -- none before the closing mark, or one and more behind commas
-abbrev pub listed : {A : Type 0} (text : List ℕ) (close : ℕ) (p : Production text A) → Admits (before_mark text close) p → Production text (List A)
-listed text close p admits = either (before_mark text close) (sequence text p) (λ ts _ _ s. admits ts s.0 s.1 s.2) (give [])
+abbrev pub listed : {A : Type 0} (text : List ℕ) (close : ℕ) (p : Production text A) → Admits (before_mark close) p → Production text (List A)
+listed text close p admits = either (before_mark close) (sequence text p) (λ ts _ _ s. admits ts s.0 s.1 s.2) (give [])
 
 unfoldable pub symbol : (text : List ℕ) → Production text Symbol
 symbol text = either (front is_number)
@@ -60,37 +60,37 @@ symbol text = either (front is_number)
       w ← word text
       give (symbols.Word w))
 
-pub symbol-before : (text : List ℕ) (close : ℕ) → Admits (before_mark text close) (symbol text)
+pub symbol-before : (text : List ℕ) (close : ℕ) → Admits (before_mark close) (symbol text)
 unfolding symbol
-symbol-before text close ts x rest (inl s) = number-before text close ts (number-front text ts s.1.0 s.1.1 s.1.2)
-symbol-before text close ts x rest (inr s) = word-before text close ts (word-front text ts s.1.0 s.1.1 s.1.2)
+symbol-before text close ts x rest (inl s) = number-before close ts (number-front text ts s.1.0 s.1.1 s.1.2)
+symbol-before text close ts x rest (inr s) = word-before close ts (word-front text ts s.1.0 s.1.1 s.1.2)
 
-abbrev pub sign_of : List ℕ → Token → Option Sign
-sign_of text t = if is_mark text plus t then Some Plus else (if is_mark text minus t then Some Minus else None)
+abbrev pub sign_of : Token → Option Sign
+sign_of t = if is_mark plus t then Some Plus else (if is_mark minus t then Some Minus else None)
 
-abbrev pub is_sign : List ℕ → Token → Bool
-is_sign text t = is_mark text plus t || is_mark text minus t
+abbrev pub is_sign : Token → Bool
+is_sign t = is_mark plus t || is_mark minus t
 
 unfoldable pub sign : (text : List ℕ) → Production text Sign
-sign text = known text (sign_of text)
+sign text = known text sign_of
 
 sign-is : (plus_mark minus_mark : Bool) → is_some (if plus_mark then Some Plus else (if minus_mark then Some Minus else None)) ≡ true → (plus_mark || minus_mark) ≡ true
 sign-is true minus_mark h = refl
 sign-is false true h = refl
 sign-is false false h = cc
 
-pub sign-front : (text : List ℕ) → Admits (front (is_sign text)) (sign text)
+pub sign-front : (text : List ℕ) → Admits (front is_sign) (sign text)
 unfolding sign
-sign-front text ts x rest s = rw s.2.0 (sign-is (is_mark text plus s.0) (is_mark text minus s.0) s.2.1)
+sign-front text ts x rest s = rw s.2.0 (sign-is (is_mark plus s.0) (is_mark minus s.0) s.2.1)
 
 -- a sign isn't a parenthesis
-sign-before : (text : List ℕ) (ts : List Token) → front (is_sign text) ts ≡ true → before_mark text close_paren ts ≡ true
+sign-before : (text : List ℕ) (ts : List Token) → front is_sign ts ≡ true → before_mark close_paren ts ≡ true
 sign-before text [] h = cc
-sign-before text (t ∷ ts) h = go (is_mark text plus t) refl h
+sign-before text (t ∷ ts) h = go (is_mark plus t) refl h
   where
-    go : (b : Bool) → is_mark text plus t ≡ b → (b || is_mark text minus t) ≡ true → before_mark text close_paren (t ∷ ts) ≡ true
-    go true p w = mark-before text plus close_paren refl (t ∷ ts) p
-    go false p w = mark-before text minus close_paren refl (t ∷ ts) w
+    go : (b : Bool) → is_mark plus t ≡ b → (b || is_mark minus t) ≡ true → before_mark close_paren (t ∷ ts) ≡ true
+    go true p w = mark-before plus close_paren refl (t ∷ ts) p
+    go false p w = mark-before minus close_paren refl (t ∷ ts) w
 
 abbrev pub signed : (text : List ℕ) → Production text Signed
 signed text = do
@@ -103,11 +103,11 @@ signed text = do
 abbrev pub signed_read : List ℕ → List Token → Read Signed
 signed_read text = (signed text).read
 
-pub signed-front : (text : List ℕ) → Admits (front (is_sign text)) (signed text)
+pub signed-front : (text : List ℕ) → Admits (front is_sign) (signed text)
 signed-front text ts x rest s = sign-front text ts s.2.0.0 s.2.0.1 s.2.0.2
 
 unfoldable pub term : (text : List ℕ) → Production text Term
-term text = either (front (is_sign text))
+term text = either (front is_sign)
     (do
       s ← signed text
       give (terms.Signed s))
@@ -131,13 +131,13 @@ term text = either (front (is_sign text))
       n ← word text
       give (terms.Word n)))))
 
-pub term-before : (text : List ℕ) → Admits (before_mark text close_paren) (term text)
+pub term-before : (text : List ℕ) → Admits (before_mark close_paren) (term text)
 unfolding term
 term-before text ts x rest (inl s) = sign-before text ts (signed-front text ts s.1.0 s.1.1 s.1.2)
-term-before text ts x rest (inr (_, inl s)) = number-before text close_paren ts (number-front text ts s.1.0 s.1.1 s.1.2)
-term-before text ts x rest (inr (_, inr (_, inl s))) = text-before text close_paren ts (text_name-front text ts s.1.0 s.1.1 s.1.2)
-term-before text ts x rest (inr (_, inr (_, inr (_, inl s)))) = key_name-before text close_paren ts (key_name-front text ts s.1.0 s.1.1 s.1.2)
-term-before text ts x rest (inr (_, inr (_, inr (_, inr (_, s))))) = word-before text close_paren ts (word-front text ts s.0 s.1 s.2)
+term-before text ts x rest (inr (_, inl s)) = number-before close_paren ts (number-front text ts s.1.0 s.1.1 s.1.2)
+term-before text ts x rest (inr (_, inr (_, inl s))) = text-before close_paren ts (text_name-front text ts s.1.0 s.1.1 s.1.2)
+term-before text ts x rest (inr (_, inr (_, inr (_, inl s)))) = key_name-before close_paren ts (key_name-front text ts s.1.0 s.1.1 s.1.2)
+term-before text ts x rest (inr (_, inr (_, inr (_, inr (_, s))))) = word-before close_paren ts (word-front text ts s.0 s.1 s.2)
 
 unfoldable pub operation : (text : List ℕ) → Production text Operation
 operation text = do
@@ -149,7 +149,7 @@ pub operation-least : (text : List ℕ) → 1 ≤ (operation text).least
 unfolding operation sign
 operation-least text = omega arith
 
-pub operation-front : (text : List ℕ) → Admits (front (is_sign text)) (operation text)
+pub operation-front : (text : List ℕ) → Admits (front is_sign) (operation text)
 unfolding operation
 operation-front text ts x rest s = sign-front text ts s.0 s.1 s.2
 
@@ -157,11 +157,11 @@ unfoldable pub expression : (text : List ℕ) → Production text Expression
 expression text = do
   e ← spanned {A = Term × List Operation} (do
     first ← term text
-    rest ← many (front (is_sign text)) (operation text) (operation-front text) (operation-least text)
+    rest ← many (front is_sign) (operation text) (operation-front text) (operation-least text)
     give (first, rest))
   give (record { first = e.0.0; rest = e.0.1; span = e.1 })
 
-pub expression-before : (text : List ℕ) → Admits (before_mark text close_paren) (expression text)
+pub expression-before : (text : List ℕ) → Admits (before_mark close_paren) (expression text)
 unfolding expression
 expression-before text ts x rest s = term-before text ts s.2.0.0 s.2.0.1 s.2.0.2
 
@@ -174,24 +174,24 @@ index text = do
     give value)
   give (record { value = e.0; span = e.1 })
 
-pub index-front : (text : List ℕ) → Admits (front (is_mark text open_bracket)) (index text)
+pub index-front : (text : List ℕ) → Admits (front (is_mark open_bracket)) (index text)
 unfolding index
 index-front text ts x rest s = mark-front text open_bracket ts s.2.0.0 s.2.0.1 s.2.0.2
 
 abbrev pub optional_index : (text : List ℕ) → Production text (Option Index)
-optional_index text = optional (front (is_mark text open_bracket)) (index text) (index-front text)
+optional_index text = optional (front (is_mark open_bracket)) (index text) (index-front text)
 
 unfoldable pub member : (text : List ℕ) → Production text Name
 member text = do
   _ ← mark text point
   word text
 
-pub member-front : (text : List ℕ) → Admits (front (is_mark text point)) (member text)
+pub member-front : (text : List ℕ) → Admits (front (is_mark point)) (member text)
 unfolding member
 member-front text ts x rest s = mark-front text point ts s.0 s.1 s.2
 
 abbrev pub optional_member : (text : List ℕ) → Production text (Option Name)
-optional_member text = optional (front (is_mark text point)) (member text) (member-front text)
+optional_member text = optional (front (is_mark point)) (member text) (member-front text)
 
 unfoldable pub place : (text : List ℕ) → Production text Place
 place text = do
@@ -205,8 +205,8 @@ unfolding place
 place-front text ts x rest s = word-front text ts s.0 s.1 s.2
 
 -- a word that = or an index follows
-abbrev pub begins_set : List ℕ → List Token → Bool
-begins_set text ts = front is_word ts && (second (is_mark text equals) ts || second (is_mark text open_bracket) ts)
+abbrev pub begins_set : List Token → Bool
+begins_set ts = front is_word ts && (second (is_mark equals) ts || second (is_mark open_bracket) ts)
 
 unfoldable pub set_argument : (text : List ℕ) → Production text Argument
 set_argument text = do
@@ -220,12 +220,12 @@ pub or_true : (b : Bool) → (b || true) ≡ true
 or_true true = refl
 or_true false = refl
 
-pub set_argument-begins : (text : List ℕ) → Admits (begins_set text) (set_argument text)
+pub set_argument-begins : (text : List ℕ) → Admits begins_set (set_argument text)
 unfolding set_argument
 set_argument-begins text ts x rest s = rw (word-front text ts s.0 s.1 s.2, word-behind text ts s.0 s.1 s.2) (go s.3.2)
   where
-    go : (optional_index text).spells s.1 s.3.0 s.3.1 → (front (is_mark text equals) s.1 || front (is_mark text open_bracket) s.1) ≡ true
-    go (inl o) = rw o.0 (or_true (front (is_mark text equals) s.1))
+    go : (optional_index text).spells s.1 s.3.0 s.3.1 → (front (is_mark equals) s.1 || front (is_mark open_bracket) s.1) ≡ true
+    go (inl o) = rw o.0 (or_true (front (is_mark equals) s.1))
     go (inr o) = rw (o.1.1, mark-front text equals s.3.1 s.3.3.0 s.3.3.1 s.3.3.2) refl
 
 unfoldable pub off_argument : (text : List ℕ) → Production text Argument
@@ -234,13 +234,13 @@ off_argument text = do
   w ← word text
   give (arguments.Off w)
 
-pub off_argument-front : (text : List ℕ) → Admits (front (is_mark text bang)) (off_argument text)
+pub off_argument-front : (text : List ℕ) → Admits (front (is_mark bang)) (off_argument text)
 unfolding off_argument
 off_argument-front text ts x rest s = mark-front text bang ts s.0 s.1 s.2
 
 abbrev pub bare_argument : (text : List ℕ) → Production text Argument
-bare_argument text = either (front (is_mark text bang)) (off_argument text) (off_argument-front text)
-    (either (begins_set text) (set_argument text) (set_argument-begins text)
+bare_argument text = either (front (is_mark bang)) (off_argument text) (off_argument-front text)
+    (either begins_set (set_argument text) (set_argument-begins text)
     (do
       e ← expression text
       give (arguments.Plain e)))
@@ -258,18 +258,18 @@ set_argument-front : (text : List ℕ) → Admits (front is_word) (set_argument 
 unfolding set_argument
 set_argument-front text ts x rest s = word-front text ts s.0 s.1 s.2
 
-pub argument-before : (text : List ℕ) → Admits (before_mark text close_paren) (argument text)
+pub argument-before : (text : List ℕ) → Admits (before_mark close_paren) (argument text)
 unfolding argument
 argument-before text ts x rest s = go s.0.0 s.2.0
   where
-    go : (a : Argument) → (bare_argument text).spells ts a s.1 → before_mark text close_paren ts ≡ true
-    go a (inl o) = mark-before text bang close_paren refl ts (off_argument-front text ts a s.1 o.1)
-    go a (inr (_, inl o)) = word-before text close_paren ts (set_argument-front text ts a s.1 o.1)
+    go : (a : Argument) → (bare_argument text).spells ts a s.1 → before_mark close_paren ts ≡ true
+    go a (inl o) = mark-before bang close_paren refl ts (off_argument-front text ts a s.1 o.1)
+    go a (inr (_, inl o)) = word-before close_paren ts (set_argument-front text ts a s.1 o.1)
     go a (inr (_, inr o)) = expression-before text ts o.1.0 o.1.1 o.1.2
 
 -- a word that a parenthesis follows
-abbrev pub begins_call : List ℕ → List Token → Bool
-begins_call text ts = front is_word ts && second (is_mark text open_paren) ts
+abbrev pub begins_call : List Token → Bool
+begins_call ts = front is_word ts && second (is_mark open_paren) ts
 
 unfoldable pub call : (text : List ℕ) → Production text Call
 call text = do
@@ -281,18 +281,18 @@ call text = do
     give (w, xs))
   give (record { word = c.0.0; arguments = c.0.1; span = c.1 })
 
-pub call-begins : (text : List ℕ) → Admits (begins_call text) (call text)
+pub call-begins : (text : List ℕ) → Admits begins_call (call text)
 unfolding call
 call-begins text ts x rest s =
     let c = s.2.0 in
     rw (word-front text ts c.0 c.1 c.2, word-behind text ts c.0 c.1 c.2, mark-front text open_paren c.1 c.3.0 c.3.1 c.3.2) refl
 
-pub call-before : (text : List ℕ) (close : ℕ) → Admits (before_mark text close) (call text)
+pub call-before : (text : List ℕ) (close : ℕ) → Admits (before_mark close) (call text)
 unfolding call
-call-before text close ts x rest s = word-before text close ts (word-front text ts s.2.0.0 s.2.0.1 s.2.0.2)
+call-before text close ts x rest s = word-before close ts (word-front text ts s.2.0.0 s.2.0.1 s.2.0.2)
 
 unfoldable pub part : (text : List ℕ) → Production text Part
-part text = either (begins_call text)
+part text = either begins_call
     (do
       c ← call text
       give (parts.Call c))
@@ -305,7 +305,7 @@ pub part-least : (text : List ℕ) → 1 ≤ (part text).least
 unfolding part call symbol word number
 part-least text = omega arith
 
-pub part-before : (text : List ℕ) → Admits (before_mark text close_brace) (part text)
+pub part-before : (text : List ℕ) → Admits (before_mark close_brace) (part text)
 unfolding part
 part-before text ts x rest (inl s) = call-before text close_brace ts s.1.0 s.1.1 s.1.2
 part-before text ts x rest (inr s) = symbol-before text close_brace ts s.1.0 s.1.1 s.1.2
@@ -319,17 +319,17 @@ braces text = do
     give xs)
   give (record { parts = b.0; span = b.1 })
 
-pub braces-front : (text : List ℕ) → Admits (front (is_mark text open_brace)) (braces text)
+pub braces-front : (text : List ℕ) → Admits (front (is_mark open_brace)) (braces text)
 unfolding braces
 braces-front text ts x rest s = mark-front text open_brace ts s.2.0.0 s.2.0.1 s.2.0.2
 
 unfoldable pub element : (text : List ℕ) → Production text Element
-element text = either (front (is_mark text open_brace))
+element text = either (front (is_mark open_brace))
     (do
       b ← braces text
       give (elements.Braces b))
     (λ ts _ _ s. braces-front text ts s.0 s.1 s.2)
-    (either (begins_call text)
+    (either begins_call
     (do
       c ← call text
       give (elements.Call c))
@@ -342,9 +342,9 @@ pub element-least : (text : List ℕ) → 1 ≤ (element text).least
 unfolding element braces call symbol mark word number
 element-least text = omega arith
 
-pub element-before : (text : List ℕ) → Admits (before_mark text close_bracket) (element text)
+pub element-before : (text : List ℕ) → Admits (before_mark close_bracket) (element text)
 unfolding element
-element-before text ts x rest (inl s) = mark-before text open_brace close_bracket refl ts (braces-front text ts s.1.0 s.1.1 s.1.2)
+element-before text ts x rest (inl s) = mark-before open_brace close_bracket refl ts (braces-front text ts s.1.0 s.1.1 s.1.2)
 element-before text ts x rest (inr (_, inl s)) = call-before text close_bracket ts s.1.0 s.1.1 s.1.2
 element-before text ts x rest (inr (_, inr s)) = symbol-before text close_bracket ts s.1.0 s.1.1 s.1.2
 
@@ -357,17 +357,17 @@ list text = do
     give xs)
   give (record { elements = l.0; span = l.1 })
 
-pub list-front : (text : List ℕ) → Admits (front (is_mark text open_bracket)) (list text)
+pub list-front : (text : List ℕ) → Admits (front (is_mark open_bracket)) (list text)
 unfolding list
 list-front text ts x rest s = mark-front text open_bracket ts s.2.0.0 s.2.0.1 s.2.0.2
 
 unfoldable pub value : (text : List ℕ) → Production text Value
-value text = either (front (is_mark text open_bracket))
+value text = either (front (is_mark open_bracket))
     (do
       l ← list text
       give (values.List l))
     (λ ts _ _ s. list-front text ts s.0 s.1 s.2)
-    (either (begins_call text)
+    (either begins_call
     (do
       c ← call text
       give (values.Call c))

@@ -20,7 +20,7 @@ use std::alloc::Global;
 fn read_setting<'a>(alloc: Global, text: &[u8], tokens: &'a [Token]) -> Reading<'a, Setting>
     ensures { Gives result ((setting text.now).read tokens.now) }
 {
-    if !front_is_mark(text, b'=', tokens) {
+    if !front_is_mark(b'=', tokens) {
         return Ok((Setting::On, tokens));
     }
     let (_, rest) = read_mark(text, b'=', tokens)?;
@@ -35,7 +35,7 @@ fn read_bare_field<'a>(
 ) -> Reading<'a, (Place, Setting)>
     ensures { Gives result ((bare_field text.now).read tokens.now) }
 {
-    if front_is_mark(text, b'!', tokens) {
+    if front_is_mark(b'!', tokens) {
         let (_, rest) = read_mark(text, b'!', tokens)?;
         let (place, rest) = read_place(alloc, text, rest)?;
         return Ok(((place, Setting::Off), rest));
@@ -45,6 +45,7 @@ fn read_bare_field<'a>(
     Ok(((place, setting), rest))
 }
 
+/// Takes a field without its `;`.
 #[tactic(auto, unfolding(crate::specs::Statements::field))]
 pub fn read_field<'a>(alloc: Global, text: &[u8], tokens: &'a [Token]) -> Reading<'a, Field>
     ensures { Gives result ((field text.now).read tokens.now) }
@@ -75,12 +76,12 @@ struct BlockFields;
 impl Repeated for BlockFields {
     type Value = Field;
 
-    ghost test = { λ text. before_mark text close_brace };
+    ghost test = { λ text. before_mark close_brace };
 
     ghost reading = { λ text. (block_field text).read };
 
     fn is_next(text: &[u8], tokens: &[Token]) -> bool {
-        is_before_mark(text, b'}', tokens)
+        is_before_mark(b'}', tokens)
     }
 
     fn read_next<'a>(alloc: Global, text: &[u8], tokens: &'a [Token]) -> Reading<'a, Field> {
@@ -90,6 +91,7 @@ impl Repeated for BlockFields {
     ghost shrinks = { λ text. production-shrinks (block_field text) (block_field-least text) };
 }
 
+/// Takes the fields between braces, each with its `;`.
 #[tactic(auto, unfolding(crate::specs::Statements::block))]
 pub fn read_block<'a>(alloc: Global, text: &[u8], tokens: &'a [Token]) -> Reading<'a, Row<Field>>
     ensures { Gives result ((block text.now).read tokens.now) }
@@ -104,7 +106,7 @@ pub fn read_block<'a>(alloc: Global, text: &[u8], tokens: &'a [Token]) -> Readin
 fn read_key_field<'a>(alloc: Global, text: &[u8], tokens: &'a [Token]) -> Reading<'a, KeyField>
     ensures { Gives result ((key_field text.now).read tokens.now) }
 {
-    if front_is_mark(text, b'[', tokens) {
+    if front_is_mark(b'[', tokens) {
         let (list, rest) = read_list(alloc, text, tokens)?;
         return Ok((KeyField::List(list), rest));
     }
@@ -140,7 +142,7 @@ fn read_declared_mask<'a>(
 ) -> Reading<'a, Option<Expression>>
     ensures { Gives result ((declared_mask text.now).read tokens.now) }
 {
-    if !front_is_mark(text, b'=', tokens) {
+    if !front_is_mark(b'=', tokens) {
         return Ok((None, tokens));
     }
     let (_, rest) = read_mark(text, b'=', tokens)?;
@@ -178,11 +180,12 @@ impl Repeated for Declarations {
     ghost shrinks = { λ text. production-shrinks (declaration text) (declaration-least text) };
 }
 
+/// Takes the predicate of an interpretation: a call or a mask.
 #[tactic(auto, unfolding(crate::specs::Statements::predicate))]
 pub fn read_predicate<'a>(alloc: Global, text: &[u8], tokens: &'a [Token]) -> Reading<'a, Predicate>
     ensures { Gives result ((predicate text.now).read tokens.now) }
 {
-    if begins_call(text, tokens) {
+    if begins_call(tokens) {
         let (call, rest) = read_call(alloc, text, tokens)?;
         return Ok((Predicate::Call(call), rest));
     }

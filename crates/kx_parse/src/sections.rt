@@ -23,20 +23,20 @@ use kx_lex::tokens::{
     front_is_word, front_span, is_keyword, is_mark, read_keyword, read_mark, read_text,
     span_between, syntax,
 };
-use kx_lex::{Fault, Name, Row, Span, Token};
+use kx_lex::{Fault, Keyword, Name, Row, Span, Token};
 use std::alloc::Global;
 
 #[tactic(auto, unfolding(crate::specs::Sections::mode_of))]
-fn mode_of(text: &[u8], token: &Token) -> Option<Mode>
-    ensures { result ≡ mode_of text.now token.now }
+fn mode_of(token: &Token) -> Option<Mode>
+    ensures { result ≡ mode_of token.now }
 {
-    if is_keyword(text, b"augment", token) {
+    if is_keyword(Keyword::Augment, token) {
         Some(Mode::Augment)
-    } else if is_keyword(text, b"override", token) {
+    } else if is_keyword(Keyword::Override, token) {
         Some(Mode::Override)
-    } else if is_keyword(text, b"replace", token) {
+    } else if is_keyword(Keyword::Replace, token) {
         Some(Mode::Replace)
-    } else if is_keyword(text, b"alternate", token) {
+    } else if is_keyword(Keyword::Alternate, token) {
         Some(Mode::Override)
     } else {
         None
@@ -44,35 +44,33 @@ fn mode_of(text: &[u8], token: &Token) -> Option<Mode>
 }
 
 #[tactic(auto, unfolding(crate::specs::Sections::join_of))]
-fn join_of(text: &[u8], token: &Token) -> Option<Mode>
-    ensures { result ≡ join_of text.now token.now }
+fn join_of(token: &Token) -> Option<Mode>
+    ensures { result ≡ join_of token.now }
 {
-    if is_keyword(text, b"include", token) {
+    if is_keyword(Keyword::Include, token) {
         Some(Mode::Override)
     } else {
-        mode_of(text, token)
+        mode_of(token)
     }
 }
 
-fn begins_include(text: &[u8], tokens: &[Token]) -> bool
-    ensures { result ≡ begins_include text.now tokens.now }
+fn begins_include(tokens: &[Token]) -> bool
+    ensures { result ≡ begins_include tokens.now }
 {
     match tokens.first() {
-        Some(token) => front_is_text(behind_front(tokens)) && join_of(text, token).is_some(),
+        Some(token) => front_is_text(behind_front(tokens)) && join_of(token).is_some(),
         None => false,
     }
 }
 
-fn begins_moded(text: &[u8], tokens: &[Token]) -> bool
-    ensures { result ≡ begins_moded text.now tokens.now }
+fn begins_moded(tokens: &[Token]) -> bool
+    ensures { result ≡ begins_moded tokens.now }
 {
     let behind = behind_front(tokens);
     match tokens.first() {
         Some(token) => {
-            (front_is_word(behind)
-                || front_is_key_name(behind)
-                || front_is_mark(text, b'!', behind))
-                && mode_of(text, token).is_some()
+            (front_is_word(behind) || front_is_key_name(behind) || front_is_mark(b'!', behind))
+                && mode_of(token).is_some()
         }
         None => false,
     }
@@ -83,7 +81,7 @@ fn read_join<'a>(text: &[u8], tokens: &'a [Token]) -> Reading<'a, Mode>
     ensures { Gives result ((join text.now).read tokens.now) }
 {
     match tokens.split_first() {
-        Some((token, rest)) => match join_of(text, token) {
+        Some((token, rest)) => match join_of(token) {
             Some(mode) => Ok((mode, rest)),
             None => Err(syntax(text, tokens)),
         },
@@ -96,7 +94,7 @@ fn read_mode<'a>(text: &[u8], tokens: &'a [Token]) -> Reading<'a, Mode>
     ensures { Gives result ((mode text.now).read tokens.now) }
 {
     match tokens.split_first() {
-        Some((token, rest)) => match mode_of(text, token) {
+        Some((token, rest)) => match mode_of(token) {
             Some(mode) => Ok((mode, rest)),
             None => Err(syntax(text, tokens)),
         },
@@ -152,7 +150,7 @@ fn read_modal<'a>(
 fn read_own<'a>(alloc: Global, text: &[u8], tokens: &'a [Token]) -> Reading<'a, Item>
     ensures { Gives result ((own text.now).read tokens.now) }
 {
-    let ((mode, statement, first), rest) = if begins_moded(text, tokens) {
+    let ((mode, statement, first), rest) = if begins_moded(tokens) {
         read_modal(alloc, text, tokens)?
     } else {
         read_moded(alloc, text, Mode::Override, tokens)?
@@ -173,7 +171,7 @@ fn read_own<'a>(alloc: Global, text: &[u8], tokens: &'a [Token]) -> Reading<'a, 
 fn read_item<'a>(alloc: Global, text: &[u8], tokens: &'a [Token]) -> Reading<'a, Item>
     ensures { Gives result ((item text.now).read tokens.now) }
 {
-    if begins_include(text, tokens) {
+    if begins_include(tokens) {
         return read_include(alloc, text, tokens);
     }
     read_own(alloc, text, tokens)
@@ -184,12 +182,12 @@ struct Items;
 impl Repeated for Items {
     type Value = Item;
 
-    ghost test = { λ text. before_mark text close_brace };
+    ghost test = { λ text. before_mark close_brace };
 
     ghost reading = { λ text. (item text).read };
 
     fn is_next(text: &[u8], tokens: &[Token]) -> bool {
-        is_before_mark(text, b'}', tokens)
+        is_before_mark(b'}', tokens)
     }
 
     fn read_next<'a>(alloc: Global, text: &[u8], tokens: &'a [Token]) -> Reading<'a, Item> {
@@ -200,22 +198,22 @@ impl Repeated for Items {
 }
 
 #[tactic(auto, unfolding(crate::specs::Sections::kind_of))]
-fn kind_of(text: &[u8], token: &Token) -> Option<Kind>
-    ensures { result ≡ kind_of text.now token.now }
+fn kind_of(token: &Token) -> Option<Kind>
+    ensures { result ≡ kind_of token.now }
 {
-    if is_keyword(text, b"xkb_keycodes", token) {
+    if is_keyword(Keyword::XkbKeycodes, token) {
         Some(Kind::Keycodes)
-    } else if is_keyword(text, b"xkb_types", token) {
+    } else if is_keyword(Keyword::XkbTypes, token) {
         Some(Kind::Types)
-    } else if is_keyword(text, b"xkb_symbols", token) {
+    } else if is_keyword(Keyword::XkbSymbols, token) {
         Some(Kind::Symbols)
-    } else if is_keyword(text, b"xkb_compatibility", token) {
+    } else if is_keyword(Keyword::XkbCompatibility, token) {
         Some(Kind::Compat)
-    } else if is_keyword(text, b"xkb_compat", token) {
+    } else if is_keyword(Keyword::XkbCompat, token) {
         Some(Kind::Compat)
-    } else if is_keyword(text, b"xkb_compat_map", token) {
+    } else if is_keyword(Keyword::XkbCompatMap, token) {
         Some(Kind::Compat)
-    } else if is_keyword(text, b"xkb_compatibility_map", token) {
+    } else if is_keyword(Keyword::XkbCompatibilityMap, token) {
         Some(Kind::Compat)
     } else {
         None
@@ -223,24 +221,24 @@ fn kind_of(text: &[u8], token: &Token) -> Option<Kind>
 }
 
 #[tactic(auto, unfolding(crate::specs::Sections::flag_of))]
-fn flag_of(text: &[u8], token: &Token) -> Option<Flag>
-    ensures { result ≡ flag_of text.now token.now }
+fn flag_of(token: &Token) -> Option<Flag>
+    ensures { result ≡ flag_of token.now }
 {
-    if is_keyword(text, b"default", token) {
+    if is_keyword(Keyword::Default, token) {
         Some(Flag::Default)
-    } else if is_keyword(text, b"partial", token) {
+    } else if is_keyword(Keyword::Partial, token) {
         Some(Flag::Partial)
-    } else if is_keyword(text, b"hidden", token) {
+    } else if is_keyword(Keyword::Hidden, token) {
         Some(Flag::Hidden)
-    } else if is_keyword(text, b"alphanumeric_keys", token) {
+    } else if is_keyword(Keyword::AlphanumericKeys, token) {
         Some(Flag::AlphanumericKeys)
-    } else if is_keyword(text, b"modifier_keys", token) {
+    } else if is_keyword(Keyword::ModifierKeys, token) {
         Some(Flag::ModifierKeys)
-    } else if is_keyword(text, b"keypad_keys", token) {
+    } else if is_keyword(Keyword::KeypadKeys, token) {
         Some(Flag::KeypadKeys)
-    } else if is_keyword(text, b"function_keys", token) {
+    } else if is_keyword(Keyword::FunctionKeys, token) {
         Some(Flag::FunctionKeys)
-    } else if is_keyword(text, b"alternate_group", token) {
+    } else if is_keyword(Keyword::AlternateGroup, token) {
         Some(Flag::AlternateGroup)
     } else {
         None
@@ -252,7 +250,7 @@ fn read_kind<'a>(text: &[u8], tokens: &'a [Token]) -> Reading<'a, Kind>
     ensures { Gives result ((kind text.now).read tokens.now) }
 {
     match tokens.split_first() {
-        Some((token, rest)) => match kind_of(text, token) {
+        Some((token, rest)) => match kind_of(token) {
             Some(kind) => Ok((kind, rest)),
             None => Err(syntax(text, tokens)),
         },
@@ -265,7 +263,7 @@ fn read_flag<'a>(text: &[u8], tokens: &'a [Token]) -> Reading<'a, Flag>
     ensures { Gives result ((flag text.now).read tokens.now) }
 {
     match tokens.split_first() {
-        Some((token, rest)) => match flag_of(text, token) {
+        Some((token, rest)) => match flag_of(token) {
             Some(flag) => Ok((flag, rest)),
             None => Err(syntax(text, tokens)),
         },
@@ -278,13 +276,13 @@ struct Flags;
 impl Repeated for Flags {
     type Value = Flag;
 
-    ghost test = { λ text. front (λ t. is_some (flag_of text t)) };
+    ghost test = { λ text. front (λ t. is_some (flag_of t)) };
 
     ghost reading = { λ text. (flag text).read };
 
     fn is_next(text: &[u8], tokens: &[Token]) -> bool {
         match tokens.first() {
-            Some(token) => flag_of(text, token).is_some(),
+            Some(token) => flag_of(token).is_some(),
             None => false,
         }
     }
@@ -357,11 +355,10 @@ fn read_geometry<'a>(text: &[u8], tokens: &'a [Token]) -> Reading<'a, ()>
     ensures { Gives result ((geometry text.now).read tokens.now) }
 {
     let mut depth: usize = 0;
-    for i in 0..tokens.len() {
-        let token = &tokens[i];
-        if is_mark(text, b'{', token) {
+    for (i, token) in tokens.iter().enumerate() {
+        if is_mark(b'{', token) {
             depth += 1;
-        } else if is_mark(text, b'}', token) {
+        } else if is_mark(b'}', token) {
             if depth == 0 {
                 return Ok(((), &tokens[i..]));
             }
@@ -390,7 +387,7 @@ fn read_geometry_section<'a>(
 ) -> Reading<'a, Section>
     ensures { Gives result ((geometry_section text.now flags).read tokens.now) }
 {
-    let (_, rest) = read_keyword(text, b"xkb_geometry", tokens)?;
+    let (_, rest) = read_keyword(text, Keyword::XkbGeometry, tokens)?;
     let (name, rest) = read_optional_text(alloc, text, rest)?;
     let (_, rest) = read_geometry_body(text, rest)?;
     Ok((
@@ -413,7 +410,7 @@ fn read_flagged<'a>(
 ) -> Reading<'a, Section>
     ensures { Gives result ((flagged text.now flags).read tokens.now) }
 {
-    if front_is_keyword(text, b"xkb_geometry", tokens) {
+    if front_is_keyword(Keyword::XkbGeometry, tokens) {
         return read_geometry_section(alloc, text, flags, tokens);
     }
     read_plain_section(alloc, text, flags, tokens)
@@ -434,12 +431,12 @@ struct HeldSections;
 impl Repeated for HeldSections {
     type Value = Section;
 
-    ghost test = { λ text. before_mark text close_brace };
+    ghost test = { λ text. before_mark close_brace };
 
     ghost reading = { λ text. (whole_section text).read };
 
     fn is_next(text: &[u8], tokens: &[Token]) -> bool {
-        is_before_mark(text, b'}', tokens)
+        is_before_mark(b'}', tokens)
     }
 
     fn read_next<'a>(alloc: Global, text: &[u8], tokens: &'a [Token]) -> Reading<'a, Section> {
@@ -498,7 +495,7 @@ fn read_source<'a>(alloc: Global, text: &[u8], tokens: &'a [Token]) -> Reading<'
     ensures { Gives result ((source text.now).read tokens.now) }
 {
     let (_, rest) = read_flags(alloc, text, tokens)?;
-    let (_, rest) = read_keyword(text, b"xkb_keymap", rest)?;
+    let (_, rest) = read_keyword(text, Keyword::XkbKeymap, rest)?;
     let (_, rest) = read_optional_text(alloc, text, rest)?;
     let (sections, rest) = read_held_sections(alloc, text, rest)?;
     let (_, rest) = read_mark(text, b';', rest)?;
@@ -525,10 +522,8 @@ pub fn parse(alloc: Global, text: &[u8], tokens: &[Token]) -> Result<Tree, Fault
     ensures stopped { IfErr result (λ e. (e ≡ Memory) ⊎ StopsWith text.now tokens.now e) }
     ensures complete { (tree : TreeValue) → Spells text.now tokens.now tree → IfErr result (λ e. e ≡ Memory) }
 {
-    match read_source(alloc, text, tokens) {
-        Ok((tree, _rest)) => Ok(tree),
-        Err(fault) => Err(fault),
-    }
+    let (tree, _rest) = read_source(alloc, text, tokens)?;
+    Ok(tree)
 }
 
 /// The tree of an include file's tokens, which are those of `text`: sections alone.
@@ -540,10 +535,8 @@ pub fn parse_file(alloc: Global, text: &[u8], tokens: &[Token]) -> Result<Tree, 
     ensures stopped { IfErr result (λ e. (e ≡ Memory) ⊎ FileStopsWith text.now tokens.now e) }
     ensures complete { (tree : TreeValue) → SpellsFile text.now tokens.now tree → IfErr result (λ e. e ≡ Memory) }
 {
-    match read_file(alloc, text, tokens) {
-        Ok((tree, _rest)) => Ok(tree),
-        Err(fault) => Err(fault),
-    }
+    let (tree, _rest) = read_file(alloc, text, tokens)?;
+    Ok(tree)
 }
 
 /// What a stop of [`parse`] and [`parse_file`] means. It stands at a token, or at the end: there the

@@ -12,7 +12,7 @@ use kx_lex::tokens::{
     front_is_text, front_is_word, is_number, is_word, read_key_name, read_keyword, read_mark,
     read_number, read_text, read_word,
 };
-use kx_lex::{Apart, Fault, Row, Token};
+use kx_lex::{Apart, Fault, Keyword, Row, Token};
 use std::alloc::Global;
 
 #[tactic(auto, unfolding(crate::specs::Statements::keycode))]
@@ -29,7 +29,7 @@ fn read_keycode<'a>(alloc: Global, text: &[u8], tokens: &'a [Token]) -> Reading<
 fn read_alias<'a>(alloc: Global, text: &[u8], tokens: &'a [Token]) -> Reading<'a, Statement>
     ensures { Gives result ((alias text.now).read tokens.now) }
 {
-    let (_, rest) = read_keyword(text, b"alias", tokens)?;
+    let (_, rest) = read_keyword(text, Keyword::Alias, tokens)?;
     let (name, rest) = read_key_name(alloc, text, rest)?;
     let (_, rest) = read_mark(text, b'=', rest)?;
     let (target, rest) = read_key_name(alloc, text, rest)?;
@@ -44,7 +44,7 @@ fn read_indicator_name<'a>(
 ) -> Reading<'a, Statement>
     ensures { Gives result ((indicator_name text.now).read tokens.now) }
 {
-    let (_, rest) = read_keyword(text, b"indicator", tokens)?;
+    let (_, rest) = read_keyword(text, Keyword::Indicator, tokens)?;
     let (number, rest) = read_number(text, rest)?;
     let (_, rest) = read_mark(text, b'=', rest)?;
     let (name, rest) = read_text(alloc, text, rest)?;
@@ -59,7 +59,7 @@ fn read_virtual_indicator<'a>(
 ) -> Reading<'a, Statement>
     ensures { Gives result ((virtual_indicator text.now).read tokens.now) }
 {
-    let (_, rest) = read_keyword(text, b"virtual", tokens)?;
+    let (_, rest) = read_keyword(text, Keyword::Virtual, tokens)?;
     read_indicator_name(alloc, text, rest)
 }
 
@@ -71,7 +71,7 @@ fn read_virtual_modifiers<'a>(
 ) -> Reading<'a, Statement>
     ensures { Gives result ((virtual_modifiers text.now).read tokens.now) }
 {
-    let (_, rest) = read_keyword(text, b"virtual_modifiers", tokens)?;
+    let (_, rest) = read_keyword(text, Keyword::VirtualModifiers, tokens)?;
     let (declarations, rest) = read_sequence::<Declarations>(alloc, text, rest)?;
     Ok((Statement::VirtualModifiers(declarations), rest))
 }
@@ -80,7 +80,7 @@ fn read_virtual_modifiers<'a>(
 fn read_key_type<'a>(alloc: Global, text: &[u8], tokens: &'a [Token]) -> Reading<'a, Statement>
     ensures { Gives result ((key_type text.now).read tokens.now) }
 {
-    let (_, rest) = read_keyword(text, b"type", tokens)?;
+    let (_, rest) = read_keyword(text, Keyword::Type, tokens)?;
     let (name, rest) = read_text(alloc, text, rest)?;
     let (fields, rest) = read_block(alloc, text, rest)?;
     Ok((Statement::KeyType { name, fields }, rest))
@@ -94,7 +94,7 @@ fn read_wanted_modifiers<'a>(
 ) -> Reading<'a, Option<Apart<Predicate>>>
     ensures { Gives result ((optional_modifiers text.now).read tokens.now) }
 {
-    if !front_is_mark(text, b'+', tokens) {
+    if !front_is_mark(b'+', tokens) {
         return Ok((None, tokens));
     }
     let (_, rest) = read_mark(text, b'+', tokens)?;
@@ -110,7 +110,7 @@ fn read_interpretation<'a>(
 ) -> Reading<'a, Statement>
     ensures { Gives result ((interpretation text.now).read tokens.now) }
 {
-    let (_, rest) = read_keyword(text, b"interpret", tokens)?;
+    let (_, rest) = read_keyword(text, Keyword::Interpret, tokens)?;
     let (symbol, rest) = read_symbol(alloc, text, rest)?;
     let (predicate, rest) = read_wanted_modifiers(alloc, text, rest)?;
     let (fields, rest) = read_block(alloc, text, rest)?;
@@ -128,7 +128,7 @@ fn read_interpretation<'a>(
 fn read_indicator<'a>(alloc: Global, text: &[u8], tokens: &'a [Token]) -> Reading<'a, Statement>
     ensures { Gives result ((indicator text.now).read tokens.now) }
 {
-    let (_, rest) = read_keyword(text, b"indicator", tokens)?;
+    let (_, rest) = read_keyword(text, Keyword::Indicator, tokens)?;
     let (name, rest) = read_text(alloc, text, rest)?;
     let (fields, rest) = read_block(alloc, text, rest)?;
     Ok((Statement::Indicator { name, fields }, rest))
@@ -138,7 +138,7 @@ fn read_indicator<'a>(alloc: Global, text: &[u8], tokens: &'a [Token]) -> Readin
 fn read_group<'a>(alloc: Global, text: &[u8], tokens: &'a [Token]) -> Reading<'a, Statement>
     ensures { Gives result ((group text.now).read tokens.now) }
 {
-    let (_, rest) = read_keyword(text, b"group", tokens)?;
+    let (_, rest) = read_keyword(text, Keyword::Group, tokens)?;
     let (number, rest) = read_number(text, rest)?;
     let (_, rest) = read_mark(text, b'=', rest)?;
     let (mask, rest) = read_expression(alloc, text, rest)?;
@@ -150,7 +150,7 @@ fn read_group<'a>(alloc: Global, text: &[u8], tokens: &'a [Token]) -> Reading<'a
 fn read_key<'a>(alloc: Global, text: &[u8], tokens: &'a [Token]) -> Reading<'a, Statement>
     ensures { Gives result ((key text.now).read tokens.now) }
 {
-    let (_, rest) = read_keyword(text, b"key", tokens)?;
+    let (_, rest) = read_keyword(text, Keyword::Key, tokens)?;
     let (name, rest) = read_key_name(alloc, text, rest)?;
     let (_, rest) = read_mark(text, b'{', rest)?;
     let (fields, rest) = read_listed::<KeyFields>(alloc, text, b'}', rest)?;
@@ -173,7 +173,7 @@ fn read_mapped_entries<'a>(
 fn read_modifier_map<'a>(alloc: Global, text: &[u8], tokens: &'a [Token]) -> Reading<'a, Statement>
     ensures { Gives result ((modifier_map text.now).read tokens.now) }
 {
-    let (_, rest) = read_keyword(text, b"modifier_map", tokens)?;
+    let (_, rest) = read_keyword(text, Keyword::ModifierMap, tokens)?;
     let (modifier, rest) = read_word(alloc, text, rest)?;
     let (_, rest) = read_mark(text, b'{', rest)?;
     let (entries, rest) = read_mapped_entries(alloc, text, rest)?;
@@ -195,10 +195,10 @@ fn read_field_statement<'a>(
 
 /// Whether this word stands at the front, where what stands behind it is right. That is told first,
 /// being cheaper to tell.
-fn begins(text: &[u8], word: &[u8], tokens: &[Token], is_right_behind: bool) -> bool
-    ensures { result ≡ (front (is_keyword text.now word.now) tokens.now && is_right_behind) }
+fn begins(keyword: Keyword, tokens: &[Token], is_right_behind: bool) -> bool
+    ensures { result ≡ (front (is_keyword keyword) tokens.now && is_right_behind) }
 {
-    is_right_behind && front_is_keyword(text, word, tokens)
+    is_right_behind && front_is_keyword(keyword, tokens)
 }
 
 #[tactic(auto, unfolding(crate::specs::Statements::symbols_statement))]
@@ -210,10 +210,10 @@ fn read_symbols_statement<'a>(
     ensures { Gives result ((symbols_statement text.now).read tokens.now) }
 {
     let behind = behind_front(tokens);
-    if begins(text, b"key", tokens, front_is_key_name(behind)) {
+    if begins(Keyword::Key, tokens, front_is_key_name(behind)) {
         return read_key(alloc, text, tokens);
     }
-    if begins(text, b"modifier_map", tokens, front_is_word(behind)) {
+    if begins(Keyword::ModifierMap, tokens, front_is_word(behind)) {
         return read_modifier_map(alloc, text, tokens);
     }
     read_field_statement(alloc, text, tokens)
@@ -237,24 +237,25 @@ fn read_types_statement<'a>(
     ensures { Gives result ((types_statement text.now (symbols_statement text.now)).read tokens.now) }
 {
     let behind = behind_front(tokens);
-    if begins(text, b"virtual_modifiers", tokens, front_is_word(behind)) {
+    if begins(Keyword::VirtualModifiers, tokens, front_is_word(behind)) {
         return read_virtual_modifiers(alloc, text, tokens);
     }
-    if begins(text, b"type", tokens, front_is_text(behind)) {
+    if begins(Keyword::Type, tokens, front_is_text(behind)) {
         return read_key_type(alloc, text, tokens);
     }
-    if begins(text, b"interpret", tokens, front_is_symbol(behind)) {
+    if begins(Keyword::Interpret, tokens, front_is_symbol(behind)) {
         return read_interpretation(alloc, text, tokens);
     }
-    if begins(text, b"indicator", tokens, front_is_text(behind)) {
+    if begins(Keyword::Indicator, tokens, front_is_text(behind)) {
         return read_indicator(alloc, text, tokens);
     }
-    if begins(text, b"group", tokens, front_is_number(behind)) {
+    if begins(Keyword::Group, tokens, front_is_number(behind)) {
         return read_group(alloc, text, tokens);
     }
     read_symbols_statement(alloc, text, tokens)
 }
 
+/// Takes a statement without its mode and its `;`.
 #[tactic(auto, unfolding(crate::specs::Statements::statement, crate::specs::Statements::keycodes_statement))]
 pub fn read_statement<'a>(alloc: Global, text: &[u8], tokens: &'a [Token]) -> Reading<'a, Statement>
     ensures { Gives result ((statement text.now).read tokens.now) }
@@ -263,13 +264,13 @@ pub fn read_statement<'a>(alloc: Global, text: &[u8], tokens: &'a [Token]) -> Re
     if front_is_key_name(tokens) {
         return read_keycode(alloc, text, tokens);
     }
-    if begins(text, b"alias", tokens, front_is_key_name(behind)) {
+    if begins(Keyword::Alias, tokens, front_is_key_name(behind)) {
         return read_alias(alloc, text, tokens);
     }
-    if front_is_keyword(text, b"virtual", tokens) && front_is_keyword(text, b"indicator", behind) {
+    if front_is_keyword(Keyword::Virtual, tokens) && front_is_keyword(Keyword::Indicator, behind) {
         return read_virtual_indicator(alloc, text, tokens);
     }
-    if begins(text, b"indicator", tokens, front_is_number(behind)) {
+    if begins(Keyword::Indicator, tokens, front_is_number(behind)) {
         return read_indicator_name(alloc, text, tokens);
     }
     read_types_statement(alloc, text, tokens)

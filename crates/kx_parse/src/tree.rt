@@ -7,6 +7,7 @@ pub enum Symbol {
     Number(Number),
 }
 
+/// A sign before a number or between terms.
 #[derive(Clone, Copy, Debug, PartialEq, Eq)]
 pub enum Sign {
     Plus,
@@ -120,6 +121,7 @@ pub struct List {
     pub span: Span,
 }
 
+/// What a field is set to.
 #[derive(Debug, Drop)]
 pub enum Value {
     Expression(Expression),
@@ -174,6 +176,7 @@ pub enum Entry {
     Symbol(Symbol),
 }
 
+/// What a statement says.
 #[derive(Debug, Drop)]
 pub enum Statement {
     /// `<NAME> = CODE`
@@ -255,6 +258,7 @@ pub enum Item {
     },
 }
 
+/// What a section is about.
 #[derive(Clone, Copy, Debug, PartialEq, Eq)]
 pub enum Kind {
     Keycodes,

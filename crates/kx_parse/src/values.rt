@@ -17,6 +17,7 @@ use kx_lex::tokens::{
 use kx_lex::{Apart, Fault, Name, Token};
 use std::alloc::Global;
 
+/// Takes a keysym as it is written.
 #[tactic(auto, unfolding(crate::specs::Values::symbol))]
 pub fn read_symbol<'a>(alloc: Global, text: &[u8], tokens: &'a [Token]) -> Reading<'a, Symbol>
     ensures { Gives result ((symbol text.now).read tokens.now) }
@@ -29,23 +30,23 @@ pub fn read_symbol<'a>(alloc: Global, text: &[u8], tokens: &'a [Token]) -> Readi
     Ok((Symbol::Word(word), rest))
 }
 
-fn sign_of(text: &[u8], token: &Token) -> Option<Sign>
-    ensures { result ≡ sign_of text.now token.now }
+fn sign_of(token: &Token) -> Option<Sign>
+    ensures { result ≡ sign_of token.now }
 {
-    if is_mark(text, b'+', token) {
+    if is_mark(b'+', token) {
         Some(Sign::Plus)
-    } else if is_mark(text, b'-', token) {
+    } else if is_mark(b'-', token) {
         Some(Sign::Minus)
     } else {
         None
     }
 }
 
-fn front_is_sign(text: &[u8], tokens: &[Token]) -> bool
-    ensures { result ≡ front (is_sign text.now) tokens.now }
+fn front_is_sign(tokens: &[Token]) -> bool
+    ensures { result ≡ front is_sign tokens.now }
 {
     match tokens.first() {
-        Some(token) => is_mark(text, b'+', token) || is_mark(text, b'-', token),
+        Some(token) => is_mark(b'+', token) || is_mark(b'-', token),
         None => false,
     }
 }
@@ -55,7 +56,7 @@ fn read_sign<'a>(text: &[u8], tokens: &'a [Token]) -> Reading<'a, Sign>
     ensures { Gives result ((sign text.now).read tokens.now) }
 {
     match tokens.split_first() {
-        Some((token, rest)) => match sign_of(text, token) {
+        Some((token, rest)) => match sign_of(token) {
             Some(sign) => Ok((sign, rest)),
             None => Err(syntax(text, tokens)),
         },
@@ -76,7 +77,7 @@ fn read_signed<'a>(text: &[u8], tokens: &'a [Token]) -> Reading<'a, Signed>
 fn read_term<'a>(alloc: Global, text: &[u8], tokens: &'a [Token]) -> Reading<'a, Term>
     ensures { Gives result ((term text.now).read tokens.now) }
 {
-    if front_is_sign(text, tokens) {
+    if front_is_sign(tokens) {
         let (signed, rest) = read_signed(text, tokens)?;
         return Ok((Term::Signed(signed), rest));
     }
@@ -110,12 +111,12 @@ struct Operations;
 impl Repeated for Operations {
     type Value = Operation;
 
-    ghost test = { λ text. front (is_sign text) };
+    ghost test = { λ text. front is_sign };
 
     ghost reading = { λ text. (operation text).read };
 
     fn is_next(text: &[u8], tokens: &[Token]) -> bool {
-        front_is_sign(text, tokens)
+        front_is_sign(tokens)
     }
 
     fn read_next<'a>(alloc: Global, text: &[u8], tokens: &'a [Token]) -> Reading<'a, Operation> {
@@ -125,6 +126,7 @@ impl Repeated for Operations {
     ghost shrinks = { λ text. production-shrinks (operation text) (operation-least text) };
 }
 
+/// Takes terms joined by `+` and `-`.
 #[tactic(auto, unfolding(crate::specs::Values::expression))]
 pub fn read_expression<'a>(
     alloc: Global,
@@ -164,7 +166,7 @@ fn read_optional_index<'a>(
 ) -> Reading<'a, Option<Apart<Index>>>
     ensures { Gives result ((optional_index text.now).read tokens.now) }
 {
-    if !front_is_mark(text, b'[', tokens) {
+    if !front_is_mark(b'[', tokens) {
         return Ok((None, tokens));
     }
     let (index, rest) = read_index(alloc, text, tokens)?;
@@ -179,7 +181,7 @@ fn read_optional_member<'a>(
 ) -> Reading<'a, Option<Apart<Name>>>
     ensures { Gives result ((optional_member text.now).read tokens.now) }
 {
-    if !front_is_mark(text, b'.', tokens) {
+    if !front_is_mark(b'.', tokens) {
         return Ok((None, tokens));
     }
     let (_, rest) = read_mark(text, b'.', tokens)?;
@@ -187,6 +189,7 @@ fn read_optional_member<'a>(
     Ok((Some(Apart::of(alloc, name)?), rest))
 }
 
+/// Takes what a field sets, without its value.
 #[tactic(auto, unfolding(crate::specs::Values::place))]
 pub fn read_place<'a>(alloc: Global, text: &[u8], tokens: &'a [Token]) -> Reading<'a, Place>
     ensures { Gives result ((place text.now).read tokens.now) }
@@ -204,12 +207,11 @@ pub fn read_place<'a>(alloc: Global, text: &[u8], tokens: &'a [Token]) -> Readin
     ))
 }
 
-fn begins_set(text: &[u8], tokens: &[Token]) -> bool
-    ensures { result ≡ begins_set text.now tokens.now }
+fn begins_set(tokens: &[Token]) -> bool
+    ensures { result ≡ begins_set tokens.now }
 {
     let behind = behind_front(tokens);
-    front_is_word(tokens)
-        && (front_is_mark(text, b'=', behind) || front_is_mark(text, b'[', behind))
+    front_is_word(tokens) && (front_is_mark(b'=', behind) || front_is_mark(b'[', behind))
 }
 
 #[tactic(auto, unfolding(crate::specs::Values::set_argument))]
@@ -235,10 +237,10 @@ fn read_off_argument<'a>(alloc: Global, text: &[u8], tokens: &'a [Token]) -> Rea
 fn read_bare_argument<'a>(alloc: Global, text: &[u8], tokens: &'a [Token]) -> Reading<'a, Argument>
     ensures { Gives result ((bare_argument text.now).read tokens.now) }
 {
-    if front_is_mark(text, b'!', tokens) {
+    if front_is_mark(b'!', tokens) {
         return read_off_argument(alloc, text, tokens);
     }
-    if begins_set(text, tokens) {
+    if begins_set(tokens) {
         return read_set_argument(alloc, text, tokens);
     }
     let (value, rest) = read_expression(alloc, text, tokens)?;
@@ -278,12 +280,14 @@ impl Repeated for Arguments {
     ghost shrinks = { λ text. production-shrinks (argument text) (argument-least text) };
 }
 
-pub fn begins_call(text: &[u8], tokens: &[Token]) -> bool
-    ensures { result ≡ begins_call text.now tokens.now }
+/// Whether the tokens begin a call: a word and `(`.
+pub fn begins_call(tokens: &[Token]) -> bool
+    ensures { result ≡ begins_call tokens.now }
 {
-    front_is_word(tokens) && front_is_mark(text, b'(', behind_front(tokens))
+    front_is_word(tokens) && front_is_mark(b'(', behind_front(tokens))
 }
 
+/// Takes a call: a word and its arguments.
 #[tactic(auto, unfolding(crate::specs::Values::call))]
 pub fn read_call<'a>(alloc: Global, text: &[u8], tokens: &'a [Token]) -> Reading<'a, Call>
     ensures { Gives result ((call text.now).read tokens.now) }
@@ -307,7 +311,7 @@ pub fn read_call<'a>(alloc: Global, text: &[u8], tokens: &'a [Token]) -> Reading
 fn read_part<'a>(alloc: Global, text: &[u8], tokens: &'a [Token]) -> Reading<'a, Part>
     ensures { Gives result ((part text.now).read tokens.now) }
 {
-    if begins_call(text, tokens) {
+    if begins_call(tokens) {
         let (call, rest) = read_call(alloc, text, tokens)?;
         return Ok((Part::Call(call), rest));
     }
@@ -350,11 +354,11 @@ fn read_braces<'a>(alloc: Global, text: &[u8], tokens: &'a [Token]) -> Reading<'
 fn read_element<'a>(alloc: Global, text: &[u8], tokens: &'a [Token]) -> Reading<'a, Element>
     ensures { Gives result ((element text.now).read tokens.now) }
 {
-    if front_is_mark(text, b'{', tokens) {
+    if front_is_mark(b'{', tokens) {
         let (braces, rest) = read_braces(alloc, text, tokens)?;
         return Ok((Element::Braces(braces), rest));
     }
-    if begins_call(text, tokens) {
+    if begins_call(tokens) {
         let (call, rest) = read_call(alloc, text, tokens)?;
         return Ok((Element::Call(call), rest));
     }
@@ -382,6 +386,7 @@ impl Repeated for Elements {
     ghost shrinks = { λ text. production-shrinks (element text) (element-least text) };
 }
 
+/// Takes a list between brackets.
 #[tactic(auto, unfolding(crate::specs::Values::list))]
 pub fn read_list<'a>(alloc: Global, text: &[u8], tokens: &'a [Token]) -> Reading<'a, List>
     ensures { Gives result ((list text.now).read tokens.now) }
@@ -393,15 +398,16 @@ pub fn read_list<'a>(alloc: Global, text: &[u8], tokens: &'a [Token]) -> Reading
     Ok((List { elements, span }, rest))
 }
 
+/// Takes what a field is set to.
 #[tactic(auto, unfolding(crate::specs::Values::value))]
 pub fn read_value<'a>(alloc: Global, text: &[u8], tokens: &'a [Token]) -> Reading<'a, Value>
     ensures { Gives result ((value text.now).read tokens.now) }
 {
-    if front_is_mark(text, b'[', tokens) {
+    if front_is_mark(b'[', tokens) {
         let (list, rest) = read_list(alloc, text, tokens)?;
         return Ok((Value::List(list), rest));
     }
-    if begins_call(text, tokens) {
+    if begins_call(tokens) {
         let (call, rest) = read_call(alloc, text, tokens)?;
         return Ok((Value::Call(call), rest));
     }

@@ -4,37 +4,21 @@ use Rattle.std.proofs.lemmas.Bool.{eqb-false, leb-true}
 use Rattle.std.proofs.lemmas.List.Elements.{All-weaker}
 use Rattle.std.proofs.lemmas.Option.{same_Some}
 use Rattle.kx_codes.specs.Codes.{Codes, name_of, paired}
-use Rattle.kx_codes.specs.Names.{IsName}
+use Rattle.kx_basics.specs.KeyNames.{IsKeyName}
 use Rattle.kx_resolve.specs.Bounds.{KeepsBounds, OneCode}
 use Rattle.kx_resolve.specs.Given.{given_in}
 use Rattle.kx_resolve.specs.Keys.{KeyGiven, first_level, group_count}
-use Rattle.kx_lex.specs.Bytes.{is_key_byte}
 use Rattle.kx_builder.specs.Fine.{CellIsFine}
 use Rattle.kx_symbols.specs.Keys.{KeyLists}
-use Rattle.kx_tables.specs.Sound.{IsKeyNameByte}
 
-both_true : (a b : Bool) → (a && b) ≡ true → (a ≡ true) × (b ≡ true)
-both_true true b h = (refl, h)
-both_true false b h = absurd (cc h)
-
-not_is : (a : Bool) → not a ≡ true → a ≡ false
-not_is true h = absurd (cc h)
-not_is false h = refl
-
-visible : (b : ℕ) → is_key_byte b ≡ true → IsKeyNameByte b
-visible b is =
-    let parts = both_true (nat_le 33 b && nat_le b 126) (not (b == 62)) is in
-    let ends = both_true (nat_le 33 b) (nat_le b 126) parts.0 in
-    record { low = leb-true 33 b ends.0; high = leb-true b 126 ends.1; other = eqb-false b 62 (not_is (b == 62) parts.1) }
-
-pub keeps : (name : List ℕ) (key : KeyGiven) → IsName name → ((group : ℕ) → group < group_count key → CellIsFine (first_level key group)) → KeepsBounds name key
-keeps name key is levels = record { short = is.short; bytes = All-weaker (λ b. is_key_byte b ≡ true) IsKeyNameByte visible name is.visible; levels = levels }
+pub keeps : (name : List ℕ) (key : KeyGiven) → IsKeyName name → ((group : ℕ) → group < group_count key → CellIsFine (first_level key group)) → KeepsBounds name key
+keeps name key is levels = record { short = is.short; bytes = is.visible; levels = levels }
 
 pub one_code : (c : Codes) → ((code : ℕ) (name : List ℕ) → (name_of c code ≡ Some name) ↔ (paired c name ≡ Some code)) → OneCode (name_of c)
 one_code c joined = λ code other name is also. same_Some code other (sym ((joined code name).0 is) ∙ (joined other name).0 also)
 
 -- the bounds of a code's key, by what was found for the code
-pub bounds_of : (of_code : Option (List ℕ)) (key found : Option KeyLists) (of_key : List ℕ) → Some of_key ≡ of_code → found ≡ key → IsName of_key → ((group : ℕ) → group < group_count (given_in found) → CellIsFine (first_level (given_in found) group))
+pub bounds_of : (of_code : Option (List ℕ)) (key found : Option KeyLists) (of_key : List ℕ) → Some of_key ≡ of_code → found ≡ key → IsKeyName of_key → ((group : ℕ) → group < group_count (given_in found) → CellIsFine (first_level (given_in found) group))
     → (name : List ℕ) → of_code ≡ Some name → KeepsBounds name (given_in key)
 bounds_of of_code key found of_key named at is levels name also =
     subst (λ n. KeepsBounds n (given_in key)) (same_Some of_key name (named ∙ also))

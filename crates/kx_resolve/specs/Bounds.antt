@@ -2,11 +2,12 @@
 use Rattle.std.specs.Prelude.{ℕ, ◌≡◌, ◌<◌, ◌≤◌, All, List, Option, Some, length}
 use Rattle.kx_resolve.specs.Keys.{KeyGiven, first_level, group_count}
 use Rattle.kx_builder.specs.Fine.{CellIsFine}
-use Rattle.kx_tables.specs.Sound.{IsKeyNameByte}
+use Rattle.kx_basics.specs.KeyNames.{IsKeyByte}
+use Rattle.kx_basics.specs.declared.limits.TheConstants.{MOST_NAME_BYTES}
 
 pub record KeepsBounds (name : List ℕ) (key : KeyGiven) : Type 0 where
-  pub short : length name ≤ 255
-  pub bytes : All IsKeyNameByte name
+  pub short : length name ≤ MOST_NAME_BYTES
+  pub bytes : All IsKeyByte name
   pub levels : (group : ℕ) → group < group_count key → CellIsFine (first_level key group)
 
 -- each key of a code below a number does

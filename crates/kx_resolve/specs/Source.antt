@@ -1,53 +1,27 @@
 -- What a source means, and its faults.
-use Rattle.std.specs.Prelude.{ℕ, ◌≡◌, ◌⊎◌, ◌≤◌, ◌<◌, List, [], ◌++◌, Contains, length, map, nat_eq}
+use Rattle.std.specs.Prelude.{ℕ, ◌≡◌, ◌⊎◌, List, [], ◌++◌, Contains, map, nat_eq}
 use Rattle.std.specs.List.{flat_map}
 use Rattle.ks_core.specs.Entry.{Entry}
 use Rattle.kx_codes.specs.CodeFaults.{faults_of as keycodes_faults}
 use Rattle.kx_include.specs.Expansion.{body_of}
 use Rattle.kx_include.specs.IncludeFaults.{IsWhole, HasFault as HasIncludeFault, at}
 use Rattle.kx_include.specs.Library.{Library, sections_in}
-use Rattle.kx_include.specs.Texts.{IsLibrary, IsShort}
+use Rattle.kx_include.specs.Source.{Handed, HasNoTree, HasTooManyFiles, IsRead}
 use Rattle.kx_resolve.specs.Meaning.{codes_of, keymap_in, resolved_in_library}
-use Rattle.kx_lex.specs.Reading.{IsReading, StopsWith as LexingStopsWith, whole_of}
 use Rattle.kx_lex.specs.declared.fault.Fault.{Fault}
-use Rattle.kx_lex.specs.declared.fault.Fault.TheVariants.{TooLong, TooMany, UnknownField}
-use Rattle.kx_lex.specs.declared.token.Token.{Token}
+use Rattle.kx_lex.specs.declared.fault.Fault.TheVariants.{UnknownField}
 use Rattle.kx_merge.specs.Bodies.{faults_of}
-use Rattle.kx_parse.specs.Sections.{Spells, StopsWith, word_span}
+use Rattle.kx_parse.specs.Sections.{word_span}
 use Rattle.kx_parse.specs.declared.tree.Item.{Item}
 use Rattle.kx_parse.specs.declared.tree.Kind.{Kind}
 use Rattle.kx_parse.specs.declared.tree.Kind.TheVariants.{Compat, Keycodes, Symbols, Types}
 use Rattle.kx_parse.specs.declared.tree.Section.{Section}
-use Rattle.kx_parse.specs.declared.tree.Tree.{Tree}
 use Rattle.kx_builder.specs.Placed.{content_of_resolved}
 use Rattle.kx_tables.specs.Content.{Content}
 use Rattle.kx_tables.specs.Keymap.{keymap_of}
 use Rattle.kx_symbols.specs.Keys.{key_moves, key_rules}
 
--- files by name, as they are handed in
-abbrev pub Handed : Type 0
-Handed = List (List ℕ × List ℕ)
-
--- the tree of a source's one reading, with the texts of the files
-pub record IsRead (source : List ℕ) (files : Handed) (library : Library) : Type 0 where
-  pub tokens : List Token
-  pub tree : Tree
-  pub short : IsShort source
-  pub few_files : length files ≤ 65535
-  pub reading : IsReading source tokens
-  pub spelled : Spells source tokens tree
-  pub texts : IsLibrary tree files library
-
 -- ---- Faults
-
--- the source has no tree: it is too long; else its reading stops, or that of its tokens does
-abbrev pub HasNoTree : List ℕ → Fault → Type 0
-HasNoTree source e =
-    ((1048576 < length source) × (e ≡ TooLong (whole_of source)))
-    ⊎ (IsShort source × (LexingStopsWith source e ⊎ ((tokens : List Token) × IsReading source tokens × StopsWith source tokens e)))
-
-abbrev pub HasTooManyFiles : List ℕ → Handed → Fault → Type 0
-HasTooManyFiles source files e = (65535 < length files) × (e ≡ TooMany (whole_of source))
 
 abbrev pub unknown : Item → Fault
 unknown item = UnknownField (at 0 (word_span item))

@@ -2,8 +2,7 @@
 ghost use Rattle.std.specs.Prelude.{◌≡◌, ◌⊎◌, [], Contains, IfErr, IfOk, OnOk};
 ghost use Rattle.kx_include.specs.IncludeFaults.{IsWhole};
 ghost use Rattle.kx_resolve.specs.Meaning.{keymap_in, resolved_in_library};
-ghost use Rattle.kx_resolve.specs.Source.{HasFault, HasFaultIn, HasNoTree, HasTooManyFiles, IsRead, Means, statement_faults, unread, unread_in};
-ghost use Rattle.kx_lex.specs.Reading.{whole_of};
+ghost use Rattle.kx_resolve.specs.Source.{HasFault, HasFaultIn, Means, statement_faults, unread, unread_in};
 ghost use Rattle.kx_lex.specs.declared.fault.Fault.TheVariants.{Memory};
 ghost use Rattle.kx_builder.specs.Placed.{content_of_resolved};
 ghost use Rattle.kx_tables.specs.Keymap.{keymap_of};
@@ -12,8 +11,8 @@ use crate::resolving::resolve;
 use ks_core::{NameTable, Notes};
 use kx_codes::codes;
 use kx_include::{Files, Library};
-use kx_lex::{At, Fault, Span, lex};
-use kx_parse::{Kind, Section, parse};
+use kx_lex::{At, Fault};
+use kx_parse::{Kind, Section};
 use kx_symbols::symbols;
 use kx_tables::Owned;
 use std::alloc::Global;
@@ -42,26 +41,6 @@ fn check_sections(sections: &[Section]) -> Result<(), Fault>
     Ok(())
 }
 
-/// The place of all of a source; it counts no further than 4,294,967,295 bytes.
-fn whole(source: &[u8]) -> Span
-    ensures { record { file = 0; span = result } ≡ whole_of source.now }
-{
-    Span {
-        start: 0,
-        stop: source.len().min(u32::MAX as usize) as u32,
-    }
-}
-
-/// The source's tree, with the texts of the files.
-fn read_library<'f>(alloc: Global, source: &[u8], files: &'f Files) -> Result<Library<'f>, Fault>
-    ensures read { IfOk result (λ library. IsRead source.now files.now library) }
-    ensures fault { IfErr result (λ e. (e ≡ Memory) ⊎ (HasNoTree source.now e ⊎ HasTooManyFiles source.now files.now e)) }
-{
-    let tokens = lex(alloc, source)?;
-    let tree = parse(alloc, source, tokens.as_slice())?;
-    Library::read(alloc, tree, whole(source), files)
-}
-
 /// The tables of what a source and its files say, and what was passed over.
 fn tables_of(alloc: Global, library: &Library, names: &NameTable) -> Result<(Owned, Notes), Fault>
     ensures whole { OnOk result (IsWhole library.now) }
@@ -70,16 +49,13 @@ fn tables_of(alloc: Global, library: &Library, names: &NameTable) -> Result<(Own
     ensures keymap { IfOk result (λ made. keymap_of made.0 ≡ keymap_in names.now library.now) }
     ensures fault { IfErr result (λ e. (e ≡ Memory) ⊎ HasFaultIn names.now library.now e) }
 {
-    library.check(alloc)?;
+    let bodies = library.expand(alloc)?;
     check_sections(library.sections_in(0))?;
-    let codes = codes(alloc, library)?;
-    let mut notes = Notes::new();
-    let keys = symbols(alloc, library, &codes, names, &mut notes)?;
-    let parts = resolve(alloc, &codes, &keys, &mut notes)?;
-    match Owned::new(parts) {
-        Ok(tables) => Ok((tables, notes)),
-        Err(_) => unreachable!(),
-    }
+    let codes = codes(alloc, &bodies.keycodes)?;
+    let (keys, passed) = symbols(alloc, &bodies.symbols, &codes, names)?;
+    let (parts, lost) = resolve(alloc, &codes, &keys)?;
+    let notes = passed.saturating_add(lost);
+    Ok((Owned::from_sound(parts), notes))
 }
 
 /// The tables of a source, and what was passed over: they hold the keys, with their names, that the source's statements
@@ -96,6 +72,6 @@ pub fn tables(
     ensures means { IfOk result (λ made. Means source.now files.now names.now made.0) }
     ensures fault { IfErr result (λ e. (e ≡ Memory) ⊎ HasFault source.now files.now names.now e) }
 {
-    let library = read_library(alloc, source, files)?;
+    let library = Library::of_source(alloc, source, files)?;
     tables_of(alloc, &library, names)
 }

@@ -19,6 +19,7 @@ ghost use Rattle.kx_tables.specs.Sound.{Sound};
 ghost use Rattle.kx_symbols.specs.Keys.{key_at};
 
 use ks_core::{Note, Notes};
+use kx_basics::CODES;
 use kx_builder::{BuildFault, Builder};
 use kx_codes::Codes;
 use kx_lex::Fault;
@@ -31,10 +32,7 @@ use std::alloc::Global;
 const ONE_LEVEL: &str = "ONE_LEVEL";
 
 /// A key has at most this many groups.
-const MOST_GROUPS: usize = 32;
-
-/// Codes are below this.
-const CODES: u16 = 4096;
+const MOST_GROUPS: usize = kx_basics::MOST_GROUPS as usize;
 
 /// The refusal of what has its place and whose numbers fit.
 fn refused(fault: BuildFault) -> Fault
@@ -92,10 +90,7 @@ fn push_level(builder: &mut Builder, key: &KeyRecord, group: usize) -> Result<()
         Some(keysyms) => keysyms.as_slice(),
         None => &[],
     };
-    match builder.push_cell(keysyms, Action::None) {
-        Ok(()) => Ok(()),
-        Err(fault) => Err(refused(fault)),
-    }
+    builder.push_cell(keysyms, Action::None).map_err(refused)
 }
 
 /// Pushes a group without its level.
@@ -107,10 +102,7 @@ fn push_bare_group(builder: &mut Builder) -> Result<(), Fault>
     ensures pushed { OnOk result (builder.new ≡ with_group builder.old (record { key_type = 0; cells = [] })) }
     ensures err { IfErr result (λ e. e ≡ Memory) }
 {
-    match builder.push_group(0) {
-        Ok(()) => Ok(()),
-        Err(fault) => Err(refused(fault)),
-    }
+    builder.push_group(0).map_err(refused)
 }
 
 /// Pushes a key without its groups.
@@ -121,10 +113,9 @@ fn push_bare_key(builder: &mut Builder, code: u16, name: &[u8]) -> Result<(), Fa
     ensures pushed { OnOk result (builder.new ≡ with_key builder.old (record { code = code; name = name.now; modmap = no_mods; range = Wrap; groups = [] })) }
     ensures err { IfErr result (λ e. e ≡ Memory) }
 {
-    match builder.push_key(code, name, Mods::NONE, Range::Wrap) {
-        Ok(()) => Ok(()),
-        Err(fault) => Err(refused(fault)),
-    }
+    builder
+        .push_key(code, name, Mods::NONE, Range::Wrap)
+        .map_err(refused)
 }
 
 /// Pushes a key with its groups.
@@ -212,19 +203,20 @@ fn types_used(alloc: Global, codes: &Codes, keys: &Keys) -> Result<Builder, Faul
     Ok(builder)
 }
 
-/// The tables of the keys that keycodes name, in the order of their codes; what is passed over is added to `notes`.
+/// The tables of the keys that keycodes name, in the order of their codes, and what was passed over.
 ///
 /// # Errors
 /// `Memory`.
-pub fn resolve(alloc: Global, codes: &Codes, keys: &Keys, notes: &mut Notes) -> Result<Parts, Fault>
-    ensures content { IfOk result (λ parts. content_of parts ≡ content_of_resolved (resolved_of (name_of codes.now) (λ c. given_in (key_at keys.now c)))) }
-    ensures sound { OneCode (name_of codes.now) → IfOk result (λ parts. Sound (content_of parts)) }
-    ensures agrees { IfOk result (λ parts. ShowsSame (keymap_of (content_of parts)) (keymap_of_resolved (resolved_of (name_of codes.now) (λ c. given_in (key_at keys.now c))))) }
+pub fn resolve(alloc: Global, codes: &Codes, keys: &Keys) -> Result<(Parts, Notes), Fault>
+    ensures content { IfOk result (λ made. content_of made.0 ≡ content_of_resolved (resolved_of (name_of codes.now) (λ c. given_in (key_at keys.now c)))) }
+    ensures sound { OneCode (name_of codes.now) → IfOk result (λ made. Sound (content_of made.0)) }
+    ensures agrees { IfOk result (λ made. ShowsSame (keymap_of (content_of made.0)) (keymap_of_resolved (resolved_of (name_of codes.now) (λ c. given_in (key_at keys.now c))))) }
     ensures err { IfErr result (λ e. e ≡ Memory) }
 {
     let mut builder = types_used(alloc, codes, keys)?;
+    let mut notes = Notes::new();
     'codes: for code in 0..CODES {
-        push_code(&mut builder, codes, keys, code, notes)?;
+        push_code(&mut builder, codes, keys, code, &mut notes)?;
     }
-    Ok(builder.into_parts())
+    Ok((builder.into_parts(), notes))
 }

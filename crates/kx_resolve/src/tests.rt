@@ -2,8 +2,7 @@ use crate::{resolve, tables};
 use ks_core::{NameTable, Notes};
 use kx_codes::codes;
 use kx_include::{Files, Library};
-use kx_lex::{Fault, Span, lex};
-use kx_parse::parse;
+use kx_lex::Fault;
 use kx_symbols::symbols;
 use kx_tables::{Owned, Rows, Tables};
 use std::process::Abort;
@@ -60,16 +59,14 @@ fn groups_of_one_level(rt: HostRuntime) -> Result<(), Fail> {
 fn resolves_codes_and_keys(rt: HostRuntime) -> Result<(), Fail> {
     let text =
         b"xkb_keymap { xkb_keycodes { <A>=38; alias <C>=<A>; }; xkb_symbols { key <C> {[7]}; }; };";
-    let tokens = lex(rt.alloc(), text)?;
-    let tree = parse(rt.alloc(), text, tokens.as_slice())?;
     let files = Files::new(rt.alloc());
-    let whole = Span { start: 0, stop: 0 };
-    let library = Library::read(rt.alloc(), tree, whole, &files)?;
-    let codes = codes(rt.alloc(), &library)?;
-    let mut notes = Notes::new();
+    let library = Library::of_source(rt.alloc(), text, &files)?;
+    let bodies = library.expand(rt.alloc())?;
+    let codes = codes(rt.alloc(), &bodies.keycodes)?;
     let names = NameTable::builtin();
-    let keys = symbols(rt.alloc(), &library, &codes, &names, &mut notes)?;
-    let parts = resolve(rt.alloc(), &codes, &keys, &mut notes)?;
+    let (keys, _) = symbols(rt.alloc(), &bodies.symbols, &codes, &names)?;
+    let (parts, notes) = resolve(rt.alloc(), &codes, &keys)?;
+    assert_eq!(rt; notes, Notes::new());
     assert_eq!(rt; parts.keysyms.as_slice(), [0x37].as_slice());
     Ok(())
 }

@@ -1,3 +1,4 @@
+//! The entry of a type that was last chosen, kept for the next event.
 ghost use Rattle.std.specs.Prelude.{◌≡◌, ◌≤◌, slice_get, Some, IfOk, IfSome};
 ghost use Rattle.kx_mods.specs.Mods.{mask};
 ghost use Rattle.kx_tables.specs.Keymap.{entry_for};

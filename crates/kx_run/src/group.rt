@@ -1,3 +1,4 @@
+//! Groups of the keyboard and their changes.
 ghost use Rattle.std.specs.Prelude.{◌≡◌, ◌<◌, ◌≤◌, ◌≤ℤ◌, ◌+ℤ◌, ◌-ℤ◌, pos, negsuc};
 ghost use Rattle.kx_run.specs.Held.{group_after, base_group_after};
 ghost use Rattle.kx_run.specs.World.{group_modulo, latch_number};

@@ -1,3 +1,4 @@
+//! Which key each code is.
 ghost use Rattle.std.specs.Prelude.{◌≡◌, IfOk};
 ghost use Rattle.kx_tables.specs.Content.{Content};
 ghost use Rattle.kx_tables.specs.Keymap.{key_with};

@@ -1,3 +1,4 @@
+//! Which indicators are lit.
 ghost use Rattle.std.specs.Prelude.{◌≡◌, ◌<◌, ◌≤◌, ◌&&◌, if◌then◌else◌};
 ghost use Rattle.kx_mods.specs.Mods.{mask};
 ghost use Rattle.kx_tables.specs.Keymap.{keymap_of, lamp_of};

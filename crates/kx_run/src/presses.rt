@@ -1,3 +1,4 @@
+//! The keys that are down.
 ghost use Rattle.std.specs.Prelude.{◌≡◌, ℕ, ◌+◌, ◌*◌, ◌<◌, ◌≤◌, false, List, [], ◌∷◌, ◌++◌, All, length, get_or, map, Option, Some, IfOk, IfSome, if◌then◌else◌, pos, negsuc, ◌≤ℤ◌, vec_capacity};
 ghost use Rattle.std.specs.Option.{option_map, option_or};
 ghost use Rattle.kx_run.specs.Held.{AreAllDisturbed, AreSound, base_group, disturbed, held_at, is_held, other_keys};
@@ -9,7 +10,7 @@ use std::alloc::{AllocError, Global};
 use std::marker::Model;
 
 /// How many codes there are, so how many keys can be held at most.
-pub const CODES: usize = 4096;
+pub const CODES: usize = kx_basics::CODES as usize;
 
 /// How many entries of keys that were let go may stand beside one for each held key before they are dropped.
 const SPARE: usize = 64;

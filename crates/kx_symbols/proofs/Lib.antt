@@ -1,4 +1,5 @@
 mod Absorbing
+mod Capped
 mod Given
 mod Loops
 mod Statements

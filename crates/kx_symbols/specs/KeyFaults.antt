@@ -1,8 +1,9 @@
 -- The faults of the statements of a symbols section. Actions, and the fields and statements that nothing reads yet, are
 -- statements and fields that it doesn't have.
-use Rattle.std.specs.Prelude.{ℕ, ◌-◌, nat_lt, List, [], ◌∷◌, ◌++◌, length, Option, None, Some, if◌then◌else◌}
+use Rattle.std.specs.Prelude.{ℕ, ◌-◌, nat_le, nat_lt, List, [], ◌∷◌, ◌++◌, length, Option, None, Some, if◌then◌else◌}
 use Rattle.std.specs.List.{flat_map}
 use Rattle.ks_core.specs.Entry.{Entry}
+use Rattle.kx_basics.specs.declared.limits.TheConstants.{GREATEST_KEYSYM, MOST_GROUPS, MOST_KEYSYMS}
 use Rattle.kx_lex.specs.declared.fault.Fault.{Fault}
 use Rattle.kx_lex.specs.declared.fault.Fault.TheVariants.{BadValue, GroupRange, TooMany, UnknownField}
 use Rattle.kx_lex.specs.declared.token.Span.{Span}
@@ -43,7 +44,7 @@ module _ (file : ℕ) where
   -- the greatest keysym is 1fffffff
   abbrev pub symbol_faults : Symbol → List Fault
   symbol_faults (Word word) = []
-  symbol_faults (Number number) = if nat_lt 536870911 number.value then BadValue (at file number.span) ∷ [] else []
+  symbol_faults (Number number) = if nat_lt GREATEST_KEYSYM number.value then BadValue (at file number.span) ∷ [] else []
 
   -- an action isn't one of a symbols field's values
   abbrev pub call_faults : Standing → Call → List Fault
@@ -56,7 +57,7 @@ module _ (file : ℕ) where
 
   -- a level has at most eight keysyms; `whole` is the statement
   abbrev pub count_faults : Span → List Part → List Fault
-  count_faults whole ps = if nat_lt 8 (length ps) then TooMany (at file whole) ∷ [] else []
+  count_faults whole ps = if nat_lt MOST_KEYSYMS (length ps) then TooMany (at file whole) ∷ [] else []
 
   abbrev pub element_faults : Standing → Span → Element → List Fault
   element_faults standing whole (elements.Symbol symbol) = symbol_faults symbol
@@ -73,9 +74,9 @@ module _ (file : ℕ) where
   index_faults lists list index None = BadValue (at file index.span) ∷ []
   index_faults lists list index (Some n) = if is_group n then second_faults lists list (n - 1) else GroupRange (at file index.span) ∷ []
 
-  -- a key has at most 32 groups, and a statement gives each one list at most
+  -- a key has MOST_GROUPS groups at most, and a statement gives each one list at most
   abbrev pub place_faults : Lists → Option Index → Listed → List Fault
-  place_faults lists None list = if nat_lt 31 (free_group lists) then GroupRange (at file list.span) ∷ [] else []
+  place_faults lists None list = if nat_le MOST_GROUPS (free_group lists) then GroupRange (at file list.span) ∷ [] else []
   place_faults lists (Some index) list = index_faults lists list index.value (group_of index.value)
 
   abbrev pub setting_faults : Lists → Span → Option Index → Span → Setting → List Fault

@@ -1,5 +1,5 @@
 -- The keysyms that a key's lists stand for, level by level (libxkbcommon's keymap text format, key statements).
-use Rattle.std.specs.Prelude.{ℕ, ◌+◌, ◌≤◌, ◌==◌, ◌||◌, nat_lt, Bool, List, [], ◌∷◌, map, Option, None, Some, if◌then◌else◌, codes}
+use Rattle.std.specs.Prelude.{ℕ, ◌+◌, ◌==◌, ◌||◌, nat_lt, Bool, List, [], ◌∷◌, map, Option, None, Some, if◌then◌else◌, codes}
 use Rattle.std.specs.List.{flat_map}
 use Rattle.std.specs.Option.{option_and_then}
 use Rattle.std.specs.Str.{is_utf8, str_eq_ignore_ascii_case}
@@ -12,11 +12,6 @@ use Rattle.kx_parse.specs.declared.tree.Part.{Part}
 use Rattle.kx_parse.specs.declared.tree.Part.TheVariants as parts
 use Rattle.kx_parse.specs.declared.tree.Symbol.{Symbol}
 use Rattle.kx_parse.specs.declared.tree.Symbol.TheVariants.{Word, Number}
-
--- a keysym that a level may have, which is at most 0x1fffffff: one that a line can name
-pub record IsKeysym (keysym : ℕ) : Type 0 where
-  pub least : 10 ≤ keysym
-  pub most : keysym ≤ 536870911
 
 -- what a level gives: its keysyms, or nothing
 abbrev pub Level : Type 0

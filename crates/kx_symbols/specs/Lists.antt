@@ -1,8 +1,9 @@
 -- Which group each list of a key statement is given to.
-use Rattle.std.specs.Prelude.{ℕ, ◌+◌, ◌-◌, ◌++◌, Bool, ◌&&◌, not, List, [], length, fold, position, replicate, slice_get, slice_set, Option, None, Some, is_some, unwrap_or, if◌then◌else◌, codes}
+use Rattle.std.specs.Prelude.{ℕ, ◌+◌, ◌-◌, ◌++◌, Bool, ◌&&◌, not, nat_lt, List, [], length, fold, position, replicate, slice_get, slice_set, Option, None, Some, is_some, unwrap_or, if◌then◌else◌, codes}
 use Rattle.std.specs.Option.{option_and_then, option_map_or}
 use Rattle.std.specs.Str.{str_eq_ignore_ascii_case}
 use Rattle.ks_core.specs.Entry.{Entry}
+use Rattle.kx_basics.specs.declared.limits.TheConstants.{MOST_GROUPS}
 use Rattle.kx_parse.specs.declared.tree.Index.{Index}
 use Rattle.kx_parse.specs.declared.tree.KeyField.{KeyField}
 use Rattle.kx_parse.specs.declared.tree.KeyField.TheVariants as fields
@@ -10,7 +11,7 @@ use Rattle.kx_parse.specs.declared.tree.Place.{Place}
 use Rattle.kx_parse.specs.declared.tree.Setting.{Setting}
 use Rattle.kx_parse.specs.declared.tree.Setting.TheVariants.{To}
 use Rattle.kx_parse.specs.declared.tree.Value.TheVariants as values
-use Rattle.kx_symbols.specs.Groups.{group_of}
+use Rattle.kx_symbols.specs.Groups.{group_of, is_group}
 use Rattle.kx_symbols.specs.Keysyms.{Level, levels_of}
 
 -- by group, counted from 0, the levels of its list, where it has one
@@ -57,18 +58,28 @@ width_in lists group = width_of (list_at lists group)
 abbrev pub is_symbols : Place → Bool
 is_symbols place = not (is_some place.member) && str_eq_ignore_ascii_case place.word.bytes (codes "symbols")
 
--- a list without an index takes the first group that has none
-abbrev pub group_for : Lists → Option Index → ℕ
-group_for lists None = free_group lists
-group_for lists (Some index) = unwrap_or (group_of index.value) 1 - 1
+-- the group that a number names, where it is one and has no list yet
+abbrev pub open_group : Lists → Option ℕ → Option ℕ
+open_group lists None = None
+open_group lists (Some n) = if is_group n && not (has_list lists (n - 1)) then Some (n - 1) else None
+
+-- a list without an index is given to the first group that has none
+abbrev pub group_for : Lists → Option Index → Option ℕ
+group_for lists None = if nat_lt (free_group lists) MOST_GROUPS then Some (free_group lists) else None
+group_for lists (Some index) = open_group lists (group_of index.value)
+
+-- a list that is given to no group, as by a faulty index, isn't taken
+abbrev pub given_list : Lists → Option ℕ → List Level → Lists
+given_list lists None levels = lists
+given_list lists (Some group) levels = with_list lists group levels
 
 module _ (names : List Entry) where
   abbrev pub set_lists : Lists → Option Index → Setting → Lists
-  set_lists lists index (To (values.List list)) = with_list lists (group_for lists index) (levels_of names list)
+  set_lists lists index (To (values.List list)) = given_list lists (group_for lists index) (levels_of names list)
   set_lists lists index _ = lists
 
   abbrev pub field_lists : Lists → KeyField → Lists
-  field_lists lists (fields.List list) = with_list lists (free_group lists) (levels_of names list)
+  field_lists lists (fields.List list) = given_list lists (group_for lists None) (levels_of names list)
   field_lists lists (fields.Field field) = if is_symbols field.place then set_lists lists field.place.index field.setting else lists
 
   -- the lists that a key statement gives

@@ -1,22 +1,20 @@
 //! The lists of a key statement, each with its group.
-ghost use Rattle.std.specs.Prelude.{◌≡◌, ◌<◌, ◌≤◌, ◌-◌, ◌++◌, ◌∷◌, [], Contains, IfErr, IfOk, OnOk, Some, length, position, unwrap_or};
-ghost use Rattle.std.specs.Option.{option_map};
+ghost use Rattle.std.specs.Prelude.{◌≡◌, ◌<◌, ◌++◌, ◌∷◌, [], Contains, IfErr, IfOk, OnOk, Some, position};
 ghost use Rattle.kx_symbols.specs.Keysyms.{levels_of};
+ghost use Rattle.kx_basics.specs.declared.limits.TheConstants.{MOST_GROUPS};
 ghost use Rattle.kx_lex.specs.declared.fault.Fault.TheVariants.{Memory};
 ghost use Rattle.kx_symbols.specs.KeyFaults.{elements_faults, field_faults, fields_faults, index_faults, place_faults, setting_faults};
 ghost use Rattle.kx_symbols.specs.Groups.{group_of as group_named, is_group};
-ghost use Rattle.kx_symbols.specs.Lists.{field_lists, free_group, group_for, is_free, widened_to, has_list, is_symbols, lists_of, set_lists, with_list};
+ghost use Rattle.kx_symbols.specs.Lists.{field_lists, free_group, given_list, group_for, open_group, is_free, widened_to, has_list, is_symbols, lists_of, set_lists, with_list};
 
 use crate::groups::group_of;
 use crate::keysyms::{Reading, Standing};
 use crate::levels::{Levels, read_levels};
 use ks_core::{NameTable, Notes};
+use kx_basics::MOST_GROUPS;
 use kx_lex::Fault;
 use kx_parse::{Apart, Expression, Field, Index, KeyField, List as Listed, Place, Setting, Value};
 use std::alloc::{AllocError, Global};
-
-/// A key has at most this many groups.
-const MOST_GROUPS: usize = 32;
 
 fn first_free(lists: &[Option<Levels>]) -> Option<usize>
     ensures { result ≡ position is_free lists.now }
@@ -55,7 +53,7 @@ pub(crate) fn widen(lists: &mut Vec<Option<Levels>>, count: usize) -> Result<(),
 
 /// Gives a group a list.
 fn put_list(lists: &mut Vec<Option<Levels>>, group: usize, levels: Levels) -> Result<(), AllocError>
-    requires { group < 32 }
+    requires { group < MOST_GROUPS }
     ensures { OnOk result (lists.new.items ≡ with_list lists.old.items group levels) }
 {
     widen(lists, group + 1)?;
@@ -76,8 +74,8 @@ fn indexed_group(
     list: &Listed,
     index: &Expression,
 ) -> Result<usize, Fault>
-    ensures small { IfOk result (λ group. group < 32) }
-    ensures value { IfOk result (λ group. group ≡ unwrap_or (group_named index.now) 1 - 1) }
+    ensures small { IfOk result (λ group. group < MOST_GROUPS) }
+    ensures value { IfOk result (λ group. Some group ≡ open_group lists.now (group_named index.now)) }
     ensures faultless { OnOk result (index_faults reading.file lists.now list.now index.now (group_named index.now) ≡ []) }
     ensures fault { IfErr result (λ e. Contains (Memory ∷ index_faults reading.file lists.now list.now index.now (group_named index.now)) e) }
 {
@@ -87,10 +85,10 @@ fn indexed_group(
     }
 }
 
-fn is_group(number: u32) -> bool
+fn is_group(number: u64) -> bool
     ensures { result ≡ is_group number }
 {
-    0 < number && number < 33
+    0 < number && number <= u64::from(MOST_GROUPS)
 }
 
 /// The group of a number, counted from 0, where it has no list yet.
@@ -99,10 +97,10 @@ fn numbered_group(
     lists: &[Option<Levels>],
     list: &Listed,
     index: &Expression,
-    number: u32,
+    number: u64,
 ) -> Result<usize, Fault>
-    ensures small { IfOk result (λ group. group < 32) }
-    ensures value { IfOk result (λ group. group ≡ number - 1) }
+    ensures small { IfOk result (λ group. group < MOST_GROUPS) }
+    ensures value { IfOk result (λ group. Some group ≡ open_group lists.now (Some number)) }
     ensures faultless { OnOk result (index_faults reading.file lists.now list.now index.now (Some number) ≡ []) }
     ensures fault { IfErr result (λ e. Contains (Memory ∷ index_faults reading.file lists.now list.now index.now (Some number)) e) }
 {
@@ -123,8 +121,8 @@ fn group_for(
     index: &Option<Apart<Index>>,
     list: &Listed,
 ) -> Result<usize, Fault>
-    ensures small { IfOk result (λ group. group < 32) }
-    ensures value { IfOk result (λ group. group ≡ group_for lists.now (index.now)) }
+    ensures small { IfOk result (λ group. group < MOST_GROUPS) }
+    ensures value { IfOk result (λ group. Some group ≡ group_for lists.now (index.now)) }
     ensures faultless { OnOk result (place_faults reading.file lists.now (index.now) list.now ≡ []) }
     ensures fault { IfErr result (λ e. Contains (Memory ∷ place_faults reading.file lists.now (index.now) list.now) e) }
 {
@@ -132,7 +130,7 @@ fn group_for(
         Some(index) => indexed_group(reading, lists, list, &index.get().value),
         None => {
             let group = free_group(lists);
-            if group >= MOST_GROUPS {
+            if group >= usize::from(MOST_GROUPS) {
                 return Err(Fault::GroupRange(reading.at(list.span)));
             }
             Ok(group)
@@ -151,7 +149,7 @@ fn add_list(
     lists: &mut Vec<Option<Levels>>,
     notes: &mut Notes,
 ) -> Result<(), Fault>
-    ensures value { OnOk result (lists.new.items ≡ with_list lists.old.items (group_for lists.old.items (index.now)) (levels_of names.now list.now)) }
+    ensures value { OnOk result (lists.new.items ≡ given_list lists.old.items (group_for lists.old.items (index.now)) (levels_of names.now list.now)) }
     ensures faultless { OnOk result (place_faults reading.file lists.old.items (index.now) list.now ++ elements_faults reading.file standing reading.whole list.now ≡ []) }
     ensures fault { IfErr result (λ e. Contains (Memory ∷ (place_faults reading.file lists.old.items (index.now) list.now ++ elements_faults reading.file standing reading.whole list.now)) e) }
 {

@@ -1,18 +1,18 @@
 //! The keys of a keymap's symbols.
-ghost use Rattle.std.specs.Prelude.{◌≡◌, ◌++◌, ◌∷◌, [], ℕ, Contains, IfErr, IfOk, IfSome, OnOk, Some, nat_eq};
-ghost use Rattle.std.specs.Option.{option_and_then, option_map, option_map_or};
-ghost use Rattle.std.proofs.Common.{eqb-true};
-ghost use Rattle.kx_include.specs.Expansion.{body_of};
+ghost use Rattle.std.specs.Prelude.{◌≡◌, ◌++◌, ◌∷◌, [], ℕ, Contains, IfErr, IfOk, None, OnOk, Some, nat_eq, unwrap_or};
+ghost use Rattle.std.specs.Option.{option_map};
+ghost use Rattle.std.proofs.Common.{◌∙◌, ap, eqb-true, sym};
+ghost use Rattle.kx_include.specs.Shared.{expanded_body};
 ghost use Rattle.kx_lex.specs.declared.fault.Fault.TheVariants.{Memory};
-ghost use Rattle.kx_parse.specs.declared.tree.Kind.TheVariants.{Symbols};
 ghost use Rattle.kx_parse.specs.declared.tree.Mode.{Mode as ModeValue};
 ghost use Rattle.kx_merge.specs.Bodies.{faults_of};
+ghost use Rattle.kx_merge.specs.Moved.{moved_key, moved_value, moved_width};
 ghost use Rattle.kx_merge.specs.Offers.{taken, widened};
 ghost use Rattle.kx_merge.specs.Records.{AreOffered, mode_of};
 ghost use Rattle.kx_symbols.specs.KeyFaults.{fields_faults, item_faults, key_in};
 ghost use Rattle.kx_codes.specs.CodeFaults.{name_faults};
 ghost use Rattle.kx_codes.specs.Codes.{code_of};
-ghost use Rattle.kx_symbols.specs.Keys.{KeysShow, cell_before, cell_in, group_before, item_offers, key_at, key_moves, key_rules, offered, record_offer, width_in_key};
+ghost use Rattle.kx_symbols.specs.Keys.{KeysShow, cell_in, item_offers, key_at, key_moves, key_rules, offered, record_offer, width_in_key};
 ghost use Rattle.kx_symbols.specs.Lists.{lists_of};
 
 use crate::fields::read_lists;
@@ -20,11 +20,12 @@ use crate::keysyms::{Keysyms, Reading};
 use crate::record::{Cell, KeyRecord};
 use indexmap::IndexMap;
 use ks_core::{NameTable, Note, Notes};
-use kx_codes::{Codes, MOST_NAME_BYTES};
-use kx_include::{Library, Place};
+use kx_basics::MOST_NAME_BYTES;
+use kx_codes::Codes;
+use kx_include::{Expansion, Place};
 use kx_lex::{At, Fault};
 use kx_merge::{Fields, merge};
-use kx_parse::{Item, KeyField, KeyName, Kind, Mode, Row, Statement};
+use kx_parse::{Item, KeyField, KeyName, Mode, Row, Statement};
 use std::alloc::Global;
 use std::marker::Model;
 
@@ -181,13 +182,43 @@ impl<'a> Fields<Context<'a>> for KeyRecord {
         Ok(())
     }
 
-    fn to_group(self, key: u16, group: u8) -> Option<(u16, KeyRecord)>
-        ensures key { option_map (λ p. p.0) result ≡ Some key }
-        ensures cells { IfSome result (λ p. (c : Cell) → cell_in p.1 c ≡ option_and_then (cell_in self) (cell_before group c)) }
-        ensures widths { IfSome result (λ p. (g : ℕ) → width_in_key p.1 g ≡ option_map_or (width_in_key self) (group_before group g) 0) }
+    fn none(alloc: Global) -> KeyRecord
+        ensures cells { (c : Cell) → cell_in result c ≡ None }
+        ensures widths { (g : ℕ) → width_in_key result g ≡ 0 }
     {
-        Some((key, self.moved(group)))
+        KeyRecord::none(alloc)
     }
+
+    fn absorb_moved(
+        &mut self,
+        alloc: Global,
+        other: &KeyRecord,
+        group: Option<u8>,
+        mode: Mode,
+    ) -> Result<(), Fault>
+        ensures cells { OnOk result ((c : Cell) → cell_in self.new c ≡ taken mode (cell_in self.old c) (moved_value key_moves group (cell_in other.now) c)) }
+        ensures widths { OnOk result ((g : ℕ) → width_in_key self.new g ≡ widened mode (width_in_key self.old g) (moved_width key_moves group (width_in_key other.now) g)) }
+        ensures err { IfErr result (λ e. e ≡ Memory) }
+    {
+        self.join_moved(alloc, other, group, mode)?;
+        Ok(())
+    }
+
+    fn key_in(key: &u16, _group: Option<u8>) -> Option<u16>
+        ensures { result ≡ moved_key key_moves _group key.now }
+    {
+        Some(*key)
+    }
+
+    fn no_notes() -> Notes {
+        Notes::new()
+    }
+
+    fn add_notes(notes: &mut Notes, other: &Notes) {
+        *notes = notes.saturating_add(*other);
+    }
+
+    ghost apart = { λ n j k to one two. ap (λ key. unwrap_or key 0) (one ∙ sym two) };
 
     ghost same = { λ j k e. eqb-true j k e };
 }
@@ -216,7 +247,8 @@ impl Keys {
     }
 }
 
-/// What the key statements of a keymap's symbols give the keys; what is passed over is added to `notes`.
+/// What the key statements of a keymap's symbols give the keys, and what is passed over in them, which counts for each
+/// place where a map is included.
 ///
 /// # Errors
 /// The faults of the statements, at their places: `BadValue` at the number of no keysym, at a second list for a group, at
@@ -225,16 +257,18 @@ impl Keys {
 /// `UnknownField` at what isn't read yet; `Memory`.
 pub fn symbols(
     alloc: Global,
-    library: &Library,
+    expansion: &Expansion,
     codes: &Codes,
     names: &NameTable,
-    notes: &mut Notes,
-) -> Result<Keys, Fault>
-    ensures shows { IfOk result (λ keys. KeysShow keys codes.now names.now (body_of library.now Symbols)) }
-    ensures faultless { OnOk result (faults_of nat_eq (key_rules codes.now names.now) key_moves (body_of library.now Symbols) ≡ []) }
-    ensures fault { IfErr result (λ e. Contains (Memory ∷ faults_of nat_eq (key_rules codes.now names.now) key_moves (body_of library.now Symbols)) e) }
+) -> Result<(Keys, Notes), Fault>
+    ensures shows { IfOk result (λ found. KeysShow found.0 codes.now names.now (expanded_body expansion.now)) }
+    ensures faultless { OnOk result (faults_of nat_eq (key_rules codes.now names.now) key_moves (expanded_body expansion.now) ≡ []) }
+    ensures fault { IfErr result (λ e. Contains (Memory ∷ faults_of nat_eq (key_rules codes.now names.now) key_moves (expanded_body expansion.now)) e) }
 {
     let context = Context { codes, names };
-    let by_code = merge::<Context, KeyRecord>(alloc, &context, library, Kind::Symbols, notes)?;
-    Ok(Keys { by_code })
+    let merged = merge::<Context, KeyRecord>(alloc, &context, expansion)?;
+    let keys = Keys {
+        by_code: merged.records,
+    };
+    Ok((keys, merged.notes))
 }

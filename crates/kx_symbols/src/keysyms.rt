@@ -5,32 +5,29 @@ ghost use Rattle.std.specs.Option.{option_map};
 ghost use Rattle.ks_core.specs.Names.{is_written_back};
 ghost use Rattle.kx_lex.specs.declared.fault.Fault.TheVariants.{Memory};
 ghost use Rattle.kx_symbols.specs.KeyFaults.{call_faults, count_faults, element_faults, part_faults, symbol_faults};
-ghost use Rattle.kx_symbols.specs.Keysyms.{IsKeysym, element_level, given, keysym_of_text, number_keysym, part_keysyms, symbol_keysym, word_keysym};
+ghost use Rattle.kx_basics.specs.Keysyms.{IsKeysym};
+ghost use Rattle.kx_symbols.specs.Keysyms.{element_level, given, keysym_of_text, number_keysym, part_keysyms, symbol_keysym, word_keysym};
 
 use arrayvec::ArrayVec;
 use ks_core::{NameTable, Note, Notes};
+use kx_basics::{GREATEST_KEYSYM, MOST_KEYSYMS};
 use kx_lex::{At, Fault, Span};
 use kx_parse::{Call, Element, Part, Symbol};
+use std::alloc::AllocError;
 use std::marker::Model;
-
-/// The greatest number of a keysym.
-const GREATEST_KEYSYM: u32 = 0x1fff_ffff;
 
 /// The keysym of `None` and `VoidSymbol`.
 const VOID: u32 = 0xff_ffff;
 
-/// A level has at most this many keysyms.
-const MOST_KEYSYMS: usize = 8;
-
 /// The keysyms of a level, one to eight.
 #[derive(Debug, Drop)]
 pub struct Keysyms {
-    numbers: ArrayVec<u32, 8>,
+    numbers: ArrayVec<u32, MOST_KEYSYMS>,
 }
 
 impl Model for Keysyms {
     ghost use Rattle.std.specs.Prelude.{All, List, ℕ};
-    ghost use Rattle.kx_symbols.specs.Keysyms.{IsKeysym};
+    ghost use Rattle.kx_basics.specs.Keysyms.{IsKeysym};
 
     ghost Value = { List ℕ };
 
@@ -46,6 +43,14 @@ impl Keysyms {
         Keysyms {
             numbers: ArrayVec::new(),
         }
+    }
+
+    pub(crate) fn copied(&self) -> Result<Keysyms, AllocError>
+        ensures { IfOk result (λ copy. copy ≡ self.now) }
+    {
+        Ok(Keysyms {
+            numbers: self.numbers.clone()?,
+        })
     }
 
     fn push(&mut self, keysym: u32)

@@ -39,6 +39,15 @@ fn taken(mode: Mode, old: Option<Keysyms>, new: Option<Keysyms>) -> Option<Keysy
     }
 }
 
+fn copied(level: &Option<Keysyms>) -> Result<Option<Keysyms>, AllocError>
+    ensures { IfOk result (λ copy. copy ≡ level.now) }
+{
+    match level {
+        Some(keysyms) => Ok(Some(keysyms.copied()?)),
+        None => Ok(None),
+    }
+}
+
 impl Levels {
     /// How many levels there are.
     pub fn len(&self) -> usize
@@ -76,6 +85,28 @@ impl Levels {
             self.levels.push(level)?;
             Ok(())
         }
+    }
+
+    /// No levels.
+    pub(crate) fn none(alloc: Global) -> Levels
+        ensures { result ≡ [] }
+    {
+        Levels {
+            levels: Vec::new(alloc),
+        }
+    }
+
+    /// Takes up later levels under a mode that isn't replace; they stay as they are.
+    pub(crate) fn absorb_copied(&mut self, other: &Levels, mode: Mode) -> Result<(), AllocError>
+        requires { is_replace mode ≡ false }
+        ensures levels { OnOk result ((l : ℕ) → level_at self.new l ≡ taken mode (level_at self.old l) (level_at other.now l)) }
+        ensures long { OnOk result (length self.new ≡ max (length self.old) (length other.now)) }
+    {
+        'levels: for place in 0..other.levels.len() {
+            let level = copied(&other.levels[place])?;
+            self.absorb_level(place, level, mode)?;
+        }
+        Ok(())
     }
 
     /// Takes up later levels under a mode that isn't replace.

@@ -12,11 +12,7 @@ const US: &[u8] = b"default xkb_symbols \"basic\" { key <A> { [ a ] }; };";
 const RU: &[u8] = b"xkb_symbols \"x\" { key <A> { [ U0444 ], [ 7 ] }; };";
 
 /// The keys of these symbols items, which begin at byte 61, where A has the code 38 and B 39, and what is noted.
-fn keys_of(
-    rt: &(impl Abort + AllocGlobal),
-    items: &[u8],
-    notes: &mut Notes,
-) -> Result<Keys, Fault> {
+fn keys_of(rt: &(impl Abort + AllocGlobal), items: &[u8]) -> Result<(Keys, Notes), Fault> {
     let text = [
         b"xkb_keymap { xkb_keycodes { <A>=38; <B>=39; }; xkb_symbols { ".as_slice(),
         items,
@@ -34,17 +30,16 @@ fn keys_of(
     let tree = parse(rt.alloc(), text.as_slice(), tokens.as_slice())?;
     let whole = Span { start: 0, stop: 0 };
     let library = Library::read(rt.alloc(), tree, whole, &files)?;
-    library.check(rt.alloc())?;
-    let codes = codes(rt.alloc(), &library)?;
+    let bodies = library.expand(rt.alloc())?;
+    let codes = codes(rt.alloc(), &bodies.keycodes)?;
     let names = NameTable::builtin();
-    symbols(rt.alloc(), &library, &codes, &names, notes)
+    symbols(rt.alloc(), &bodies.symbols, &codes, &names)
 }
 
 /// The keysyms of A, level by level and group by group: levels are parted by blanks, groups by `/`, and the keysyms of a
 /// level are in hexadecimal and joined by `+`.
 fn shown(rt: &(impl Abort + AllocGlobal), items: &[u8]) -> Result<String, Fail> {
-    let mut notes = Notes::new();
-    let keys = keys_of(rt, items, &mut notes)?;
+    let (keys, _notes) = keys_of(rt, items)?;
     let mut text = String::new(rt.alloc());
     let Some(key) = keys.key(38) else {
         return Ok(text);
@@ -74,7 +69,7 @@ fn shown(rt: &(impl Abort + AllocGlobal), items: &[u8]) -> Result<String, Fail> 
 
 #[test]
 fn keysyms_by_precedence(rt: HostRuntime) -> Result<(), Fail> {
-    let rows: [(&[u8], &str); 15] = [
+    let rows: [(&[u8], &str); 17] = [
         (b"key <A> { [a] }; key <A> { [b] };", "62"),
         (b"key <A> { [a] }; augment key <A> { [b] };", "61"),
         (
@@ -96,6 +91,11 @@ fn keysyms_by_precedence(rt: HostRuntime) -> Result<(), Fail> {
             "61 62/64",
         ),
         (b"key <A> { [a] }; replace key <A> { [], [b] };", "/62"),
+        (b"key <A> { [a], [b] }; replace \"us:2\"", "/61"),
+        (
+            b"key <A> { [b] }; override \"us\" augment \"ru(x)\"",
+            "61/37",
+        ),
         (b"include \"us+ru(x):2\"", "61/1000444"),
         (b"include \"us:2+ru(x)\"", "1000444/37"),
         (b"include \"us:2|ru(x)\"", "1000444/61"),
@@ -189,8 +189,7 @@ fn faults_name_their_place(rt: HostRuntime) -> Result<(), Fail> {
         ),
     ];
     for (items, wanted) in &rows {
-        let mut notes = Notes::new();
-        match keys_of(&rt, items, &mut notes) {
+        match keys_of(&rt, items) {
             Ok(_) => assert_eq!(rt; "", *wanted),
             Err(fault) => {
                 assert_eq!(rt;
@@ -211,11 +210,10 @@ fn a_key_has_32_groups(rt: HostRuntime) -> Result<(), Fail> {
     for _ in 1..32 {
         items.extend_from_slice(b",[a]")?;
     }
-    let mut notes = Notes::new();
     let within = [items.as_slice(), b"};".as_slice()].concat(rt.alloc())?;
-    assert!(rt; keys_of(&rt, within.as_slice(), &mut notes).is_ok());
+    assert!(rt; keys_of(&rt, within.as_slice()).is_ok());
     let past = [items.as_slice(), b",[b]};".as_slice()].concat(rt.alloc())?;
-    match keys_of(&rt, past.as_slice(), &mut notes) {
+    match keys_of(&rt, past.as_slice()) {
         Ok(_) => assert!(rt; false),
         Err(fault) => {
             assert_eq!(rt;
@@ -229,9 +227,8 @@ fn a_key_has_32_groups(rt: HostRuntime) -> Result<(), Fail> {
 
 #[test]
 fn unknown_names_are_noted(rt: HostRuntime) -> Result<(), Fail> {
-    let mut notes = Notes::new();
     let items = b"key <C> { [a] }; key <A> { [nope, { a, nope2 }] }; replace key <A> { [a] };";
-    keys_of(&rt, items.as_slice(), &mut notes)?;
+    let (_keys, notes) = keys_of(&rt, items.as_slice())?;
     assert_eq!(rt; notes.keys, 1);
     assert_eq!(rt; notes.keysyms, 2);
     assert_eq!(rt; notes.types, 0);

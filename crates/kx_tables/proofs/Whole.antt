@@ -6,7 +6,8 @@ use Rattle.kx_tables.specs.Bounds.{sum_up_to}
 use Rattle.kx_tables.specs.Content.{Content, levels_of, types_used, type_names, key_names, indicator_names, type_name, key_name, indicator_name}
 use Rattle.kx_tables.specs.Fit.{CountsFit}
 use Rattle.kx_tables.specs.SoFar.{EachBelow, TypesAre, TypeNumbers, KeysAre, GroupsAre, CellsAre, IndicatorsAre, GroupNamesAre, NamesAreNew, EntriesLie}
-use Rattle.kx_tables.specs.Sound.{Sound, EachRow, EntriesHold, KeysymHolds, NameByteHolds}
+use Rattle.kx_basics.specs.Keysyms.{IsKeysym}
+use Rattle.kx_tables.specs.Sound.{Sound, EachRow, EntriesHold, NameByteHolds}
 
 pub each_of : {X : Type 0} (xs : List X) (P : ℕ → X → Type 0) → EachBelow xs P (length xs) → EachRow xs P
 each_of xs P below i x at = below i x (slice_get_within xs i x at) at
@@ -24,7 +25,7 @@ pub whole_is_sound : (c : Content) (type_end key_end next indicator_end : ℕ) �
     → TypesAre c (length c.types) (length c.entries) type_end
     → KeysAre c (length c.keys) (length c.groups) key_end next
     → CellsAre c (length c.cells) (length c.keysyms)
-    → EachBelow c.keysyms (λ i s. KeysymHolds s) (length c.keysyms)
+    → EachBelow c.keysyms (λ i s. IsKeysym s) (length c.keysyms)
     → IndicatorsAre c (length c.indicators) indicator_end
     → GroupNamesAre c (length c.group_names) (length c.names)
     → EachRow c.types (EntriesHold c)

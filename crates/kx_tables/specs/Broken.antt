@@ -1,7 +1,8 @@
 -- Which row of tables that aren't sound breaks a rule.
 use Rattle.std.specs.Prelude.{ℕ, List, ◌≡◌, ◌+◌, ◌<◌, ◌≤◌, Some, slice_get}
 use Rattle.kx_tables.specs.Content.{Content}
-use Rattle.kx_tables.specs.Sound.{CountsHold, TypeHolds, EntryHolds, KeyHolds, GroupHolds, CellHolds, KeysymHolds, IndicatorHolds, GroupNameHolds, NameByteHolds}
+use Rattle.kx_basics.specs.Keysyms.{IsKeysym}
+use Rattle.kx_tables.specs.Sound.{CountsHold, TypeHolds, EntryHolds, KeyHolds, GroupHolds, CellHolds, IndicatorHolds, GroupNameHolds, NameByteHolds}
 use Rattle.kx_tables.specs.declared.check.Part.{Part}
 use Rattle.kx_tables.specs.declared.check.Part.TheVariants.{Header, KeyType, Entry, Key, Group, Cell, Keysym, Indicator, GroupName, Name}
 use Rattle.kx_tables.specs.declared.rows.EntryRow.{EntryRow}
@@ -29,7 +30,7 @@ Breaks c Entry i = EntryBreaks c i
 Breaks c Key i = RowBreaks c.keys (KeyHolds c) i
 Breaks c Group i = RowBreaks c.groups (GroupHolds c) i
 Breaks c Cell i = RowBreaks c.cells (CellHolds c) i
-Breaks c Keysym i = RowBreaks c.keysyms (λ j s. KeysymHolds s) i
+Breaks c Keysym i = RowBreaks c.keysyms (λ j s. IsKeysym s) i
 Breaks c Indicator i = RowBreaks c.indicators (IndicatorHolds c) i
 Breaks c GroupName i = RowBreaks c.group_names (GroupNameHolds c) i
 Breaks c Name i = RowBreaks c.names (NameByteHolds c) i

@@ -1,6 +1,7 @@
 -- What the checks of each table establish, for the rows below an index.
 use Rattle.std.specs.Prelude.{ℕ, List, ◌≡◌, ◌+◌, ◌<◌, ◌≤◌, ◌^◌, Bool, true, false, slice_index_or, Some, length, take, sum_by, slice_get}
 use Rattle.std.specs.Int.RustNames.{bit_and}
+use Rattle.kx_basics.specs.declared.limits.TheConstants.{GREATEST_CODE, MOST_GROUPS, MOST_KEYSYMS, MOST_NAME_BYTES, MOST_LEVELS}
 use Rattle.kx_mods.specs.Mods.{mask}
 use Rattle.kx_tables.specs.Content.{Content, levels_of, types_used, type_names, key_names, indicator_names}
 use Rattle.kx_tables.specs.Sound.{ActionHolds, CellHolds, EachRow, EntryHolds, GroupHolds, GroupNameHolds, IsNewName, RangeHolds}
@@ -22,8 +23,8 @@ pub record TypeNumbers (t : TypeRow) (entries_before names_before : ℕ) : Type 
   pub mods : mask t.mods < 2 ^ 8
   pub entries : t.entries < 2 ^ 16
   pub some_level : 1 ≤ t.levels
-  pub levels : t.levels ≤ 64
-  pub name_length : t.name_length ≤ 255
+  pub levels : t.levels ≤ MOST_LEVELS
+  pub name_length : t.name_length ≤ MOST_NAME_BYTES
   pub first_entry : t.first_entry ≡ entries_before
   pub first_name : t.first_name ≡ names_before
 
@@ -37,11 +38,11 @@ pub record TypesAre (c : Content) (n entries names : ℕ) : Type 0 where
 
 -- the rules of a key that speak of its numbers alone
 pub record KeyNumbers (k : KeyRow) (groups_before names_before : ℕ) : Type 0 where
-  pub code : k.code ≤ 4095
+  pub code : k.code ≤ GREATEST_CODE
   pub modmap : mask k.modmap < 2 ^ 8
   pub range : RangeHolds k.range
-  pub groups : k.groups ≤ 32
-  pub name_length : k.name_length ≤ 255
+  pub groups : k.groups ≤ MOST_GROUPS
+  pub name_length : k.name_length ≤ MOST_NAME_BYTES
   pub first_name : k.first_name ≡ names_before
   pub first_group : k.first_group ≡ groups_before
 
@@ -74,7 +75,7 @@ pub record GroupNumbers (g : GroupRow) (types used cells : ℕ) : Type 0 where
   pub first_cell : g.first_cell ≡ cells
 
 pub record CellNumbers (d : CellRow) (keysyms_before : ℕ) : Type 0 where
-  pub keysyms : d.keysyms ≤ 8
+  pub keysyms : d.keysyms ≤ MOST_KEYSYMS
   pub action : ActionHolds d.action
   pub first_keysym : d.first_keysym ≡ keysyms_before
 
@@ -89,7 +90,7 @@ pub record IndicatorNumbers (d : IndicatorRow) (i names : ℕ) : Type 0 where
   pub groups : d.groups < 2 ^ 32
   pub mod_states : state_bits d.mod_states ≤ 15
   pub group_states : state_bits d.group_states ≤ 15
-  pub name_length : d.name_length ≤ 255
+  pub name_length : d.name_length ≤ MOST_NAME_BYTES
   pub first_name : d.first_name ≡ names
 
 abbrev pub IndicatorIsNumbered : Content → ℕ → IndicatorRow → Type 0
@@ -101,7 +102,7 @@ pub record IndicatorsAre (c : Content) (n names : ℕ) : Type 0 where
 
 pub record GroupNameNumbers (g : GroupNameRow) (i count names : ℕ) : Type 0 where
   pub place : i < 32
-  pub name_length : g.name_length ≤ 255
+  pub name_length : g.name_length ≤ MOST_NAME_BYTES
   pub first_name : g.first_name ≡ names
   pub last : i + 1 ≡ count → 0 < g.name_length
 

@@ -2,6 +2,9 @@
 -- it, and each row keeps the rules of its kind.
 use Rattle.std.specs.Prelude.{ℕ, pos, List, ◌≡◌, ◌≢◌, ◌+◌, ◌<◌, ◌≤◌, ◌≤ℤ◌, ◌^◌, Some, length, take, sum_by, slice_get, negsuc}
 use Rattle.std.specs.Int.RustNames.{bit_and}
+use Rattle.kx_basics.specs.KeyNames.{IsKeyByte}
+use Rattle.kx_basics.specs.Keysyms.{IsKeysym}
+use Rattle.kx_basics.specs.declared.limits.TheConstants.{GREATEST_CODE, MOST_GROUPS, MOST_KEYSYMS, MOST_NAME_BYTES, MOST_LEVELS}
 use Rattle.kx_mods.specs.Mods.{mask}
 use Rattle.kx_tables.specs.Content.{Content, type_name, key_name, indicator_name, levels_of, types_used, type_names, key_names, indicator_names, group_names}
 use Rattle.kx_tables.specs.States.{state_bits}
@@ -30,9 +33,9 @@ IsNewName {X} xs name_of i name = (j : ℕ) (x : X) → j < i → slice_get xs j
 pub record TypeHolds (c : Content) (i : ℕ) (t : TypeRow) : Type 0 where
   pub mods : mask t.mods < 2 ^ 8
   pub some_level : 1 ≤ t.levels
-  pub levels : t.levels ≤ 64
+  pub levels : t.levels ≤ MOST_LEVELS
   pub entries : t.entries < 2 ^ 16
-  pub name_length : t.name_length ≤ 255
+  pub name_length : t.name_length ≤ MOST_NAME_BYTES
   pub first_entry : t.first_entry ≡ sum_by (λ u. u.entries) (take i c.types)
   pub first_name : t.first_name ≡ sum_by (λ u. u.name_length) (take i c.types)
   pub is_used : i < types_used c.groups
@@ -54,18 +57,12 @@ RangeHolds Wrap = Unit {0}
 RangeHolds Clamp = Unit {0}
 RangeHolds (Redirect r) = r ≤ 31
 
--- a byte of a key's name: visible ASCII but `>`
-pub record IsKeyNameByte (b : ℕ) : Type 0 where
-  pub low : 33 ≤ b
-  pub high : b ≤ 126
-  pub other : b ≢ 62
-
 pub record KeyHolds (c : Content) (i : ℕ) (k : KeyRow) : Type 0 where
-  pub code : k.code ≤ 4095
+  pub code : k.code ≤ GREATEST_CODE
   pub modmap : mask k.modmap < 2 ^ 8
   pub range : RangeHolds k.range
-  pub groups : k.groups ≤ 32
-  pub name_length : k.name_length ≤ 255
+  pub groups : k.groups ≤ MOST_GROUPS
+  pub name_length : k.name_length ≤ MOST_NAME_BYTES
   pub first_name : k.first_name ≡ type_names c + sum_by (λ l. l.name_length) (take i c.keys)
   pub first_group : k.first_group ≡ sum_by (λ l. l.groups) (take i c.keys)
   pub rises : (j : ℕ) (l : KeyRow) → j < i → slice_get c.keys j ≡ Some l → l.code < k.code
@@ -91,13 +88,9 @@ ActionHolds (actions.LatchGroup group clear_locks latch_to_lock) = GroupChangeHo
 ActionHolds (actions.LockGroup group) = GroupChangeHolds group
 
 pub record CellHolds (c : Content) (i : ℕ) (d : CellRow) : Type 0 where
-  pub keysyms : d.keysyms ≤ 8
+  pub keysyms : d.keysyms ≤ MOST_KEYSYMS
   pub action : ActionHolds d.action
   pub first_keysym : d.first_keysym ≡ sum_by (λ e. e.keysyms) (take i c.cells)
-
-pub record KeysymHolds (s : ℕ) : Type 0 where
-  pub low : 10 ≤ s
-  pub high : s ≤ 536870911
 
 pub record IndicatorHolds (c : Content) (i : ℕ) (d : IndicatorRow) : Type 0 where
   pub place : i < 32
@@ -105,13 +98,13 @@ pub record IndicatorHolds (c : Content) (i : ℕ) (d : IndicatorRow) : Type 0 wh
   pub mod_states : state_bits d.mod_states ≤ 15
   pub group_states : state_bits d.group_states ≤ 15
   pub groups : d.groups < 2 ^ 32
-  pub name_length : d.name_length ≤ 255
+  pub name_length : d.name_length ≤ MOST_NAME_BYTES
   pub first_name : d.first_name ≡ type_names c + key_names c + sum_by (λ e. e.name_length) (take i c.indicators)
   pub is_new : IsNewName c.indicators (indicator_name c) i (indicator_name c d)
 
 pub record GroupNameHolds (c : Content) (i : ℕ) (g : GroupNameRow) : Type 0 where
   pub place : i < 32
-  pub name_length : g.name_length ≤ 255
+  pub name_length : g.name_length ≤ MOST_NAME_BYTES
   pub first_name : g.first_name ≡ type_names c + key_names c + indicator_names c + sum_by (λ h. h.name_length) (take i c.group_names)
   -- the last one isn't empty
   pub last : i + 1 ≡ length c.group_names → 0 < g.name_length
@@ -137,7 +130,7 @@ EntriesHold c i t = (j : ℕ) (e : EntryRow) → t.first_entry ≤ j → j < t.f
 -- the bytes of the names, which the keys' names restrict
 pub record NameByteHolds (c : Content) (i : ℕ) (b : ℕ) : Type 0 where
   pub byte : b < 2 ^ 8
-  pub of_key : type_names c ≤ i → i < type_names c + key_names c → IsKeyNameByte b
+  pub of_key : type_names c ≤ i → i < type_names c + key_names c → IsKeyByte b
 
 pub record Sound (c : Content) : Type 0 where
   pub counts : CountsHold c
@@ -146,7 +139,7 @@ pub record Sound (c : Content) : Type 0 where
   pub keys : EachRow c.keys (KeyHolds c)
   pub groups : EachRow c.groups (GroupHolds c)
   pub cells : EachRow c.cells (CellHolds c)
-  pub keysyms : EachRow c.keysyms (λ i s. KeysymHolds s)
+  pub keysyms : EachRow c.keysyms (λ i s. IsKeysym s)
   pub indicators : EachRow c.indicators (IndicatorHolds c)
   pub group_names : EachRow c.group_names (GroupNameHolds c)
   pub names : EachRow c.names (NameByteHolds c)

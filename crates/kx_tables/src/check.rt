@@ -1,3 +1,4 @@
+//! Whether tables are sound.
 ghost use Rattle.std.specs.Prelude.{OnOk, OnErr, IfErr};
 ghost use Rattle.kx_tables.specs.Broken.{Breaks};
 ghost use Rattle.kx_tables.specs.Sound.{Sound};

@@ -7,6 +7,7 @@ ghost use Rattle.kx_tables.specs.Sound.{Sound};
 use crate::check::{Broken, Part, check};
 use crate::rows::{CellRow, EntryRow, GroupNameRow, GroupRow, IndicatorRow, KeyRow, TypeRow};
 use crate::tables::{Counts, Rows, Tables, most_groups};
+use kx_basics::MOST_GROUPS;
 use std::marker::Model;
 
 /// Tables in vectors, sound or not.
@@ -61,7 +62,7 @@ fn unfit(parts: &Parts) -> Broken
     }
     // Where no key has too many groups, all groups of so few keys are counted in 32 bits.
     for index in 0..parts.keys.len() {
-        if parts.keys[index].groups > 32 {
+        if parts.keys[index].groups > MOST_GROUPS {
             return Broken {
                 part: Part::Key,
                 index: index as u32,
@@ -192,6 +193,16 @@ impl Owned {
         check(&rows)?;
         let most_groups = most_groups(&rows);
         Ok(Owned { rows, most_groups })
+    }
+
+    /// Tables that are known to be sound; nothing is checked again.
+    pub fn from_sound(parts: Parts) -> Owned
+        requires { Sound (content_of parts) }
+        ensures { result ≡ content_of parts }
+    {
+        let rows = Counted { parts };
+        let most_groups = most_groups(&rows);
+        Owned { rows, most_groups }
     }
 }
 

@@ -1,3 +1,4 @@
+//! The group of a key for an effective group.
 ghost use Rattle.std.specs.Prelude.{◌≡◌, ◌<◌, ◌≤◌};
 ghost use Rattle.kx_tables.specs.Range.{in_range};
 

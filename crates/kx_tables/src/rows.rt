@@ -1,3 +1,4 @@
+//! The rows of tables.
 ghost use Rattle.std.specs.Prelude.{◌≡◌, ◌<◌, ◌^◌, ⊤, [], ◌∷◌, codes};
 
 use bitflags::{Flag, Flags, bitflag_items};

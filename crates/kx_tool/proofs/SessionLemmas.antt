@@ -5,7 +5,8 @@ use Rattle.std.specs.Io.KnownBytes.{Appends}
 use Rattle.ks_core.specs.Entry.{Entry}
 use Rattle.kx_image.proofs.Refused.{one_content}
 use Rattle.kx_image.specs.Image.{IsImage}
-use Rattle.kx_resolve.specs.Source.{Handed, HasFault}
+use Rattle.kx_include.specs.Source.{Handed}
+use Rattle.kx_resolve.specs.Source.{HasFault}
 use Rattle.kx_lex.specs.declared.fault.Fault.{Fault}
 use Rattle.kx_lex.specs.declared.fault.Fault.TheVariants.{Memory}
 use Rattle.kx_tables.specs.Content.{Content}

@@ -2,10 +2,10 @@
 ghost use Rattle.std.specs.Prelude.{◌≡◌, ◌≤◌, ◌++◌, ◌∷◌, [], ℕ, List, true, length};
 ghost use Rattle.std.specs.Char.{is_ascii_digit};
 ghost use Rattle.std.specs.List.{list_all};
-ghost use Rattle.std.specs.Str.Parse.{digits_value};
 ghost use Rattle.kx_tool.specs.EventLines.{KeepsLine, Says, code_in, event_of, event_with, has_code_digits};
 
 use arrayvec::ArrayVec;
+use kx_basics::digits_value;
 use kx_run::{Direction, Event};
 use std::marker::Model;
 
@@ -123,7 +123,7 @@ fn code_in(digits: &[u8]) -> Option<u16>
     if !has_code_digits(digits) {
         return None;
     }
-    let code = value_of(digits);
+    let code = digits_value(digits, 10);
     if code < 65_536 {
         Some(code as u16)
     } else {
@@ -143,17 +143,4 @@ fn are_digits(digits: &[u8]) -> bool
     ensures { result ≡ list_all is_ascii_digit digits.now }
 {
     digits.iter().all(|byte| byte.is_ascii_digit())
-}
-
-/// The number of at most 5 decimal digits.
-fn value_of(digits: &[u8]) -> u32
-    requires few { length digits.now ≤ 5 }
-    requires digits { list_all is_ascii_digit digits.now ≡ true }
-    ensures { result ≡ digits_value 10 digits.now }
-{
-    let mut value = 0;
-    for digit in digits {
-        value = value * 10 + u32::from(*digit - b'0');
-    }
-    value
 }

@@ -42,6 +42,7 @@ impl Failure<'_> {
         }
     }
 
+    /// The failure of a session.
     pub fn of_session<'a>(fault: SessionFault) -> Failure<'a> {
         match fault {
             SessionFault::Compile(fault) => Failure::Source(fault),

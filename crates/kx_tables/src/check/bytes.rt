@@ -1,17 +1,12 @@
 ghost use Rattle.std.specs.Prelude.{◌≡◌, ◌≤◌, ◌+◌, ◌↔◌, IsTrue, OnOk, IfErr, length};
 ghost use Rattle.kx_tables.specs.Broken.{Breaks};
 ghost use Rattle.kx_tables.specs.Content.{type_names, key_names};
-ghost use Rattle.kx_tables.specs.Sound.{EachRow, IsKeyNameByte, NameByteHolds};
+ghost use Rattle.kx_basics.specs.KeyNames.{IsKeyByte};
+ghost use Rattle.kx_tables.specs.Sound.{EachRow, NameByteHolds};
 
 use super::{Broken, Part};
 use crate::tables::Rows;
-
-/// Whether a byte may stand in a key's name.
-fn is_key_name_byte(byte: u8) -> bool
-    ensures { IsTrue result ↔ IsKeyNameByte byte }
-{
-    byte.is_ascii_graphic() && byte != b'>'
-}
+use kx_basics::is_key_byte;
 
 /// Checks the bytes of the keys' names, which stand at `start..end` among all names.
 pub fn check_key_bytes<R: Rows>(rows: &R, start: u32, end: u32) -> Result<(), Broken>
@@ -23,7 +18,7 @@ pub fn check_key_bytes<R: Rows>(rows: &R, start: u32, end: u32) -> Result<(), Br
 {
     let names = rows.names();
     for index in start..end {
-        if !is_key_name_byte(names[index as usize]) {
+        if !is_key_byte(names[index as usize]) {
             return Err(Broken {
                 part: Part::Name,
                 index,

@@ -1,11 +1,13 @@
 ghost use Rattle.std.specs.Prelude.{◌≡◌, ◌↔◌, IsTrue, OnOk, IfErr, length};
 ghost use Rattle.kx_tables.specs.Broken.{Breaks};
 ghost use Rattle.kx_tables.specs.SoFar.{CellsAre, CellNumbers, EachBelow};
-ghost use Rattle.kx_tables.specs.Sound.{ActionHolds, GroupChangeHolds, KeysymHolds};
+ghost use Rattle.kx_basics.specs.Keysyms.{IsKeysym};
+ghost use Rattle.kx_tables.specs.Sound.{ActionHolds, GroupChangeHolds};
 
 use super::{Broken, Part};
 use crate::rows::{Action, CellRow, GroupChange};
 use crate::tables::Rows;
+use kx_basics::{MOST_KEYSYMS, is_keysym};
 
 /// Whether an action's group is within its range.
 fn group_change_holds(group: GroupChange) -> bool
@@ -36,7 +38,9 @@ fn action_holds(action: Action) -> bool
 fn is_numbered(row: &CellRow, keysyms: u64) -> bool
     ensures { IsTrue result ↔ CellNumbers row.now keysyms }
 {
-    row.keysyms <= 8 && action_holds(row.action) && u64::from(row.first_keysym) == keysyms
+    usize::from(row.keysyms) <= MOST_KEYSYMS
+        && action_holds(row.action)
+        && u64::from(row.first_keysym) == keysyms
 }
 
 /// Checks the cells.
@@ -62,20 +66,14 @@ pub fn check_cells<R: Rows>(rows: &R) -> Result<(), Broken>
     Ok(())
 }
 
-/// The least keysym of a level: smaller numbers are no keysyms.
-const LEAST_KEYSYM: u32 = 10;
-
-/// The greatest keysym.
-const GREATEST_KEYSYM: u32 = 0x1fff_ffff;
-
 /// Checks the keysyms.
 pub fn check_keysyms<R: Rows>(rows: &R) -> Result<(), Broken>
-    ensures ok { OnOk result (EachBelow (R.content rows.now).keysyms (λ i s. KeysymHolds s) (length (R.content rows.now).keysyms)) }
+    ensures ok { OnOk result (EachBelow (R.content rows.now).keysyms (λ i s. IsKeysym s) (length (R.content rows.now).keysyms)) }
     ensures broken { IfErr result (λ b. Breaks (R.content rows.now) b.part b.index) }
 {
     for index in 0..rows.counts().keysyms {
         let keysym = rows.keysym(index);
-        if keysym < LEAST_KEYSYM || keysym > GREATEST_KEYSYM {
+        if !is_keysym(keysym) {
             return Err(Broken {
                 part: Part::Keysym,
                 index,

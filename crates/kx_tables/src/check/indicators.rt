@@ -6,6 +6,7 @@ ghost use Rattle.kx_tables.specs.SoFar.{IndicatorsAre, IndicatorNumbers, GroupNa
 use super::{Broken, Part};
 use crate::rows::{GroupNameRow, IndicatorRow};
 use crate::tables::Rows;
+use kx_basics::MOST_NAME_BYTES;
 
 /// Whether an indicator's numbers fit, at this index and with so many bytes of names before it.
 fn is_numbered(row: IndicatorRow, index: u16, names: u64) -> bool
@@ -14,7 +15,7 @@ fn is_numbered(row: IndicatorRow, index: u16, names: u64) -> bool
     index < 32
         && row.mod_states.mask() <= 15
         && row.group_states.mask() <= 15
-        && row.name_length <= 255
+        && usize::from(row.name_length) <= MOST_NAME_BYTES
         && u64::from(row.first_name) == names
 }
 
@@ -45,7 +46,7 @@ fn is_named(row: &GroupNameRow, index: u16, count: u16, names: u64) -> bool
     ensures { IsTrue result ↔ GroupNameNumbers row.now index count names }
 {
     index < 32
-        && row.name_length <= 255
+        && usize::from(row.name_length) <= MOST_NAME_BYTES
         && u64::from(row.first_name) == names
         && (u32::from(index) + 1 != u32::from(count) || row.name_length > 0)
 }

@@ -7,6 +7,7 @@ ghost use Rattle.kx_tables.specs.Sound.{RangeHolds};
 use super::{Broken, Part};
 use crate::rows::{KeyRow, Range};
 use crate::tables::Rows;
+use kx_basics::{GREATEST_CODE, MOST_GROUPS, MOST_NAME_BYTES};
 
 /// Whether the group that a key redirects to is one of 32.
 fn range_holds(range: Range) -> bool
@@ -23,10 +24,10 @@ fn range_holds(range: Range) -> bool
 fn is_numbered(row: KeyRow, groups: u64, names: u64) -> bool
     ensures { IsTrue result ↔ KeyNumbers row groups names }
 {
-    row.code <= 4095
+    row.code <= GREATEST_CODE
         && range_holds(row.range)
-        && row.groups <= 32
-        && row.name_length <= 255
+        && row.groups <= MOST_GROUPS
+        && usize::from(row.name_length) <= MOST_NAME_BYTES
         && u64::from(row.first_name) == names
         && u64::from(row.first_group) == groups
 }

@@ -6,14 +6,15 @@ ghost use Rattle.kx_tables.specs.SoFar.{TypesAre, TypeNumbers};
 use super::{Broken, Part};
 use crate::rows::TypeRow;
 use crate::tables::Rows;
+use kx_basics::{MOST_LEVELS, MOST_NAME_BYTES};
 
 /// Whether a type's numbers fit, with so many entries and bytes of names before it.
 fn is_numbered(row: TypeRow, entries: u64, names: u64) -> bool
     ensures { IsTrue result ↔ TypeNumbers row entries names }
 {
     1 <= row.levels
-        && row.levels <= 64
-        && row.name_length <= 255
+        && row.levels <= MOST_LEVELS
+        && usize::from(row.name_length) <= MOST_NAME_BYTES
         && u64::from(row.first_entry) == entries
         && u64::from(row.first_name) == names
 }

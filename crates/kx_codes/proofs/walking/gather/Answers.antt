@@ -1,20 +1,21 @@
-use Rattle.std.proofs.Common.{[], arith}
-use Rattle.kx_include.specs.Expansion.{body_of}
-use Rattle.kx_parse.specs.declared.tree.Kind.TheVariants.{Keycodes}
-use Rattle.kx_codes.specs.CodeFaults.{faults_of}
-use Rattle.kx_codes.proofs.Behind.{section_goes, section_blames, fault_passed}
+use Rattle.std.proofs.Common.{◌≡◌, ◌<◌, length, get_or, ◌∷◌, [], ◌++◌, sym, refl, subst}
+use Rattle.kx_lex.specs.declared.fault.Fault.TheVariants.{Memory}
+use Rattle.kx_include.specs.Expansion.{End}
+use Rattle.kx_include.specs.Shared.{bodies_behind, expanded_body, shared_body}
+use Rattle.kx_codes.specs.Gathering.{AreGathered}
+use Rattle.kx_codes.proofs.Behind.{one_gathered, behind_next, err_gathered, memory_blamed}
 use Rattle.kx_codes.proofs.walking.gather.Goals as goal
 
-pub sections-preserved : goal.sections-preserved
-sections-preserved c =
-    let counted = c.sections.invariant.1 in
-    let one = c.in-Some.ensures.cases.1 in (
-      section_goes c.args.library.now [] [] (body_of c.args.library.now Keycodes) c.sections.gathered.pairs c.gather_section.new.gathered.pairs c.sections.gathered.aliases c.gather_section.new.gathered.aliases c.sections.section c.sections.left.now c.in-Some.first.now c.in-Some.rest.now c.in-Some.ensures.cases.0 c.sections.invariant.0
-          c.in_ok-gather_section.ensures.pairs c.in_ok-gather_section.ensures.aliases c.in_ok-gather_section.ensures.faultless,
-      omega arith,
+pub maps-preserved : goal.maps-preserved
+maps-preserved c =
+    let bodies = c.maps.invariant.0 in
+    let ms = c.args.expansion.now.maps.items in
+    let m = c.map-item.result in (
+      bodies ++ shared_body bodies m End ∷ [],
+      subst (λ ds. AreGathered ds (bodies ++ shared_body bodies m End ∷ [])) (sym c.in_ok-push.ensures.items)
+          (one_gathered c.maps.done.items bodies c.gather_map-gathered.result (shared_body bodies m End) c.maps.invariant.1 (c.gather_map-gathered.ensures bodies (subst (λ ds. AreGathered ds bodies) (sym c.as_slice.ensures.value) c.maps.invariant.1))),
+      behind_next bodies ms c.maps.map-index m (bodies_behind [] ms) (subst (λ ys. c.maps.map-index < length ys) c.as_slice-map-items.ensures.value c.maps-test.true) (subst (λ ys. m ≡ get_or ys c.maps.map-index m) c.as_slice-map-items.ensures.value c.map-item.is) c.maps.invariant.2,
     )
 
-pub returns-in_err-gather_section-clause-fault : goal.returns-in_err-gather_section-clause-fault
-returns-in_err-gather_section-clause-fault c =
-    fault_passed c.from_residual.result (faults_of (body_of c.args.library.now Keycodes)) c.in_err-gather_section.field-0.0 c.from_residual.ensures.1
-    (section_blames c.args.library.now [] [] (body_of c.args.library.now Keycodes) c.sections.gathered.pairs c.sections.gathered.aliases c.sections.section c.sections.left.now c.in-Some.first.now c.in-Some.rest.now c.in_err-gather_section.field-0.0 c.in-Some.ensures.cases.0 c.sections.invariant.0 c.in_err-gather_section.ensures.fault)
+pub returns-in_err-push : goal.returns-in_err-push
+returns-in_err-push c = err_gathered c.from_residual.result (expanded_body c.args.expansion.now) Memory c.from_residual.ensures.1 (memory_blamed (expanded_body c.args.expansion.now) Memory refl)

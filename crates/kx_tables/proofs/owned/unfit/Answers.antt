@@ -11,11 +11,11 @@ returns-then-len-gt32 c = row_past c.args.parts.now.indicators.items (IndicatorH
 pub returns-then-len-gt32-2 : goal.returns-then-len-gt32-2
 returns-then-len-gt32-2 c = row_past c.args.parts.now.group_names.items (GroupNameHolds (content_of c.args.parts.now)) 32 (omega arith) (λ n holds. let h = holds.place in omega arith)
 
-pub returns-then-index-gt32 : goal.returns-then-index-gt32
-returns-then-index-gt32 c = (c.index.result.now, row_read c.args.parts.now.keys.items c.loop-index.index c.index.result.now (omega arith) c.index.ensures, λ holds. let h = holds.groups in let over = c.if-index-gt32.true in omega arith)
+pub returns-then-index-gt-MOST_GROUPS : goal.returns-then-index-gt-MOST_GROUPS
+returns-then-index-gt-MOST_GROUPS c = (c.index.result.now, row_read c.args.parts.now.keys.items c.loop-index.index c.index.result.now (omega arith) c.index.ensures, λ holds. let h = holds.groups in let over = c.if-index-gt-MOST_GROUPS.true in omega arith)
 
 pub loop-index-preserved : goal.loop-index-preserved
-loop-index-preserved c = each_more c.args.parts.now.keys.items _ c.loop-index.index c.index.result.now (row_read c.args.parts.now.keys.items c.loop-index.index c.index.result.now (omega arith) c.index.ensures) c.loop-index.invariant c.if-index-gt32.false
+loop-index-preserved c = each_more c.args.parts.now.keys.items _ c.loop-index.index c.index.result.now (row_read c.args.parts.now.keys.items c.loop-index.index c.index.result.now (omega arith) c.index.ensures) c.loop-index.invariant c.if-index-gt-MOST_GROUPS.false
 
 pub returns : goal.returns
 returns c = counts_unfit (content_of c.args.parts.now) c.requires (omega arith) (omega arith) (λ i k lt at. c.loop-index.invariant i k (omega arith) at)

@@ -1,7 +1,7 @@
 use Rattle.std.proofs.Common.{sym, ap, ◌∙◌}
 use Rattle.std.proofs.lemmas.List.Sums.{AllPass-from_list_all}
 use Rattle.std.specs.List.{list_all}
-use Rattle.kx_lex.specs.Bytes.{is_key_byte}
+use Rattle.kx_basics.specs.KeyNames.{is_key_byte}
 use Rattle.kx_lex.proofs.name.KeyName.of.Goals as goal
 
 pub invariant_of-result : goal.invariant_of-result

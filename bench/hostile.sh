@@ -1,0 +1,80 @@
+#!/bin/sh
+# Prints the time in which `xkc compile` takes or refuses sources that are within every limit and made to be slow, each
+# the lowest of 3 runs of the whole program. None should take more than two seconds.
+set -eu
+. "$(dirname "$0")/program.sh"
+
+# run NAME [WORDS]: compiles $work/source
+run() {
+    name=$1
+    shift
+    least=1000000000
+    for turn in 1 2 3; do
+        start=$(date +%s%N)
+        "$program" compile "$work/source" "$work/image" "$@" > "$work/line" || true
+        stop=$(date +%s%N)
+        time=$(((stop - start) / 1000))
+        [ "$time" -ge "$least" ] || least=$time
+    done
+    printf '%8d microseconds  %s: %s\n' "$least" "$name" "$(head -c 60 "$work/line")"
+}
+
+# include KIND WORD COUNT: a source that includes `a` so many times, by includes joined with WORD
+including() {
+    awk -v kind="$1" -v words="$2" -v count="$3" 'BEGIN {
+        n = split(words, word, " ")
+        print "xkb_keymap {\nxkb_keycodes {"
+        if (kind != "keycodes") for (code = 0; code <= 4095; code++) printf "<K%d>=%d;\n", code, code
+        if (kind != "keycodes") print "};\nxkb_" kind " {"
+        for (i = 0; i < count; i++) printf "include \"%s\"\n", word[i % n + 1]
+        print "};\n};"
+    }' > "$work/source"
+}
+
+awk 'BEGIN { print "xkb_keymap { xkb_keycodes {"; for (i = 0; i < 140000; i++) print "<A>=1;"; print "}; };" }' > "$work/source"
+run 'one name 140,000 times'
+
+awk 'BEGIN { print "xkb_keymap { xkb_keycodes {"; for (i = 0; i < 80000; i++) printf "<%d>=%d;\n", i % 4096, (i * 7 + int(i / 4096)) % 4096; print "}; };" }' > "$work/source"
+run '80,000 pairs, swapped over 4,096 names'
+
+awk 'BEGIN { print "xkb_keymap { xkb_keycodes { <A>=1;"; for (i = 0; i < 60000; i++) printf "alias<%x>=<A>;\n", i; print "}; };" }' > "$work/source"
+run '60,000 aliases'
+
+awk 'BEGIN { print "xkb_keymap { xkb_keycodes { <A>=1; }; xkb_symbols { key <A> {"; for (g = 1; g <= 32; g++) { printf "%s[a", (g > 1 ? "," : ""); for (i = 1; i < 15600; i++) printf ",a"; print "]" } print "}; }; };" }' > "$work/source"
+run 'half a million levels'
+
+awk 'BEGIN { print "xkb_keymap { xkb_keycodes { <A>=1; }; xkb_symbols { key <A> { ["; for (i = 0; i < 130000; i++) printf "%sq%d", (i ? "," : ""), i; print "] }; }; };" }' > "$work/source"
+run '130,000 unknown names of keysyms'
+
+awk 'BEGIN { print "xkb_keymap { xkb_symbols {"; for (i = 0; i < 40000; i++) printf "key <%d> { [a] };\n", i; print "}; };" }' > "$work/source"
+run '40,000 unknown names of keys'
+
+awk 'BEGIN { print "default xkb_keycodes {"; for (i = 0; i < 80000; i++) printf "<%d>=%d;\n", i % 4096, i % 4096; print "};" }' > "$work/codes"
+awk 'BEGIN { print "default xkb_keycodes {"; for (i = 0; i < 60000; i++) printf "alias<%x>=<A>;\n", i; print "};" }' > "$work/aliases"
+awk 'BEGIN { print "default xkb_symbols {"; for (i = 0; i < 4096; i++) printf "key <K%d> { [ a, b, c, d, e, f, g, h, i, j, k, l, m, n, o, p, q, r, s, t, u, v, w, x, y, z, a, b, c, d, e, f, g, h, i, j, k, l, m, n, o, p, q, r, s, t, u, v, w, x, y, z, a, b, c, d, e, f, g, h, i, j, k, l, m, n ] };\n", i; print "};" }' | head -c 1048000 | sed '$d' > "$work/keys"
+echo '};' >> "$work/keys"
+awk 'BEGIN { print "default xkb_symbols {"; for (i = 0; i < 4096; i++) printf "key <K%d> { [ A ] };\n", i; print "};" }' > "$work/other"
+
+including keycodes a 4000
+run 'a file of 80,000 pairs, included 4,000 times' a="$work/codes"
+run 'a file of 60,000 aliases, included 4,000 times' a="$work/aliases"
+including keycodes 'a b' 4000
+run 'the two in turn' a="$work/codes" b="$work/aliases"
+including symbols a 4000
+run 'a file of 1 MB of keys, included 4,000 times' a="$work/keys"
+including symbols a+a+a+a 1000
+run 'the same, four at a time' a="$work/keys"
+including symbols 'a b' 4000
+run 'that file and another, in turn' a="$work/keys" b="$work/other"
+
+files=
+for depth in 1 2 3 4 5 6 7 8 9 10; do
+    echo "default xkb_symbols { include \"f$((depth + 1))\" include \"f$((depth + 1))\" };" > "$work/f$depth"
+    files="$files f$depth=$work/f$depth"
+done
+including symbols f1 2
+run 'includes that double, 11 deep' $files f11="$work/keys"
+
+awk 'BEGIN { for (i = 0; i < 50000; i++) print "xkb_types{};"; print "xkb_symbols { };" }' > "$work/sections"
+including symbols a 4000
+run 'the last of 50,001 sections, included 4,000 times' a="$work/sections"

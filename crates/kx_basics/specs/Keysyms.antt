@@ -1,0 +1,11 @@
+-- The keysyms that a level may have: those that a number or a line of names can give.
+use Rattle.std.specs.Prelude.{ℕ, ◌≤◌, Bool, ◌&&◌, nat_le}
+use Rattle.kx_basics.specs.declared.limits.TheConstants.{GREATEST_KEYSYM, LEAST_KEYSYM}
+
+pub record IsKeysym (keysym : ℕ) : Type 0 where
+  pub least : LEAST_KEYSYM ≤ keysym
+  pub most : keysym ≤ GREATEST_KEYSYM
+
+-- the same as a test
+abbrev pub is_keysym : ℕ → Bool
+is_keysym keysym = nat_le LEAST_KEYSYM keysym && nat_le keysym GREATEST_KEYSYM

@@ -1,0 +1,2 @@
+pub mod Keysyms
+pub mod KeyNames

@@ -1,0 +1,158 @@
+//! The words that the grammar quotes.
+ghost use Rattle.std.specs.Prelude.{◌≡◌, ◌==◌};
+ghost use Rattle.std.specs.Str.{str_eq_ignore_ascii_case};
+ghost use Rattle.kx_lex.specs.Keywords.{IsByLength, keyword_of, keyword_number, of_length, rows_of, spelled_in};
+
+/// A word that the grammar quotes; it may be written in capital letters or small.
+#[derive(Clone, Copy, Debug, PartialEq, Eq)]
+pub enum Keyword {
+    Alias,
+    AlphanumericKeys,
+    Alternate,
+    AlternateGroup,
+    Augment,
+    Default,
+    FunctionKeys,
+    Group,
+    Hidden,
+    Include,
+    Indicator,
+    Interpret,
+    Key,
+    KeypadKeys,
+    ModifierKeys,
+    ModifierMap,
+    Override,
+    Partial,
+    Replace,
+    Type,
+    Virtual,
+    VirtualModifiers,
+    XkbCompat,
+    XkbCompatMap,
+    XkbCompatibility,
+    XkbCompatibilityMap,
+    XkbGeometry,
+    XkbKeycodes,
+    XkbKeymap,
+    XkbSymbols,
+    XkbTypes,
+}
+
+impl Keyword {
+    ghost use Rattle.std.specs.Prelude.{◌≡◌, ◌==◌};
+    ghost use Rattle.kx_lex.specs.Keywords.{keyword_number};
+
+    /// Which of the keywords it is, counted from 0.
+    fn number(self) -> u8
+        ensures { result ≡ keyword_number self }
+    {
+        self as u8
+    }
+
+    /// Whether both are one keyword.
+    pub(crate) fn is(self, other: Keyword) -> bool
+        ensures { result ≡ (keyword_number self == keyword_number other) }
+    {
+        self.number() == other.number()
+    }
+}
+
+/// A keyword as it is spelled in small letters.
+type Row = (&'static str, Keyword);
+
+/// The keywords by their length in bytes.
+static BY_LENGTH: [&[Row]; 22] = [
+    &[],
+    &[],
+    &[],
+    &[("key", Keyword::Key)],
+    &[("type", Keyword::Type)],
+    &[("alias", Keyword::Alias), ("group", Keyword::Group)],
+    &[("hidden", Keyword::Hidden)],
+    &[
+        ("augment", Keyword::Augment),
+        ("default", Keyword::Default),
+        ("include", Keyword::Include),
+        ("partial", Keyword::Partial),
+        ("replace", Keyword::Replace),
+        ("virtual", Keyword::Virtual),
+    ],
+    &[("override", Keyword::Override)],
+    &[
+        ("alternate", Keyword::Alternate),
+        ("indicator", Keyword::Indicator),
+        ("interpret", Keyword::Interpret),
+        ("xkb_types", Keyword::XkbTypes),
+    ],
+    &[
+        ("xkb_compat", Keyword::XkbCompat),
+        ("xkb_keymap", Keyword::XkbKeymap),
+    ],
+    &[
+        ("keypad_keys", Keyword::KeypadKeys),
+        ("xkb_symbols", Keyword::XkbSymbols),
+    ],
+    &[
+        ("modifier_map", Keyword::ModifierMap),
+        ("xkb_geometry", Keyword::XkbGeometry),
+        ("xkb_keycodes", Keyword::XkbKeycodes),
+    ],
+    &[
+        ("function_keys", Keyword::FunctionKeys),
+        ("modifier_keys", Keyword::ModifierKeys),
+    ],
+    &[("xkb_compat_map", Keyword::XkbCompatMap)],
+    &[("alternate_group", Keyword::AlternateGroup)],
+    &[],
+    &[
+        ("alphanumeric_keys", Keyword::AlphanumericKeys),
+        ("virtual_modifiers", Keyword::VirtualModifiers),
+        ("xkb_compatibility", Keyword::XkbCompatibility),
+    ],
+    &[],
+    &[],
+    &[],
+    &[("xkb_compatibility_map", Keyword::XkbCompatibilityMap)],
+];
+
+fn by_length() -> &'static [&'static [Row]]
+    ensures { IsByLength result.now }
+{
+    &BY_LENGTH
+}
+
+/// The keywords of a length in bytes.
+fn of_length(len: usize) -> &'static [Row]
+    ensures { rows_of result.now ≡ of_length len }
+{
+    let tables = by_length();
+    if len < tables.len() { tables[len] } else { &[] }
+}
+
+fn is_spelled(word: &[u8], row: &Row) -> bool
+    ensures { result ≡ str_eq_ignore_ascii_case word.now row.now.0.now }
+{
+    word.eq_ignore_ascii_case(row.0.as_bytes())
+}
+
+/// The first of some keywords that a word spells.
+#[tactic(auto, using(crate::proofs::Keywords::row_found, crate::proofs::Keywords::row_passed))]
+fn spelled_in(word: &[u8], rows: &[Row]) -> Option<Keyword>
+    ensures { result ≡ spelled_in word.now (rows_of rows.now) }
+{
+    'rows: for row in rows {
+        if is_spelled(word, row) {
+            return Some(row.1);
+        }
+    }
+    None
+}
+
+/// The keyword that a word spells, in capital letters or small.
+#[tactic(auto, using(crate::proofs::Keywords::spelled_of_length))]
+pub(crate) fn keyword_of(word: &[u8]) -> Option<Keyword>
+    ensures { result ≡ keyword_of word.now }
+{
+    spelled_in(word, of_length(word.len()))
+}

@@ -1,0 +1,8 @@
+use Rattle.std.proofs.Common.{[], refl}
+use Rattle.kx_merge.proofs.Behind.{shows_none}
+use Rattle.kx_merge.proofs.gathering.gather_map.Goals as goal
+
+pub returns : goal.returns
+returns g c = λ bodies are.
+    let h = c.in_ok-merge_map.ensures bodies are in
+    (h.shows [] (shows_none g.R.Fields.cell g.R.Fields.width g.R.Key.PartialEq.eq c.new-records.result [] c.new-records.ensures.empty refl), h.faultless)

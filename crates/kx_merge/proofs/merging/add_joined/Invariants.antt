@@ -1,0 +1,14 @@
+use Rattle.std.proofs.Common.{List, map, ◌≡◌, ◌++◌}
+use Rattle.std.specs.Map.{keys_of}
+use Rattle.indexmap.specs.IndexMap.{get, keys}
+use Rattle.kx_merge.specs.Bodies.{gather}
+use Rattle.kx_merge.specs.Offers.{Offer}
+use Rattle.kx_merge.specs.Records.{Shows}
+use Rattle.kx_merge.proofs.Movings.{AllGood}
+use Rattle.kx_merge.proofs.merging.add_joined.Given as goal
+
+abbrev pub invariant-records : goal.invariant-records
+invariant-records g l = (behind : List (g.row.R-Key.Denot × g.row.R.Denot)) × (l.fn.given.entries ≡ behind ++ l.key-iterator) × ((os inner : List (Offer g.row.R-Key.Denot g.row.R-Cell.Denot g.row.R-Value.Denot))
+    → Shows g.R.Fields.cell g.R.Fields.width g.R.Key.PartialEq.eq (keys l.initial.records) (get g.R.Key.PartialEq.eq l.initial.records) os
+    → AllGood g.R.Fields.cell g.R.Fields.width g.R.Key.PartialEq.eq inner behind
+    → Shows g.R.Fields.cell g.R.Fields.width g.R.Key.PartialEq.eq (keys l.records) (get g.R.Key.PartialEq.eq l.records) (os ++ map (gather g.R.Key.PartialEq.eq l.mode inner) (keys_of behind)))

@@ -1,0 +1,61 @@
+-- What going over a part of a body makes of records.
+use Rattle.std.specs.Prelude.{◌≡◌, Bool, ℕ, List, [], ◌∷◌, ◌++◌, Option, Result, Ok, Err, IfErr, OnOk, Contains}
+use Rattle.indexmap.specs.IndexMap.{get, keys}
+use Rattle.kx_lex.specs.declared.fault.Fault.{Fault}
+use Rattle.kx_lex.specs.declared.fault.Fault.TheVariants.{Memory}
+use Rattle.kx_include.specs.Expansion.{Body}
+use Rattle.kx_include.specs.Shared.{links_body}
+use Rattle.kx_include.specs.declared.expansion.Entry.{Entry}
+use Rattle.kx_include.specs.declared.expansion.Entry.TheVariants.{Own, Include}
+use Rattle.kx_include.specs.declared.expansion.Link.{Link}
+use Rattle.kx_include.specs.declared.place.Place.{Place}
+use Rattle.kx_parse.specs.declared.tree.Mode.{Mode}
+use Rattle.kx_parse.specs.declared.tree.Mode.TheVariants.{Augment}
+use Rattle.kx_merge.specs.declared.gathering.Merged.{Merged}
+use Rattle.kx_merge.specs.Bodies.{Rules, Moves, gathered, offers_of, faults_of}
+use Rattle.kx_merge.specs.Offers.{Offer}
+use Rattle.kx_merge.specs.Records.{Shows}
+
+module _ {K C V R : Type 0} (cell : R → C → Option V) (width : R → ℕ → ℕ) (eq : K → K → Bool) where
+  -- records take up offers, unless a fault among some is met
+  pub record Adds {X : Type 0} (names : List K) (at : K → Option R) (answer : Result X Fault) (new_names : List K) (new_at : K → Option R) (added : List (Offer K C V)) (blamed : List Fault) : Type 0 where
+    pub shows : (os : List (Offer K C V)) → Shows cell width eq names at os → OnOk answer (Shows cell width eq new_names new_at (os ++ added))
+    pub faultless : OnOk answer (blamed ≡ [])
+    pub fault : IfErr answer (λ e. Contains (Memory ∷ blamed) e)
+
+  -- the same behind some offers that were taken up last
+  pub record AddsBehind {X : Type 0} (last : List (Offer K C V)) (names : List K) (at : K → Option R) (answer : Result X Fault) (new_names : List K) (new_at : K → Option R) (added : List (Offer K C V)) (blamed : List Fault) : Type 0 where
+    pub shows : (os : List (Offer K C V)) → Shows cell width eq names at (os ++ last) → OnOk answer (Shows cell width eq new_names new_at ((os ++ last) ++ added))
+    pub faultless : OnOk answer (blamed ≡ [])
+    pub fault : IfErr answer (λ e. Contains (Memory ∷ blamed) e)
+
+module _ {K C V D R N : Type 0} (cell : R → C → Option V) (width : R → ℕ → ℕ) (eq : K → K → Bool) (rules : Rules K C V D) (moves : Moves K C) where
+  -- a map's records show its body, or a fault of its stands in their place
+  abbrev pub IsGathered : Result (Merged K R N) Fault → Body → Type 0
+  IsGathered (Ok g) b = Shows cell width eq (keys g.records) (get eq g.records) (offers_of eq rules moves b) × (faults_of eq rules moves b ≡ [])
+  IsGathered (Err e) b = Contains (Memory ∷ faults_of eq rules moves b) e
+
+  -- maps in order are bodies in order
+  pub data AreGathered : List (Result (Merged K R N) Fault) → List Body → Type 0 where
+    none : AreGathered [] []
+    more : {r : Result (Merged K R N) Fault} {b : Body} {rs : List (Result (Merged K R N) Fault)} {bs : List Body} → IsGathered r b → AreGathered rs bs → AreGathered (r ∷ rs) (b ∷ bs)
+
+-- an entry of a map, under the defaults before it
+module _ {K C V D : Type 0} (eq : K → K → Bool) (rules : Rules K C V D) (moves : Moves K C) (bodies : List Body) (place : Place) where
+  abbrev pub entry_offers : D → Entry → List (Offer K C V)
+  entry_offers d (Own item) = rules.offers d place item.now
+  entry_offers d (Include mode links) = gathered eq mode (offers_of eq rules moves (links_body bodies links.items))
+
+  abbrev pub entry_faults : D → Entry → List Fault
+  entry_faults d (Own item) = rules.faults d place item.now
+  entry_faults d (Include mode links) = faults_of eq rules moves (links_body bodies links.items)
+
+-- the defaults after an entry
+abbrev pub entry_next : {K C V D : Type 0} → Rules K C V D → D → Entry → D
+entry_next rules d (Own item) = rules.next d item.now
+entry_next rules d (Include mode links) = d
+
+-- the mode and the parts of an include; no parts of a statement
+abbrev pub included_by : Entry → Mode × List Link
+included_by (Own item) = (Augment, [])
+included_by (Include mode links) = (mode, links.items)

@@ -1,0 +1,299 @@
+ghost use Rattle.std.specs.Prelude.{◌≡◌, ◌++◌, ◌∷◌, [], List, Contains, IfOk, OnOk, IfErr, IsTrue};
+ghost use Rattle.indexmap.specs.IndexMap.{get, keys};
+ghost use Rattle.kx_include.specs.Expansion.{Body, End};
+ghost use Rattle.kx_include.specs.Shared.{bodies_behind, body_at, expanded_body, links_body, shared_body};
+ghost use Rattle.kx_lex.specs.declared.fault.Fault.TheVariants.{Memory};
+ghost use Rattle.kx_merge.specs.Bodies.{Rules, moved, gathered, faults_of, offers_of};
+ghost use Rattle.kx_merge.specs.Gatherings.{Adds, AddsBehind, AreGathered, IsGathered, entry_faults, entry_next, entry_offers, included_by};
+ghost use Rattle.kx_merge.specs.Records.{Shows};
+
+use crate::fields::Fields;
+use crate::merging::{add_included, add_joined, merge_own};
+use indexmap::IndexMap;
+use kx_include::{Entry, Expansion, Link, Map, Place};
+use kx_lex::Fault;
+use kx_parse::Mode;
+use std::alloc::Global;
+use std::hash::Hash;
+
+/// Records, and what is noted of the statements that they were read from.
+#[derive(Drop)]
+pub struct Merged<K: Eq + Hash, R, N> {
+    /// By what tells them apart, in the order in which they were first named.
+    pub records: IndexMap<K, R>,
+    pub notes: N,
+}
+
+/// The records of a section kind in the order in which the items of its expanded body name them: each cell has its value
+/// by precedence, and each group its width. What is noted of a statement, hidden or not, counts for each place where it
+/// stands. Each map's statements are read once, however often it is included.
+///
+/// # Errors
+/// A fault of a statement of the body; `Memory`.
+pub fn merge<C, R: Fields<C>>(
+    alloc: Global,
+    context: &C,
+    expansion: &Expansion,
+) -> Result<Merged<R::Key, R, R::Notes>, Fault>
+    ensures shows { IfOk result (λ m. Shows R.cell R.width R.Key.eq (keys m.records) (get R.Key.eq m.records) (offers_of R.Key.eq (R.rules context.now) R.moves (expanded_body expansion.now))) }
+    ensures faultless { OnOk result (faults_of R.Key.eq (R.rules context.now) R.moves (expanded_body expansion.now) ≡ []) }
+    ensures fault { IfErr result (λ e. Contains (Memory ∷ faults_of R.Key.eq (R.rules context.now) R.moves (expanded_body expansion.now)) e) }
+{
+    let done = gather_maps::<C, R>(alloc, context, expansion.maps.as_slice())?;
+    let mut records = IndexMap::new(alloc);
+    let mut notes = R::no_notes();
+    'sections: for section in &expansion.sections {
+        merge_map::<C, R>(
+            alloc,
+            context,
+            done.as_slice(),
+            section,
+            &mut records,
+            &mut notes,
+        )?;
+    }
+    Ok(Merged { records, notes })
+}
+
+/// The records of each map, of which each may include those before it; in their place a map's fault, which is one of the
+/// body only where the map is included.
+fn gather_maps<C, R: Fields<C>>(
+    alloc: Global,
+    context: &C,
+    maps: &[Map],
+) -> Result<Vec<Result<Merged<R::Key, R, R::Notes>, Fault>>, Fault>
+    ensures gathered { IfOk result (λ done. AreGathered R.cell R.width R.Key.eq (R.rules context.now) R.moves done.items (bodies_behind [] maps.now)) }
+    ensures err { IfErr result (λ e. e ≡ Memory) }
+{
+    let mut done = Vec::new(alloc);
+    'maps: for map in maps {
+        let one = gather_map::<C, R>(alloc, context, done.as_slice(), map);
+        done.push(one)?;
+    }
+    Ok(done)
+}
+
+/// The records of a map that includes some of those that are done.
+fn gather_map<C, R: Fields<C>>(
+    alloc: Global,
+    context: &C,
+    done: &[Result<Merged<R::Key, R, R::Notes>, Fault>],
+    map: &Map,
+) -> Result<Merged<R::Key, R, R::Notes>, Fault>
+    ensures { (bodies : List Body) → AreGathered R.cell R.width R.Key.eq (R.rules context.now) R.moves done.now bodies
+        → IsGathered R.cell R.width R.Key.eq (R.rules context.now) R.moves result (shared_body bodies map.now End) }
+{
+    let mut records = IndexMap::new(alloc);
+    let mut notes = R::no_notes();
+    merge_map::<C, R>(alloc, context, done, map, &mut records, &mut notes)?;
+    Ok(Merged { records, notes })
+}
+
+/// What the items of a map make of records.
+fn merge_map<C, R: Fields<C>>(
+    alloc: Global,
+    context: &C,
+    done: &[Result<Merged<R::Key, R, R::Notes>, Fault>],
+    map: &Map,
+    records: &mut IndexMap<R::Key, R>,
+    notes: &mut R::Notes,
+) -> Result<(), Fault>
+    ensures { (bodies : List Body) → AreGathered R.cell R.width R.Key.eq (R.rules context.now) R.moves done.now bodies
+        → Adds R.cell R.width R.Key.eq (keys records.old) (get R.Key.eq records.old) result (keys records.new) (get R.Key.eq records.new) (offers_of R.Key.eq (R.rules context.now) R.moves (shared_body bodies map.now End)) (faults_of R.Key.eq (R.rules context.now) R.moves (shared_body bodies map.now End)) }
+{
+    let mut defaults = R::start(alloc, context);
+    let mut last = Included {
+        mode: Mode::Augment,
+        links: &[],
+    };
+    'entries: for entry in &map.entries {
+        defaults = merge_entry::<C, R>(
+            alloc, context, done, map.place, last, entry, defaults, records, notes,
+        )?;
+        last = included_by(entry);
+    }
+    Ok(())
+}
+
+/// The parts of an include, under its mode.
+#[derive(Clone, Copy)]
+struct Included<'l> {
+    mode: Mode,
+    links: &'l [Link],
+}
+
+/// What an entry includes; no parts where it is a statement.
+fn included_by<'m>(entry: &'m Entry) -> Included<'m>
+    ensures { (result.mode, result.links.now) ≡ included_by entry.now }
+{
+    match entry {
+        Entry::Own(_) => Included {
+            mode: Mode::Augment,
+            links: &[],
+        },
+        Entry::Include { mode, links } => Included {
+            mode: *mode,
+            links: links.as_slice(),
+        },
+    }
+}
+
+/// What an item makes of records, and the defaults after it. Where it includes what the item before it does, the records
+/// stay as they are.
+fn merge_entry<C, R: Fields<C>>(
+    alloc: Global,
+    context: &C,
+    done: &[Result<Merged<R::Key, R, R::Notes>, Fault>],
+    place: Place,
+    last: Included,
+    entry: &Entry,
+    defaults: R::Defaults,
+    records: &mut IndexMap<R::Key, R>,
+    notes: &mut R::Notes,
+) -> Result<R::Defaults, Fault>
+    ensures adds { (bodies : List Body) → AreGathered R.cell R.width R.Key.eq (R.rules context.now) R.moves done.now bodies
+        → faults_of R.Key.eq (R.rules context.now) R.moves (links_body bodies last.entry.links.now) ≡ []
+        → AddsBehind R.cell R.width R.Key.eq (gathered R.Key.eq last.entry.mode (offers_of R.Key.eq (R.rules context.now) R.moves (links_body bodies last.entry.links.now))) (keys records.old) (get R.Key.eq records.old) result (keys records.new) (get R.Key.eq records.new) (entry_offers R.Key.eq (R.rules context.now) R.moves bodies place defaults entry.now) (entry_faults R.Key.eq (R.rules context.now) R.moves bodies place defaults entry.now) }
+    ensures next { IfOk result (λ d. d ≡ entry_next (R.rules context.now) defaults entry.now) }
+{
+    match entry {
+        Entry::Own(item) => {
+            merge_own::<C, R>(alloc, context, defaults, place, item, records, notes)
+        }
+        Entry::Include { mode, links } => {
+            let included = Included {
+                mode: *mode,
+                links: links.as_slice(),
+            };
+            merge_after::<C, R>(alloc, done, last, included, records, notes)?;
+            Ok(defaults)
+        }
+    }
+}
+
+fn is_same_link(one: Link, other: Link) -> bool
+    ensures { IsTrue result → one ≡ other }
+{
+    one.mode == other.mode && one.group == other.group && one.map == other.map
+}
+
+fn are_same_links(some: &[Link], others: &[Link]) -> bool
+    ensures { IsTrue result → some.now ≡ others.now }
+{
+    if some.len() != others.len() {
+        return false;
+    }
+    'links: for place in 0..some.len() {
+        if !is_same_link(some[place], others[place]) {
+            return false;
+        }
+    }
+    true
+}
+
+/// Adds what is noted with the maps of some parts.
+fn note_links<C, R: Fields<C>>(
+    done: &[Result<Merged<R::Key, R, R::Notes>, Fault>],
+    links: &[Link],
+    notes: &mut R::Notes,
+) {
+    for link in links {
+        if let Some(Ok(found)) = done.get(link.map) {
+            R::add_notes(notes, &found.notes);
+        }
+    }
+}
+
+/// What an include makes of records right behind another, which changes nothing where both are the same.
+fn merge_after<C, R: Fields<C>>(
+    alloc: Global,
+    done: &[Result<Merged<R::Key, R, R::Notes>, Fault>],
+    last: Included,
+    included: Included,
+    records: &mut IndexMap<R::Key, R>,
+    notes: &mut R::Notes,
+) -> Result<(), Fault>
+    ensures { (rules : Rules R.Key R.Cell R.Value R.Defaults) (bodies : List Body) → AreGathered R.cell R.width R.Key.eq rules R.moves done.now bodies
+        → faults_of R.Key.eq rules R.moves (links_body bodies last.entry.links.now) ≡ []
+        → AddsBehind R.cell R.width R.Key.eq (gathered R.Key.eq last.entry.mode (offers_of R.Key.eq rules R.moves (links_body bodies last.entry.links.now))) (keys records.old) (get R.Key.eq records.old) result (keys records.new) (get R.Key.eq records.new) (gathered R.Key.eq included.entry.mode (offers_of R.Key.eq rules R.moves (links_body bodies included.entry.links.now))) (faults_of R.Key.eq rules R.moves (links_body bodies included.entry.links.now)) }
+{
+    if included.mode == last.mode && are_same_links(included.links, last.links) {
+        note_links::<C, R>(done, included.links, notes);
+        return Ok(());
+    }
+    merge_include::<C, R>(alloc, done, included.mode, included.links, records, notes)
+}
+
+/// What an include makes of records under its mode. What a single part brings needs no joining.
+fn merge_include<C, R: Fields<C>>(
+    alloc: Global,
+    done: &[Result<Merged<R::Key, R, R::Notes>, Fault>],
+    mode: Mode,
+    links: &[Link],
+    records: &mut IndexMap<R::Key, R>,
+    notes: &mut R::Notes,
+) -> Result<(), Fault>
+    ensures { (rules : Rules R.Key R.Cell R.Value R.Defaults) (bodies : List Body) → AreGathered R.cell R.width R.Key.eq rules R.moves done.now bodies
+        → Adds R.cell R.width R.Key.eq (keys records.old) (get R.Key.eq records.old) result (keys records.new) (get R.Key.eq records.new) (gathered R.Key.eq mode (offers_of R.Key.eq rules R.moves (links_body bodies links.now))) (faults_of R.Key.eq rules R.moves (links_body bodies links.now)) }
+{
+    match links {
+        [link] => merge_link::<C, R>(alloc, done, mode, *link, records, notes),
+        _ => merge_joined::<C, R>(alloc, done, mode, links, records, notes),
+    }
+}
+
+/// What the parts of an include, joined, make of records under its mode.
+fn merge_joined<C, R: Fields<C>>(
+    alloc: Global,
+    done: &[Result<Merged<R::Key, R, R::Notes>, Fault>],
+    mode: Mode,
+    links: &[Link],
+    records: &mut IndexMap<R::Key, R>,
+    notes: &mut R::Notes,
+) -> Result<(), Fault>
+    ensures { (rules : Rules R.Key R.Cell R.Value R.Defaults) (bodies : List Body) → AreGathered R.cell R.width R.Key.eq rules R.moves done.now bodies
+        → Adds R.cell R.width R.Key.eq (keys records.old) (get R.Key.eq records.old) result (keys records.new) (get R.Key.eq records.new) (gathered R.Key.eq mode (offers_of R.Key.eq rules R.moves (links_body bodies links.now))) (faults_of R.Key.eq rules R.moves (links_body bodies links.now)) }
+{
+    let mut joined = IndexMap::new(alloc);
+    merge_links::<C, R>(alloc, done, links, &mut joined, notes)?;
+    add_joined::<C, R>(alloc, records, mode, joined)
+}
+
+/// What the parts of an include make of records, each under its own mode.
+fn merge_links<C, R: Fields<C>>(
+    alloc: Global,
+    done: &[Result<Merged<R::Key, R, R::Notes>, Fault>],
+    links: &[Link],
+    records: &mut IndexMap<R::Key, R>,
+    notes: &mut R::Notes,
+) -> Result<(), Fault>
+    ensures { (rules : Rules R.Key R.Cell R.Value R.Defaults) (bodies : List Body) → AreGathered R.cell R.width R.Key.eq rules R.moves done.now bodies
+        → Adds R.cell R.width R.Key.eq (keys records.old) (get R.Key.eq records.old) result (keys records.new) (get R.Key.eq records.new) (offers_of R.Key.eq rules R.moves (links_body bodies links.now)) (faults_of R.Key.eq rules R.moves (links_body bodies links.now)) }
+{
+    'links: for link in links {
+        merge_link::<C, R>(alloc, done, link.mode, *link, records, notes)?;
+    }
+    Ok(())
+}
+
+/// What a part of an include makes of records under a mode.
+fn merge_link<C, R: Fields<C>>(
+    alloc: Global,
+    done: &[Result<Merged<R::Key, R, R::Notes>, Fault>],
+    mode: Mode,
+    link: Link,
+    records: &mut IndexMap<R::Key, R>,
+    notes: &mut R::Notes,
+) -> Result<(), Fault>
+    ensures { (rules : Rules R.Key R.Cell R.Value R.Defaults) (bodies : List Body) → AreGathered R.cell R.width R.Key.eq rules R.moves done.now bodies
+        → Adds R.cell R.width R.Key.eq (keys records.old) (get R.Key.eq records.old) result (keys records.new) (get R.Key.eq records.new) (moved R.moves link.group (gathered R.Key.eq mode (offers_of R.Key.eq rules R.moves (body_at bodies link.map)))) (faults_of R.Key.eq rules R.moves (body_at bodies link.map)) }
+{
+    match done.get(link.map) {
+        None => Ok(()),
+        Some(Err(fault)) => Err(*fault),
+        Some(Ok(found)) => {
+            R::add_notes(notes, &found.notes);
+            add_included::<C, R>(alloc, records, mode, &found.records, link.group)
+        }
+    }
+}
