@@ -13,8 +13,6 @@ mod names;
 mod notes;
 mod press;
 mod table;
-#[cfg(test)]
-mod tests;
 
 pub use device::{Feed, Lent, Out};
 pub use fault::NameFault;

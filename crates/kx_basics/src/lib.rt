@@ -14,6 +14,3 @@ pub use limits::{
     CODES, GREATEST_CODE, GREATEST_KEYSYM, LEAST_KEYSYM, MOST_GROUPS, MOST_KEYSYMS, MOST_LEVELS,
     MOST_NAME_BYTES,
 };
-
-#[cfg(test)]
-mod tests;

@@ -5,3 +5,5 @@ pub mod Lasts
 pub mod Agreeing
 pub mod Counting
 pub mod Sounding
+pub mod Lighting
+pub mod Lit

@@ -88,8 +88,8 @@ module _ (r : Resolved) (fine : IsFine r) where
   keys_few : length r.keys ≤ 4096
   keys_few = few_keys r.keys fine.codes_rise (All-weaker (KeyIsFine r.types) (λ (k : ResolvedKey). k.code ≤ 4095) (λ k holds. holds.code_fits) r.keys fine.each_key)
 
-  small : IsSmall r
-  small = record {
+  pub fine_is_small : IsSmall r
+  fine_is_small = record {
     few_types = fine.types_fit;
     small_types = All-weaker TypeIsFine TypeIsSmall (λ t holds. record { few_entries = holds.entries_fit; short_name = holds.name_fits }) r.types fine.each_type;
     few_keys = keys_few;
@@ -131,15 +131,15 @@ module _ (r : Resolved) (fine : IsFine r) where
   counts_hold = record {
     types = omega (arith, fine.types_fit, rows_length type_row r.types);
     entries = sym (sum_of_rows type_row (λ (t : ResolvedType). t.entries) (λ (t : TypeRow). t.entries) any (λ before t h. refl) r.types (all_any r.types));
-    entries_fit = few_entries r small;
+    entries_fit = few_entries r fine_is_small;
     keys = omega (arith, keys_few, rows_length (key_row r.types) r.keys);
     groups = rows_length group_row (all_groups r.keys) ∙ sym (sum_of_rows (key_row r.types) (λ (k : ResolvedKey). k.groups) (λ (k : KeyRow). k.groups) any (λ before k h. refl) r.keys (all_any r.keys));
     cells = rows_length cell_row (all_cells (all_groups r.keys)) ∙ sym (sum_of_rows group_row (λ (g : ResolvedGroup). g.cells) (levels_of (content_of_resolved r)) (GroupIsFine r.types) (λ before g holds. levels_in r.types g (slice_get r.types g.key_type) refl holds.whole) (all_groups r.keys) groups_fine);
-    cells_fit = cell_count r small;
+    cells_fit = cell_count r fine_is_small;
     keysyms = sym (sum_of_rows cell_row (λ (d : ResolvedCell). d.syms) (λ (d : CellRow). d.keysyms) any (λ before d h. refl) (all_cells (all_groups r.keys)) (all_any (all_cells (all_groups r.keys))));
-    keysyms_fit = keysym_count r small;
+    keysyms_fit = keysym_count r fine_is_small;
     names = omega (arith, length-append (names_of_types r.types) (names_of_keys r.keys), type_names_are, key_names_are);
-    names_fit = few_names r small;
+    names_fit = few_names r fine_is_small;
   }
 
   -- ---- Types and entries

@@ -9,3 +9,5 @@ pub mod Fine
 pub mod Agreement
 pub mod Small
 pub mod Many
+pub mod Lamps
+pub mod LampsAdded

@@ -41,7 +41,7 @@ All_flat f P [] each = All-nil P
 All_flat f P (x ∷ xs) each = All-append P (f x) (flat_map f xs) (All-head (λ y. All P (f y)) x xs each) (All_flat f P xs (All-tail (λ y. All P (f y)) x xs each))
 
 -- things that own at most n each
-flat_length : {X A : Type 0} (f : X → List A) (n : ℕ) (xs : List X) → All (λ x. length (f x) ≤ n) xs → length (flat_map f xs) ≤ length xs * n
+pub flat_length : {X A : Type 0} (f : X → List A) (n : ℕ) (xs : List X) → All (λ x. length (f x) ≤ n) xs → length (flat_map f xs) ≤ length xs * n
 flat_length f n xs each = rw (length-flat_map f xs) (sum_by-le (λ x. length (f x)) n xs each)
 
 module _ (r : Resolved) (small : IsSmall r) where
@@ -56,11 +56,14 @@ module _ (r : Resolved) (small : IsSmall r) where
       let each : All (λ (t : ResolvedType). length t.entries ≤ 65535) r.types = All-weaker TypeIsSmall (λ (t : ResolvedType). length t.entries ≤ 65535) (λ t holds. let h : length t.entries < 2 ^ 16 = holds.few_entries in omega (arith, h)) r.types small.small_types in
       omega (arith, small.few_types, flat_length (λ (t : ResolvedType). t.entries) 65535 r.types each)
 
-  pub few_names : length (names_of_types r.types ++ names_of_keys r.keys) < 2 ^ 32
-  few_names =
+  pub name_bytes : length (names_of_types r.types ++ names_of_keys r.keys) ≤ 17755905
+  name_bytes =
       let types : length (names_of_types r.types) ≤ length r.types * 255 = flat_length (λ (t : ResolvedType). t.name) 255 r.types (All-weaker TypeIsSmall (λ (t : ResolvedType). length t.name ≤ 255) (λ t holds. holds.short_name) r.types small.small_types) in
       let keys : length (names_of_keys r.keys) ≤ length r.keys * 255 = flat_length (λ (k : ResolvedKey). k.name) 255 r.keys (All-weaker KeyIsSmall (λ (k : ResolvedKey). length k.name ≤ 255) (λ k holds. holds.short_name) r.keys small.small_keys) in
       omega (arith, types, keys, small.few_types, small.few_keys, length-append (names_of_types r.types) (names_of_keys r.keys))
+
+  pub few_names : length (names_of_types r.types ++ names_of_keys r.keys) < 2 ^ 32
+  few_names = omega (arith, name_bytes)
 
   few_groups : length (all_groups r.keys) ≤ 131072
   few_groups = omega (arith, small.few_keys, flat_length (λ (k : ResolvedKey). k.groups) 32 r.keys (All-weaker KeyIsSmall (λ (k : ResolvedKey). length k.groups ≤ 32) (λ k holds. holds.few_groups) r.keys small.small_keys))

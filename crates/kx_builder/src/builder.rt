@@ -1,8 +1,9 @@
-ghost use Rattle.std.specs.Prelude.{◌≡◌, ◌<◌, [], OnOk, OnErr, IfErr, length, ⊤};
+ghost use Rattle.std.specs.Prelude.{◌≡◌, ◌<◌, [], OnOk, OnErr, IfErr, IfOk, length, map, ⊤};
 ghost use Rattle.kx_builder.specs.Added.{TypeFits, KeyFits, GroupFits, CellFits};
 ghost use Rattle.kx_builder.specs.Agreement.{ShowsSame};
 ghost use Rattle.kx_builder.specs.Faults.{IsCause};
 ghost use Rattle.kx_builder.specs.Fine.{IsFine};
+ghost use Rattle.kx_builder.specs.Lamps.{LampsAreFine, LampsFit, indicator_of, keymap_with, with_lamps};
 ghost use Rattle.kx_builder.specs.Placed.{content_of_resolved};
 ghost use Rattle.kx_builder.specs.Pushes.{with_type, with_key, with_group, with_cell, last_groups};
 ghost use Rattle.kx_builder.specs.Resolved.{keymap_of_resolved, nothing_resolved};
@@ -12,6 +13,7 @@ ghost use Rattle.kx_tables.specs.Parts.{content_of};
 ghost use Rattle.kx_tables.specs.Sound.{Sound};
 
 use crate::fault::BuildFault;
+use crate::lamps::{Indicator, push_group_names, push_indicators};
 use crate::tables::{
     add_cell, add_group, add_key, add_type, last_count, next_cell, next_key, next_type, no_tables,
     place,
@@ -120,5 +122,23 @@ impl Builder {
         ensures sound { IsFine self → Sound (content_of result) }
     {
         self.parts
+    }
+
+    /// The tables, with indicators and the names of groups. Where what is resolved is whole and fine, and so are these,
+    /// their keymap is its keymap with these lamps, and they are sound.
+    pub fn with_lamps(
+        self,
+        indicators: &[Indicator<'_>],
+        group_names: &[&[u8]],
+    ) -> Result<Parts, BuildFault>
+        ensures content { IfOk result (λ parts. content_of parts ≡ with_lamps (content_of_resolved self) (map indicator_of indicators.now) (map (λ g. g.now) group_names.now)) }
+        ensures agrees { IsWhole self → IfOk result (λ parts. ShowsSame (keymap_of (content_of parts)) (keymap_with (keymap_of_resolved self) (map indicator_of indicators.now))) }
+        ensures sound { IsFine self → LampsAreFine (map indicator_of indicators.now) (map (λ g. g.now) group_names.now) → IfOk result (λ parts. Sound (content_of parts)) }
+        ensures fault { IfErr result (λ e. IsCause e (LampsFit (content_of_resolved self) (map indicator_of indicators.now) (map (λ g. g.now) group_names.now)) ⊤) }
+    {
+        let mut parts = self.parts;
+        push_indicators(&mut parts, indicators)?;
+        push_group_names(&mut parts, group_names)?;
+        Ok(parts)
     }
 }

@@ -3,10 +3,9 @@
 
 mod builder;
 mod fault;
+mod lamps;
 mod tables;
 
 pub use builder::Builder;
 pub use fault::BuildFault;
-
-#[cfg(test)]
-mod tests;
+pub use lamps::Indicator;

@@ -8,8 +8,6 @@ mod name;
 mod pairs;
 mod reader;
 mod table;
-#[cfg(test)]
-mod tests;
 mod walking;
 
 pub use reader::codes;

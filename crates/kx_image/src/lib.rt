@@ -15,6 +15,3 @@ pub use fault::ImageFault;
 pub use upgrading::{UpgradeFault, upgrade};
 pub use view::{View, one_content};
 pub use writer::write;
-
-#[cfg(test)]
-mod tests;

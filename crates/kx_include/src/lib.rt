@@ -8,8 +8,6 @@ mod part;
 mod place;
 mod reading;
 mod sources;
-#[cfg(test)]
-mod tests;
 mod text;
 
 pub use expansion::{Bodies, Entry, Expansion, Link, Map};

@@ -9,8 +9,6 @@ pub mod name;
 pub mod repeated;
 pub mod scan;
 pub mod string;
-#[cfg(test)]
-mod tests;
 pub mod token;
 pub mod tokens;
 

@@ -4,4 +4,3 @@ pub mod Movings
 pub mod Behind
 pub mod Single
 pub mod Again
-pub mod Sheets

@@ -3,4 +3,3 @@ pub mod Bodies
 pub mod Records
 pub mod Moved
 pub mod Gatherings
-pub mod Sheet

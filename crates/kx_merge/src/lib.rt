@@ -4,8 +4,6 @@
 mod fields;
 mod gathering;
 mod merging;
-#[cfg(test)]
-mod tests;
 
 pub use fields::Fields;
 pub use gathering::{Merged, merge};

@@ -4,8 +4,6 @@
 mod fields;
 mod sections;
 mod statements;
-#[cfg(test)]
-mod tests;
 mod tree;
 mod values;
 

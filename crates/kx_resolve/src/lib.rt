@@ -3,8 +3,6 @@
 
 mod compiling;
 mod resolving;
-#[cfg(test)]
-mod tests;
 
 pub use compiling::tables;
 pub use resolving::resolve;

@@ -14,8 +14,6 @@ mod lookup;
 mod player;
 mod presses;
 mod reply;
-#[cfg(test)]
-mod tests;
 
 pub use direction::{Direction, Event};
 pub use follower::Follower;

@@ -7,8 +7,6 @@ mod keys;
 mod keysyms;
 mod levels;
 mod record;
-#[cfg(test)]
-mod tests;
 
 pub use keys::{Keys, symbols};
 pub use keysyms::Keysyms;

@@ -15,6 +15,3 @@ pub use rows::{
     States, TypeRow,
 };
 pub use tables::{Counts, Rows, Tables, most_groups};
-
-#[cfg(test)]
-mod tests;

@@ -1,0 +1,149 @@
+use kx_codes::{Codes, codes};
+use kx_include::{Files, Library};
+use kx_lex::{Fault, Span, lex};
+use kx_parse::parse;
+use std::process::Abort;
+use std::test::Fail;
+
+/// The codes of these items, which begin at byte 28, over these files.
+fn codes_over(
+    rt: &(impl Abort + AllocGlobal),
+    items: &[u8],
+    given: &[(&[u8], &[u8])],
+) -> Result<Codes, Fault> {
+    let text = [
+        b"xkb_keymap { xkb_keycodes { ".as_slice(),
+        items,
+        b" }; };".as_slice(),
+    ]
+    .concat(rt.alloc())?;
+    let tokens = lex(rt.alloc(), text.as_slice())?;
+    let tree = parse(rt.alloc(), text.as_slice(), tokens.as_slice())?;
+    let mut files = Files::new(rt.alloc());
+    for (name, bytes) in given {
+        files.insert(
+            Vec::from_slice(rt.alloc(), name)?,
+            Vec::from_slice(rt.alloc(), bytes)?,
+        )?;
+    }
+    let whole = Span { start: 0, stop: 0 };
+    let library = Library::read(rt.alloc(), tree, whole, &files)?;
+    let bodies = library.expand(rt.alloc())?;
+    codes(rt.alloc(), &bodies.keycodes)
+}
+
+fn codes_of(rt: &(impl Abort + AllocGlobal), items: &[u8]) -> Result<Codes, Fault> {
+    codes_over(rt, items, [].as_slice())
+}
+
+/// The codes of A, B and C, and the names of 38 and 39.
+fn shown(rt: &(impl Abort + AllocGlobal), codes: &Codes) -> Result<String, Fail> {
+    let a = codes.code_of(b"A").unwrap_or(0);
+    let b = codes.code_of(b"B").unwrap_or(0);
+    let c = codes.code_of(b"C").unwrap_or(0);
+    let first = codes.name_of(38).unwrap_or(b"-").to_vec(rt.alloc())?;
+    let second = codes.name_of(39).unwrap_or(b"-").to_vec(rt.alloc())?;
+    let first = String::from_utf8(first)?;
+    let second = String::from_utf8(second)?;
+    Ok(format!(in rt.alloc(); "{a} {b} {c} {first} {second}")?)
+}
+
+#[test]
+fn pairs_and_aliases(rt: HostRuntime) -> Result<(), Fail> {
+    let rows: [(&[u8], &str); 12] = [
+        (b"<A>=38; <B>=39; <A>=39;", "39 0 0 - A"),
+        (b"<A>=38; <B>=39; <A>=39; <C>=38; <B>=38;", "39 38 0 B A"),
+        (b"<A>=38; augment <B>=38;", "38 0 0 A -"),
+        (b"<A>=38; <B>=38;", "0 38 0 B -"),
+        (b"<A>=38; augment <A>=39; <C>=39;", "38 0 39 A C"),
+        (b"<A>=38; alias <B>=<A>;", "38 38 0 A -"),
+        (b"<A>=38; alias <B>=<A>; alias <C>=<B>;", "38 38 0 A -"),
+        (
+            b"alias <C>=<A>; <A>=38; <B>=39; alias <C>=<B>;",
+            "38 39 39 A B",
+        ),
+        (
+            b"alias <C>=<A>; <A>=38; <B>=39; augment alias <C>=<B>;",
+            "38 39 38 A B",
+        ),
+        (b"<A>=38; <B>=39; alias <A>=<B>;", "38 39 0 A B"),
+        (b"<A>=4095;", "4095 0 0 - -"),
+        (
+            b"minimum = 8; Maximum = 255; indicator 1 = \"Caps Lock\"; <A>=38;",
+            "38 0 0 A -",
+        ),
+    ];
+    for (items, wanted) in rows {
+        let codes = codes_of(&rt, items)?;
+        assert_eq!(rt; shown(&rt, &codes)?.as_str(), wanted, "{:?}", items);
+    }
+    Ok(())
+}
+
+#[test]
+fn includes_bring_what_their_maps_leave(rt: HostRuntime) -> Result<(), Fail> {
+    let evdev = b"xkb_keycodes { <A>=38; <B>=39; <A>=39; alias <C>=<A>; };".as_slice();
+    let other = b"xkb_keycodes { <B>=38; <A>=38; };".as_slice();
+    let outer = b"xkb_keycodes { include \"evdev\" <B>=38; };".as_slice();
+    let wrong = b"xkb_keycodes { <A>=5000; };".as_slice();
+    let given = [
+        (b"evdev".as_slice(), evdev),
+        (b"other".as_slice(), other),
+        (b"outer".as_slice(), outer),
+        (b"wrong".as_slice(), wrong),
+    ];
+    let rows: [(&[u8], &str); 7] = [
+        (b"include \"evdev\"", "39 0 39 - A"),
+        (b"include \"evdev\" include \"evdev\"", "39 0 39 - A"),
+        (b"include \"outer\"", "39 38 39 B A"),
+        (b"include \"outer+other\"", "38 0 38 A -"),
+        (b"include \"outer|other\"", "39 38 39 B A"),
+        (b"<A>=38; augment \"evdev+other\"", "38 0 38 A -"),
+        (b"include \"other\" include \"evdev\"", "39 0 39 - A"),
+    ];
+    for (items, wanted) in rows {
+        let codes = codes_over(&rt, items, given.as_slice())?;
+        assert_eq!(rt; shown(&rt, &codes)?.as_str(), wanted, "{:?}", items);
+    }
+    match codes_over(&rt, b"<A>=38; include \"wrong\"", given.as_slice()) {
+        Ok(_) => assert_eq!(rt; "", "refused"),
+        Err(fault) => {
+            let text = format!(in rt.alloc(); "{fault}")?;
+            assert_eq!(rt; text.as_str(), "F18 CodeRange at 4:19-23");
+        }
+    }
+    Ok(())
+}
+
+#[test]
+fn faults_name_their_place(rt: HostRuntime) -> Result<(), Fail> {
+    let rows: [(&[u8], &str); 6] = [
+        (b"<A>=4096;", "F18 CodeRange at 0:32-36"),
+        (b"<A>=38; augment <B>=5000;", "F18 CodeRange at 0:48-52"),
+        (b"middle = 8;", "F14 UnknownField at 0:28-34"),
+        (b"minimum.x = 8;", "F14 UnknownField at 0:28-35"),
+        (b"augment key <A> { [a] };", "F14 UnknownField at 0:36-39"),
+        (b"type \"A\" { };", "F14 UnknownField at 0:28-32"),
+    ];
+    for (items, wanted) in rows {
+        match codes_of(&rt, items) {
+            Ok(_) => assert_eq!(rt; "", wanted),
+            Err(fault) => assert_eq!(rt; format!(in rt.alloc(); "{fault}")?.as_str(), wanted),
+        }
+    }
+    Ok(())
+}
+
+#[test]
+fn long_names_are_refused(rt: HostRuntime) -> Result<(), Fail> {
+    for (count, wanted) in [(255, "ok"), (256, "F13 TooMany at 0:28-290")] {
+        let name = vec![in rt.alloc(); b'x'; count]?;
+        let items = [b"<".as_slice(), name.as_slice(), b">=38;"].concat(rt.alloc())?;
+        let verdict = match codes_of(&rt, items.as_slice()) {
+            Ok(_) => String::from_str(rt.alloc(), "ok")?,
+            Err(fault) => format!(in rt.alloc(); "{fault}")?,
+        };
+        assert_eq!(rt; verdict.as_str(), wanted);
+    }
+    Ok(())
+}

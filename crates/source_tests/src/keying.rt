@@ -1,0 +1,238 @@
+use kx_symbols::{Keys, symbols};
+use ks_core::{NameTable, Notes};
+use kx_codes::codes;
+use kx_include::{Files, Library};
+use kx_lex::{Fault, Span, lex};
+use kx_parse::parse;
+use std::process::Abort;
+use std::test::Fail;
+
+const US: &[u8] = b"default xkb_symbols \"basic\" { key <A> { [ a ] }; };";
+
+const RU: &[u8] = b"xkb_symbols \"x\" { key <A> { [ U0444 ], [ 7 ] }; };";
+
+/// The keys of these symbols items, which begin at byte 61, where A has the code 38 and B 39, and what is noted.
+fn keys_of(rt: &(impl Abort + AllocGlobal), items: &[u8]) -> Result<(Keys, Notes), Fault> {
+    let text = [
+        b"xkb_keymap { xkb_keycodes { <A>=38; <B>=39; }; xkb_symbols { ".as_slice(),
+        items,
+        b" }; };".as_slice(),
+    ]
+    .concat(rt.alloc())?;
+    let mut files = Files::new(rt.alloc());
+    for (name, bytes) in [(b"us".as_slice(), US), (b"ru".as_slice(), RU)] {
+        files.insert(
+            Vec::from_slice(rt.alloc(), name)?,
+            Vec::from_slice(rt.alloc(), bytes)?,
+        )?;
+    }
+    let tokens = lex(rt.alloc(), text.as_slice())?;
+    let tree = parse(rt.alloc(), text.as_slice(), tokens.as_slice())?;
+    let whole = Span { start: 0, stop: 0 };
+    let library = Library::read(rt.alloc(), tree, whole, &files)?;
+    let bodies = library.expand(rt.alloc())?;
+    let codes = codes(rt.alloc(), &bodies.keycodes)?;
+    let names = NameTable::builtin();
+    symbols(rt.alloc(), &bodies.symbols, &codes, &names)
+}
+
+/// The keysyms of A, level by level and group by group: levels are parted by blanks, groups by `/`, and the keysyms of a
+/// level are in hexadecimal and joined by `+`.
+fn shown(rt: &(impl Abort + AllocGlobal), items: &[u8]) -> Result<String, Fail> {
+    let (keys, _notes) = keys_of(rt, items)?;
+    let mut text = String::new(rt.alloc());
+    let Some(key) = keys.key(38) else {
+        return Ok(text);
+    };
+    for group in 0..key.group_count() {
+        if group > 0 {
+            text.push_str("/")?;
+        }
+        for level in 0..key.width(group) {
+            if level > 0 {
+                text.push_str(" ")?;
+            }
+            match key.keysyms(group, level) {
+                None => text.push_str("-")?,
+                Some(keysyms) => {
+                    for (place, keysym) in keysyms.as_slice().iter().enumerate() {
+                        let mark = if place > 0 { "+" } else { "" };
+                        let written = format!(in rt.alloc(); "{mark}{keysym:x}")?;
+                        text.push_str(written.as_str())?;
+                    }
+                }
+            }
+        }
+    }
+    Ok(text)
+}
+
+#[test]
+fn keysyms_by_precedence(rt: HostRuntime) -> Result<(), Fail> {
+    let rows: [(&[u8], &str); 17] = [
+        (b"key <A> { [a] }; key <A> { [b] };", "62"),
+        (b"key <A> { [a] }; augment key <A> { [b] };", "61"),
+        (
+            b"augment key <A> { [a] }; augment key <A> { [b] }; override key <A> { [c] };",
+            "63",
+        ),
+        (b"key <A> { [a] }; key <A> { [NoSymbol] };", "61"),
+        (b"key <A> { [a] }; replace key <A> { [NoSymbol] };", "-"),
+        (
+            b"key <A> { [a] }; replace key <A> { [NoSymbol] }; augment key <A> { [b] };",
+            "62",
+        ),
+        (
+            b"key <A> { [a, b] }; key <A> { [NoSymbol, c, d] };",
+            "61 63 64",
+        ),
+        (
+            b"key <A> { [a, b] }; augment key <A> { [c], [d] };",
+            "61 62/64",
+        ),
+        (b"key <A> { [a] }; replace key <A> { [], [b] };", "/62"),
+        (b"key <A> { [a], [b] }; replace \"us:2\"", "/61"),
+        (
+            b"key <A> { [b] }; override \"us\" augment \"ru(x)\"",
+            "61/37",
+        ),
+        (b"include \"us+ru(x):2\"", "61/1000444"),
+        (b"include \"us:2+ru(x)\"", "1000444/37"),
+        (b"include \"us:2|ru(x)\"", "1000444/61"),
+        (b"key <A> { [b] }; augment \"us:3\"", "62//61"),
+        (b"include \"us:3\" key <A> { [b] };", "62//61"),
+        (b"key <B> { [b] };", ""),
+    ];
+    for (items, wanted) in &rows {
+        assert_eq!(rt; shown(&rt, items)?.as_str(), *wanted, "{:?}", items);
+    }
+    Ok(())
+}
+
+#[test]
+fn lists_and_their_groups(rt: HostRuntime) -> Result<(), Fail> {
+    let rows: [(&[u8], &str); 11] = [
+        (b"key <A> { };", ""),
+        (b"key <A> { [] };", ""),
+        (
+            b"key <A> { [5, 0x1000444, U41, Any, none] };",
+            "35 1000444 41 - ffffff",
+        ),
+        (b"key <A> { [a], [b], [c] };", "61/62/63"),
+        (b"key <A> { symbols[2]=[a], [b], [c] };", "62/61/63"),
+        (b"key <A> { Symbols[group3]=[a] };", "//61"),
+        (b"key <A> { symbols=[a], symbols=[b] };", "61/62"),
+        (
+            b"key <A> { [{ a, NoSymbol, b }, { NoSymbol }] };",
+            "61+62 -",
+        ),
+        (
+            b"key <A> { [{ a, b, c, d, e, f, g, 8 }] };",
+            "61+62+63+64+65+66+67+38",
+        ),
+        (b"key <A> { [frobnicate, a] };", "- 61"),
+        (
+            b"key <A> { symbols[Group032]=[a] };",
+            "///////////////////////////////61",
+        ),
+    ];
+    for (items, wanted) in &rows {
+        assert_eq!(rt; shown(&rt, items)?.as_str(), *wanted, "{:?}", items);
+    }
+    Ok(())
+}
+
+#[test]
+fn faults_name_their_place(rt: HostRuntime) -> Result<(), Fail> {
+    let rows: [(&[u8], &str); 18] = [
+        (b"key <A> { [536870912] };", "F15 BadValue at 0:72-81"),
+        (
+            b"key <B> { [{ a, 536870912 }] };",
+            "F15 BadValue at 0:77-86",
+        ),
+        (
+            b"key <A> { symbols[1]=[a], symbols[1]=[b] };",
+            "F15 BadValue at 0:98-101",
+        ),
+        (b"key <A> { symbols[0]=[a] };", "F16 GroupRange at 0:79-80"),
+        (b"key <A> { symbols[33]=[a] };", "F16 GroupRange at 0:79-81"),
+        (
+            b"key <A> { symbols[Group99999999999]=[a] };",
+            "F16 GroupRange at 0:79-95",
+        ),
+        (b"key <A> { symbols[-1]=[a] };", "F15 BadValue at 0:79-81"),
+        (b"key <A> { symbols[1+1]=[a] };", "F15 BadValue at 0:79-82"),
+        (
+            b"key <A> { symbols[group]=[a] };",
+            "F15 BadValue at 0:79-84",
+        ),
+        (b"key <A> { symbols[1]=a };", "F15 BadValue at 0:82-83"),
+        (b"key <A> { !symbols };", "F15 BadValue at 0:71-79"),
+        (
+            b"key <A> { symbols=NoAction() };",
+            "F15 BadValue at 0:79-89",
+        ),
+        (
+            b"key <A> { symbols=[NoAction()] };",
+            "F15 BadValue at 0:80-90",
+        ),
+        (b"key <A> { [NoAction()] };", "F14 UnknownField at 0:72-80"),
+        (
+            b"key <A> { [{ a, b, c, d, e, f, g, h, i }] };",
+            "F13 TooMany at 0:61-105",
+        ),
+        (b"key <A> { a.symbols=[a] };", "F14 UnknownField at 0:71-72"),
+        (b"key.type = \"X\";", "F14 UnknownField at 0:61-64"),
+        (
+            b"augment modifier_map Shift { <A> };",
+            "F14 UnknownField at 0:69-81",
+        ),
+    ];
+    for (items, wanted) in &rows {
+        match keys_of(&rt, items) {
+            Ok(_) => assert_eq!(rt; "", *wanted),
+            Err(fault) => {
+                assert_eq!(rt;
+                    format!(in rt.alloc(); "{fault}")?.as_str(),
+                    *wanted,
+                    "{:?}",
+                    items
+                )
+            }
+        }
+    }
+    Ok(())
+}
+
+#[test]
+fn a_key_has_32_groups(rt: HostRuntime) -> Result<(), Fail> {
+    let mut items = Vec::from_slice(rt.alloc(), b"key <A> { [a]".as_slice())?;
+    for _ in 1..32 {
+        items.extend_from_slice(b",[a]")?;
+    }
+    let within = [items.as_slice(), b"};".as_slice()].concat(rt.alloc())?;
+    assert!(rt; keys_of(&rt, within.as_slice()).is_ok());
+    let past = [items.as_slice(), b",[b]};".as_slice()].concat(rt.alloc())?;
+    match keys_of(&rt, past.as_slice()) {
+        Ok(_) => assert!(rt; false),
+        Err(fault) => {
+            assert_eq!(rt;
+                format!(in rt.alloc(); "{fault}")?.as_str(),
+                "F16 GroupRange at 0:199-202"
+            )
+        }
+    }
+    Ok(())
+}
+
+#[test]
+fn unknown_names_are_noted(rt: HostRuntime) -> Result<(), Fail> {
+    let items = b"key <C> { [a] }; key <A> { [nope, { a, nope2 }] }; replace key <A> { [a] };";
+    let (_keys, notes) = keys_of(&rt, items.as_slice())?;
+    assert_eq!(rt; notes.keys, 1);
+    assert_eq!(rt; notes.keysyms, 2);
+    assert_eq!(rt; notes.types, 0);
+    assert_eq!(rt; notes.levels, 0);
+    assert_eq!(rt; notes.actions, 0);
+    Ok(())
+}

@@ -1,0 +1,11 @@
+//! Tests of what statements mean: records by precedence, keycodes, keys and the tables of whole sources.
+#![tactic(auto)]
+
+#[cfg(test)]
+mod coding;
+#[cfg(test)]
+mod keying;
+#[cfg(test)]
+mod merging;
+#[cfg(test)]
+mod resolving;

@@ -1,0 +1,99 @@
+use kx_resolve::{resolve, tables};
+use ks_core::{NameTable, Notes};
+use kx_codes::codes;
+use kx_include::{Files, Library};
+use kx_lex::Fault;
+use kx_symbols::symbols;
+use kx_tables::{Owned, Rows, Tables};
+use std::process::Abort;
+use std::test::Fail;
+
+/// The tables of a source without files, and what was passed over.
+fn tables_in(rt: &(impl Abort + AllocGlobal), source: &[u8]) -> Result<(Owned, Notes), Fault> {
+    let files = Files::new(rt.alloc());
+    tables(rt.alloc(), source, &files, &NameTable::builtin())
+}
+
+#[test]
+fn keys_are_those_that_keycodes_name(rt: HostRuntime) -> Result<(), Fail> {
+    let source =
+        b"xkb_keymap { xkb_keycodes { <B>=40; <A>=38; }; xkb_keycodes { <C>=9; }; xkb_symbols { key <A> {[a]}; }; xkb_symbols { key <C> {[c]}; }; };";
+    let (tables, _) = tables_in(&rt, source)?;
+    assert_eq!(rt; tables.counts().keys, 3);
+    assert_eq!(rt; tables.key_row(0).code, 9);
+    assert_eq!(rt; tables.key_name(1), b"A".as_slice());
+    assert_eq!(rt; tables.key_name(2), b"B".as_slice());
+    assert_eq!(rt; tables.counts().types, 1);
+    assert_eq!(rt; tables.type_name(0), b"ONE_LEVEL".as_slice());
+    assert_eq!(rt; tables.counts().keysyms, 2);
+    assert_eq!(rt; tables.keysym(0), 0x63);
+    assert_eq!(rt; tables.keysym(1), 0x61);
+    Ok(())
+}
+
+#[test]
+fn no_group_uses_no_type(rt: HostRuntime) -> Result<(), Fail> {
+    let (tables, _) = tables_in(&rt, b"xkb_keymap { xkb_keycodes { <A>=38; }; };")?;
+    assert_eq!(rt; tables.counts().keys, 1);
+    assert_eq!(rt; tables.counts().types, 0);
+    Ok(())
+}
+
+#[test]
+fn groups_of_one_level(rt: HostRuntime) -> Result<(), Fail> {
+    let source =
+        b"xkb_keymap { xkb_keycodes { <A>=38; }; xkb_symbols { key <A> { [a, A], [], [b] }; }; };";
+    let (tables, notes) = tables_in(&rt, source)?;
+    assert_eq!(rt; tables.counts().groups, 3);
+    assert_eq!(rt; tables.counts().keysyms, 3);
+    // The second group takes the content of the first.
+    assert_eq!(rt; tables.keysym(0), 0x61);
+    assert_eq!(rt; tables.keysym(1), 0x61);
+    assert_eq!(rt; tables.keysym(2), 0x62);
+    assert_eq!(rt; notes.types, 2);
+    assert_eq!(rt; notes.levels, 2);
+    Ok(())
+}
+
+#[test]
+fn resolves_codes_and_keys(rt: HostRuntime) -> Result<(), Fail> {
+    let text =
+        b"xkb_keymap { xkb_keycodes { <A>=38; alias <C>=<A>; }; xkb_symbols { key <C> {[7]}; }; };";
+    let files = Files::new(rt.alloc());
+    let library = Library::of_source(rt.alloc(), text, &files)?;
+    let bodies = library.expand(rt.alloc())?;
+    let codes = codes(rt.alloc(), &bodies.keycodes)?;
+    let names = NameTable::builtin();
+    let (keys, _) = symbols(rt.alloc(), &bodies.symbols, &codes, &names)?;
+    let (parts, notes) = resolve(rt.alloc(), &codes, &keys)?;
+    assert_eq!(rt; notes, Notes::new());
+    assert_eq!(rt; parts.keysyms.as_slice(), [0x37].as_slice());
+    Ok(())
+}
+
+#[test]
+fn refusals_name_their_place(rt: HostRuntime) -> Result<(), Fail> {
+    let rows: [(&[u8], &str); 4] = [
+        (
+            b"xkb_keymap { xkb_types { type \"X\" { modifiers = None; }; }; };",
+            "F14 UnknownField at 0:25-29",
+        ),
+        (
+            b"xkb_keymap { xkb_compat { }; xkb_compat { group 1 = 1; }; };",
+            "F14 UnknownField at 0:42-47",
+        ),
+        (
+            b"xkb_keymap { xkb_keycodes { <A>=4096; }; };",
+            "F18 CodeRange at 0:32-36",
+        ),
+        (b"xkb_keymap { xkb_symbols { key", "F6 Syntax at 0:30-30"),
+    ];
+    for (source, line) in rows {
+        let refusal = match tables_in(&rt, source) {
+            Ok(_) => String::from_str(rt.alloc(), "taken")?,
+            Err(fault) => format!(in rt.alloc(); "{fault}")?,
+        };
+        assert_eq!(rt; refusal.as_str(), line);
+    }
+    Ok(())
+}

@@ -1,0 +1,105 @@
+use ks_core::{Feed, Lent, MemFeed, MemOut, Out, Press, put_all};
+use std::io;
+use std::io::{ErrorKind, Write};
+use std::test::Fail;
+
+#[test]
+fn takes_from_a_slice(rt: HostRuntime) -> Result<(), Fail> {
+    let mut feed = MemFeed::new(b"abcdef").with_most(2).failing_after(5);
+    let mut buffer = [0u8; 4];
+    assert_eq!(rt; feed.take(&mut buffer)?, 2);
+    assert_eq!(rt; feed.take(&mut buffer[..1])?, 1);
+    assert_eq!(rt; feed.take(&mut buffer)?, 2);
+    assert_eq!(rt; buffer[0], b'd');
+    assert_eq!(rt; feed.take(&mut [])?, 0);
+    assert!(rt; feed.take(&mut buffer).is_err());
+    assert!(rt; feed.take(&mut buffer).is_err());
+    let mut feed = MemFeed::new(b"ab");
+    assert_eq!(rt; feed.take(&mut buffer)?, 2);
+    assert_eq!(rt; feed.take(&mut buffer)?, 0);
+    let mut feed = MemFeed::new(b"ab").with_most(0);
+    assert!(rt; feed.take(&mut buffer).is_err());
+    Ok(())
+}
+
+#[test]
+fn puts_to_a_slice(rt: HostRuntime) -> Result<(), Fail> {
+    let mut room = [0u8; 6];
+    let mut out = MemOut::new(&mut room).with_most(4);
+    assert_eq!(rt; out.put(b"abcdefgh")?, 4);
+    assert_eq!(rt; out.put(b"efgh")?, 2);
+    assert_eq!(rt; out.put(b"")?, 0);
+    assert!(rt; out.put(b"gh").is_err());
+    assert_eq!(rt; out.written(), b"abcdef".as_slice());
+    let mut out = MemOut::new(&mut room).failing_after(1);
+    assert!(rt; put_all(&mut out, b"xy").is_err());
+    assert_eq!(rt; out.written(), b"x".as_slice());
+    let mut out = MemOut::new(&mut room).with_most(0);
+    assert!(rt; out.put(b"x").is_err());
+    Ok(())
+}
+
+/// Takes nothing, and says so.
+#[derive(Drop)]
+struct Stuck;
+
+impl Write for Stuck {
+    fn write(&mut self, _buf: &[u8]) -> io::Result<usize> {
+        Ok(0)
+    }
+
+    fn flush(&mut self) -> io::Result<()> {
+        Ok(())
+    }
+}
+
+#[test]
+fn lends_readers_and_writers(rt: HostRuntime) -> Result<(), Fail> {
+    let mut feed = Lent::new(b"abc".as_slice());
+    let mut buffer = [0u8; 8];
+    assert_eq!(rt; feed.take(&mut buffer)?, 3);
+    assert_eq!(rt; feed.take(&mut buffer)?, 0);
+    assert_eq!(rt; feed.failures, 0);
+    let mut out = Lent::new(Vec::new(rt.alloc()));
+    put_all(&mut out, b"abc")?;
+    assert_eq!(rt; out.device.as_slice(), b"abc".as_slice());
+    let mut stuck = Lent::new(Stuck);
+    assert_eq!(rt; stuck.put(b"").ok(), Some(0));
+    let fault = stuck.put(b"a").err().map(|fault| fault.kind());
+    assert_eq!(rt; fault, Some(ErrorKind::WriteZero));
+    assert_eq!(rt; stuck.failures, 1);
+    Ok(())
+}
+
+#[test]
+fn presses_pieces(rt: HostRuntime) -> Result<(), Fail> {
+    let mut room = [0u8; 10000];
+    let mut out = MemOut::new(&mut room).with_most(3000);
+    let mut press = Press::new();
+    let long = [b'x'; 5000];
+    press.tell(&mut out, b"ab");
+    assert_eq!(rt; out.written().len(), 0);
+    press.flush(&mut out);
+    assert_eq!(rt; out.written(), b"ab".as_slice());
+    press.tell(&mut out, b"c");
+    press.tell(&mut out, &long);
+    press.tell(&mut out, b"d");
+    press.finish(&mut out)?;
+    let written = out.written();
+    assert_eq!(rt; written.len(), 5004);
+    assert_eq!(rt; &written[..4], b"abcx".as_slice());
+    assert_eq!(rt; written[5003], b'd');
+    Ok(())
+}
+
+#[test]
+fn remembers_a_fault(rt: HostRuntime) {
+    let mut room = [0u8; 10];
+    let mut out = MemOut::new(&mut room).failing_after(3);
+    let mut press = Press::new();
+    press.tell(&mut out, b"abcd");
+    press.flush(&mut out);
+    press.tell(&mut out, b"efgh");
+    assert!(rt; press.finish(&mut out).is_err());
+    assert_eq!(rt; out.written(), b"abc".as_slice());
+}

@@ -1,0 +1,343 @@
+ghost use Rattle.kx_lex.specs.Kinds.{front, is_mark};
+ghost use Rattle.kx_lex.specs.Shrinks.{production-shrinks};
+ghost use Rattle.kx_lex.specs.Tokens.{mark, mark-least, semicolon};
+
+use kx_lex::repeated::{Repeated, is_before_mark, read_listed, read_many, read_sequence};
+use kx_lex::tokens::{
+    Reading, behind_front, front_is_key_name, front_is_keyword, front_is_mark, front_is_number,
+    front_is_text, front_is_word, front_span, is_keyword, is_mark, is_number, is_word,
+    read_key_name, read_keyword, read_mark, read_number, read_text, read_word, span_between,
+    syntax,
+};
+use kx_lex::{Apart, Bytes, Fault, KeyName, Keyword, Name, Row, Span, Token, TokenKind, lex};
+use std::alloc::Global;
+use std::process::Abort;
+use std::test::Fail;
+
+/// The tokens of a text as their kinds' first letters and spans, or the fault.
+fn shown(rt: &(impl Abort + AllocGlobal), text: &[u8]) -> Result<String, Fail> {
+    let tokens = match lex(rt.alloc(), text) {
+        Ok(tokens) => tokens,
+        Err(fault) => return Ok(format!(in rt.alloc(); "{fault}")?),
+    };
+    let mut all = String::from_str(rt.alloc(), "")?;
+    for token in tokens.as_slice() {
+        let letter = match token.kind {
+            TokenKind::Word(_) => "w",
+            TokenKind::Number => "n",
+            TokenKind::Decimal => "d",
+            TokenKind::KeyName => "k",
+            TokenKind::Text => "t",
+            TokenKind::Mark(_) => "m",
+        };
+        let span = token.span;
+        all.push_str(letter)?;
+        all.push_str(format!(in rt.alloc(); "{span} ")?.as_str())?;
+    }
+    Ok(all)
+}
+
+#[test]
+fn tokens_are_the_longest_of_their_kind(rt: HostRuntime) -> Result<(), Fail> {
+    let rows: [(&[u8], &str); 28] = [
+        (b"", ""),
+        (b" \t\n\x0b\x0c\r", ""),
+        (b"a_1 b", "w0-3 w4-5 "),
+        (b"<AB01>=38;", "k0-6 m6-7 n7-9 m9-10 "),
+        (b"<>", "k0-2 "),
+        (b"0x1fG", "n0-4 w4-5 "),
+        (b"0x", "n0-1 w1-2 "),
+        (b"18.5 18. 18", "d0-4 d5-8 n9-11 "),
+        (b"0x1.5", "n0-3 m3-4 n4-5 "),
+        (b"a//b\nc#d\ne", "w0-1 w5-6 w9-10 "),
+        (b"a/b", "w0-1 m1-2 w2-3 "),
+        (b"\"a\\\"b\"c", "t0-6 w6-7 "),
+        (b"\xef\xbb\xbfa", "w3-4 "),
+        (b"a\xef\xbb\xbf", "F3 BadByte at 0:1-2"),
+        (b"x \"ab\ncd\"", "F4 OpenString at 0:2-5"),
+        (b"\"a\\\n\"", "F4 OpenString at 0:0-3"),
+        (b"<A B>", "F5 OpenKeyName at 0:0-2"),
+        (b"<A", "F5 OpenKeyName at 0:0-2"),
+        (b"<!~><<>", "k0-4 k4-7 "),
+        (b"xkb_keymap { xkb_symbols \"x", "F4 OpenString at 0:25-27"),
+        (b"\"x\\", "F4 OpenString at 0:0-3"),
+        (b"\xef\xbb\xbf\xef\xbb\xbf", "F3 BadByte at 0:3-4"),
+        (b" \xef\xbb\xbf", "F3 BadByte at 0:1-2"),
+        (b"\xef\xbb", "F3 BadByte at 0:0-1"),
+        (b"0X1g 0xg", "n0-3 w3-4 n5-6 w6-8 "),
+        (b"4294967296 00", "n0-10 n11-13 "),
+        (b"a%", "F3 BadByte at 0:1-2"),
+        (b"a / b /* c", "w0-1 m2-3 w4-5 m6-7 m7-8 w9-10 "),
+    ];
+    for (text, wanted) in rows {
+        assert_eq!(rt; shown(&rt, text)?.as_str(), wanted);
+    }
+    Ok(())
+}
+
+#[test]
+fn a_text_has_a_greatest_length(rt: HostRuntime) -> Result<(), Fail> {
+    let longest = vec![in rt.alloc(); b' '; 1_048_576]?;
+    assert_eq!(rt; shown(&rt, longest.as_slice())?.as_str(), "");
+    let longer = vec![in rt.alloc(); b' '; 1_048_577]?;
+    assert_eq!(rt;
+        shown(&rt, longer.as_slice())?.as_str(),
+        "F2 TooLong at 0:0-1048577"
+    );
+    Ok(())
+}
+
+#[test]
+fn text_stands_for_bytes(rt: HostRuntime) -> Result<(), Fail> {
+    let rows: [(&[u8], &[u8]); 9] = [
+        (b"ab", b"ab"),
+        (b"\\n\\t\\r\\b\\f\\v\\e", b"\n\t\r\x08\x0c\x0b\x1b"),
+        (b"\\101\\1012\\7", b"AA2\x07"),
+        (b"\\377\\400", b"\xff\x200"),
+        (b"\\8\\\\\\\"", b"8\\\""),
+        (b"\\0", b"\0"),
+        (b"\\00017", b"\x0017"),
+        (b"\\1a\\12\\123", b"\x01a\x0aS"),
+        (b"\\N\\x41\\9", b"Nx419"),
+    ];
+    for (text, wanted) in rows {
+        let bytes = kx_lex::text_bytes(rt.alloc(), text)?;
+        assert_eq!(rt; bytes.as_slice(), wanted);
+    }
+    Ok(())
+}
+
+#[test]
+fn faults_print_as_lines(rt: HostRuntime) -> Result<(), Fail> {
+    assert_eq!(rt;
+        format!(in rt.alloc(); "{}", Fault::Memory)?.as_str(),
+        "F1 Memory"
+    );
+    Ok(())
+}
+
+#[test]
+fn an_item_goes_before_the_others(rt: HostRuntime) -> Result<(), Fail> {
+    let row = Row::of(vec![in rt.alloc(); 2u8, 3]?).behind(1)?;
+    assert_eq!(rt; row.as_slice(), [1, 2, 3].as_slice());
+    Ok(())
+}
+
+#[test]
+fn bytes_are_kept_whole(rt: HostRuntime) -> Result<(), Fail> {
+    let all = b"abcdefghijklmnopqrstuvwxyz";
+    for len in [0, 1, 21, 22, 23, 26] {
+        let wanted = &all[..len];
+        let given = Bytes::of(rt.alloc(), wanted)?;
+        assert_eq!(rt; given.as_slice(), wanted);
+        let front = Bytes::front(rt.alloc(), all, len)?;
+        assert_eq!(rt; front.as_slice(), wanted);
+        let fewer = Bytes::front(rt.alloc(), wanted, 24)?;
+        assert_eq!(rt; fewer.as_slice(), &wanted[..len.min(24)]);
+    }
+    Ok(())
+}
+
+#[test]
+fn a_value_stands_apart(rt: HostRuntime) -> Result<(), Fail> {
+    let apart = Apart::of(rt.alloc(), 7u8)?;
+    assert_eq!(rt; *apart.get(), 7);
+    Ok(())
+}
+
+#[test]
+fn fronts_are_told_apart(rt: HostRuntime) -> Result<(), Fail> {
+    // whether a word, a number, text, a key's name, `;`, `key`, and a token but `;`
+    let rows: [(&[u8], [bool; 7]); 7] = [
+        (b"ab", [true, false, false, false, false, false, true]),
+        (b"Key", [true, false, false, false, false, true, true]),
+        (b"7", [false, true, false, false, false, false, true]),
+        (b"\"a\"", [false, false, true, false, false, false, true]),
+        (b"<A>", [false, false, false, true, false, false, true]),
+        (b";", [false, false, false, false, true, false, false]),
+        (b"", [false, false, false, false, false, false, false]),
+    ];
+    for (text, wanted) in rows {
+        let all = lex(rt.alloc(), text)?;
+        let tokens = all.as_slice();
+        let found = [
+            front_is_word(tokens),
+            front_is_number(tokens),
+            front_is_text(tokens),
+            front_is_key_name(tokens),
+            front_is_mark(b';', tokens),
+            front_is_keyword(Keyword::Key, tokens),
+            is_before_mark(b';', tokens),
+        ];
+        assert_eq!(rt; found, wanted, "{:?}", text);
+        if let Some(token) = tokens.first() {
+            assert_eq!(rt; is_word(token), wanted[0]);
+            assert_eq!(rt; is_number(token), wanted[1]);
+            assert_eq!(rt; is_mark(b';', token), wanted[4]);
+            assert_eq!(rt; is_keyword(Keyword::Key, token), wanted[5]);
+        }
+    }
+    Ok(())
+}
+
+/// The bytes and the span of a name with how many tokens are left, or the fault.
+fn name_shown(rt: &(impl Abort + AllocGlobal), reading: Reading<'_, Name>) -> Result<String, Fail> {
+    match reading {
+        Ok((name, rest)) => {
+            let left = rest.len();
+            let span = name.span;
+            let bytes = name.bytes.as_slice();
+            Ok(format!(in rt.alloc(); "{:?} {span} {left}", bytes)?)
+        }
+        Err(fault) => Ok(format!(in rt.alloc(); "{fault}")?),
+    }
+}
+
+/// The same of a key's name.
+fn key_name_shown(
+    rt: &(impl Abort + AllocGlobal),
+    reading: Reading<'_, KeyName>,
+) -> Result<String, Fail> {
+    match reading {
+        Ok((name, rest)) => {
+            let left = rest.len();
+            let span = name.span();
+            let bytes = name.as_slice();
+            Ok(format!(in rt.alloc(); "{:?} {span} {left}", bytes)?)
+        }
+        Err(fault) => Ok(format!(in rt.alloc(); "{fault}")?),
+    }
+}
+
+#[test]
+fn names_are_read_without_what_encloses_them(rt: HostRuntime) -> Result<(), Fail> {
+    let text = b"ab <cd> \"e\\n\"";
+    let all = lex(rt.alloc(), text)?;
+    let tokens = all.as_slice();
+    let word = read_word(rt.alloc(), text, tokens);
+    assert_eq!(rt; name_shown(&rt, word)?.as_str(), "[97, 98] 0-2 2");
+    let behind = behind_front(tokens);
+    let key = read_key_name(rt.alloc(), text, behind);
+    assert_eq!(rt; key_name_shown(&rt, key)?.as_str(), "[99, 100] 3-7 1");
+    let last = behind_front(behind);
+    let quoted = read_text(rt.alloc(), text, last);
+    assert_eq!(rt; name_shown(&rt, quoted)?.as_str(), "[101, 10] 8-13 0");
+    let no_word = read_word(rt.alloc(), text, behind);
+    assert_eq!(rt; name_shown(&rt, no_word)?.as_str(), "F6 Syntax at 0:3-7");
+    let no_key = read_key_name(rt.alloc(), text, behind_front(last));
+    assert_eq!(rt;
+        key_name_shown(&rt, no_key)?.as_str(),
+        "F6 Syntax at 0:13-13"
+    );
+    let no_text = read_text(rt.alloc(), text, tokens);
+    assert_eq!(rt; name_shown(&rt, no_text)?.as_str(), "F6 Syntax at 0:0-2");
+    Ok(())
+}
+
+#[test]
+fn tokens_of_another_text_may_enclose_no_key_name(rt: HostRuntime) -> Result<(), Fail> {
+    let tokens = lex(rt.alloc(), b"<abc>")?;
+    let rows: [(&[u8], &str); 4] = [
+        (b"<a!c>", "[97, 33, 99] 0-5 0"),
+        (b"<a c>", "F6 Syntax at 0:0-5"),
+        (b"<a>c>", "F6 Syntax at 0:0-5"),
+        (b"<a\x7fc>", "F6 Syntax at 0:0-5"),
+    ];
+    for (text, wanted) in rows {
+        let key = read_key_name(rt.alloc(), text, tokens.as_slice());
+        assert_eq!(rt; key_name_shown(&rt, key)?.as_str(), wanted);
+    }
+    Ok(())
+}
+
+#[test]
+fn numbers_are_at_most_4294967295(rt: HostRuntime) -> Result<(), Fail> {
+    let rows: [(&[u8], &str); 6] = [
+        (b"38;", "38 0-2 1"),
+        (b"0xfF", "255 0-4 0"),
+        (b"4294967295", "4294967295 0-10 0"),
+        (b"4294967296", "F7 NumberTooBig at 0:0-10"),
+        (b"18.5", "F6 Syntax at 0:0-4"),
+        (b"", "F6 Syntax at 0:0-0"),
+    ];
+    for (text, wanted) in rows {
+        let tokens = lex(rt.alloc(), text)?;
+        let shown = match read_number(text, tokens.as_slice()) {
+            Ok((number, rest)) => {
+                let left = rest.len();
+                let value = number.value;
+                let span = number.span;
+                format!(in rt.alloc(); "{value} {span} {left}")?
+            }
+            Err(fault) => format!(in rt.alloc(); "{fault}")?,
+        };
+        assert_eq!(rt; shown.as_str(), wanted);
+    }
+    Ok(())
+}
+
+#[test]
+fn marks_keywords_and_their_places(rt: HostRuntime) -> Result<(), Fail> {
+    let text = b"KEY ; x";
+    let all = lex(rt.alloc(), text)?;
+    let tokens = all.as_slice();
+    let (word, behind) = read_keyword(text, Keyword::Key, tokens)?;
+    assert_eq!(rt; word.span, Span { start: 0, stop: 3 });
+    let (mark, rest) = read_mark(text, b';', behind)?;
+    assert_eq!(rt; mark.span, Span { start: 4, stop: 5 });
+    assert!(rt; read_keyword(text, Keyword::Key, behind).is_err());
+    assert!(rt; read_mark(text, b',', behind).is_err());
+    assert_eq!(rt; front_span(rest), Span { start: 6, stop: 7 });
+    assert_eq!(rt; span_between(tokens, rest), Span { start: 0, stop: 5 });
+    assert_eq!(rt;
+        format!(in rt.alloc(); "{}", syntax(text, behind))?.as_str(),
+        "F6 Syntax at 0:4-5"
+    );
+    Ok(())
+}
+
+/// Semicolons in a row.
+struct Semicolons;
+
+impl Repeated for Semicolons {
+    type Value = Token;
+
+    ghost test = { λ text ts. front (is_mark semicolon) ts };
+
+    ghost reading = { λ text. (mark text semicolon).read };
+
+    fn is_next(text: &[u8], tokens: &[Token]) -> bool {
+        front_is_mark(b';', tokens)
+    }
+
+    fn read_next<'a>(_alloc: Global, text: &[u8], tokens: &'a [Token]) -> Reading<'a, Token> {
+        read_mark(text, b';', tokens)
+    }
+
+    ghost shrinks = { λ text. production-shrinks (mark text semicolon) (mark-least text semicolon) };
+}
+
+/// How many were read, and how many tokens are left.
+fn counts(reading: Reading<'_, Row<Token>>) -> Result<(usize, usize), Fail> {
+    let (row, rest) = reading?;
+    Ok((row.as_slice().len(), rest.len()))
+}
+
+#[test]
+fn rows_end_where_no_more_stand(rt: HostRuntime) -> Result<(), Fail> {
+    let text = b";;;,;}";
+    let all = lex(rt.alloc(), text)?;
+    let tokens = all.as_slice();
+    let pair = tokens.get(2..).unwrap_or(&[]);
+    let close = tokens.get(5..).unwrap_or(&[]);
+    let many = read_many::<Semicolons>(rt.alloc(), text, tokens);
+    assert_eq!(rt; counts(many)?, (3, 3));
+    let sequence = read_sequence::<Semicolons>(rt.alloc(), text, pair);
+    assert_eq!(rt; counts(sequence)?, (2, 1));
+    let listed = read_listed::<Semicolons>(rt.alloc(), text, b'}', pair);
+    assert_eq!(rt; counts(listed)?, (2, 1));
+    let none = read_listed::<Semicolons>(rt.alloc(), text, b'}', close);
+    assert_eq!(rt; counts(none)?, (0, 1));
+    assert!(rt; read_sequence::<Semicolons>(rt.alloc(), text, close).is_err());
+    Ok(())
+}
