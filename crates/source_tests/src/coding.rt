@@ -1,35 +1,31 @@
+use crate::sources::{enclosed, files_of};
 use kx_codes::{Codes, codes};
-use kx_include::{Files, Library};
-use kx_lex::{Fault, Span, lex};
-use kx_parse::parse;
+use kx_include::Library;
+use kx_lex::Fault;
+use std::alloc::Global;
 use std::process::Abort;
 use std::test::Fail;
 
+fn codes_in(alloc: Global, library: &Library) -> Result<Codes, Fault> {
+    let bodies = library.expand(alloc)?;
+    codes(alloc, &bodies.keycodes)
+}
+
 /// The codes of these items, which begin at byte 28, over these files.
 fn codes_over(
-    rt: &(impl Abort + AllocGlobal),
+    rt: &impl AllocGlobal,
     items: &[u8],
     given: &[(&[u8], &[u8])],
 ) -> Result<Codes, Fault> {
-    let text = [
-        b"xkb_keymap { xkb_keycodes { ".as_slice(),
+    let text = enclosed(
+        rt.alloc(),
+        b"xkb_keymap { xkb_keycodes { ",
         items,
-        b" }; };".as_slice(),
-    ]
-    .concat(rt.alloc())?;
-    let tokens = lex(rt.alloc(), text.as_slice())?;
-    let tree = parse(rt.alloc(), text.as_slice(), tokens.as_slice())?;
-    let mut files = Files::new(rt.alloc());
-    for (name, bytes) in given {
-        files.insert(
-            Vec::from_slice(rt.alloc(), name)?,
-            Vec::from_slice(rt.alloc(), bytes)?,
-        )?;
-    }
-    let whole = Span { start: 0, stop: 0 };
-    let library = Library::read(rt.alloc(), tree, whole, &files)?;
-    let bodies = library.expand(rt.alloc())?;
-    codes(rt.alloc(), &bodies.keycodes)
+        b" }; };",
+    )?;
+    let files = files_of(rt.alloc(), given)?;
+    let library = Library::of_source(rt.alloc(), text.as_slice(), &files)?;
+    codes_in(rt.alloc(), &library)
 }
 
 fn codes_of(rt: &(impl Abort + AllocGlobal), items: &[u8]) -> Result<Codes, Fault> {

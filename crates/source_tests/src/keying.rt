@@ -1,9 +1,10 @@
-use kx_symbols::{Keys, symbols};
+use crate::sources::{enclosed, files_of};
 use ks_core::{NameTable, Notes};
 use kx_codes::codes;
-use kx_include::{Files, Library};
-use kx_lex::{Fault, Span, lex};
-use kx_parse::parse;
+use kx_include::{Bodies, Library};
+use kx_lex::Fault;
+use kx_symbols::{Keys, symbols};
+use std::alloc::Global;
 use std::process::Abort;
 use std::test::Fail;
 
@@ -11,29 +12,24 @@ const US: &[u8] = b"default xkb_symbols \"basic\" { key <A> { [ a ] }; };";
 
 const RU: &[u8] = b"xkb_symbols \"x\" { key <A> { [ U0444 ], [ 7 ] }; };";
 
+fn keys_in(alloc: Global, bodies: &Bodies) -> Result<(Keys, Notes), Fault> {
+    let codes = codes(alloc, &bodies.keycodes)?;
+    symbols(alloc, &bodies.symbols, &codes, &NameTable::builtin())
+}
+
+fn keys_of_library(alloc: Global, library: &Library) -> Result<(Keys, Notes), Fault> {
+    let bodies = library.expand(alloc)?;
+    keys_in(alloc, &bodies)
+}
+
 /// The keys of these symbols items, which begin at byte 61, where A has the code 38 and B 39, and what is noted.
-fn keys_of(rt: &(impl Abort + AllocGlobal), items: &[u8]) -> Result<(Keys, Notes), Fault> {
-    let text = [
-        b"xkb_keymap { xkb_keycodes { <A>=38; <B>=39; }; xkb_symbols { ".as_slice(),
-        items,
-        b" }; };".as_slice(),
-    ]
-    .concat(rt.alloc())?;
-    let mut files = Files::new(rt.alloc());
-    for (name, bytes) in [(b"us".as_slice(), US), (b"ru".as_slice(), RU)] {
-        files.insert(
-            Vec::from_slice(rt.alloc(), name)?,
-            Vec::from_slice(rt.alloc(), bytes)?,
-        )?;
-    }
-    let tokens = lex(rt.alloc(), text.as_slice())?;
-    let tree = parse(rt.alloc(), text.as_slice(), tokens.as_slice())?;
-    let whole = Span { start: 0, stop: 0 };
-    let library = Library::read(rt.alloc(), tree, whole, &files)?;
-    let bodies = library.expand(rt.alloc())?;
-    let codes = codes(rt.alloc(), &bodies.keycodes)?;
-    let names = NameTable::builtin();
-    symbols(rt.alloc(), &bodies.symbols, &codes, &names)
+fn keys_of(rt: &impl AllocGlobal, items: &[u8]) -> Result<(Keys, Notes), Fault> {
+    let front = b"xkb_keymap { xkb_keycodes { <A>=38; <B>=39; }; xkb_symbols { ";
+    let text = enclosed(rt.alloc(), front, items, b" }; };")?;
+    let given = [(b"us".as_slice(), US), (b"ru".as_slice(), RU)];
+    let files = files_of(rt.alloc(), given.as_slice())?;
+    let library = Library::of_source(rt.alloc(), text.as_slice(), &files)?;
+    keys_of_library(rt.alloc(), &library)
 }
 
 /// The keysyms of A, level by level and group by group: levels are parted by blanks, groups by `/`, and the keysyms of a

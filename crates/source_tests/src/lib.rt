@@ -9,3 +9,5 @@ mod keying;
 mod merging;
 #[cfg(test)]
 mod resolving;
+#[cfg(test)]
+mod sources;

@@ -9,10 +9,11 @@ ghost use Rattle.kx_merge.specs.Offers.{taken};
 ghost use Rattle.kx_merge.specs.Records.{AreOffered};
 ghost use Rattle.source_tests.specs.Sheet.{keycode_in, sheet_cell, sheet_moves, sheet_offer, sheet_rules};
 
-use kx_merge::{Fields, Merged, merge};
+use crate::sources::{enclosed, files_of};
 use kx_include::{Files, Library, Place};
-use kx_lex::{Fault, Span, lex};
-use kx_parse::{Item, Mode, Statement, parse};
+use kx_lex::Fault;
+use kx_merge::{Fields, Merged, merge};
+use kx_parse::{Item, Mode, Statement};
 use std::alloc::Global;
 use std::test::Fail;
 
@@ -194,27 +195,13 @@ fn repeated(rt: &impl AllocGlobal, text: &[u8], count: usize) -> Result<Vec<u8>,
 /// The files `a` and `b` with `<A>=7` and `<A>=8`, and `c` with a thousand statements.
 fn some_files(rt: &impl AllocGlobal) -> Result<Files, Fail> {
     let statements = repeated(rt, b"<A>=1; ", 1000)?;
-    let many = [
-        b"xkb_symbols { ".as_slice(),
-        statements.as_slice(),
-        b"};".as_slice(),
-    ]
-    .concat(rt.alloc())?;
-    let mut files = Files::new(rt.alloc());
-    for (name, bytes) in [
-        (b"a".as_slice(), b"xkb_symbols { <A>=7; };".as_slice()),
-        (
-            b"b".as_slice(),
-            b"xkb_symbols { augment <A>=8; };".as_slice(),
-        ),
-        (b"c".as_slice(), many.as_slice()),
-    ] {
-        files.insert(
-            Vec::from_slice(rt.alloc(), name)?,
-            Vec::from_slice(rt.alloc(), bytes)?,
-        )?;
-    }
-    Ok(files)
+    let many = enclosed(rt.alloc(), b"xkb_symbols { ", statements.as_slice(), b"};")?;
+    let given: [(&[u8], &[u8]); 3] = [
+        (b"a", b"xkb_symbols { <A>=7; };"),
+        (b"b", b"xkb_symbols { augment <A>=8; };"),
+        (b"c", many.as_slice()),
+    ];
+    Ok(files_of(rt.alloc(), given.as_slice())?)
 }
 
 /// The library of a source with these symbols items.
@@ -223,19 +210,8 @@ fn library_of<'f>(
     items: &[u8],
     files: &'f Files,
 ) -> Result<Library<'f>, Fail> {
-    let text = [
-        b"xkb_keymap { xkb_symbols { ".as_slice(),
-        items,
-        b" }; };".as_slice(),
-    ]
-    .concat(rt.alloc())?;
-    let tokens = lex(rt.alloc(), text.as_slice())?;
-    let tree = parse(rt.alloc(), text.as_slice(), tokens.as_slice())?;
-    let whole = Span {
-        start: 0,
-        stop: text.len() as u32,
-    };
-    Ok(Library::read(rt.alloc(), tree, whole, files)?)
+    let text = enclosed(rt.alloc(), b"xkb_keymap { xkb_symbols { ", items, b" }; };")?;
+    Ok(Library::of_source(rt.alloc(), text.as_slice(), files)?)
 }
 
 /// The records of a source with these symbols items, and how many statements were noted.
@@ -308,12 +284,16 @@ fn records_in_the_order_of_their_names(rt: HostRuntime) -> Result<(), Fail> {
     Ok(())
 }
 
+fn types_merged(rt: &impl AllocGlobal, library: &Library) -> Result<Merged<u8, Sheet, u32>, Fail> {
+    let bodies = library.expand(rt.alloc())?;
+    Ok(merge::<(), Sheet>(rt.alloc(), &(), &bodies.types)?)
+}
+
 #[test]
 fn sections_of_another_kind_give_nothing(rt: HostRuntime) -> Result<(), Fail> {
     let files = some_files(&rt)?;
     let library = library_of(&rt, b"<A>=1; include \"a\"", &files)?;
-    let bodies = library.expand(rt.alloc())?;
-    let merged = merge::<(), Sheet>(rt.alloc(), &(), &bodies.types)?;
+    let merged = types_merged(&rt, &library)?;
     assert_eq!(rt; merged.records.len(), 0);
     assert_eq!(rt; merged.notes, 0);
     Ok(())

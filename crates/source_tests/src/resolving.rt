@@ -1,10 +1,11 @@
-use kx_resolve::{resolve, tables};
 use ks_core::{NameTable, Notes};
 use kx_codes::codes;
-use kx_include::{Files, Library};
+use kx_include::{Bodies, Files, Library};
 use kx_lex::Fault;
+use kx_resolve::{resolve, tables};
 use kx_symbols::symbols;
-use kx_tables::{Owned, Rows, Tables};
+use kx_tables::{Owned, Parts, Rows, Tables};
+use std::alloc::Global;
 use std::process::Abort;
 use std::test::Fail;
 
@@ -55,17 +56,24 @@ fn groups_of_one_level(rt: HostRuntime) -> Result<(), Fail> {
     Ok(())
 }
 
+fn resolved_of(alloc: Global, bodies: &Bodies) -> Result<(Parts, Notes), Fault> {
+    let codes = codes(alloc, &bodies.keycodes)?;
+    let (keys, _) = symbols(alloc, &bodies.symbols, &codes, &NameTable::builtin())?;
+    resolve(alloc, &codes, &keys)
+}
+
+fn resolved_in(alloc: Global, text: &[u8]) -> Result<(Parts, Notes), Fault> {
+    let files = Files::new(alloc);
+    let library = Library::of_source(alloc, text, &files)?;
+    let bodies = library.expand(alloc)?;
+    resolved_of(alloc, &bodies)
+}
+
 #[test]
 fn resolves_codes_and_keys(rt: HostRuntime) -> Result<(), Fail> {
     let text =
         b"xkb_keymap { xkb_keycodes { <A>=38; alias <C>=<A>; }; xkb_symbols { key <C> {[7]}; }; };";
-    let files = Files::new(rt.alloc());
-    let library = Library::of_source(rt.alloc(), text, &files)?;
-    let bodies = library.expand(rt.alloc())?;
-    let codes = codes(rt.alloc(), &bodies.keycodes)?;
-    let names = NameTable::builtin();
-    let (keys, _) = symbols(rt.alloc(), &bodies.symbols, &codes, &names)?;
-    let (parts, notes) = resolve(rt.alloc(), &codes, &keys)?;
+    let (parts, notes) = resolved_in(rt.alloc(), text)?;
     assert_eq!(rt; notes, Notes::new());
     assert_eq!(rt; parts.keysyms.as_slice(), [0x37].as_slice());
     Ok(())
