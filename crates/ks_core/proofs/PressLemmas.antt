@@ -1,5 +1,6 @@
 -- Texts told to a press in turn are one text told.
-use Rattle.std.proofs.Common.{◌≡◌, ◌≢◌, ℕ, Bool, true, false, List, [], ◌++◌, Option, Result, Ok, Err, refl, sym, ap, subst, ◌∙◌, append_assoc, append-nil, true≢false}
+use Rattle.std.proofs.Common.{◌≡◌, ◌≢◌, ℕ, zero, suc, ◌+◌, Bool, true, false, List, [], ◌∷◌, ◌++◌, Option, Some, Result, Ok, Err, slice_get, take, refl, sym, ap, subst, ◌∙◌, add-one, append_assoc, append-nil, true≢false}
+use Rattle.std.specs.List.{flat_map}
 use Rattle.std.specs.Io.KnownBytes.{Appends}
 use Rattle.ks_core.specs.Device.{Begins, Puts}
 use Rattle.ks_core.specs.Press.{Gathered, Gathers, Tells, Finishes, nothing_gathered}
@@ -96,3 +97,15 @@ module _ {D : Type 0} (written : D → Option (List ℕ)) (failures : D → ℕ)
             begun = subst (Begins (written d) (written f)) (sym told.2.joined) (Begins-after (written d) (written e) (written f) told.2.sent q.waiting told.2.put broke.1);
             counted = λ same. broke.0 (same ∙ sym told.1);
           }
+
+flat_map-take : {X : Type 0} (f : X → List ℕ) (xs : List X) (i : ℕ) (x : X) → slice_get xs i ≡ Some x → flat_map f (take (suc i) xs) ≡ flat_map f (take i xs) ++ f x
+flat_map-take f [] i x at = cc
+flat_map-take f (y ∷ ys) zero x at = let same : y ≡ x = cc in rw same (append-nil (f x))
+flat_map-take f (y ∷ ys) (suc i) x at = ap (λ t. f y ++ t) (flat_map-take f ys i x at) ∙ sym (append_assoc (f y) (flat_map f (take i ys)) (f x))
+
+-- of a list's texts, one more is told
+pub tells_more : {X D : Type 0} (written : D → Option (List ℕ)) (failures : D → ℕ) (d e f : D) (p q r : Gathered) (text_of : X → List ℕ) (xs : List X) (i : ℕ) (x : X) → slice_get xs i ≡ Some x
+    → Tells written failures d p e q (flat_map text_of (take i xs)) → Tells written failures e q f r (text_of x) → Tells written failures d p f r (flat_map text_of (take (i + 1) xs))
+tells_more written failures d e f p q r text_of xs i x at so_far here =
+    subst (λ t. Tells written failures d p f r t) (sym (ap (λ n. flat_map text_of (take n xs)) (add-one i) ∙ flat_map-take text_of xs i x at))
+    (tells_then written failures d e f p q r (flat_map text_of (take i xs)) (text_of x) so_far here)

@@ -1,6 +1,7 @@
 pub mod Device
 pub mod Memory
 pub mod Press
+pub mod PrintedName
 pub mod Notes
 pub mod Keysym
 pub mod Entry

@@ -1,5 +1,5 @@
 -- Devices over slices: what they hold, and how many bytes a call moves.
-use Rattle.std.specs.Prelude.{ℕ, ◌-◌, Bool, false, ◌||◌, ◌==◌, List, length, min, Option, None, Some, if◌then◌else◌}
+use Rattle.std.specs.Prelude.{ℕ, ◌≡◌, ◌<◌, ◌-◌, Bool, false, ◌||◌, ◌==◌, List, length, min, Option, None, Some, if◌then◌else◌}
 use Rattle.ks_core.specs.declared.memory.Limits.{Limits}
 
 -- a slice to take from: the bytes that are left
@@ -41,6 +41,10 @@ taken_of s room = if room == 0 then Some 0 else moved s.limits (min (length s.le
 -- how many bytes of a piece of that length are put; a device with no room left fails
 abbrev pub put_of : Sink → ℕ → Option ℕ
 put_of s len = if len == 0 then Some 0 else if s.room == 0 then None else moved s.limits (min s.room len)
+
+-- no call moves a byte from now on; `moves` says how many bytes a call with so many does
+abbrev pub FailsForGood : (ℕ → Option ℕ) → Type 0
+FailsForGood moves = (len : ℕ) → 0 < len → moves len ≡ None
 
 -- the limits after n bytes moved
 abbrev pub after_move : Limits → ℕ → Limits

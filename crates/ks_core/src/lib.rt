@@ -12,6 +12,7 @@ mod memory;
 mod names;
 mod notes;
 mod press;
+mod printed;
 mod table;
 
 pub use device::{Feed, Lent, Out};
@@ -21,3 +22,4 @@ pub use memory::{MemFeed, MemOut};
 pub use names::NameTable;
 pub use notes::{Note, Notes};
 pub use press::{Press, put_all};
+pub use printed::write_printed_name;

@@ -2,7 +2,7 @@
 ghost use Rattle.std.specs.Prelude.{◌≡◌, ◌≢◌, ◌<◌, ◌≤◌, ◌-◌, ◌++◌, [], length, take, drop, min, Some, None, IfOk, OnErr, MatchResult};
 ghost use Rattle.std.specs.Io.KnownBytes.{ReadConsumes, WriteAppends};
 ghost use Rattle.ks_core.specs.Device.{Counts};
-ghost use Rattle.ks_core.specs.Memory.{no_limits, moved, after_move, taken_of, put_of};
+ghost use Rattle.ks_core.specs.Memory.{FailsForGood, no_limits, moved, after_move, taken_of, put_of};
 
 use crate::device::{Feed, Out};
 use std::io;
@@ -53,6 +53,7 @@ impl Limits {
         ensures after { IfOk result (λ n. self.new ≡ after_move self.old n) }
         ensures failed { OnErr result (self.new ≡ record self.old { failures = self.new.failures }) }
         ensures counted { Counts self.old.failures self.new.failures result }
+        ensures for_good { OnErr result (FailsForGood (moved self.new)) }
     {
         if self.most == Some(0) || self.fails_in == Some(0) {
             return Err(self.fail());
@@ -144,6 +145,7 @@ impl Feed for MemFeed<'_> {
           limits = after_move self.old.limits n;
         }) }
         ensures failed { OnErr result (self.new.left ≡ self.old.left) }
+        ensures for_good { OnErr result (FailsForGood (taken_of self.new)) }
     {
         if buffer.is_empty() {
             return Ok(0);
@@ -237,6 +239,7 @@ impl Out for MemOut<'_> {
           limits = after_move self.old.limits n;
         }) }
         ensures failed { OnErr result (self.new.written ≡ self.old.written) }
+        ensures for_good { OnErr result (FailsForGood (put_of self.new)) }
     {
         if piece.is_empty() {
             return Ok(0);

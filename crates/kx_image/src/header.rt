@@ -4,7 +4,7 @@ ghost use Rattle.kx_image.specs.Shape as spec;
 ghost use Rattle.kx_image.specs.declared.header.Edition.TheVariants.{Two};
 
 use crate::fault::ImageFault;
-use crate::records::{u16_at, u32_at};
+use crate::numbers::{u16_at, u16_bytes, u32_at, u32_bytes};
 
 /// A version of the image.
 #[derive(Clone, Copy, PartialEq, Eq, Debug)]
@@ -62,15 +62,15 @@ impl Header {
         requires { self.now.edition ≡ Two }
         ensures { result ≡ spec.header_bytes self.now }
     {
-        let [g0, g1] = self.groups.to_le_bytes();
-        let [t0, t1] = self.types.to_le_bytes();
-        let [k0, k1] = self.keys.to_le_bytes();
-        let [e0, e1, e2, e3] = self.entries.to_le_bytes();
-        let [c0, c1, c2, c3] = self.cells.to_le_bytes();
-        let [y0, y1, y2, y3] = self.keysyms.to_le_bytes();
-        let [n0, n1, n2, n3] = self.names.to_le_bytes();
-        let [i0, i1] = self.indicators.to_le_bytes();
-        let [m0, m1] = self.group_names.to_le_bytes();
+        let [g0, g1] = u16_bytes(self.groups);
+        let [t0, t1] = u16_bytes(self.types);
+        let [k0, k1] = u16_bytes(self.keys);
+        let [e0, e1, e2, e3] = u32_bytes(self.entries);
+        let [c0, c1, c2, c3] = u32_bytes(self.cells);
+        let [y0, y1, y2, y3] = u32_bytes(self.keysyms);
+        let [n0, n1, n2, n3] = u32_bytes(self.names);
+        let [i0, i1] = u16_bytes(self.indicators);
+        let [m0, m1] = u16_bytes(self.group_names);
         [
             75, 88, 73, 10, 2, 0, g0, g1, t0, t1, k0, k1, e0, e1, e2, e3, c0, c1, c2, c3, y0, y1,
             y2, y3, n0, n1, n2, n3, i0, i1, m0, m1,

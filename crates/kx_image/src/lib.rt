@@ -4,6 +4,7 @@
 mod fault;
 mod header;
 mod layout;
+mod numbers;
 mod records;
 mod shape;
 mod telling;

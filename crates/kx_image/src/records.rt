@@ -2,6 +2,7 @@
 ghost use Rattle.std.specs.Prelude.{◌≡◌, ◌+◌, ◌≤◌, ◌<ℤ◌, pos, length};
 ghost use Rattle.kx_image.specs.Records as spec;
 
+use crate::numbers::{u16_at, u16_bytes, u32_at, u32_bytes};
 use kx_mods::Mods;
 use kx_tables::{
     Action, CellRow, EntryRow, GroupChange, GroupNameRow, GroupRow, IndicatorRow, KeyRow, Range,
@@ -42,27 +43,6 @@ const KEEPS_LOCKED: u8 = 8;
 
 const ABSOLUTE: u8 = 16;
 
-/// The number in the two bytes at a place.
-pub fn u16_at(bytes: &[u8], place: usize) -> u16
-    requires { place + 2 ≤ length bytes.now }
-    ensures { result ≡ spec.two_at bytes.now place }
-{
-    u16::from_le_bytes([bytes[place], bytes[place + 1]])
-}
-
-/// The number in the four bytes at a place.
-pub fn u32_at(bytes: &[u8], place: usize) -> u32
-    requires { place + 4 ≤ length bytes.now }
-    ensures { result ≡ spec.four_at bytes.now place }
-{
-    u32::from_le_bytes([
-        bytes[place],
-        bytes[place + 1],
-        bytes[place + 2],
-        bytes[place + 3],
-    ])
-}
-
 /// The row that the bytes of a type tell.
 pub fn type_at(bytes: &[u8]) -> TypeRow
     requires { length bytes.now ≡ 16 }
@@ -82,10 +62,10 @@ pub fn type_at(bytes: &[u8]) -> TypeRow
 pub fn type_bytes(row: TypeRow) -> [u8; TYPE_SIZE]
     ensures { result ≡ spec.type_bytes row }
 {
-    let [e0, e1] = row.entries.to_le_bytes();
-    let [l0, l1] = row.name_length.to_le_bytes();
-    let [f0, f1, f2, f3] = row.first_entry.to_le_bytes();
-    let [n0, n1, n2, n3] = row.first_name.to_le_bytes();
+    let [e0, e1] = u16_bytes(row.entries);
+    let [l0, l1] = u16_bytes(row.name_length);
+    let [f0, f1, f2, f3] = u32_bytes(row.first_entry);
+    let [n0, n1, n2, n3] = u32_bytes(row.first_name);
     [
         row.mods.mask(),
         row.levels,
@@ -175,13 +155,13 @@ pub fn key_at(bytes: &[u8]) -> KeyRow
 pub fn key_bytes(row: KeyRow) -> [u8; KEY_SIZE]
     ensures { result ≡ spec.key_bytes row }
 {
-    let [c0, c1] = row.code.to_le_bytes();
+    let [c0, c1] = u16_bytes(row.code);
     let modmap = row.modmap.mask();
     let range = range_code(row.range);
     let redirect = redirect_of(row.range);
-    let [l0, l1] = row.name_length.to_le_bytes();
-    let [n0, n1, n2, n3] = row.first_name.to_le_bytes();
-    let [g0, g1, g2, g3] = row.first_group.to_le_bytes();
+    let [l0, l1] = u16_bytes(row.name_length);
+    let [n0, n1, n2, n3] = u32_bytes(row.first_name);
+    let [g0, g1, g2, g3] = u32_bytes(row.first_group);
     [
         c0, c1, modmap, range, redirect, row.groups, l0, l1, n0, n1, n2, n3, g0, g1, g2, g3,
     ]
@@ -202,8 +182,8 @@ pub fn group_at(bytes: &[u8]) -> GroupRow
 pub fn group_bytes(row: GroupRow) -> [u8; GROUP_SIZE]
     ensures { result ≡ spec.group_bytes row }
 {
-    let [t0, t1] = row.key_type.to_le_bytes();
-    let [c0, c1, c2, c3] = row.first_cell.to_le_bytes();
+    let [t0, t1] = u16_bytes(row.key_type);
+    let [c0, c1, c2, c3] = u32_bytes(row.first_cell);
     [t0, t1, 0, 0, c0, c1, c2, c3]
 }
 
@@ -394,7 +374,7 @@ pub fn cell_bytes(row: CellRow) -> [u8; CELL_SIZE]
     let flags = action_flags(row.action);
     let mods = action_mods(row.action);
     let group = action_group(row.action);
-    let [k0, k1, k2, k3] = row.first_keysym.to_le_bytes();
+    let [k0, k1, k2, k3] = u32_bytes(row.first_keysym);
     [
         row.keysyms,
         code,
@@ -423,7 +403,7 @@ pub fn keysym_at(bytes: &[u8]) -> u32
 pub fn keysym_bytes(keysym: u32) -> [u8; KEYSYM_SIZE]
     ensures { result ≡ spec.keysym_bytes keysym }
 {
-    keysym.to_le_bytes()
+    u32_bytes(keysym)
 }
 
 /// The row that the bytes of an indicator tell.
@@ -448,9 +428,9 @@ pub fn indicator_bytes(row: IndicatorRow) -> [u8; INDICATOR_SIZE]
     let mods = row.mods.mask();
     let mod_states = row.mod_states.mask();
     let group_states = row.group_states.mask();
-    let [g0, g1, g2, g3] = row.groups.to_le_bytes();
-    let [l0, l1] = row.name_length.to_le_bytes();
-    let [n0, n1, n2, n3] = row.first_name.to_le_bytes();
+    let [g0, g1, g2, g3] = u32_bytes(row.groups);
+    let [l0, l1] = u16_bytes(row.name_length);
+    let [n0, n1, n2, n3] = u32_bytes(row.first_name);
     [
         mods,
         mod_states,
@@ -486,7 +466,7 @@ pub fn group_name_at(bytes: &[u8]) -> GroupNameRow
 pub fn group_name_bytes(row: GroupNameRow) -> [u8; GROUP_NAME_SIZE]
     ensures { result ≡ spec.group_name_bytes row }
 {
-    let [l0, l1] = row.name_length.to_le_bytes();
-    let [n0, n1, n2, n3] = row.first_name.to_le_bytes();
+    let [l0, l1] = u16_bytes(row.name_length);
+    let [n0, n1, n2, n3] = u32_bytes(row.first_name);
     [l0, l1, 0, 0, n0, n1, n2, n3]
 }

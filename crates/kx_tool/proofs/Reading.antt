@@ -1,8 +1,8 @@
 -- Bytes that come one at a time.
-use Rattle.std.proofs.Common.{◌≡◌, ℕ, List, [], ◌++◌, Option, None, Some, inl, inr, length, refl, sym, ap, ◌∙◌, arith, append_assoc}
+use Rattle.std.proofs.Common.{◌≡◌, ℕ, List, [], ◌++◌, Option, None, Some, IfSome, ◌≤◌, inl, inr, length, refl, sym, ap, ◌∙◌, arith, append_assoc}
 use Rattle.std.proofs.lemmas.List.{length-append}
-use Rattle.std.specs.Io.KnownBytes.{Consumes}
-use Rattle.kx_tool.specs.Input.{Came, FailsToRead, IsOver}
+use Rattle.std.specs.Io.KnownBytes.{Consumes, IsAtEnd}
+use Rattle.kx_tool.specs.Input.{Came, FailsToRead, IsOver, IsWithin}
 
 Consumes-nothing : (a : Option (List ℕ)) → Consumes a a []
 Consumes-nothing None = tt
@@ -36,3 +36,15 @@ fails_from f g h a b m n bytes same came fails =
       | inl changed ↦ inl (λ still. changed (still ∙ sym same))
       | inr over ↦ inr (over_from a b m n bytes came over)
     ]
+
+-- a reader that is at its end once bytes came has no more than these
+pub within_at_end : (a b : Option (List ℕ)) (m n : ℕ) (bytes : List ℕ) → Came a m b n bytes → IsAtEnd b → IsWithin a m
+within_at_end None b m n bytes came end = tt
+within_at_end (Some xs) None m n bytes came end = absurd came.consumed
+within_at_end (Some xs) (Some ys) m n bytes came end = omega (arith, came.spent, ap length came.consumed, length-append bytes ys, ap length end)
+
+-- what is left once bytes came is within what may come, so all is
+pub within_from : (a b : Option (List ℕ)) (m n : ℕ) (bytes : List ℕ) → Came a m b n bytes → IsWithin b n → IsWithin a m
+within_from None b m n bytes came few = tt
+within_from (Some xs) None m n bytes came few = absurd came.consumed
+within_from (Some xs) (Some ys) m n bytes came few = omega (arith, few, came.spent, ap length came.consumed, length-append bytes ys)

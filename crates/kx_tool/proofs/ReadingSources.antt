@@ -3,12 +3,12 @@ use Rattle.std.proofs.Common.{◌≡◌, ℕ, ◌==◌, true, false, List, [], �
 use Rattle.std.specs.Option.{option_map}
 use Rattle.std.specs.Io.KnownBytes.{Consumes, IsAtEnd}
 use Rattle.std.proofs.Math.Seq.{drop-append_seam, take-append_seam}
-use Rattle.std.proofs.lemmas.List.{length-append}
+use Rattle.std.proofs.lemmas.List.{length-append, length-take}
 use Rattle.ks_core.specs.Lines.{lines_of}
 use Rattle.kx_tool.specs.Input.{Came}
 use Rattle.kx_tool.specs.Sources.{ReadsSource, is_mark, lines_behind, lines_in, source_in, source_of}
 use Rattle.kx_tool.proofs.Lines.{EachFree, EachIs, Free, each_free_more, each_is_more, free_more, free_nothing, joined, joined-more, lines_behind-marked, lines_behind-none, lines_of-cut, lines_of-whole, source_of-marked, source_of-whole}
-use Rattle.kx_tool.proofs.Reading.{came_more, came_nothing}
+use Rattle.kx_tool.proofs.Reading.{came_more, came_nothing, within_at_end}
 
 -- whole lines that are no mark were read, and a part of the next one
 pub record SourceSoFar (old : Option (List ℕ)) (old_budget : ℕ) (new : Option (List ℕ)) (new_budget : ℕ) (text : List ℕ) (line_start : ℕ) : Type 0 where
@@ -63,6 +63,7 @@ source_ends old new later k n m text line_start h end unmarked =
       is = whole old new h.came.consumed end;
       lines = λ has. absurd cc;
       none = λ has. nothing old new h.came.consumed end;
+      whole = λ has. within_at_end old new k n text h.came end;
     }
   where
     all_lines : lines_of text ≡ h.done ++ h.part ∷ []
@@ -93,6 +94,7 @@ source_ends_marked old new later k n m text line_start h end marked =
       is = whole old new h.came.consumed end;
       lines = λ has. absurd cc;
       none = λ has. nothing old new h.came.consumed end;
+      whole = λ has. within_at_end old new k n text h.came end;
     }
   where
     all_lines : lines_of text ≡ h.done ++ h.part ∷ []
@@ -123,6 +125,7 @@ source_marked old mid new k m n text line_start h came marked =
       is = whole old new all.consumed;
       lines = λ has. behind old new all.consumed;
       none = λ has. absurd cc;
+      whole = λ has. absurd cc;
     }
   where
     all_lines : (s rest : List ℕ) → s ≡ (text ++ 10 ∷ []) ++ rest → lines_of s ≡ h.done ++ h.part ∷ lines_of rest
@@ -149,3 +152,10 @@ line_front old new k n text line_start h =
 
 pub line_within : (old new : Option (List ℕ)) (k n : ℕ) (text : List ℕ) (line_start : ℕ) → SourceSoFar old k new n text line_start → line_start ≤ length text
 line_within old new k n text line_start h = omega (arith, h.start_is, ap length h.text_is, length-append (joined h.done) h.part)
+
+-- no more was read than may come
+pub source_few : (old new : Option (List ℕ)) (k n : ℕ) (text : List ℕ) (line_start : ℕ) → SourceSoFar old k new n text line_start → length text ≤ k
+source_few old new k n text line_start h = omega (arith, h.came.spent)
+
+pub front_few : (old new : Option (List ℕ)) (k n : ℕ) (text : List ℕ) (line_start : ℕ) (front : List ℕ) → SourceSoFar old k new n text line_start → front ≡ take line_start text → length front ≤ k
+front_few old new k n text line_start front h is = omega (arith, h.came.spent, ap length is, length-take line_start text)

@@ -11,7 +11,7 @@ use Rattle.kx_lex.specs.declared.fault.Fault.{Fault}
 use Rattle.kx_lex.specs.declared.fault.Fault.TheVariants.{Memory}
 use Rattle.kx_tables.specs.Content.{Content}
 use Rattle.kx_tool.specs.Compiled.{IsCompiled}
-use Rattle.kx_tool.specs.Input.{FailsToRead, IsOver, Waiting, budget, coming, nothing_read}
+use Rattle.kx_tool.specs.Input.{FailsToRead, IsOver, IsWithin, Waiting, budget, coming, nothing_read}
 use Rattle.kx_tool.specs.Replay.{Answers, AnswersSession, Replays, known_lines}
 use Rattle.kx_tool.specs.Sources.{ReadsSource}
 use Rattle.kx_tool.specs.declared.fault.ReplayFault.{ReplayFault}
@@ -28,6 +28,13 @@ fails_all f g left input is fails =
       | inl changed ↦ inl changed
       | inr over ↦ inr (over_all left 67108864 over)
     ]
+
+pub within_all : (left : Option (List ℕ)) (input : Waiting) → input ≡ nothing_read → IsWithin (coming input left) (budget input) → IsWithin left 67108864
+within_all left input is few = by left (subst (λ (w : Waiting). IsWithin (coming w left) (budget w)) is few)
+  where
+    by : (left : Option (List ℕ)) → IsWithin (coming nothing_read left) 67108864 → IsWithin left 67108864
+    by None few = tt
+    by (Some text) few = few
 
 module _ {D : Type 0} (written : D → Option (List ℕ)) (failures : D → ℕ) (files : Handed) (names : List Entry) where
   -- the tables that are read are those that were compiled, since the bytes are the image of one content

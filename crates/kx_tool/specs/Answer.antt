@@ -2,8 +2,10 @@
 use Rattle.std.specs.Prelude.{ℕ, ◌+◌, ◌==◌, List, [], ◌∷◌, ◌++◌, codes, decimal, length, map, if◌then◌else◌}
 use Rattle.ks_core.specs.Entry.{Entry}
 use Rattle.ks_core.specs.Names.{name_of_keysym}
+use Rattle.ks_core.specs.PrintedName.{printed_name}
 use Rattle.kx_tables.specs.Content.{Content, indicator_name}
 use Rattle.kx_tables.specs.Keymap.{keymap_of}
+use Rattle.kx_tables.specs.declared.rows.IndicatorRow.{IndicatorRow}
 use Rattle.kx_run.specs.Replies.{Answer, Glance, Status, run}
 use Rattle.kx_run.specs.World.{World}
 use Rattle.kx_run.specs.declared.direction.Direction.{Direction}
@@ -46,9 +48,13 @@ all_mods_text consumed state =
 abbrev pub group_text : Status → List ℕ
 group_text state = codes " group=" ++ decimal (state.effective_group + 1)
 
+-- an indicator's name as printed text writes it
+abbrev pub lit_name : Content → IndicatorRow → List ℕ
+lit_name content row = printed_name (indicator_name content row)
+
 -- the lit indicators joined by commas, where there are any
 abbrev pub lit_text : Content → ℕ → List ℕ
-lit_text content lit = listed (codes " lit=") (codes ",") (chosen lit (map (indicator_name content) content.indicators))
+lit_text content lit = listed (codes " lit=") (codes ",") (chosen lit (map (lit_name content) content.indicators))
 
 -- the line that answers an event
 unfoldable pub answer_line : Content → List Entry → Event → Answer → List ℕ

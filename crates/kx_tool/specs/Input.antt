@@ -1,5 +1,5 @@
 -- What is read: bytes that were taken from a reader and wait, and how many more may be taken.
-use Rattle.std.specs.Prelude.{◌≡◌, ◌≢◌, ◌+◌, ◌<◌, ◌⊎◌, ℕ, List, [], Option, length, IfSome}
+use Rattle.std.specs.Prelude.{◌≡◌, ◌≢◌, ◌+◌, ◌<◌, ◌≤◌, ◌⊎◌, ℕ, List, [], Option, length, IfSome}
 use Rattle.std.specs.Io.KnownBytes.{Consumes, prepend_known}
 
 pub record Waiting : Type 0 where
@@ -22,6 +22,10 @@ pub record Came (old : Option (List ℕ)) (old_budget : ℕ) (new : Option (List
 -- the known bytes are more than may come
 abbrev pub IsOver : Option (List ℕ) → ℕ → Type 0
 IsOver bytes most = IfSome bytes (λ known. most < length known)
+
+-- the known bytes are no more than may come
+abbrev pub IsWithin : Option (List ℕ) → ℕ → Type 0
+IsWithin bytes most = IfSome bytes (λ known. length known ≤ most)
 
 -- a reader, of this count of failures before and after, failed or had more bytes than may come
 abbrev pub FailsToRead : ℕ → ℕ → Option (List ℕ) → ℕ → Type 0

@@ -1,7 +1,7 @@
 -- The two parts of what a session reads: the source, up to the first line `%%`, and the lines behind that line.
 use Rattle.std.specs.Prelude.{◌≡◌, ℕ, Bool, true, false, List, [], ◌∷◌, ◌++◌, Option, Some, IfSome, codes, if◌then◌else◌}
 use Rattle.std.specs.Option.{option_map}
-use Rattle.kx_tool.specs.Input.{Came}
+use Rattle.kx_tool.specs.Input.{Came, IsWithin}
 use Rattle.std.specs.Str.{bytes_eq}
 use Rattle.ks_core.specs.Lines.{lines_of}
 
@@ -31,3 +31,4 @@ pub record ReadsSource (old : Option (List ℕ)) (old_budget : ℕ) (new : Optio
   pub is : IfSome old (λ text. source ≡ source_in text)
   pub lines : has_lines ≡ true → IfSome old (λ text. option_map lines_of new ≡ Some (lines_in text))
   pub none : has_lines ≡ false → IfSome old (λ text. lines_in text ≡ [])
+  pub whole : has_lines ≡ false → IsWithin old old_budget

@@ -8,15 +8,15 @@ mod event;
 mod fault;
 mod input;
 mod listing;
+mod locating;
 mod replaying;
 mod sessions;
 mod source;
-#[cfg(test)]
-mod tests;
 
 pub use compiler::compile;
 pub use dumping::dump;
 pub use fault::{ReplayFault, SessionFault};
 pub use kx_include::Files;
+pub use locating::{Position, locate};
 pub use replaying::replay;
 pub use sessions::session;

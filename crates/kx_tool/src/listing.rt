@@ -2,13 +2,13 @@
 ghost use Rattle.std.specs.Prelude.{◌≡◌, ◌++◌, ◌<◌, Some, codes, length, map, slice_get};
 ghost use Rattle.ks_core.specs.Names.{name_of_keysym};
 ghost use Rattle.ks_core.specs.Press.{Tells};
+ghost use Rattle.ks_core.specs.PrintedName.{printed_name};
 ghost use Rattle.kx_mods.specs.Mods.{mask};
-ghost use Rattle.kx_tables.specs.Content.{indicator_name};
 ghost use Rattle.kx_tool.specs.Answer.{keysym_names, lit_text, mod_names};
 ghost use Rattle.kx_tool.specs.Listing.{chosen, listed};
 
 use arrayvec::ArrayString;
-use ks_core::{Keysym, NameTable, Out, Press};
+use ks_core::{Keysym, NameTable, Out, Press, write_printed_name};
 use kx_mods::Mods;
 use kx_tables::Tables;
 
@@ -41,6 +41,14 @@ fn tell_piece<O: Out>(press: &mut Press, out: &mut O, before: &[u8], piece: &[u8
     press.tell(out, piece);
 }
 
+/// Tells the next name of a list as printed text writes it, and what stands before it.
+fn tell_name<O: Out>(press: &mut Press, out: &mut O, before: &[u8], name: &[u8])
+    ensures { Tells O.written O.failures out.old press.old out.new press.new (before.now ++ printed_name name.now) }
+{
+    press.tell(out, before);
+    write_printed_name(press, out, name);
+}
+
 /// The modifiers' names in the order of their bits, joined by `+`.
 pub fn tell_mod_names<O: Out>(press: &mut Press, out: &mut O, label: &[u8], mods: Mods)
     ensures { Tells O.written O.failures out.old press.old out.new press.new (listed label.now (codes "+") (chosen (mask mods) mod_names)) }
@@ -69,7 +77,7 @@ pub fn tell_keysym_names<O: Out>(press: &mut Press, out: &mut O, names: &NameTab
     }
 }
 
-/// The names of the indicators that are lit, joined by commas.
+/// The names of the indicators that are lit, joined by commas and written as in printed text.
 pub fn tell_lit<T: Tables, O: Out>(press: &mut Press, out: &mut O, tables: &T, lit: u32)
     ensures { Tells O.written O.failures out.old press.old out.new press.new (lit_text (T.content tables.now) lit) }
 {
@@ -77,7 +85,7 @@ pub fn tell_lit<T: Tables, O: Out>(press: &mut Press, out: &mut O, tables: &T, l
     let mut bits = lit;
     for index in 0..tables.counts().indicators {
         if bits % 2 == 1 {
-            tell_piece(press, out, before, tables.indicator_name(index));
+            tell_name(press, out, before, tables.indicator_name(index));
             before = b",";
         }
         bits /= 2;

@@ -1,12 +1,12 @@
 //! Answers to lines of events.
-ghost use Rattle.std.specs.Prelude.{◌≡◌, ◌≤◌, ◌⊎◌, ◌∷◌, [], ℕ, List, true, false, IfErr, IfOk, IfNone, IfSome, OnOk};
+ghost use Rattle.std.specs.Prelude.{◌≡◌, ◌≤◌, ◌⊎◌, ◌∷◌, [], ℕ, List, true, false, IfErr, IfOk, IfNone, IfSome, OnErr, OnOk};
 ghost use Rattle.std.specs.Io.KnownBytes.{IsAtEnd};
 ghost use Rattle.ks_core.specs.Press.{Finishes, Tells, nothing_gathered};
 ghost use Rattle.kx_tables.specs.Keymap.{keymap_of};
 ghost use Rattle.kx_run.specs.Replies.{world_after};
 ghost use Rattle.kx_tool.specs.Answer.{answers_from};
 ghost use Rattle.kx_tool.specs.EventLines.{KeepsLine, events_in, is_fine};
-ghost use Rattle.kx_tool.specs.Input.{Came, FailsToRead, budget, coming};
+ghost use Rattle.kx_tool.specs.Input.{Came, FailsToRead, IsWithin, budget, coming};
 ghost use Rattle.kx_tool.specs.Putting.{FailsAt, PutsOrWaits, StopsAt};
 ghost use Rattle.kx_tool.specs.Replay.{Replays, ReplaysImage, RefusesImage, known_lines};
 ghost use Rattle.kx_tool.specs.declared.fault.ReplayFault.TheVariants.{Read, Write};
@@ -89,6 +89,25 @@ fn finish_line<T: Tables + Drop, O: Out>(
     }
 }
 
+/// The next byte, which is taken from the reader where none is kept; by then everything told is put.
+fn take_byte<F: Feed>(
+    input: &mut Input,
+    feed: &mut F,
+    _told: &Press,
+) -> Result<Option<u8>, ReplayFault>
+    requires { input.old.bytes ≡ [] → _told.now ≡ nothing_gathered }
+    ensures some { IfOk result (λ byte. IfSome byte (λ b. Came (coming input.old (F.left feed.old)) (budget input.old) (coming input.new (F.left feed.new)) (budget input.new) (b ∷ []))) }
+    ensures none { IfOk result (λ byte. IfNone byte (IsAtEnd (coming input.old (F.left feed.old)))) }
+    ensures counted { OnOk result (F.failures feed.new ≡ F.failures feed.old) }
+    ensures empty { OnErr result (input.old.bytes ≡ []) }
+    ensures failed { IfErr result (λ fault. (fault ≡ Read) × FailsToRead (F.failures feed.old) (F.failures feed.new) (coming input.old (F.left feed.old)) (budget input.old)) }
+{
+    match input.next_byte(feed) {
+        Ok(byte) => Ok(byte),
+        Err(_) => Err(ReplayFault::Read),
+    }
+}
+
 /// The next byte. What waits is put before more is taken from the reader.
 fn next_byte<F: Feed, O: Out>(
     input: &mut Input,
@@ -105,10 +124,7 @@ fn next_byte<F: Feed, O: Out>(
     if input.is_empty() {
         put_waiting(press, out)?;
     }
-    match input.next_byte(feed) {
-        Ok(byte) => Ok(byte),
-        Err(_) => Err(ReplayFault::Read),
-    }
+    take_byte(input, feed, press)
 }
 
 /// Answers event lines; what is answered is put before more is taken from the reader.
@@ -123,6 +139,7 @@ pub fn answer_lines<F: Feed, O: Out, T: Tables + Drop>(
     requires { budget input.old ≤ 67108864 }
     ensures answers { Replays O.written O.failures (T.content tables) names.now (known_lines (coming input.old (F.left feed.old))) out.old out.new result }
     ensures read { IfErr result (λ fault. fault ≡ Read → FailsToRead (F.failures feed.old) (F.failures feed.new) (coming input.old (F.left feed.old)) (budget input.old)) }
+    ensures whole { OnOk result (IsWithin (coming input.old (F.left feed.old)) (budget input.old)) }
 {
     let Ok(mut player) = Player::start(alloc, tables) else {
         return Err(ReplayFault::Memory);
@@ -171,6 +188,7 @@ pub fn replay<F: Feed, O: Out>(
     ensures answers { ReplaysImage O.written O.failures image.now names.now (known_lines (F.left feed.old)) out.old out.new result
         ⊎ RefusesImage image.now out.old out.new result }
     ensures read { IfErr result (λ fault. fault ≡ Read → FailsToRead (F.failures feed.old) (F.failures feed.new) (F.left feed.old) 67108864) }
+    ensures whole { OnOk result (IsWithin (F.left feed.old) 67108864) }
 {
     match View::open(image) {
         Ok(view) => answer_lines(alloc, &mut Input::new(), feed, view, names, out),

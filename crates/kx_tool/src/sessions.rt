@@ -1,7 +1,7 @@
 //! A source and lines of events, read from one reader.
-ghost use Rattle.std.specs.Prelude.{◌≡◌, IfErr, IfSome};
-ghost use Rattle.kx_tool.specs.Input.{FailsToRead};
-ghost use Rattle.kx_tool.specs.Quiet.{KeepsQuiet};
+ghost use Rattle.std.specs.Prelude.{◌≡◌, IfErr, IfSome, MatchResult, OnOk};
+ghost use Rattle.kx_tool.specs.Input.{FailsToRead, IsWithin};
+ghost use Rattle.kx_tool.specs.Quiet.{BlamesWriter, KeepsQuiet, RefusesSource};
 ghost use Rattle.kx_tool.specs.Replay.{AnswersSession};
 ghost use Rattle.kx_tool.specs.declared.fault.ReplayFault.TheVariants.{Read};
 
@@ -30,6 +30,9 @@ pub fn session<F: Feed, O: Out>(
     out: &mut O,
 ) -> Result<(), SessionFault>
     ensures quiet { IfErr result (KeepsQuiet out.old out.new) }
+    ensures refused { IfErr result (RefusesSource files.now names.now) }
+    ensures written { MatchResult result (λ _. O.failures out.new ≡ O.failures out.old) (BlamesWriter (O.failures out.old) (O.failures out.new)) }
+    ensures whole { OnOk result (IsWithin (F.left feed.old) 67108864) }
     ensures answers { IfSome (F.left feed.old) (λ text. AnswersSession O.written O.failures text files.now names.now out.old out.new result) }
     ensures read { IfErr result (λ fault. fault ≡ SessionFault.Replay Read → FailsToRead (F.failures feed.old) (F.failures feed.new) (F.left feed.old) 67108864) }
 {

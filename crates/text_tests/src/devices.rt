@@ -34,6 +34,9 @@ fn puts_to_a_slice(rt: HostRuntime) -> Result<(), Fail> {
     let mut out = MemOut::new(&mut room).failing_after(1);
     assert!(rt; put_all(&mut out, b"xy").is_err());
     assert_eq!(rt; out.written(), b"x".as_slice());
+    assert!(rt; out.put(b"y").is_err());
+    assert_eq!(rt; out.put(b"")?, 0);
+    assert!(rt; out.put(b"y").is_err());
     let mut out = MemOut::new(&mut room).with_most(0);
     assert!(rt; out.put(b"x").is_err());
     Ok(())

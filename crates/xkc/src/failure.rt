@@ -1,4 +1,7 @@
 //! Why a task ends early.
+ghost use Rattle.std.specs.Prelude.{◌≡◌};
+ghost use Rattle.xkc.specs.Status.{status_of};
+
 use ks_core::NameFault;
 use kx_image::ImageFault;
 use kx_lex::Fault;
@@ -10,7 +13,7 @@ use std::{fmt, io};
 const REFUSED: u8 = 1;
 
 /// The status of a task whose file, input or output can't be used.
-const DEVICE: u8 = 3;
+pub const DEVICE: u8 = 3;
 
 /// Why a task ended early. Each prints as the line that a user sees.
 #[derive(Debug, Drop)]
@@ -25,7 +28,9 @@ pub enum Failure<'a> {
 
 impl Failure<'_> {
     /// The status that the program ends with.
-    pub fn status(&self) -> u8 {
+    pub fn status(&self) -> u8
+        ensures { result ≡ status_of self.now }
+    {
         match self {
             Failure::File(_) => DEVICE,
             Failure::Replay(ReplayFault::Read | ReplayFault::Write) => DEVICE,

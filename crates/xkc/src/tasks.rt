@@ -1,9 +1,13 @@
 //! What the program does.
 use crate::failure::Failure;
+use crate::keeping::Kept;
+use crate::showing::{Shown, place_of};
 use crate::words::{Included, Task};
+use crate::writing::write_whole;
 use ks_core::{Lent, NameTable, Notes};
 use kx_image::{UpgradeFault, View, upgrade};
-use kx_tool::{Files, ReplayFault, compile, dump, replay, session};
+use kx_lex::Fault;
+use kx_tool::{Files, ReplayFault, SessionFault, compile, dump, replay, session};
 use std::rt::Files as FileSystem;
 use std::{fs, io};
 
@@ -46,6 +50,30 @@ fn read_files<'a>(
     Ok(files)
 }
 
+/// Shows a fault on standard error, in the source or in the included file in which it stands.
+fn show_fault(
+    rt: &(impl FileSystem + Eprint + AllocGlobal),
+    fault: Fault,
+    path: &str,
+    source: &[u8],
+    included: &[Included],
+) {
+    let file = place_of(fault).map_or(0, |at| at.file as usize);
+    if file == 0 {
+        let text = source;
+        let _ = rt.eprint(Shown { fault, path, text });
+        return;
+    }
+    let Some(found) = included.get(file - 1) else {
+        return;
+    };
+    if let Ok(bytes) = fs::read(rt, found.path) {
+        let path = found.path;
+        let text = bytes.as_slice();
+        let _ = rt.eprint(Shown { fault, path, text });
+    }
+}
+
 fn print_notes<'a>(rt: &impl Print, notes: Notes) -> Result<(), Failure<'a>> {
     let Notes {
         keysyms,
@@ -64,38 +92,56 @@ fn print_notes<'a>(rt: &impl Print, notes: Notes) -> Result<(), Failure<'a>> {
 }
 
 fn compile_to<'a>(
-    rt: &(impl FileSystem + Print + AllocGlobal),
+    rt: &(impl FileSystem + Print + Eprint + AllocGlobal),
     names: Option<&'a str>,
-    source: &'a str,
+    path: &'a str,
     image: &'a str,
     included: &[Included<'a>],
 ) -> Result<(), Failure<'a>> {
     let names = read_names(rt, names)?;
-    let source = read(rt, source)?;
+    let source = read(rt, path)?;
     let files = read_files(rt, included)?;
     match compile(rt.alloc(), source.as_slice(), &files, &names) {
         Ok((bytes, notes)) => {
-            if fs::write(rt, image, bytes.as_slice()).is_err() {
-                return Err(Failure::File(image));
-            }
+            put_file(rt, image, bytes.as_slice())?;
             print_notes(rt, notes)
         }
-        Err(fault) => Err(Failure::Source(fault)),
+        Err(fault) => {
+            show_fault(rt, fault, path, source.as_slice(), included);
+            Err(Failure::Source(fault))
+        }
+    }
+}
+
+/// Writes a file, whole or not at all.
+fn put_file<'a>(
+    rt: &(impl FileSystem + AllocGlobal),
+    path: &'a str,
+    bytes: &[u8],
+) -> Result<(), Failure<'a>> {
+    match write_whole(rt, path, bytes) {
+        Ok(()) => Ok(()),
+        Err(fault) => Err(Failure::of_file(&fault, path)),
     }
 }
 
 fn answer_source<'a>(
-    rt: &(impl FileSystem + Input + Print + AllocGlobal),
+    rt: &(impl FileSystem + Input + Print + Eprint + AllocGlobal),
     names: Option<&'a str>,
     included: &[Included<'a>],
 ) -> Result<(), Failure<'a>> {
     let names = read_names(rt, names)?;
     let files = read_files(rt, included)?;
-    let mut feed = Lent::new(rt.reader());
+    let mut feed = Kept::new(rt.alloc(), Lent::new(rt.reader()));
     let mut out = Lent::new(io::writer(rt));
     match session(rt.alloc(), &mut feed, &files, &names, &mut out) {
         Ok(()) => Ok(()),
-        Err(fault) => Err(Failure::of_session(fault)),
+        Err(fault) => {
+            if let SessionFault::Compile(fault) = fault {
+                show_fault(rt, fault, "<stdin>", feed.bytes(), included);
+            }
+            Err(Failure::of_session(fault))
+        }
     }
 }
 
@@ -139,19 +185,17 @@ fn upgrade_image<'a>(
     if let Err(fault) = View::open(bytes.as_slice()) {
         return Err(Failure::Image(fault));
     }
-    let Ok(file) = fs::create(rt, newer) else {
-        return Err(Failure::File(newer));
-    };
-    match upgrade(bytes.as_slice(), &mut Lent::new(file)) {
-        Ok(()) => Ok(()),
+    let mut out = Lent::new(Vec::new(rt.alloc()));
+    match upgrade(bytes.as_slice(), &mut out) {
+        Ok(()) => put_file(rt, newer, out.device.as_slice()),
         Err(UpgradeFault::Image(fault)) => Err(Failure::Image(fault)),
-        Err(UpgradeFault::Write) => Err(Failure::File(newer)),
+        Err(UpgradeFault::Write) => Err(Failure::Source(Fault::Memory)),
     }
 }
 
 /// Does what the words ask for.
 pub fn run<'a>(
-    rt: &(impl FileSystem + Input + Print + AllocGlobal),
+    rt: &(impl FileSystem + Input + Print + Eprint + AllocGlobal),
     task: Task<'a>,
 ) -> Result<(), Failure<'a>> {
     match task {

@@ -1,15 +1,15 @@
-use Rattle.std.proofs.Common.{◌≡◌, ◌⊎◌, IfErr, refl, sym, subst, ◌∙◌}
+use Rattle.std.proofs.Common.{◌≡◌, ◌⊎◌, IfErr, OnOk, refl, sym, subst, ◌∙◌}
 use Rattle.kx_image.specs.Image.{IsImage}
 use Rattle.kx_resolve.specs.Source.{HasFault}
 use Rattle.kx_lex.specs.declared.fault.Fault.TheVariants.{Memory}
 use Rattle.kx_tables.specs.Content.{Content}
 use Rattle.kx_tool.specs.Compiled.{IsCompiled}
-use Rattle.kx_tool.specs.Input.{FailsToRead, budget, coming}
+use Rattle.kx_tool.specs.Input.{FailsToRead, IsWithin, budget, coming}
 use Rattle.kx_tool.specs.Sources.{ReadsSource}
 use Rattle.kx_tool.specs.declared.fault.ReplayFault.{ReplayFault}
 use Rattle.kx_tool.specs.declared.fault.ReplayFault.TheVariants.{Read}
-use Rattle.kx_tool.proofs.Reading.{fails_from}
-use Rattle.kx_tool.proofs.SessionLemmas.{fails_all, session_answered, session_refused, session_silent, session_stopped}
+use Rattle.kx_tool.proofs.Reading.{fails_from, within_from}
+use Rattle.kx_tool.proofs.SessionLemmas.{fails_all, within_all, session_answered, session_refused, session_silent, session_stopped}
 use Rattle.kx_tool.proofs.sessions.session.Goals as goal
 use Rattle.kx_tool.proofs.sessions.session.Goals.{in-Ok-open, in-Err-open}
 
@@ -65,3 +65,14 @@ returns-then-not-source-clause-answers g c =
     let read = subst (λ b. ReadsSource (coming c.new-input.result (g.F.Feed.left c.args.feed.now)) (budget c.new-input.result) (coming c.read_source.new.input (g.F.Feed.left c.read_source.new.feed)) (budget c.read_source.new.input) c.in_ok-source.source.text.items b) c.if-not-source.true c.in_ok-source.ensures.source in
     let made = subst (λ s. (made : Content) × IsCompiled s c.args.files.now c.args.names.now made c.in-Ok.image.items) c.as_slice.ensures.value c.in-Ok.ensures.image in
     session_silent g.O.Out.written g.O.Out.failures c.args.files.now c.args.names.now _ _ _ _ _ _ _ c.args.out.now c.new-input.ensures read made
+
+pub returns-in-Ok-answered-clause-whole : goal.returns-in-Ok-answered-clause-whole
+returns-in-Ok-answered-clause-whole g c =
+    let read = subst (λ b. ReadsSource (coming c.new-input.result (g.F.Feed.left c.args.feed.now)) (budget c.new-input.result) (coming c.read_source.new.input (g.F.Feed.left c.read_source.new.feed)) (budget c.read_source.new.input) c.in_ok-source.source.text.items b) c.if-not-source.false c.in_ok-source.ensures.source in
+    let came = read.came refl in
+    elim c.match-open.branch [
+      | in-Ok-open w ↦
+          let rest = subst (λ r. OnOk r (IsWithin (coming c.read_source.new.input (g.F.Feed.left c.read_source.new.feed)) (budget c.read_source.new.input))) (sym w.answered-is ∙ c.in-Ok-answered.is) w.answer_lines-answered.ensures.whole in
+          within_all (g.F.Feed.left c.args.feed.now) c.new-input.result c.new-input.ensures (within_from _ _ _ _ _ came.1 rest)
+      | in-Err-open w ↦ let one = w.answered-is in let other = c.in-Ok-answered.is in absurd (cc (sym one ∙ other))
+    ]

@@ -1,7 +1,8 @@
 mod devices;
 mod includes;
+mod prompt;
 
-use crate::{Files, compile, session};
+use kx_tool::{Files, compile, session};
 use ks_core::{MemFeed, MemOut, NameTable};
 use kx_image::View;
 use kx_tables::Rows;
@@ -161,7 +162,8 @@ fn pairs_of_names_and_codes(rt: HostRuntime) -> Result<(), Fail> {
 
 #[test]
 fn refusals_name_their_place(rt: HostRuntime) -> Result<(), Fail> {
-    let rows: [(&[u8], &str); 9] = [
+    let rows: [(&[u8], &str); 10] = [
+        (b"xkb_keymap { };\r\n%%\r\n", "F3 BadByte at 0:17-18"),
         (
             b"xkb_keymap { xkb_keycodes { <A>=4096; }; };",
             "F18 CodeRange at 0:32-36",
@@ -205,8 +207,9 @@ fn refusals_name_their_place(rt: HostRuntime) -> Result<(), Fail> {
 #[test]
 fn bad_lines_are_counted(rt: HostRuntime) -> Result<(), Fail> {
     let answer: &[u8] = b"9 up ? consumed=none base=none latched=none locked=none group=1\n";
-    let rows: [(&[u8], &str); 7] = [
+    let rows: [(&[u8], &str); 8] = [
         (b"up 9\ndown 9 \n", "P3 Line 2"),
+        (b"up 9\ndown 9\r\n", "P3 Line 2"),
         (b"up 9\n\ndown\n", "P3 Line 3"),
         (b"up 00009\ndown 65536\n", "P3 Line 2"),
         (b"up 9\ndown 000009\n", "P3 Line 2"),

@@ -1,5 +1,5 @@
 //! Sources that include files.
-use crate::{Files, compile, session};
+use kx_tool::{Files, compile, session};
 use ks_core::{MemFeed, MemOut, NameTable};
 use kx_image::View;
 use kx_tables::Rows;

@@ -2,8 +2,7 @@
 ghost use Rattle.std.specs.Prelude.{None};
 
 use super::SAMPLE;
-use crate::fault::{ReplayFault, SessionFault};
-use crate::{Files, dump, replay, session};
+use kx_tool::{Files, ReplayFault, SessionFault, dump, replay, session};
 use ks_core::{Feed, MemFeed, MemOut, NameTable};
 use kx_image::ImageFault;
 use std::io;

@@ -1,0 +1,74 @@
+//! Names of lit indicators in answers.
+use kx_tool::replay;
+use ks_core::{Lent, MemFeed, MemOut, NameTable};
+use kx_image::write;
+use kx_mods::Mods;
+use kx_tables::{IndicatorRow, Owned, Parts, States};
+use std::alloc::Global;
+use std::test::Fail;
+
+/// The image of a keymap with no key, whose indicators have these names and are always lit.
+fn image_of(alloc: Global, names: &[&[u8]]) -> Result<Vec<u8>, Fail> {
+    let mut indicators = Vec::new(alloc);
+    let mut all = Vec::new(alloc);
+    for name in names {
+        indicators.push(IndicatorRow {
+            mods: Mods::NONE,
+            mod_states: States::EFFECTIVE,
+            group_states: States::EFFECTIVE,
+            groups: 1,
+            name_length: u16::try_from(name.len())?,
+            first_name: u32::try_from(all.len())?,
+        })?;
+        all.extend_from_slice(name)?;
+    }
+    let tables = Owned::new(Parts {
+        types: Vec::new(alloc),
+        entries: Vec::new(alloc),
+        keys: Vec::new(alloc),
+        groups: Vec::new(alloc),
+        cells: Vec::new(alloc),
+        keysyms: Vec::new(alloc),
+        indicators,
+        group_names: Vec::new(alloc),
+        names: all,
+    });
+    let mut out = Lent::new(Vec::new(alloc));
+    write(&tables.ok().ok_or("unsound tables")?, &mut out)?;
+    Ok(out.device)
+}
+
+#[test]
+fn names_of_lit_indicators_stay_on_their_line(rt: HostRuntime) -> Result<(), Fail> {
+    let rows: [(&[&[u8]], &[u8]); 3] = [
+        (
+            &[b"a\nb\"c\\".as_slice(), b"Caps Lock".as_slice()],
+            b"lit=a\\012b\\042c\\134,Caps Lock\n",
+        ),
+        (
+            &[b" ~\x7f\x1f\x00\xff".as_slice()],
+            b"lit= ~\\177\\037\\000\\377\n",
+        ),
+        (&[b"".as_slice()], b"lit=\n"),
+    ];
+    for (names, lit) in rows {
+        let image = image_of(rt.alloc(), names)?;
+        let wanted = [
+            b"9 up ? consumed=none base=none latched=none locked=none group=1 ".as_slice(),
+            lit,
+        ]
+        .concat(rt.alloc())?;
+        let mut room = [0u8; 256];
+        let mut out = MemOut::new(&mut room);
+        let ended = replay(
+            rt.alloc(),
+            &mut MemFeed::new(b"up 9"),
+            image.as_slice(),
+            &NameTable::builtin(),
+            &mut out,
+        );
+        assert_eq!(rt; ended, Ok(()));
+        assert_eq!(rt; out.written(), wanted.as_slice());
+    }
+    Ok(())
+}

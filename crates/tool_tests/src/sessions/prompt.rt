@@ -1,0 +1,89 @@
+//! Answers come before more is read.
+ghost use Rattle.std.specs.Prelude.{None};
+
+use super::SAMPLE;
+use kx_tool::{Files, session};
+use ks_core::{Feed, NameTable, Out};
+use std::cell::Cell;
+use std::io;
+use std::test::Fail;
+
+/// A writer that counts the lines that are put.
+#[derive(Drop)]
+struct Counting<'a> {
+    lines: &'a Cell<usize>,
+}
+
+impl Out for Counting<'_> {
+    ghost written = { λ s. None };
+
+    ghost failures = { λ s. 0 };
+
+    fn put(&mut self, piece: &[u8]) -> io::Result<usize> {
+        let lines = piece.iter().filter(|byte| **byte == b'\n').count();
+        self.lines.set(self.lines.get().saturating_add(lines));
+        Ok(piece.len())
+    }
+}
+
+/// A reader that gives a piece a call, and looks how many lines are put by then.
+#[derive(Drop)]
+struct Looking<'a> {
+    pieces: &'a [&'a [u8]],
+    /// How many lines have to be put before each call.
+    wanted: &'a [usize],
+    calls: usize,
+    lines: &'a Cell<usize>,
+    is_late: bool,
+}
+
+impl Feed for Looking<'_> {
+    ghost left = { λ s. None };
+
+    ghost failures = { λ s. 0 };
+
+    fn take(&mut self, buffer: &mut [u8]) -> io::Result<usize> {
+        let call = self.calls;
+        self.calls = call.saturating_add(1);
+        let lines = self.lines.get();
+        match self.wanted.get(call) {
+            Some(wanted) if *wanted == lines => {}
+            _ => self.is_late = true,
+        }
+        let Some(piece) = self.pieces.get(call) else {
+            return Ok(0);
+        };
+        let count = piece.len().min(buffer.len());
+        buffer[..count].copy_from_slice(&piece[..count]);
+        Ok(count)
+    }
+}
+
+#[test]
+fn answers_are_put_before_more_is_read(rt: HostRuntime) -> Result<(), Fail> {
+    let lines = Cell::new(0);
+    let mut feed = Looking {
+        pieces: &[
+            SAMPLE,
+            b"%%\n".as_slice(),
+            b"down 38\n",
+            b"up 38\ndown 9\n",
+            b"up",
+            b" 9\n",
+        ],
+        wanted: &[0, 0, 0, 1, 3, 3, 4],
+        calls: 0,
+        lines: &lines,
+        is_late: false,
+    };
+    let ended = session(
+        rt.alloc(),
+        &mut feed,
+        &Files::new(rt.alloc()),
+        &NameTable::builtin(),
+        &mut Counting { lines: &lines },
+    );
+    assert_eq!(rt; ended, Ok(()));
+    assert!(rt; !feed.is_late && feed.calls == 7);
+    Ok(())
+}
