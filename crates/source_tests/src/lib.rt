@@ -6,6 +6,8 @@ mod coding;
 #[cfg(test)]
 mod keying;
 #[cfg(test)]
+mod masking;
+#[cfg(test)]
 mod merging;
 #[cfg(test)]
 mod resolving;

@@ -1,0 +1,84 @@
+//! Names by number.
+ghost use Rattle.std.specs.Prelude.{◌≡◌, ◌<◌, ◌^◌, [], length, position, slice_get, IfErr, IfSome, OnOk};
+ghost use Rattle.std.specs.List.{list_any};
+ghost use Rattle.std.specs.Option.{option_map};
+ghost use Rattle.std.specs.Str.{bytes_eq};
+ghost use Rattle.kx_lex.specs.declared.fault.Fault.TheVariants.{Memory};
+ghost use Rattle.kx_merge.specs.Offers.{with_name};
+
+use indexmap::IndexSet;
+use kx_lex::Fault;
+use std::alloc::Global;
+use std::marker::Model;
+
+/// Names, each once, numbered from 0 in the order in which they were added; seen as the list of their bytes.
+#[derive(Drop)]
+pub struct Names {
+    set: IndexSet<Vec<u8>>,
+}
+
+impl Model for Names {
+    ghost use Rattle.std.specs.Prelude.{List, ℕ, map};
+
+    ghost Value = { List (List ℕ) };
+
+    ghost view = { λ n. map (λ v. v.items) n.set.keys };
+}
+
+impl Names {
+    /// No names.
+    pub fn new(alloc: Global) -> Names
+        ensures { result ≡ [] }
+    {
+        Names {
+            set: IndexSet::new(alloc),
+        }
+    }
+
+    /// How many there are.
+    pub fn len(&self) -> usize
+        ensures value { result ≡ length self.now }
+    {
+        self.set.len()
+    }
+
+    /// The number of a name, which is read exactly.
+    pub fn number_of(&self, name: &[u8]) -> Option<usize>
+        ensures value { result ≡ position (bytes_eq name.now) self.now }
+        ensures within { IfSome result (λ number. number < length self.now) }
+    {
+        self.set.get_index_of(name)
+    }
+
+    /// The name of a number.
+    pub fn name(&self, number: usize) -> Option<&[u8]>
+        ensures { option_map (λ n. n.now) result ≡ slice_get self.now number }
+    {
+        match self.set.get_index(number) {
+            None => None,
+            Some(name) => Some(name.as_slice()),
+        }
+    }
+
+    fn has(&self, name: &[u8]) -> bool
+        ensures { result ≡ list_any (bytes_eq name.now) self.now }
+    {
+        self.set.contains(name)
+    }
+
+    /// Adds a name behind the others, where it isn't among them.
+    ///
+    /// # Errors
+    /// `Memory`.
+    pub fn add(&mut self, alloc: Global, name: &[u8]) -> Result<(), Fault>
+        ensures added { OnOk result (self.new ≡ with_name bytes_eq self.old name.now) }
+        ensures err { IfErr result (λ e. e ≡ Memory) }
+    {
+        if self.has(name) {
+            return Ok(());
+        }
+        let name = Vec::from_slice(alloc, name)?;
+        self.set.insert(name)?;
+        Ok(())
+    }
+}
