@@ -74,8 +74,9 @@ fn client(rt: &impl Print, image: &[u8], state: Components, code: u16) -> Result
 
 fn main(rt: HostRuntime) -> Result<(), Trouble> {
     let files = Files::new(rt.alloc());
-    let (image, notes) =
-        compile(rt.alloc(), LAYOUT, &files, &NameTable::builtin()).map_err(Trouble::Layout)?;
+    let (image, notes) = compile(rt.alloc(), LAYOUT, &files, &NameTable::builtin()).map_err(
+        Trouble::Layout,
+    )?;
     println!(rt; "unknown keysyms: {}", notes.keysyms)?;
     let state = tap(&rt, image.as_slice(), 38)?;
     client(&rt, image.as_slice(), state, 56)

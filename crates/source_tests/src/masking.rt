@@ -1,6 +1,6 @@
-use kx_masks::{MOST_VIRTUAL_MODIFIERS, ModNames, NameSet, real_mask, real_of};
 use kx_include::{Files, Library};
 use kx_lex::{Fault, Span, lex};
+use kx_masks::{MOST_VIRTUAL_MODIFIERS, ModNames, NameSet, real_mask, real_of};
 use kx_mods::Mods;
 use kx_parse::{Expression, Item, Setting, Statement, Value, parse};
 use std::process::Abort;

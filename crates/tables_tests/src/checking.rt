@@ -1,5 +1,5 @@
-use kx_tables::*;
 use kx_mods::Mods;
+use kx_tables::*;
 use std::alloc::{AllocError, Global};
 use std::test::Fail;
 

@@ -1,8 +1,8 @@
 mod full;
 mod slow;
 
-use kx_image::{ImageFault, UpgradeFault, View, upgrade, write};
 use ks_core::MemOut;
+use kx_image::{ImageFault, UpgradeFault, View, upgrade, write};
 use kx_tables::{Part, Rows, Tables};
 use std::test::Fail;
 

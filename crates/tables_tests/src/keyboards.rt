@@ -4,8 +4,8 @@ mod rows;
 mod sample;
 mod steps;
 
-use kx_run::{Components, Direction, Event, Follower, Player};
 use kx_mods::Mods;
+use kx_run::{Components, Direction, Event, Follower, Player};
 use kx_tables::{Action, GroupChange, Owned, States};
 use rows::{
     BOTH, CAPS_OFF, CAPS_ON, FIFTH_GROUP, FIVE_GROUPS_ON, GROUP_CHANGED, GROUP_LATCHED,

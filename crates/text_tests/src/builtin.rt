@@ -1,6 +1,6 @@
 //! Every built-in name with its keysym.
-use ks_core::{Keysym, NameTable};
 use arrayvec::ArrayString;
+use ks_core::{Keysym, NameTable};
 
 #[rattlefmt::skip]
 static NAMES: [(&str, u32); 379] = [

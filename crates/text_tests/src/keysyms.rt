@@ -1,5 +1,5 @@
-use ks_core::{Keysym, NameFault, NameTable, Note, Notes};
 use arrayvec::ArrayString;
+use ks_core::{Keysym, NameFault, NameTable, Note, Notes};
 use std::test::Fail;
 
 #[test]

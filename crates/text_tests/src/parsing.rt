@@ -1,5 +1,5 @@
-use kx_parse::{Item, Kind, Mode, Statement, Tree, parse, parse_file};
 use kx_lex::{Span, lex};
+use kx_parse::{Item, Kind, Mode, Statement, Tree, parse, parse_file};
 use std::process::Abort;
 use std::test::Fail;
 

@@ -1,9 +1,9 @@
 //! The line that each fault prints.
-use kx_tool::{ReplayFault, SessionFault};
 use ks_core::NameFault;
 use kx_image::ImageFault;
 use kx_lex::{At, Fault, Span};
 use kx_tables::Part;
+use kx_tool::{ReplayFault, SessionFault};
 use std::fmt::Display;
 use std::process::Abort;
 use std::test::Fail;

@@ -1,9 +1,9 @@
 //! Names of lit indicators in answers.
-use kx_tool::replay;
 use ks_core::{Lent, MemFeed, MemOut, NameTable};
 use kx_image::write;
 use kx_mods::Mods;
 use kx_tables::{IndicatorRow, Owned, Parts, States};
+use kx_tool::replay;
 use std::alloc::Global;
 use std::test::Fail;
 

@@ -2,10 +2,10 @@ mod devices;
 mod includes;
 mod prompt;
 
-use kx_tool::{Files, compile, session};
 use ks_core::{MemFeed, MemOut, NameTable};
 use kx_image::View;
 use kx_tables::Rows;
+use kx_tool::{Files, compile, session};
 use std::process::Abort;
 use std::test::Fail;
 

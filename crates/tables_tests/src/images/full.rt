@@ -1,7 +1,7 @@
 //! An image that has a record of every kind, in both versions.
 use super::{fault_of, slow};
-use kx_image::{ImageFault, View, upgrade};
 use ks_core::MemOut;
+use kx_image::{ImageFault, View, upgrade};
 use kx_tables::{Part, Rows, Tables};
 use std::test::Fail;
 

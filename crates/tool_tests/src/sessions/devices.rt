@@ -2,9 +2,9 @@
 ghost use Rattle.std.specs.Prelude.{None};
 
 use super::SAMPLE;
-use kx_tool::{Files, ReplayFault, SessionFault, dump, replay, session};
 use ks_core::{Feed, MemFeed, MemOut, NameTable};
 use kx_image::ImageFault;
+use kx_tool::{Files, ReplayFault, SessionFault, dump, replay, session};
 use std::io;
 use std::test::Fail;
 

@@ -2,8 +2,8 @@
 ghost use Rattle.std.specs.Prelude.{None};
 
 use super::SAMPLE;
-use kx_tool::{Files, session};
 use ks_core::{Feed, NameTable, Out};
+use kx_tool::{Files, session};
 use std::cell::Cell;
 use std::io;
 use std::test::Fail;
