@@ -9,3 +9,5 @@ mod lamps;
 mod places;
 #[cfg(test)]
 mod sessions;
+#[cfg(test)]
+mod sources;

@@ -1,8 +1,11 @@
 //! Sources that include files.
+use crate::sources::{add, image_of};
 use ks_core::{MemFeed, MemOut, NameTable};
-use kx_image::View;
+use kx_image::{ImageFault, View};
+use kx_lex::Fault;
 use kx_tables::Rows;
-use kx_tool::{Files, compile, session};
+use kx_tool::{Files, session};
+use std::alloc::Global;
 use std::process::Abort;
 use std::test::Fail;
 
@@ -10,36 +13,41 @@ const US: &[u8] = b"default xkb_symbols \"basic\" { key <A> { [ a ] }; };";
 
 const RU: &[u8] = b"xkb_symbols \"x\" { key <A> { [ U0444 ] }; };";
 
+/// The files with these names and bytes.
+fn files_of(alloc: Global, given: &[(&[u8], &[u8])]) -> Result<Files, Fault> {
+    let mut files = Files::new(alloc);
+    for (name, bytes) in given {
+        add(alloc, &mut files, name, bytes)?;
+    }
+    Ok(files)
+}
+
+/// The first keysym of an image, 0 where it has none.
+fn first_keysym(image: &[u8]) -> Result<u32, ImageFault> {
+    let view = View::open(image)?;
+    if view.counts().keysyms == 0 {
+        Ok(0)
+    } else {
+        Ok(view.keysym(0))
+    }
+}
+
+fn shown_keysym(alloc: Global, image: &[u8]) -> Result<String, Fail> {
+    let keysym = first_keysym(image)?;
+    Ok(format!(in alloc; "{keysym:x}")?)
+}
+
 /// The keysym of the one key of a source whose symbols are these items, or the fault of the source.
 fn keysym(
     rt: &(impl Abort + AllocGlobal),
     items: &[u8],
     given: &[(&[u8], &[u8])],
 ) -> Result<String, Fail> {
-    let mut files = Files::new(rt.alloc());
-    for (name, bytes) in given {
-        files.insert(
-            Vec::from_slice(rt.alloc(), name)?,
-            Vec::from_slice(rt.alloc(), bytes)?,
-        )?;
-    }
-    let source = [
-        b"xkb_keymap { xkb_keycodes { <A>=38; }; xkb_symbols { ".as_slice(),
-        items,
-        b" }; };".as_slice(),
-    ]
-    .concat(rt.alloc())?;
-    match compile(rt.alloc(), source.as_slice(), &files, &NameTable::builtin()) {
+    let front = b"xkb_keymap { xkb_keycodes { <A>=38; }; xkb_symbols { ";
+    let files = files_of(rt.alloc(), given)?;
+    match image_of(rt.alloc(), front, items, &files) {
         Err(fault) => Ok(format!(in rt.alloc(); "{fault}")?),
-        Ok((image, _)) => {
-            let view = View::open(image.as_slice())?;
-            let keysym = if view.counts().keysyms == 0 {
-                0
-            } else {
-                view.keysym(0)
-            };
-            Ok(format!(in rt.alloc(); "{keysym:x}")?)
-        }
+        Ok(image) => shown_keysym(rt.alloc(), image.as_slice()),
     }
 }
 
@@ -97,32 +105,25 @@ fn a_fault_names_its_file(rt: HostRuntime) -> Result<(), Fail> {
     Ok(())
 }
 
-/// The keys of a source whose keycodes are these items, each as its code and its name.
-fn keys_named(rt: &(impl Abort + AllocGlobal), items: &[u8]) -> Result<String, Fail> {
-    let mut files = Files::new(rt.alloc());
-    files.insert(
-        Vec::from_slice(rt.alloc(), b"keycodes/kc")?,
-        Vec::from_slice(
-            rt.alloc(),
-            b"xkb_keycodes \"a\" { <A>=38; }; xkb_keycodes \"b\" { <B>=38; };",
-        )?,
-    )?;
-    let source = [
-        b"xkb_keymap { xkb_keycodes { ".as_slice(),
-        items,
-        b" }; };".as_slice(),
-    ]
-    .concat(rt.alloc())?;
-    let names = NameTable::builtin();
-    let (image, _) = compile(rt.alloc(), source.as_slice(), &files, &names)?;
-    let view = View::open(image.as_slice())?;
-    let mut keys = String::new(rt.alloc());
+/// The keys of an image, each as its code and its name.
+fn names_in(alloc: Global, image: &[u8]) -> Result<String, Fail> {
+    let view = View::open(image)?;
+    let mut keys = String::new(alloc);
     for index in 0..view.counts().keys {
         let code = view.key_row(index).code;
         let name = str::from_utf8(view.key_name(index)).unwrap_or("?");
-        keys.push_str(format!(in rt.alloc(); "{code} {name};")?.as_str())?;
+        keys.push_str(format!(in alloc; "{code} {name};")?.as_str())?;
     }
     Ok(keys)
+}
+
+/// The keys of a source whose keycodes are these items, each as its code and its name.
+fn keys_named(rt: &(impl Abort + AllocGlobal), items: &[u8]) -> Result<String, Fail> {
+    let maps = b"xkb_keycodes \"a\" { <A>=38; }; xkb_keycodes \"b\" { <B>=38; };";
+    let mut files = Files::new(rt.alloc());
+    add(rt.alloc(), &mut files, b"keycodes/kc", maps)?;
+    let image = image_of(rt.alloc(), b"xkb_keymap { xkb_keycodes { ", items, &files)?;
+    names_in(rt.alloc(), image.as_slice())
 }
 
 #[test]
@@ -145,10 +146,7 @@ fn keycodes_of_included_maps(rt: HostRuntime) -> Result<(), Fail> {
 #[test]
 fn a_session_takes_files_and_names(rt: HostRuntime) -> Result<(), Fail> {
     let mut files = Files::new(rt.alloc());
-    files.insert(
-        Vec::from_slice(rt.alloc(), b"us")?,
-        Vec::from_slice(rt.alloc(), US)?,
-    )?;
+    add(rt.alloc(), &mut files, b"us", US)?;
     let names = NameTable::with_lines(rt.alloc(), b"frob 0x10081234\n")?;
     let input: &[u8] =
         b"xkb_keymap { xkb_keycodes { <A>=38; <B>=39; }; xkb_symbols { include \"us\" key <B> { [ frob ] }; }; };\n%%\ndown 38\ndown 39";
