@@ -16,6 +16,10 @@ has_virtual set number = has set (number + 8)
 abbrev pub union : ℕ → ℕ → ℕ
 union set other = bit_or set other
 
+-- the names of both sets
+abbrev pub meet : ℕ → ℕ → ℕ
+meet set other = bit_and set other
+
 -- the names of a set that the other lacks
 abbrev pub without : ℕ → ℕ → ℕ
 without set other = bit_and set (2 ^ 32 - 1 - other)

@@ -7,7 +7,7 @@ use std::marker::Model;
 
 /// A set of names of modifiers: bits 0 to 7 are the real ones, Shift, Lock, Control and Mod1 to Mod5, and bits 8 to 31 the
 /// virtual ones by their numbers, 0 to 23; seen as the number.
-#[derive(Clone, Copy, Debug, PartialEq, Eq)]
+#[derive(Clone, Copy, Debug, PartialEq, Eq, Hash)]
 pub struct NameSet {
     bits: u32,
 }
@@ -25,7 +25,7 @@ impl Model for NameSet {
 impl NameSet {
     ghost use Rattle.std.specs.Prelude.{◌≡◌, ◌<◌, ◌^◌, ◌==◌};
     ghost use Rattle.kx_mods.specs.Mods.{mask};
-    ghost use Rattle.kx_masks.specs.Sets.{has_virtual, real_part, union, virtual_set, without};
+    ghost use Rattle.kx_masks.specs.Sets.{has_virtual, meet, real_part, union, virtual_set, without};
 
     /// The empty set.
     pub const fn none() -> NameSet
@@ -83,6 +83,15 @@ impl NameSet {
     {
         NameSet {
             bits: self.bits & !other.bits,
+        }
+    }
+
+    /// The names of both sets.
+    pub const fn meet(self, other: NameSet) -> NameSet
+        ensures { result ≡ meet self other }
+    {
+        NameSet {
+            bits: self.bits & other.bits,
         }
     }
 

@@ -1,0 +1,4 @@
+mod Adding
+mod Bits
+mod Fining
+mod Whole

@@ -1,0 +1,3 @@
+pub mod Selecting
+pub mod Rows
+pub mod Going

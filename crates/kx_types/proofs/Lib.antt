@@ -1,0 +1,5 @@
+mod Blames
+mod Given
+mod Laws
+mod Loops
+mod NamesShown

@@ -1,0 +1,9 @@
+pub mod Firsts
+pub mod KeyTypes
+pub mod Lawful
+pub mod LevelTerms
+pub mod TypeFaults
+pub mod TypeFields
+pub mod Types
+pub mod Records
+pub mod Shown

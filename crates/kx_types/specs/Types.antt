@@ -1,0 +1,83 @@
+-- The key types that the statements of a types body declare.
+use Rattle.std.specs.Prelude.{◌≡◌, ℕ, List, [], ◌∷◌, ◌++◌, Option, None, Some, map}
+use Rattle.std.specs.Map.{lookup}
+use Rattle.std.specs.Option.{option_and_then}
+use Rattle.std.specs.Str.{bytes_eq}
+use Rattle.kx_include.specs.Expansion.{Body}
+use Rattle.kx_lex.specs.declared.fault.Fault.{Fault}
+use Rattle.kx_lex.specs.declared.name.Name.{Name}
+use Rattle.kx_masks.specs.Counted.{count_faults, statements_of}
+use Rattle.kx_merge.specs.Bodies.{Moves, Rules, faults_of, offers_of}
+use Rattle.kx_merge.specs.Offers.{Offer, names_of, value_of}
+use Rattle.kx_parse.specs.declared.tree.Field.{Field}
+use Rattle.kx_parse.specs.declared.tree.Item.{Item}
+use Rattle.kx_parse.specs.declared.tree.Item.TheVariants.{Include, Statement}
+use Rattle.kx_parse.specs.declared.tree.Mode.{Mode}
+use Rattle.kx_types.specs.KeyTypes.{Definition, definition_of}
+use Rattle.kx_types.specs.TypeFaults.{item_faults, type_in}
+use Rattle.kx_types.specs.TypeFields.{sayings_of}
+use Rattle.kx_types.specs.declared.limits.TheConstants.{MOST_TYPES}
+
+-- a type has one cell, its whole definition
+abbrev pub TypeOffer : Type 0
+TypeOffer = Offer (List ℕ) (Unit {0}) Definition
+
+abbrev pub type_offer : Mode → List ℕ → Definition → TypeOffer
+type_offer mode name definition = record { mode = mode; name = name; value = λ _. Some definition; width = λ _. 0 }
+
+-- `names` are the virtual modifiers by number
+module _ (names : List (List ℕ)) where
+  abbrev pub said_offers : Mode → Option (Name × List Field) → List TypeOffer
+  said_offers mode None = []
+  said_offers mode (Some t) = type_offer mode t.0.bytes (definition_of (sayings_of names t.1)) ∷ []
+
+  abbrev pub item_offers : Item → List TypeOffer
+  item_offers (Statement mode statement first span) = said_offers mode (type_in statement)
+  item_offers (Include mode text span) = []
+
+  abbrev pub type_rules : Rules (List ℕ) (Unit {0}) Definition (Unit {0})
+  type_rules = record { start = tt; next = λ d item. tt; offers = λ d place item. item_offers item; faults = λ d place item. item_faults names place.file item }
+
+-- a move to a group leaves what has no group
+abbrev pub type_moves : Moves (List ℕ) (Unit {0})
+type_moves = record { key = λ n name. Some name; cell = λ n c. Some c; group = λ n g. None }
+
+-- the name that a type statement writes
+abbrev pub written_name : Option (Name × List Field) → List (List ℕ)
+written_name None = []
+written_name (Some t) = t.0.bytes ∷ []
+
+abbrev pub type_names : Item → List (List ℕ)
+type_names (Statement mode statement first span) = written_name (type_in statement)
+type_names (Include mode text span) = []
+
+module _ (names : List (List ℕ)) (body : Body) where
+  abbrev pub type_offers : List TypeOffer
+  type_offers = offers_of bytes_eq (type_rules names) type_moves body
+
+  -- the definition of a type by precedence
+  abbrev pub declared_type : List ℕ → Option Definition
+  declared_type name = value_of bytes_eq type_offers name tt
+
+  -- the types in the order in which they are first named
+  abbrev pub declared_names : List (List ℕ)
+  declared_names = names_of bytes_eq type_offers
+
+  -- the statement with which there are too many types, and the faults of the statements
+  abbrev pub types_faults : List Fault
+  types_faults = count_faults type_names MOST_TYPES (statements_of body) ++ faults_of bytes_eq (type_rules names) type_moves body
+
+-- types by name
+abbrev pub NamedTypes : Type 0
+NamedTypes = List (List ℕ × Option Definition)
+
+abbrev pub names_in : NamedTypes → List (List ℕ)
+names_in types = map (λ (t : List ℕ × Option Definition). t.0) types
+
+abbrev pub type_named : NamedTypes → List ℕ → Option Definition
+type_named types name = option_and_then (λ d. d) (lookup (bytes_eq name) types)
+
+-- types by name are those that a body declares
+pub record TypesShow (types : NamedTypes) (names : List (List ℕ)) (body : Body) : Type 0 where
+  pub names_are : names_in types ≡ declared_names names body
+  pub definitions_are : (name : List ℕ) → type_named types name ≡ declared_type names body name

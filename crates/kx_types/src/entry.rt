@@ -1,0 +1,12 @@
+use kx_masks::NameSet;
+
+/// An entry of a key type.
+#[derive(Clone, Copy, Debug, PartialEq, Eq)]
+pub struct TypeEntry {
+    /// The modifiers that select the level.
+    pub mask: NameSet,
+    /// The level, counted from 1.
+    pub level: u8,
+    /// Those of the modifiers that aren't consumed.
+    pub preserve: NameSet,
+}

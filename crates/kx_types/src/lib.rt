@@ -1,0 +1,22 @@
+//! The key types that a keymap's statements declare.
+#![tactic(auto)]
+
+mod counting;
+mod declared;
+mod definition;
+mod entry;
+mod fields;
+mod levels;
+mod limits;
+mod name;
+mod saying;
+mod table;
+#[cfg(test)]
+mod tests;
+
+pub use declared::types;
+pub use definition::KeyType;
+pub use entry::TypeEntry;
+pub use limits::MOST_TYPES;
+pub use name::TypeName;
+pub use table::Types;

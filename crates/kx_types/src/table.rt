@@ -1,0 +1,80 @@
+//! Key types by name.
+ghost use Rattle.std.specs.Prelude.{◌≡◌, ◌<◌, ◌↔◌, [], ℕ, IfSome, IsTrue, List, Option, length, map, position, slice_get};
+ghost use Rattle.std.specs.Option.{option_map};
+ghost use Rattle.std.specs.Str.{bytes_eq};
+ghost use Rattle.kx_types.specs.Shown.{shown_entry};
+ghost use Rattle.kx_types.specs.Types.{names_in, type_named};
+
+use crate::declared::DeclaredType;
+use crate::definition::KeyType;
+use crate::name::TypeName;
+use indexmap::IndexMap;
+use std::marker::Model;
+
+/// The key types that statements declare, in the order in which they are first named; seen as their names and
+/// definitions.
+#[derive(Drop)]
+pub struct Types {
+    by_name: IndexMap<TypeName, DeclaredType>,
+}
+
+impl Model for Types {
+    ghost use Rattle.std.specs.Prelude.{map, List, ℕ};
+    ghost use Rattle.kx_types.specs.Types.{NamedTypes};
+    ghost use Rattle.kx_types.specs.Shown.{shown_entry};
+
+    ghost Value = { NamedTypes };
+
+    ghost view = { λ t. map shown_entry t.by_name.entries };
+}
+
+impl Types {
+    /// The types of these records.
+    pub(crate) fn of(by_name: IndexMap<TypeName, DeclaredType>) -> Types
+        ensures { result ≡ map shown_entry by_name.entries }
+    {
+        Types { by_name }
+    }
+
+    /// How many types there are.
+    pub fn len(&self) -> usize
+        ensures { result ≡ length self.now }
+    {
+        self.by_name.len()
+    }
+
+    /// Whether there are no types.
+    pub fn is_empty(&self) -> bool
+        ensures { IsTrue result ↔ (self.now ≡ []) }
+    {
+        self.by_name.is_empty()
+    }
+
+    /// The type of a name, which is read exactly.
+    pub fn named(&self, name: &[u8]) -> Option<&KeyType>
+        ensures { option_map (λ t. t.now) result ≡ type_named self.now name.now }
+    {
+        match self.by_name.get(name) {
+            Some(declared) => declared.definition.as_ref(),
+            None => None,
+        }
+    }
+
+    /// The place of a name among the types, counted from 0.
+    pub fn place_of(&self, name: &[u8]) -> Option<usize>
+        ensures value { result ≡ position (bytes_eq name.now) (names_in self.now) }
+        ensures within { IfSome result (λ place. place < length self.now) }
+    {
+        self.by_name.get_index_of(name)
+    }
+
+    /// The name and the type at a place, counted from 0.
+    pub fn at(&self, place: usize) -> Option<(&[u8], Option<&KeyType>)>
+        ensures { option_map (λ t. (t.0.now, option_map (λ d. d.now) t.1)) result ≡ slice_get self.now place }
+    {
+        match self.by_name.get_index(place) {
+            Some((name, declared)) => Some((name.as_slice(), declared.definition.as_ref())),
+            None => None,
+        }
+    }
+}
