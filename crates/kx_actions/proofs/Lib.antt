@@ -1,0 +1,3 @@
+mod Fine
+mod Going
+mod Last

@@ -1,0 +1,57 @@
+-- What the fields of an action are given, and the last of several that give a field.
+use Rattle.std.specs.Prelude.{Bool, List, [], ◌∷◌, Option, None, Some}
+use Rattle.std.specs.Option.{option_and_then, option_or}
+use Rattle.kx_tables.specs.declared.rows.GroupChange.{GroupChange}
+use Rattle.kx_actions.specs.declared.action.ActionMods.{ActionMods}
+use Rattle.kx_actions.specs.declared.action.Affect.{Affect}
+use Rattle.kx_actions.specs.declared.settings.Given.{Given}
+use Rattle.kx_actions.specs.declared.settings.Given.TheVariants as given
+use Rattle.kx_actions.specs.declared.settings.Settings.{Settings}
+
+abbrev pub no_settings : Settings
+no_settings = record { modifiers = None; group = None; affect = None; clear_locks = None; latch_to_lock = None }
+
+-- a field that is given anew has what it is given
+abbrev pub with_given : Settings → Given → Settings
+with_given s (given.Modifiers mods) = record s { modifiers = Some mods }
+with_given s (given.Group change) = record s { group = Some change }
+with_given s (given.Affect what) = record s { affect = Some what }
+with_given s (given.ClearLocks on) = record s { clear_locks = Some on }
+with_given s (given.LatchToLock on) = record s { latch_to_lock = Some on }
+
+-- what is given to a field, where it is this one
+abbrev pub given_modifiers : Given → Option ActionMods
+given_modifiers (given.Modifiers mods) = Some mods
+given_modifiers _ = None
+
+abbrev pub given_group : Given → Option GroupChange
+given_group (given.Group change) = Some change
+given_group _ = None
+
+abbrev pub given_affect : Given → Option Affect
+given_affect (given.Affect what) = Some what
+given_affect _ = None
+
+abbrev pub given_clear_locks : Given → Option Bool
+given_clear_locks (given.ClearLocks on) = Some on
+given_clear_locks _ = None
+
+abbrev pub given_latch_to_lock : Given → Option Bool
+given_latch_to_lock (given.LatchToLock on) = Some on
+given_latch_to_lock _ = None
+
+-- what the last gives, of those that give anything
+abbrev pub last_given : {X Y : Type 0} → (X → Option Y) → List X → Option Y
+last_given gives [] = None
+last_given gives (x ∷ xs) = option_or (last_given gives xs) (gives x)
+
+module _ {X : Type 0} (gives : X → Option Given) where
+  -- each field has what the last gives that gives it anything, else what it had before them
+  abbrev pub last_settings : Settings → List X → Settings
+  last_settings before xs = record {
+    modifiers = option_or (last_given (λ x. option_and_then given_modifiers (gives x)) xs) before.modifiers;
+    group = option_or (last_given (λ x. option_and_then given_group (gives x)) xs) before.group;
+    affect = option_or (last_given (λ x. option_and_then given_affect (gives x)) xs) before.affect;
+    clear_locks = option_or (last_given (λ x. option_and_then given_clear_locks (gives x)) xs) before.clear_locks;
+    latch_to_lock = option_or (last_given (λ x. option_and_then given_latch_to_lock (gives x)) xs) before.latch_to_lock;
+  }

@@ -1,0 +1,58 @@
+-- The words of actions and of their arguments, which are read without regard to case, and which arguments an action has.
+use Rattle.std.specs.Prelude.{ℕ, Bool, true, false, List, [], ◌∷◌, Option, None, Some, if◌then◌else◌, codes}
+use Rattle.std.specs.Option.{option_and_then}
+use Rattle.std.specs.Str.{str_eq_ignore_ascii_case}
+use Rattle.kx_actions.specs.declared.kinds.ActionField.{ActionField}
+use Rattle.kx_actions.specs.declared.kinds.ActionField.TheVariants as fields
+use Rattle.kx_actions.specs.declared.kinds.ActionKind.{ActionKind}
+use Rattle.kx_actions.specs.declared.kinds.ActionKind.TheVariants as kinds
+
+-- what a word means among words with their meanings
+abbrev pub among : {X : Type 0} → List (List ℕ × X) → List ℕ → Option X
+among [] word = None
+among (row ∷ rows) word = if str_eq_ignore_ascii_case word row.0 then Some row.1 else among rows word
+
+abbrev pub kind_words : List (List ℕ × ActionKind)
+kind_words =
+    (codes "setMods", kinds.SetMods)
+    ∷ (codes "latchMods", kinds.LatchMods)
+    ∷ (codes "lockMods", kinds.LockMods)
+    ∷ (codes "setGroup", kinds.SetGroup)
+    ∷ (codes "latchGroup", kinds.LatchGroup)
+    ∷ (codes "lockGroup", kinds.LockGroup)
+    ∷ (codes "noAction", kinds.NoAction)
+    ∷ []
+
+abbrev pub argument_words : List (List ℕ × ActionField)
+argument_words =
+    (codes "modifiers", fields.Modifiers)
+    ∷ (codes "mods", fields.Modifiers)
+    ∷ (codes "group", fields.Group)
+    ∷ (codes "affect", fields.Affect)
+    ∷ (codes "clearLocks", fields.ClearLocks)
+    ∷ (codes "latchToLock", fields.LatchToLock)
+    ∷ []
+
+-- the arguments that an action has
+abbrev pub has_field : ActionKind → ActionField → Bool
+has_field kinds.SetMods fields.Modifiers = true
+has_field kinds.SetMods fields.ClearLocks = true
+has_field kinds.LatchMods fields.Modifiers = true
+has_field kinds.LatchMods fields.ClearLocks = true
+has_field kinds.LatchMods fields.LatchToLock = true
+has_field kinds.LockMods fields.Modifiers = true
+has_field kinds.LockMods fields.Affect = true
+has_field kinds.SetGroup fields.Group = true
+has_field kinds.SetGroup fields.ClearLocks = true
+has_field kinds.LatchGroup fields.Group = true
+has_field kinds.LatchGroup fields.ClearLocks = true
+has_field kinds.LatchGroup fields.LatchToLock = true
+has_field kinds.LockGroup fields.Group = true
+has_field _ _ = false
+
+abbrev pub of_kind : ActionKind → ActionField → Option ActionField
+of_kind kind field = if has_field kind field then Some field else None
+
+-- the field of an action that a word names
+abbrev pub field_of : ActionKind → List ℕ → Option ActionField
+field_of kind word = option_and_then (of_kind kind) (among argument_words word)
