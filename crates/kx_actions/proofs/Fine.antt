@@ -1,5 +1,5 @@
 -- Whether a mask has a fault doesn't hang on the file that it stands in.
-use Rattle.std.proofs.Common.{◌≡◌, ℕ, ◌<◌, Bool, true, false, ◌&&◌, List, [], ◌∷◌, ◌++◌, length, Contains, None, Some, cond, is_some, nat_le, refl, sym, ap, ◌∙◌, arith}
+use Rattle.std.proofs.Common.{◌≡◌, ℕ, ◌<◌, Bool, true, false, ◌&&◌, List, [], ◌∷◌, ◌++◌, Contains, None, Some, cond, is_some, nat_le, refl, sym, ap, ◌∙◌, arith}
 use Rattle.std.specs.List.{flat_map}
 use Rattle.kx_lex.specs.declared.fault.Fault.{Fault}
 use Rattle.kx_masks.specs.Masks.{mask_faults, mask_set, operation_faults, term_faults, word_faults, word_set}

@@ -1,5 +1,5 @@
 -- What a call says as an action, under the defaults before it, and its faults.
-use Rattle.std.specs.Prelude.{ℕ, pos, List, [], ◌∷◌, Bool, false, Option, None, Some, unwrap_or}
+use Rattle.std.specs.Prelude.{ℕ, pos, List, [], ◌∷◌, false, Option, None, Some, unwrap_or}
 use Rattle.std.specs.List.{flat_map}
 use Rattle.std.specs.Option.{option_and_then, option_map}
 use Rattle.kx_include.specs.IncludeFaults.{at}

@@ -49,7 +49,7 @@ fn term_group(term: &Term) -> Option<u64>
 
 /// The group that an expression names, counted from 1, or 2^32 where it is greater; `None` where it isn't one term of its
 /// kind.
-pub(crate) fn group_of(expression: &Expression) -> Option<u64>
+pub fn group_of(expression: &Expression) -> Option<u64>
     ensures { result ≡ option_map (min (2 ^ 32)) (group_of expression.now) }
 {
     match expression.rest.as_slice() {

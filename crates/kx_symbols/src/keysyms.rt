@@ -151,22 +151,30 @@ fn number_keysym(number: u32) -> u32
     if number < 10 { 0x30 + number } else { number }
 }
 
-fn symbol_keysym(
+/// The keysym that a symbol of a file stands for, as lists of keysyms have it: none where it says so, or where no keysym
+/// has the name, which is noted.
+///
+/// # Errors
+/// `BadValue` at a number above the greatest keysym.
+pub fn symbol_keysym(
     names: &NameTable,
-    reading: Reading,
+    file: u32,
     symbol: &Symbol,
     notes: &mut Notes,
 ) -> Result<Option<u32>, Fault>
     ensures value { IfOk result (λ keysym. keysym ≡ symbol_keysym names.now symbol.now) }
     ensures within { IfOk result (λ keysym. IfSome keysym IsKeysym) }
-    ensures faultless { OnOk result (symbol_faults reading.file symbol.now ≡ []) }
-    ensures fault { IfErr result (λ e. Contains (Memory ∷ symbol_faults reading.file symbol.now) e) }
+    ensures faultless { OnOk result (symbol_faults file symbol.now ≡ []) }
+    ensures fault { IfErr result (λ e. Contains (Memory ∷ symbol_faults file symbol.now) e) }
 {
     match symbol {
         Symbol::Word(word) => Ok(word_keysym(names, word.bytes.as_slice(), notes)),
         Symbol::Number(number) => {
             if number.value > GREATEST_KEYSYM {
-                return Err(Fault::BadValue(reading.at(number.span)));
+                return Err(Fault::BadValue(At {
+                    file,
+                    span: number.span,
+                }));
             }
             Ok(Some(number_keysym(number.value)))
         }
@@ -200,7 +208,7 @@ fn add_part(
 {
     match part {
         Part::Symbol(symbol) => {
-            if let Some(keysym) = symbol_keysym(names, reading, symbol, notes)? {
+            if let Some(keysym) = symbol_keysym(names, reading.file, symbol, notes)? {
                 keysyms.push(keysym);
             }
             Ok(())
@@ -244,7 +252,7 @@ pub(crate) fn element_level(
     ensures fault { IfErr result (λ e. Contains (Memory ∷ element_faults reading.file standing reading.whole element.now) e) }
 {
     match element {
-        Element::Symbol(symbol) => match symbol_keysym(names, reading, symbol, notes)? {
+        Element::Symbol(symbol) => match symbol_keysym(names, reading.file, symbol, notes)? {
             None => Ok(None),
             Some(keysym) => {
                 let mut keysyms = Keysyms::none();

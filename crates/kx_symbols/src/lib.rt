@@ -8,7 +8,8 @@ mod keysyms;
 mod levels;
 mod record;
 
+pub use groups::group_of;
 pub use keys::{Keys, symbols};
-pub use keysyms::Keysyms;
+pub use keysyms::{Keysyms, symbol_keysym};
 pub use levels::Levels;
 pub use record::KeyRecord;

@@ -1,0 +1,10 @@
+//! The names of groups that the fields of a keymap's symbols give.
+#![tactic(auto)]
+
+mod fields;
+mod names;
+mod record;
+#[cfg(test)]
+mod tests;
+
+pub use names::{GroupNames, group_names};

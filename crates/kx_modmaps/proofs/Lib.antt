@@ -1,0 +1,5 @@
+mod Given
+mod Going
+mod Joining
+mod Same
+mod Showing

@@ -1,0 +1,98 @@
+-- The modifiers that the modifier maps of a symbols body give keys and keysyms.
+use Rattle.std.specs.Prelude.{◌≡◌, ℕ, ◌^◌, ◌<◌, List, [], ◌∷◌, map, Option, None, Some, unwrap_or, if◌then◌else◌}
+use Rattle.std.specs.List.{flat_map}
+use Rattle.std.specs.Map.{lookup}
+use Rattle.std.specs.Option.{option_map, option_map_or}
+use Rattle.ks_core.specs.Entry.{Entry as Named}
+use Rattle.kx_codes.specs.Codes.{Codes}
+use Rattle.kx_include.specs.Expansion.{Body}
+use Rattle.kx_lex.specs.declared.name.Name.{Name}
+use Rattle.kx_masks.specs.Sets.{has}
+use Rattle.kx_merge.specs.Bodies.{Rules, Moves, offers_of}
+use Rattle.kx_merge.specs.Offers.{Offer, names_of, value_of}
+use Rattle.kx_mods.specs.Mods.{mask}
+use Rattle.kx_parse.specs.declared.tree.Entry.{Entry}
+use Rattle.kx_parse.specs.declared.tree.Item.{Item}
+use Rattle.kx_parse.specs.declared.tree.Item.TheVariants.{Include, Statement}
+use Rattle.kx_parse.specs.declared.tree.Mode.{Mode}
+use Rattle.kx_modmaps.specs.Entries.{item_faults, map_in, same_target, targets_of, word_mask}
+use Rattle.kx_modmaps.specs.declared.maps.KeysymEntry.{KeysymEntry}
+use Rattle.kx_modmaps.specs.declared.record.Assigned.{Assigned}
+use Rattle.kx_modmaps.specs.declared.record.Cell.{Cell}
+use Rattle.kx_modmaps.specs.declared.record.Cell.TheVariants.{Present, Only}
+use Rattle.kx_modmaps.specs.declared.target.Target.{Target}
+use Rattle.kx_modmaps.specs.declared.target.Target.TheVariants.{Key, Keysym}
+
+-- a key has a cell for each modifier, with the modifier where it is present; none is a modifier, and no cell has it
+abbrev pub present : ℕ → ℕ → Option ℕ
+present mask modifier = if has mask modifier then Some (2 ^ modifier) else None
+
+-- a keysym has one cell, with its one modifier or with none
+abbrev pub given : Target → ℕ → Cell → Option ℕ
+given (Key code) mask (Present modifier) = present mask modifier
+given (Key code) mask Only = None
+given (Keysym keysym) mask (Present modifier) = None
+given (Keysym keysym) mask Only = Some mask
+
+abbrev pub map_offer : Mode → ℕ → Target → Offer Target Cell ℕ
+map_offer mode mask target = record { mode = mode; name = target; value = given target mask; width = λ _. 0 }
+
+abbrev pub offers_to : Mode → Option ℕ → List Target → List (Offer Target Cell ℕ)
+offers_to mode None targets = []
+offers_to mode (Some mask) targets = map (map_offer mode mask) targets
+
+module _ (codes : Codes) (names : List Named) where
+  abbrev pub map_offers : Mode → Option (Name × List Entry) → List (Offer Target Cell ℕ)
+  map_offers mode None = []
+  map_offers mode (Some map) = offers_to mode (word_mask map.0.bytes) (targets_of codes names map.1)
+
+  abbrev pub item_offers : Item → List (Offer Target Cell ℕ)
+  item_offers (Statement mode statement first whole) = map_offers mode (map_in statement)
+  item_offers (Include mode text span) = []
+
+-- `modifiers` are the names of virtual modifiers
+module _ (codes : Codes) (names : List Named) (modifiers : List (List ℕ)) where
+  abbrev pub map_rules : Rules Target Cell ℕ (Unit {0})
+  map_rules = record { start = tt; next = λ d item. tt; offers = λ d place item. item_offers codes names item; faults = λ d place item. item_faults place.file modifiers item }
+
+-- a move to a group leaves what has no group
+abbrev pub map_moves : Moves Target Cell
+map_moves = record { key = λ n target. Some target; cell = λ n c. Some c; group = λ n g. None }
+
+abbrev pub map_offers_of : Codes → List Named → List (List ℕ) → Body → List (Offer Target Cell ℕ)
+map_offers_of codes names modifiers body = offers_of same_target (map_rules codes names modifiers) map_moves body
+
+-- what a record of a target holds
+abbrev pub assigned_cell : Assigned → Cell → Option ℕ
+assigned_cell a (Present modifier) = present (mask a.present) modifier
+assigned_cell a Only = option_map mask a.only
+
+abbrev pub assigned_width : Assigned → ℕ → ℕ
+assigned_width a group = 0
+
+-- what modifier maps give: records by target, and the keysyms among them in order
+pub record Maps : Type 0 where
+  pub by_target : List (Target × Assigned)
+  pub by_keysym : List KeysymEntry
+
+-- the mask of the modifiers of a key
+abbrev pub key_mask : Maps → ℕ → ℕ
+key_mask maps code = option_map_or (λ (a : Assigned). mask a.present) (lookup (same_target (Key code)) maps.by_target) 0
+
+-- a keysym and the mask of its modifier
+abbrev pub shown_entry : KeysymEntry → ℕ × ℕ
+shown_entry e = (e.keysym, mask e.modifier)
+
+module _ (os : List (Offer Target Cell ℕ)) where
+  abbrev pub keysym_given : Target → List (ℕ × ℕ)
+  keysym_given (Key code) = []
+  keysym_given (Keysym keysym) = (keysym, unwrap_or (value_of same_target os (Keysym keysym) Only) 0) ∷ []
+
+  -- the keysyms that modifier maps name, in the order of first appearance, each with the mask of its modifier
+  abbrev pub keysyms_given : List (ℕ × ℕ)
+  keysyms_given = flat_map keysym_given (names_of same_target os)
+
+-- that keys and keysyms have the modifiers that a symbols body gives them by precedence
+pub record AreModifierMaps (maps : Maps) (codes : Codes) (names : List Named) (modifiers : List (List ℕ)) (body : Body) : Type 0 where
+  pub keys_are : (code modifier : ℕ) → present (key_mask maps code) modifier ≡ value_of same_target (map_offers_of codes names modifiers body) (Key code) (Present modifier)
+  pub keysyms_are : map shown_entry maps.by_keysym ≡ keysyms_given (map_offers_of codes names modifiers body)

@@ -1,0 +1,177 @@
+//! What a modifier map statement names.
+ghost use Rattle.std.specs.Prelude.{◌≡◌, ◌++◌, ◌∷◌, [], Contains, IfErr, IfOk, OnOk, Some};
+ghost use Rattle.std.specs.List.{flat_map};
+ghost use Rattle.std.specs.Option.{option_map};
+ghost use Rattle.kx_codes.specs.CodeFaults.{name_faults};
+ghost use Rattle.kx_codes.specs.Codes.{code_of};
+ghost use Rattle.kx_lex.specs.declared.fault.Fault.TheVariants.{Memory};
+ghost use Rattle.kx_mods.specs.Mods.{mask};
+ghost use Rattle.kx_modmaps.specs.Entries.{entry_faults, entry_target, is_all, map_in, other_faults, targets_of, with_target, word_faults, word_mask};
+ghost use Rattle.kx_modmaps.specs.declared.target.Target.TheVariants.{Key};
+
+use crate::target::Target;
+use indexmap::IndexSet;
+use ks_core::{NameTable, Note, Notes};
+use kx_basics::MOST_NAME_BYTES;
+use kx_codes::Codes;
+use kx_lex::{At, Fault, KeyName, Name, Span};
+use kx_masks::{ModNames, real_mask};
+use kx_mods::Mods;
+use kx_parse::{Entry, Row, Statement};
+use kx_symbols::symbol_keysym;
+use std::alloc::Global;
+
+/// What modifier maps are read against.
+#[derive(Clone, Copy)]
+pub struct Context<'a> {
+    pub codes: &'a Codes,
+    pub names: &'a NameTable,
+    pub modifiers: &'a ModNames,
+}
+
+/// Where a statement stands.
+#[derive(Clone, Copy, Debug)]
+pub(crate) struct Reading {
+    pub file: u32,
+    /// All of the statement.
+    pub whole: Span,
+}
+
+/// The word and the entries of a modifier map statement.
+pub(crate) fn map_in(statement: &Statement) -> Option<(&Name, &Row<Entry>)>
+    ensures { option_map (λ m. (m.0.now, m.1.now)) result ≡ map_in statement.now }
+{
+    match statement {
+        Statement::ModifierMap { modifier, entries } => Some((modifier, entries)),
+        Statement::Keycode { .. } => None,
+        Statement::Alias { .. } => None,
+        Statement::IndicatorName { .. } => None,
+        Statement::VirtualModifiers(_) => None,
+        Statement::KeyType { .. } => None,
+        Statement::Interpretation { .. } => None,
+        Statement::Indicator { .. } => None,
+        Statement::Group { .. } => None,
+        Statement::Key { .. } => None,
+        Statement::Field(_) => None,
+    }
+}
+
+fn is_all(word: &[u8]) -> bool
+    ensures { result ≡ is_all word.now }
+{
+    word.eq_ignore_ascii_case(b"all")
+}
+
+/// The one real modifier that a word names, or none.
+fn word_mods(word: &[u8]) -> Option<Mods>
+    ensures { option_map mask result ≡ word_mask word.now }
+{
+    if is_all(word) { None } else { real_mask(word) }
+}
+
+/// The fault of a word that names no real modifier.
+fn other_fault(modifiers: &ModNames, file: u32, word: &Name) -> Fault
+    ensures { Contains (other_faults file modifiers.now.names word.now) result }
+{
+    let at = At {
+        file,
+        span: word.span,
+    };
+    let bytes = word.bytes.as_slice();
+    if is_all(bytes) || modifiers.number_of(bytes).is_some() {
+        Fault::BadValue(at)
+    } else {
+        Fault::UnknownModifier(at)
+    }
+}
+
+/// The one real modifier that the word of a modifier map names, or none.
+pub(crate) fn read_word(modifiers: &ModNames, file: u32, word: &Name) -> Result<Mods, Fault>
+    ensures value { IfOk result (λ mods. Some (mask mods) ≡ word_mask word.now.bytes) }
+    ensures faultless { OnOk result (word_faults file modifiers.now.names word.now ≡ []) }
+    ensures fault { IfErr result (λ e. Contains (word_faults file modifiers.now.names word.now) e) }
+{
+    match word_mods(word.bytes.as_slice()) {
+        Some(mods) => Ok(mods),
+        None => Err(other_fault(modifiers, file, word)),
+    }
+}
+
+/// The key of a name, where it has a keycode; else that is noted.
+fn key_target(
+    codes: &Codes,
+    reading: Reading,
+    name: &KeyName,
+    notes: &mut Notes,
+) -> Result<Option<Target>, Fault>
+    ensures value { IfOk result (λ target. target ≡ option_map (λ code. Key code) (code_of codes.now name.now.bytes)) }
+    ensures faultless { OnOk result (name_faults reading.file reading.whole name.now ≡ []) }
+    ensures fault { IfErr result (λ e. Contains (Memory ∷ name_faults reading.file reading.whole name.now) e) }
+{
+    if name.as_slice().len() > MOST_NAME_BYTES {
+        return Err(Fault::TooMany(At {
+            file: reading.file,
+            span: reading.whole,
+        }));
+    }
+    match codes.code_of(name.as_slice()) {
+        Some(code) => Ok(Some(Target::Key(code))),
+        None => {
+            notes.count(Note::UnknownKey);
+            Ok(None)
+        }
+    }
+}
+
+/// What an entry names.
+fn read_entry(
+    codes: &Codes,
+    names: &NameTable,
+    reading: Reading,
+    entry: &Entry,
+    notes: &mut Notes,
+) -> Result<Option<Target>, Fault>
+    ensures value { IfOk result (λ target. target ≡ entry_target codes.now names.now entry.now) }
+    ensures faultless { OnOk result (entry_faults reading.file reading.whole entry.now ≡ []) }
+    ensures fault { IfErr result (λ e. Contains (Memory ∷ entry_faults reading.file reading.whole entry.now) e) }
+{
+    match entry {
+        Entry::KeyName(name) => key_target(codes, reading, name, notes),
+        Entry::Symbol(symbol) => match symbol_keysym(names, reading.file, symbol, notes)? {
+            None => Ok(None),
+            Some(keysym) => Ok(Some(Target::Keysym(keysym))),
+        },
+    }
+}
+
+/// Adds a target behind others, where it isn't among them.
+fn add_target(targets: &mut IndexSet<Target>, target: Option<Target>) -> Result<(), Fault>
+    ensures added { OnOk result (targets.new.keys ≡ with_target targets.old.keys target) }
+    ensures err { IfErr result (λ e. e ≡ Memory) }
+{
+    if let Some(target) = target {
+        targets.insert(target)?;
+    }
+    Ok(())
+}
+
+/// What entries name, each once.
+pub(crate) fn read_targets(
+    alloc: Global,
+    codes: &Codes,
+    names: &NameTable,
+    reading: Reading,
+    entries: &[Entry],
+    notes: &mut Notes,
+) -> Result<IndexSet<Target>, Fault>
+    ensures value { IfOk result (λ targets. targets.keys ≡ targets_of codes.now names.now entries.now) }
+    ensures faultless { OnOk result (flat_map (entry_faults reading.file reading.whole) entries.now ≡ []) }
+    ensures fault { IfErr result (λ e. Contains (Memory ∷ flat_map (entry_faults reading.file reading.whole) entries.now) e) }
+{
+    let mut targets = IndexSet::new(alloc);
+    'entries: for entry in entries {
+        let target = read_entry(codes, names, reading, entry, notes)?;
+        add_target(&mut targets, target)?;
+    }
+    Ok(targets)
+}

@@ -1,0 +1,11 @@
+//! The modifiers that the modifier maps of a keymap's symbols give keys and keysyms.
+#![tactic(auto)]
+
+mod entries;
+mod maps;
+mod record;
+mod target;
+#[cfg(test)]
+mod tests;
+
+pub use maps::{ModifierMaps, modifier_maps};
