@@ -21,7 +21,7 @@ use Rattle.kx_parse.specs.declared.tree.Statement.TheVariants as said
 use Rattle.kx_parse.specs.declared.tree.Term.{Term}
 use Rattle.kx_parse.specs.declared.tree.Term.TheVariants.{Text}
 use Rattle.kx_parse.specs.declared.tree.Value.TheVariants as values
-use Rattle.kx_symbols.specs.Groups.{group_of, is_group}
+use Rattle.kx_settings.specs.Groups.{group_of, is_group}
 
 -- the word of the field is read without regard to case
 abbrev pub is_name : Place → Bool

@@ -2,12 +2,12 @@
 ghost use Rattle.std.specs.Prelude.{◌≡◌, ◌++◌, ◌^◌, [], Contains, IfErr, IfOk, OnOk, Some, min};
 ghost use Rattle.std.specs.Option.{option_map};
 ghost use Rattle.kx_groups.specs.Fields.{field_faults, group_faults, index_faults, indexed_group, is_name, known_group, name_in, set_text, setting_faults, term_text, text_faults, text_of};
-ghost use Rattle.kx_symbols.specs.Groups.{group_of as group_named, is_group};
+ghost use Rattle.kx_settings.specs.Groups.{group_of as group_named, is_group};
 
 use kx_basics::{MOST_GROUPS, MOST_NAME_BYTES};
 use kx_lex::{Apart, At, Fault, Name, Span};
 use kx_parse::{Expression, Field, Index, Place, Setting, Statement, Term, Value};
-use kx_symbols::group_of;
+use kx_settings::group_of;
 
 fn is_name(place: &Place) -> bool
     ensures { result ≡ is_name place.now }

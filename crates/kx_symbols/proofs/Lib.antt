@@ -1,6 +1,6 @@
-mod Absorbing
-mod Capped
+mod Contents
 mod Given
 mod Loops
 mod Statements
 mod Texts
+mod Unsaid

@@ -1,26 +1,30 @@
--- The faults of the statements of a symbols section. Actions, and the fields and statements that nothing reads yet, are
--- statements and fields that it doesn't have.
-use Rattle.std.specs.Prelude.{ℕ, ◌-◌, nat_le, nat_lt, List, [], ◌∷◌, ◌++◌, length, Option, None, Some, if◌then◌else◌}
+-- The faults of the statements of a symbols section: those of key statements and of defaults for keys and actions, and
+-- statements and fields that such a section doesn't have. Declarations of virtual modifiers, modifier maps and names of
+-- groups are judged elsewhere.
+use Rattle.std.specs.Prelude.{ℕ, ◌&&◌, not, nat_lt, Bool, List, [], ◌∷◌, ◌++◌, length, Option, None, Some, is_some, if◌then◌else◌, codes}
 use Rattle.std.specs.List.{flat_map}
-use Rattle.ks_core.specs.Entry.{Entry}
-use Rattle.kx_basics.specs.declared.limits.TheConstants.{GREATEST_KEYSYM, MOST_GROUPS, MOST_KEYSYMS}
+use Rattle.std.specs.Str.{str_eq_ignore_ascii_case}
+use Rattle.kx_actions.specs.Arguments.{action_faults}
+use Rattle.kx_actions.specs.Defaults.{default_faults as action_default_faults}
+use Rattle.kx_basics.specs.declared.limits.TheConstants.{GREATEST_KEYSYM, MOST_KEYSYMS}
 use Rattle.kx_lex.specs.declared.fault.Fault.{Fault}
-use Rattle.kx_lex.specs.declared.fault.Fault.TheVariants.{BadValue, GroupRange, TooMany, UnknownField}
+use Rattle.kx_lex.specs.declared.fault.Fault.TheVariants.{BadValue, TooMany, UnknownField}
+use Rattle.kx_lex.specs.declared.name.Name.{Name}
 use Rattle.kx_lex.specs.declared.token.Span.{Span}
-use Rattle.kx_parse.specs.declared.tree.Call.{Call}
+use Rattle.kx_lists.specs.Places.{place_faults}
+use Rattle.kx_parse.specs.declared.tree.Braces.{Braces}
 use Rattle.kx_parse.specs.declared.tree.Element.{Element}
 use Rattle.kx_parse.specs.declared.tree.Element.TheVariants as elements
-use Rattle.kx_parse.specs.declared.tree.Expression.{Expression}
+use Rattle.kx_parse.specs.declared.tree.Field.{Field}
 use Rattle.kx_parse.specs.declared.tree.Index.{Index}
 use Rattle.kx_parse.specs.declared.tree.Item.{Item}
 use Rattle.kx_parse.specs.declared.tree.Item.TheVariants.{Include, Statement}
 use Rattle.kx_parse.specs.declared.tree.KeyField.{KeyField}
 use Rattle.kx_parse.specs.declared.tree.KeyField.TheVariants as fields
 use Rattle.kx_parse.specs.declared.tree.List.{List as Listed}
-use Rattle.kx_parse.specs.Sections.{word_span}
-use Rattle.kx_lex.specs.declared.name.Name.{Name}
 use Rattle.kx_parse.specs.declared.tree.Part.{Part}
 use Rattle.kx_parse.specs.declared.tree.Part.TheVariants as parts
+use Rattle.kx_parse.specs.declared.tree.Place.{Place}
 use Rattle.kx_parse.specs.declared.tree.Setting.{Setting}
 use Rattle.kx_parse.specs.declared.tree.Setting.TheVariants.{Off, On, To}
 use Rattle.kx_parse.specs.declared.tree.Statement.{Statement as Said}
@@ -28,17 +32,25 @@ use Rattle.kx_parse.specs.declared.tree.Statement.TheVariants as said
 use Rattle.kx_parse.specs.declared.tree.Symbol.{Symbol}
 use Rattle.kx_parse.specs.declared.tree.Symbol.TheVariants.{Word, Number}
 use Rattle.kx_parse.specs.declared.tree.Value.TheVariants as values
+use Rattle.kx_parse.specs.Sections.{word_span}
 use Rattle.kx_codes.specs.CodeFaults.{name_faults}
 use Rattle.kx_include.specs.IncludeFaults.{at}
-use Rattle.kx_symbols.specs.declared.keysyms.Standing.{Standing}
-use Rattle.kx_symbols.specs.declared.keysyms.Standing.TheVariants.{Alone, InSymbols}
-use Rattle.kx_symbols.specs.Groups.{group_of, is_group}
-use Rattle.kx_symbols.specs.Lists.{Lists, field_lists, free_group, has_list, is_symbols}
+use Rattle.kx_settings.specs.KeyFields.{default_faults as key_default_faults, setting_faults}
+use Rattle.kx_settings.specs.Words.{is_key_word}
+use Rattle.kx_symbols.specs.declared.kinds.ListKind.{ListKind}
+use Rattle.kx_symbols.specs.declared.kinds.ListKind.TheVariants.{Symbols, Actions}
+use Rattle.kx_symbols.specs.Actions.{calls_in}
+use Rattle.kx_symbols.specs.Known.{Known}
+use Rattle.kx_symbols.specs.Lists.{StatementLists, bare_kind, field_kind, field_lists, no_lists}
 
 -- the name and the fields of a key statement
 abbrev pub key_in : Said → Option (Name × List KeyField)
 key_in (said.Key name fields) = Some (name, fields)
 key_in _ = None
+
+abbrev pub symbol_span : Symbol → Span
+symbol_span (Word word) = word.span
+symbol_span (Number number) = number.span
 
 module _ (file : ℕ) where
   -- the greatest keysym is 1fffffff
@@ -46,62 +58,91 @@ module _ (file : ℕ) where
   symbol_faults (Word word) = []
   symbol_faults (Number number) = if nat_lt GREATEST_KEYSYM number.value then BadValue (at file number.span) ∷ [] else []
 
-  -- an action isn't one of a symbols field's values
-  abbrev pub call_faults : Standing → Call → List Fault
-  call_faults Alone call = UnknownField (at file call.word.span) ∷ []
-  call_faults InSymbols call = BadValue (at file call.span) ∷ []
-
-  abbrev pub part_faults : Standing → Part → List Fault
-  part_faults standing (parts.Symbol symbol) = symbol_faults symbol
-  part_faults standing (parts.Call call) = call_faults standing call
+  -- in a list of keysyms
+  abbrev pub part_faults : Part → List Fault
+  part_faults (parts.Symbol symbol) = symbol_faults symbol
+  part_faults (parts.Call call) = BadValue (at file call.span) ∷ []
 
   -- a level has at most eight keysyms; `whole` is the statement
   abbrev pub count_faults : Span → List Part → List Fault
   count_faults whole ps = if nat_lt MOST_KEYSYMS (length ps) then TooMany (at file whole) ∷ [] else []
 
-  abbrev pub element_faults : Standing → Span → Element → List Fault
-  element_faults standing whole (elements.Symbol symbol) = symbol_faults symbol
-  element_faults standing whole (elements.Call call) = call_faults standing call
-  element_faults standing whole (elements.Braces braces) = count_faults whole braces.parts ++ flat_map (part_faults standing) braces.parts
+  abbrev pub element_faults : Span → Element → List Fault
+  element_faults whole (elements.Symbol symbol) = symbol_faults symbol
+  element_faults whole (elements.Call call) = BadValue (at file call.span) ∷ []
+  element_faults whole (elements.Braces braces) = count_faults whole braces.parts ++ flat_map part_faults braces.parts
 
-  abbrev pub elements_faults : Standing → Span → Listed → List Fault
-  elements_faults standing whole list = flat_map (element_faults standing whole) list.elements
+  abbrev pub elements_faults : Span → Listed → List Fault
+  elements_faults whole list = flat_map (element_faults whole) list.elements
 
-  abbrev pub second_faults : Lists → Listed → ℕ → List Fault
-  second_faults lists list group = if has_list lists group then BadValue (at file list.span) ∷ [] else []
+  -- a level has at most one action
+  abbrev pub several_faults : Braces → List Fault
+  several_faults braces = if nat_lt 1 (length (calls_in braces.parts)) then BadValue (at file braces.span) ∷ [] else []
 
-  abbrev pub index_faults : Lists → Listed → Expression → Option ℕ → List Fault
-  index_faults lists list index None = BadValue (at file index.span) ∷ []
-  index_faults lists list index (Some n) = if is_group n then second_faults lists list (n - 1) else GroupRange (at file index.span) ∷ []
+  module _ (modifiers : List (List ℕ)) where
+    -- in a list of actions
+    abbrev pub action_part_faults : Part → List Fault
+    action_part_faults (parts.Symbol symbol) = BadValue (at file (symbol_span symbol)) ∷ []
+    action_part_faults (parts.Call call) = action_faults file modifiers call
 
-  -- a key has MOST_GROUPS groups at most, and a statement gives each one list at most
-  abbrev pub place_faults : Lists → Option Index → Listed → List Fault
-  place_faults lists None list = if nat_le MOST_GROUPS (free_group lists) then GroupRange (at file list.span) ∷ [] else []
-  place_faults lists (Some index) list = index_faults lists list index.value (group_of index.value)
+    abbrev pub action_element_faults : Element → List Fault
+    action_element_faults (elements.Symbol symbol) = BadValue (at file (symbol_span symbol)) ∷ []
+    action_element_faults (elements.Call call) = action_faults file modifiers call
+    action_element_faults (elements.Braces braces) = several_faults braces ++ flat_map action_part_faults braces.parts
 
-  abbrev pub setting_faults : Lists → Span → Option Index → Span → Setting → List Fault
-  setting_faults lists whole index field (To (values.List list)) = place_faults lists index list ++ elements_faults InSymbols whole list
-  setting_faults lists whole index field (To (values.Expression e)) = BadValue (at file e.span) ∷ []
-  setting_faults lists whole index field (To (values.Call call)) = BadValue (at file call.span) ∷ []
-  setting_faults lists whole index field Off = BadValue (at file field) ∷ []
-  setting_faults lists whole index field On = BadValue (at file field) ∷ []
+    abbrev pub actions_faults : Listed → List Fault
+    actions_faults list = flat_map action_element_faults list.elements
 
-  -- those of a field behind others that gave these lists
-  abbrev pub field_faults : Lists → Span → KeyField → List Fault
-  field_faults lists whole (fields.List list) = place_faults lists None list ++ elements_faults Alone whole list
-  field_faults lists whole (fields.Field field) =
-      if is_symbols field.place then setting_faults lists whole field.place.index field.span field.setting
-      else UnknownField (at file field.place.word.span) ∷ []
+    -- of a list of a kind, behind others of the statement
+    abbrev pub list_faults : Span → StatementLists → Option Index → Listed → ListKind → List Fault
+    list_faults whole s index list Symbols = place_faults file s.symbols index list ++ elements_faults whole list
+    list_faults whole s index list Actions = place_faults file s.actions index list ++ actions_faults list
 
-  abbrev pub fields_faults : List Entry → Lists → Span → List KeyField → List Fault
-  fields_faults names lists whole [] = []
-  fields_faults names lists whole (f ∷ fs) = field_faults lists whole f ++ fields_faults names (field_lists names lists f) whole fs
+    abbrev pub set_faults : Span → StatementLists → Option Index → Span → ListKind → Setting → List Fault
+    set_faults whole s index field kind (To (values.List list)) = list_faults whole s index list kind
+    set_faults whole s index field kind (To (values.Expression e)) = BadValue (at file e.span) ∷ []
+    set_faults whole s index field kind (To (values.Call call)) = BadValue (at file call.span) ∷ []
+    set_faults whole s index field kind Off = BadValue (at file field) ∷ []
+    set_faults whole s index field kind On = BadValue (at file field) ∷ []
 
-  abbrev pub said_faults : List Entry → Option (Name × List KeyField) → Span → Span → List Fault
-  said_faults names (Some key) word whole = name_faults file whole key.0 ++ fields_faults names [] whole key.1
-  said_faults names None word whole = UnknownField (at file word) ∷ []
+    -- of a field of lists; what another field says is no list
+    abbrev pub named_faults : Span → StatementLists → Field → Option ListKind → List Fault
+    named_faults whole s field None = []
+    named_faults whole s field (Some kind) = set_faults whole s field.place.index field.span kind field.setting
+
+    abbrev pub field_faults : Span → StatementLists → KeyField → List Fault
+    field_faults whole s (fields.List list) = list_faults whole s None list (bare_kind list)
+    field_faults whole s (fields.Field field) = named_faults whole s field (field_kind field.place)
+
+module _ (file : ℕ) where
+  -- of the lists among the fields of a key statement, behind some that gave these lists
+  abbrev pub fields_faults : Known → Span → StatementLists → List KeyField → List Fault
+  fields_faults known whole s [] = []
+  fields_faults known whole s (f ∷ fs) = field_faults file known.modifiers whole s f ++ fields_faults known whole (field_lists known s f) fs
+
+  -- a field of the section is a default, for keys or for an action, or none that it has; as yet names of groups aren't read
+  abbrev pub default_faults : List (List ℕ) → Field → List Fault
+  default_faults modifiers field = if is_key_word field.place.word.bytes then key_default_faults file modifiers field else action_default_faults file modifiers field
+
+  abbrev pub section_field_faults : List (List ℕ) → Field → List Fault
+  section_field_faults modifiers field = default_faults modifiers field
+
+  -- of a statement that is about no key; `word` is the word that names it; as yet modifier maps aren't read
+  abbrev pub other_faults : List (List ℕ) → Span → Said → List Fault
+  other_faults modifiers word (said.VirtualModifiers declarations) = []
+  other_faults modifiers word (said.ModifierMap modifier entries) = UnknownField (at file word) ∷ []
+  other_faults modifiers word (said.Field field) = section_field_faults modifiers field
+  other_faults modifiers word _ = UnknownField (at file word) ∷ []
+
+  -- of the lists of a key statement, and of what it says besides
+  abbrev pub content_faults : Known → Span → List KeyField → List Fault
+  content_faults known whole fs = fields_faults known whole no_lists fs ++ setting_faults file known.modifiers fs
+
+  abbrev pub said_faults : Known → Said → Span → Span → Option (Name × List KeyField) → List Fault
+  said_faults known statement word whole (Some key) = name_faults file whole key.0 ++ content_faults known whole key.1
+  said_faults known statement word whole None = other_faults known.modifiers word statement
 
   -- those of a statement in a file; of an include's text there are none here
-  abbrev pub item_faults : List Entry → Item → List Fault
-  item_faults names (Statement mode statement first whole) = said_faults names (key_in statement) (word_span (Statement mode statement first whole)) whole
-  item_faults names (Include mode text span) = []
+  abbrev pub item_faults : Known → Item → List Fault
+  item_faults known (Statement mode statement first whole) = said_faults known statement (word_span (Statement mode statement first whole)) whole (key_in statement)
+  item_faults known (Include mode text span) = []

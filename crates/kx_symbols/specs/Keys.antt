@@ -1,83 +1,132 @@
 -- What the key statements of a symbols body give each key, by its keycode.
-use Rattle.std.specs.Prelude.{◌≡◌, ℕ, ◌+◌, ◌-◌, ◌==◌, nat_eq, nat_lt, List, [], ◌∷◌, Option, None, Some, if◌then◌else◌}
-use Rattle.std.specs.Option.{option_map}
+use Rattle.std.specs.Prelude.{◌≡◌, ℕ, max, nat_eq, List, [], ◌∷◌, Option, None, Some}
+use Rattle.std.specs.Option.{option_map, option_map_or}
 use Rattle.std.specs.Map.{lookup}
 use Rattle.ks_core.specs.Entry.{Entry}
+use Rattle.kx_actions.specs.Defaults.{next_defaults as next_action_defaults}
+use Rattle.kx_actions.specs.declared.action.KeyAction.{KeyAction}
 use Rattle.kx_codes.specs.Codes.{Codes, code_of}
 use Rattle.kx_include.specs.Expansion.{Body}
+use Rattle.kx_lex.specs.declared.name.Name.{Name}
+use Rattle.kx_lists.specs.Lists.{level_in, width_in}
+use Rattle.kx_lists.specs.Records.{KeyLists, group_before, value_in, width_in_key as list_width}
+use Rattle.kx_merge.specs.Bodies.{Rules, Moves, offers_of}
+use Rattle.kx_merge.specs.Offers.{Offer, value_of, width_of}
+use Rattle.kx_parse.specs.declared.tree.Field.{Field}
 use Rattle.kx_parse.specs.declared.tree.Item.{Item}
 use Rattle.kx_parse.specs.declared.tree.Item.TheVariants.{Include, Statement}
 use Rattle.kx_parse.specs.declared.tree.KeyField.{KeyField}
 use Rattle.kx_parse.specs.declared.tree.Mode.{Mode}
-use Rattle.kx_lex.specs.declared.name.Name.{Name}
-use Rattle.kx_merge.specs.Bodies.{Rules, Moves, offers_of}
-use Rattle.kx_merge.specs.Offers.{Offer, value_of, width_of}
-use Rattle.kx_symbols.specs.declared.record.Cell.{Cell}
-use Rattle.kx_symbols.specs.declared.record.Cell.TheVariants.{Keysyms}
+use Rattle.kx_parse.specs.declared.tree.Statement.{Statement as Said}
+use Rattle.kx_parse.specs.declared.tree.Statement.TheVariants as said
+use Rattle.kx_settings.specs.KeyFields.{effective, next_defaults as next_key_defaults}
+use Rattle.kx_settings.specs.Settings.{Settings, setting_before, setting_in}
+use Rattle.kx_symbols.specs.declared.cells.Cell.{Cell}
+use Rattle.kx_symbols.specs.declared.cells.Cell.TheVariants as cells
+use Rattle.kx_symbols.specs.declared.cells.CellValue.{CellValue}
+use Rattle.kx_symbols.specs.declared.cells.CellValue.TheVariants as values
 use Rattle.kx_symbols.specs.KeyFaults.{item_faults, key_in}
-use Rattle.kx_symbols.specs.Keysyms.{Level}
-use Rattle.kx_symbols.specs.Lists.{Lists, level_in, list_at, lists_of, width_in}
+use Rattle.kx_symbols.specs.Known.{Defaults, Known, no_defaults}
+use Rattle.kx_symbols.specs.Lists.{StatementLists, lists_of}
 
-abbrev pub value_in : Lists → Cell → Option (List ℕ)
-value_in lists (Keysyms group level) = level_in lists group level
+-- what statements give a key together: keysyms and actions by group and level, and what they say of it besides
+pub record KeyContent : Type 0 where
+  pub symbols : KeyLists (List ℕ)
+  pub actions : KeyLists KeyAction
+  pub settings : Settings
 
--- what a key's statements give together: lists by group, of which the first is that of a group from which on there are any
-pub record KeyLists : Type 0 where
-  pub from : ℕ
-  pub lists : Lists
+abbrev pub cell_in : KeyContent → Cell → Option CellValue
+cell_in key (cells.Keysyms group level) = option_map values.Keysyms (value_in key.symbols group level)
+cell_in key (cells.Action group level) = option_map values.Action (value_in key.actions group level)
+cell_in key (cells.Setting cell) = option_map values.Setting (setting_in key.settings cell)
 
-abbrev pub cell_in : KeyLists → Cell → Option (List ℕ)
-cell_in key (Keysyms group level) = if nat_lt group key.from then None else level_in key.lists (group - key.from) level
+-- a group is as wide as the longer of its lists
+abbrev pub width_in_key : KeyContent → ℕ → ℕ
+width_in_key key group = max (list_width key.symbols group) (list_width key.actions group)
 
-abbrev pub width_in_key : KeyLists → ℕ → ℕ
-width_in_key key group = if nat_lt group key.from then 0 else width_in key.lists (group - key.from)
+-- what the lists of one statement and what it says besides make of a key
+abbrev pub content_of : StatementLists → Settings → KeyContent
+content_of s settings = record { symbols = record { from = 0; lists = s.symbols }; actions = record { from = 0; lists = s.actions }; settings = settings }
 
--- what a key's lists give it as a whole
-abbrev pub record_offer : Mode → ℕ → KeyLists → Offer ℕ Cell (List ℕ)
-record_offer mode code key = record { mode = mode; name = code; value = cell_in key; width = width_in_key key }
+module _ (known : Known) (fs : List KeyField) where
+  -- what the fields of one statement give
+  abbrev pub given_cell : Cell → Option CellValue
+  given_cell (cells.Keysyms group level) = option_map values.Keysyms (level_in (lists_of known fs).symbols group level)
+  given_cell (cells.Action group level) = option_map values.Action (level_in (lists_of known fs).actions group level)
+  given_cell (cells.Setting cell) = option_map values.Setting (effective known.modifiers known.defaults.keys fs cell)
 
--- a statement of a key that no keycode has gives nothing
-abbrev pub offered : Mode → Lists → Option ℕ → List (Offer ℕ Cell (List ℕ))
-offered mode lists None = []
-offered mode lists (Some code) = record_offer mode code (record { from = 0; lists = lists }) ∷ []
+  abbrev pub given_width : ℕ → ℕ
+  given_width group = max (width_in (lists_of known fs).symbols group) (width_in (lists_of known fs).actions group)
 
-module _ (codes : Codes) (names : List Entry) where
-  abbrev pub said_offers : Mode → Option (Name × List KeyField) → List (Offer ℕ Cell (List ℕ))
-  said_offers mode (Some key) = offered mode (lists_of names key.1) (code_of codes key.0.bytes)
+  abbrev pub key_offer : Mode → ℕ → Offer ℕ Cell CellValue
+  key_offer mode code = record { mode = mode; name = code; value = given_cell; width = given_width }
+
+  -- a statement of a key that no keycode has gives nothing
+  abbrev pub offered : Mode → Option ℕ → List (Offer ℕ Cell CellValue)
+  offered mode None = []
+  offered mode (Some code) = key_offer mode code ∷ []
+
+module _ (codes : Codes) (known : Known) where
+  abbrev pub said_offers : Mode → Option (Name × List KeyField) → List (Offer ℕ Cell CellValue)
+  said_offers mode (Some key) = offered known key.1 mode (code_of codes key.0.bytes)
   said_offers mode None = []
 
-  abbrev pub item_offers : Item → List (Offer ℕ Cell (List ℕ))
+  abbrev pub item_offers : Item → List (Offer ℕ Cell CellValue)
   item_offers (Statement mode statement first span) = said_offers mode (key_in statement)
   item_offers (Include mode text span) = []
 
-  abbrev pub key_rules : Rules ℕ Cell (List ℕ) (Unit {0})
-  key_rules = record { start = tt; next = λ d item. tt; offers = λ d place item. item_offers item; faults = λ d place item. item_faults place.file names item }
+abbrev pub field_in : Said → Option Field
+field_in (said.Field field) = Some field
+field_in _ = None
 
-abbrev pub list_in_key : KeyLists → ℕ → Option (List Level)
-list_in_key key group = if nat_lt group key.from then None else list_at key.lists (group - key.from)
+module _ (modifiers : List (List ℕ)) where
+  abbrev pub behind_field : Defaults → Field → Defaults
+  behind_field d field = record { actions = next_action_defaults modifiers d.actions field; keys = next_key_defaults modifiers d.keys field }
 
-abbrev pub cell_in_any : Option KeyLists → Cell → Option (List ℕ)
+  -- the defaults behind a statement
+  abbrev pub item_next : Defaults → Item → Defaults
+  item_next d (Statement mode statement first span) = option_map_or (behind_field d) (field_in statement) d
+  item_next d (Include mode text span) = d
+
+-- `modifiers` are the virtual modifiers by number
+module _ (codes : Codes) (names : List Entry) (modifiers : List (List ℕ)) where
+  abbrev pub known_under : Defaults → Known
+  known_under d = record { names = names; modifiers = modifiers; defaults = d }
+
+  abbrev pub key_rules : Rules ℕ Cell CellValue Defaults
+  key_rules = record {
+    start = no_defaults;
+    next = item_next modifiers;
+    offers = λ d place item. item_offers codes (known_under d) item;
+    faults = λ d place item. item_faults place.file (known_under d) item;
+  }
+
+abbrev pub cell_in_any : Option KeyContent → Cell → Option CellValue
 cell_in_any None c = None
 cell_in_any (Some key) c = cell_in key c
 
-abbrev pub width_in_any : Option KeyLists → ℕ → ℕ
+abbrev pub width_in_any : Option KeyContent → ℕ → ℕ
 width_in_any None group = 0
 width_in_any (Some key) group = width_in_key key group
 
-abbrev pub key_at : List (ℕ × KeyLists) → ℕ → Option KeyLists
+abbrev pub key_at : List (ℕ × KeyContent) → ℕ → Option KeyContent
 key_at keys code = lookup (nat_eq code) keys
 
--- group 1 becomes the group of the move, and the others go
-abbrev pub group_before : ℕ → ℕ → Option ℕ
-group_before n group = if group + 1 == n then Some 0 else None
-
+-- where a map is moved to a group, what its group 1 has goes to that group, the other groups go, and what is about no
+-- group stays
 abbrev pub cell_before : ℕ → Cell → Option Cell
-cell_before n (Keysyms group level) = option_map (λ g. Keysyms g level) (group_before n group)
+cell_before n (cells.Keysyms group level) = option_map (λ g. cells.Keysyms g level) (group_before n group)
+cell_before n (cells.Action group level) = option_map (λ g. cells.Action g level) (group_before n group)
+cell_before n (cells.Setting cell) = option_map cells.Setting (setting_before n cell)
 
 abbrev pub key_moves : Moves ℕ Cell
 key_moves = record { key = λ n k. Some k; cell = cell_before; group = group_before }
 
+-- a key has an action at some group and level
+abbrev pub HasAction : KeyContent → Type 0
+HasAction key = (group : ℕ) × (level : ℕ) × (action : KeyAction) × (cell_in key (cells.Action group level) ≡ Some (values.Action action))
+
 -- keys by code show what a symbols body gives them: each cell has its value by precedence, each group its width
-pub record KeysShow (keys : List (ℕ × KeyLists)) (codes : Codes) (names : List Entry) (body : Body) : Type 0 where
-  pub cells_are : (code : ℕ) (c : Cell) → cell_in_any (key_at keys code) c ≡ value_of nat_eq (offers_of nat_eq (key_rules codes names) key_moves body) code c
-  pub widths_are : (code group : ℕ) → width_in_any (key_at keys code) group ≡ width_of nat_eq (offers_of nat_eq (key_rules codes names) key_moves body) code group
+pub record KeysShow (keys : List (ℕ × KeyContent)) (codes : Codes) (names : List Entry) (modifiers : List (List ℕ)) (body : Body) : Type 0 where
+  pub cells_are : (code : ℕ) (c : Cell) → cell_in_any (key_at keys code) c ≡ value_of nat_eq (offers_of nat_eq (key_rules codes names modifiers) key_moves body) code c
+  pub widths_are : (code group : ℕ) → width_in_any (key_at keys code) group ≡ width_of nat_eq (offers_of nat_eq (key_rules codes names modifiers) key_moves body) code group

@@ -1,87 +1,80 @@
--- Which group each list of a key statement is given to.
-use Rattle.std.specs.Prelude.{ℕ, ◌+◌, ◌-◌, ◌++◌, Bool, ◌&&◌, not, nat_lt, List, [], length, fold, position, replicate, slice_get, slice_set, Option, None, Some, is_some, unwrap_or, if◌then◌else◌, codes}
-use Rattle.std.specs.Option.{option_and_then, option_map_or}
+-- Which lists a key statement gives: each has a kind and a group.
+use Rattle.std.specs.Prelude.{ℕ, Bool, true, false, List, [], fold, Option, None, Some, is_some, if◌then◌else◌, codes}
+use Rattle.std.specs.List.{list_any}
 use Rattle.std.specs.Str.{str_eq_ignore_ascii_case}
-use Rattle.ks_core.specs.Entry.{Entry}
-use Rattle.kx_basics.specs.declared.limits.TheConstants.{MOST_GROUPS}
+use Rattle.kx_actions.specs.declared.action.KeyAction.{KeyAction}
+use Rattle.kx_lists.specs.Lists.{Lists}
+use Rattle.kx_lists.specs.Places.{given_list, group_for}
+use Rattle.kx_parse.specs.declared.tree.Element.{Element}
+use Rattle.kx_parse.specs.declared.tree.Element.TheVariants as elements
+use Rattle.kx_parse.specs.declared.tree.Field.{Field}
 use Rattle.kx_parse.specs.declared.tree.Index.{Index}
 use Rattle.kx_parse.specs.declared.tree.KeyField.{KeyField}
 use Rattle.kx_parse.specs.declared.tree.KeyField.TheVariants as fields
+use Rattle.kx_parse.specs.declared.tree.List.{List as Listed}
+use Rattle.kx_parse.specs.declared.tree.Part.{Part}
+use Rattle.kx_parse.specs.declared.tree.Part.TheVariants as parts
 use Rattle.kx_parse.specs.declared.tree.Place.{Place}
 use Rattle.kx_parse.specs.declared.tree.Setting.{Setting}
 use Rattle.kx_parse.specs.declared.tree.Setting.TheVariants.{To}
 use Rattle.kx_parse.specs.declared.tree.Value.TheVariants as values
-use Rattle.kx_symbols.specs.Groups.{group_of, is_group}
-use Rattle.kx_symbols.specs.Keysyms.{Level, levels_of}
+use Rattle.kx_symbols.specs.declared.kinds.ListKind.{ListKind}
+use Rattle.kx_symbols.specs.declared.kinds.ListKind.TheVariants.{Symbols, Actions}
+use Rattle.kx_symbols.specs.Actions.{actions_of}
+use Rattle.kx_symbols.specs.Keysyms.{levels_of}
+use Rattle.kx_symbols.specs.Known.{Known}
 
--- by group, counted from 0, the levels of its list, where it has one
-abbrev pub Lists : Type 0
-Lists = List (Option (List Level))
+-- the lists of both kinds, each by group
+pub record StatementLists : Type 0 where
+  pub symbols : Lists (List ℕ)
+  pub actions : Lists KeyAction
 
-abbrev pub list_at : Lists → ℕ → Option (List Level)
-list_at lists group = option_and_then (λ o. o) (slice_get lists group)
+abbrev pub no_lists : StatementLists
+no_lists = record { symbols = []; actions = [] }
 
-abbrev pub has_list : Lists → ℕ → Bool
-has_list lists group = is_some (list_at lists group)
+abbrev pub is_call : Part → Bool
+is_call (parts.Symbol symbol) = false
+is_call (parts.Call call) = true
 
-abbrev pub is_free : Option (List Level) → Bool
-is_free list = not (is_some list)
+abbrev pub has_call : Element → Bool
+has_call (elements.Symbol symbol) = false
+has_call (elements.Call call) = true
+has_call (elements.Braces braces) = list_any is_call braces.parts
 
--- the first group without a list
-abbrev pub free_group : Lists → ℕ
-free_group lists = unwrap_or (position is_free lists) (length lists)
+-- a list by itself is of actions where one stands anywhere in it, else of keysyms
+abbrev pub bare_kind : Listed → ListKind
+bare_kind list = if list_any has_call list.elements then Actions else Symbols
 
--- so many groups at least
-abbrev pub widened_to : ℕ → Lists → Lists
-widened_to count lists = lists ++ replicate (count - length lists) None
+abbrev pub kind_word : List ℕ → Option ListKind
+kind_word word = if str_eq_ignore_ascii_case word (codes "symbols") then Some Symbols else (if str_eq_ignore_ascii_case word (codes "actions") then Some Actions else None)
 
-abbrev pub with_list : Lists → ℕ → List Level → Lists
-with_list lists group levels = slice_set (widened_to (group + 1) lists) group (Some levels)
+-- the kind of a list under a field, which the field names
+abbrev pub field_kind : Place → Option ListKind
+field_kind place = if is_some place.member then None else kind_word place.word.bytes
 
-abbrev pub level_at : List Level → ℕ → Level
-level_at levels level = option_and_then (λ o. o) (slice_get levels level)
+-- whether a field isn't a list by itself
+abbrev pub is_field : KeyField → Bool
+is_field (fields.List list) = false
+is_field (fields.Field field) = true
 
-abbrev pub level_of : Option (List Level) → ℕ → Level
-level_of list level = option_and_then (λ levels. level_at levels level) list
+module _ (known : Known) where
+  -- a list of a kind beside those that the statement gave before
+  abbrev pub with_listed : StatementLists → Option Index → Listed → ListKind → StatementLists
+  with_listed s index list Symbols = record s { symbols = given_list s.symbols (group_for s.symbols index) (levels_of known.names list) }
+  with_listed s index list Actions = record s { actions = given_list s.actions (group_for s.actions index) (actions_of known list) }
 
-abbrev pub width_of : Option (List Level) → ℕ
-width_of list = option_map_or length list 0
+  abbrev pub set_lists : StatementLists → Option Index → ListKind → Setting → StatementLists
+  set_lists s index kind (To (values.List list)) = with_listed s index list kind
+  set_lists s index kind _ = s
 
--- the level of a group's list, and how many levels it has
-abbrev pub level_in : Lists → ℕ → ℕ → Level
-level_in lists group level = level_of (list_at lists group) level
+  abbrev pub named_lists : StatementLists → Field → Option ListKind → StatementLists
+  named_lists s field None = s
+  named_lists s field (Some kind) = set_lists s field.place.index kind field.setting
 
-abbrev pub width_in : Lists → ℕ → ℕ
-width_in lists group = width_of (list_at lists group)
-
--- the field that gives a list its group
-abbrev pub is_symbols : Place → Bool
-is_symbols place = not (is_some place.member) && str_eq_ignore_ascii_case place.word.bytes (codes "symbols")
-
--- the group that a number names, where it is one and has no list yet
-abbrev pub open_group : Lists → Option ℕ → Option ℕ
-open_group lists None = None
-open_group lists (Some n) = if is_group n && not (has_list lists (n - 1)) then Some (n - 1) else None
-
--- a list without an index is given to the first group that has none
-abbrev pub group_for : Lists → Option Index → Option ℕ
-group_for lists None = if nat_lt (free_group lists) MOST_GROUPS then Some (free_group lists) else None
-group_for lists (Some index) = open_group lists (group_of index.value)
-
--- a list that is given to no group, as by a faulty index, isn't taken
-abbrev pub given_list : Lists → Option ℕ → List Level → Lists
-given_list lists None levels = lists
-given_list lists (Some group) levels = with_list lists group levels
-
-module _ (names : List Entry) where
-  abbrev pub set_lists : Lists → Option Index → Setting → Lists
-  set_lists lists index (To (values.List list)) = given_list lists (group_for lists index) (levels_of names list)
-  set_lists lists index _ = lists
-
-  abbrev pub field_lists : Lists → KeyField → Lists
-  field_lists lists (fields.List list) = given_list lists (group_for lists None) (levels_of names list)
-  field_lists lists (fields.Field field) = if is_symbols field.place then set_lists lists field.place.index field.setting else lists
+  abbrev pub field_lists : StatementLists → KeyField → StatementLists
+  field_lists s (fields.List list) = with_listed s None list (bare_kind list)
+  field_lists s (fields.Field field) = named_lists s field (field_kind field.place)
 
   -- the lists that a key statement gives
-  abbrev pub lists_of : List KeyField → Lists
-  lists_of fs = fold field_lists [] fs
+  abbrev pub lists_of : List KeyField → StatementLists
+  lists_of fs = fold field_lists no_lists fs

@@ -7,23 +7,27 @@ ghost use Rattle.kx_lex.specs.declared.fault.Fault.TheVariants.{Memory};
 ghost use Rattle.kx_parse.specs.declared.tree.Mode.{Mode as ModeValue};
 ghost use Rattle.kx_merge.specs.Bodies.{faults_of};
 ghost use Rattle.kx_merge.specs.Moved.{moved_key, moved_value, moved_width};
-ghost use Rattle.kx_merge.specs.Offers.{taken, widened};
-ghost use Rattle.kx_merge.specs.Records.{AreOffered, mode_of};
-ghost use Rattle.kx_symbols.specs.KeyFaults.{fields_faults, item_faults, key_in};
+ghost use Rattle.kx_merge.specs.Offers.{Offer, taken, widened};
+ghost use Rattle.kx_merge.specs.Records.{AreOffered, IsOffered, mode_of};
+ghost use Rattle.kx_symbols.specs.KeyFaults.{content_faults, item_faults, key_in, said_faults};
 ghost use Rattle.kx_codes.specs.CodeFaults.{name_faults};
 ghost use Rattle.kx_codes.specs.Codes.{code_of};
-ghost use Rattle.kx_symbols.specs.Keys.{KeysShow, cell_in, item_offers, key_at, key_moves, key_rules, offered, record_offer, width_in_key};
-ghost use Rattle.kx_symbols.specs.Lists.{lists_of};
+ghost use Rattle.kx_symbols.specs.Keys.{KeysShow, cell_in, item_offers, key_at, key_moves, key_offer, key_rules, offered, said_offers, width_in_key};
 
+use crate::cells::{Cell, CellValue};
+use crate::checks::check_other;
+use crate::defaults::SectionDefaults;
 use crate::fields::read_lists;
-use crate::keysyms::{Keysyms, Reading};
-use crate::record::{Cell, KeyRecord};
+use crate::known::{Known, Reading};
+use crate::record::KeyRecord;
+use crate::settings::read_besides;
 use indexmap::IndexMap;
 use ks_core::{NameTable, Note, Notes};
 use kx_basics::MOST_NAME_BYTES;
 use kx_codes::Codes;
 use kx_include::{Expansion, Place};
-use kx_lex::{At, Fault};
+use kx_lex::{Fault, Span};
+use kx_masks::ModNames;
 use kx_merge::{Fields, merge};
 use kx_parse::{Item, KeyField, KeyName, Mode, Row, Statement};
 use std::alloc::Global;
@@ -34,6 +38,7 @@ use std::marker::Model;
 pub struct Context<'a> {
     pub codes: &'a Codes,
     pub names: &'a NameTable,
+    pub modifiers: &'a ModNames,
 }
 
 /// The name and the fields of a key statement.
@@ -62,7 +67,7 @@ fn no_records(alloc: Global) -> Vec<(u16, KeyRecord)>
 }
 
 fn one_record(alloc: Global, code: u16, key: KeyRecord) -> Result<Vec<(u16, KeyRecord)>, Fault>
-    ensures records { (mode : ModeValue) → IfOk result (λ records. AreOffered mode (cell_in) (width_in_key) records.items (record_offer mode code key ∷ [])) }
+    ensures records { (mode : ModeValue) (o : Offer ℕ Cell CellValue) → IsOffered mode (cell_in) (width_in_key) code key o → IfOk result (λ records. AreOffered mode (cell_in) (width_in_key) records.items (o ∷ [])) }
     ensures err { IfErr result (λ e. e ≡ Memory) }
 {
     let mut records = Vec::new(alloc);
@@ -70,29 +75,71 @@ fn one_record(alloc: Global, code: u16, key: KeyRecord) -> Result<Vec<(u16, KeyR
     Ok(records)
 }
 
+/// What the fields of a key statement give.
+fn read_content(
+    alloc: Global,
+    known: &Known,
+    reading: Reading,
+    fields: &[KeyField],
+    notes: &mut Notes,
+) -> Result<KeyRecord, Fault>
+    ensures offered { (mode : ModeValue) (code : ℕ) → IfOk result (λ key. IsOffered mode (cell_in) (width_in_key) code key (key_offer known.now fields.now mode code)) }
+    ensures faultless { OnOk result (content_faults reading.file known.now reading.whole fields.now ≡ []) }
+    ensures fault { IfErr result (λ e. Contains (Memory ∷ content_faults reading.file known.now reading.whole fields.now) e) }
+{
+    let lists = read_lists(alloc, known, reading, fields, notes)?;
+    let settings = read_besides(alloc, known, reading.file, fields)?;
+    Ok(KeyRecord::of(lists, settings))
+}
+
 /// What a key statement gives its key.
 fn read_key(
     alloc: Global,
     codes: &Codes,
-    names: &NameTable,
+    known: &Known,
     reading: Reading,
     name: &KeyName,
     fields: &[KeyField],
     notes: &mut Notes,
 ) -> Result<Vec<(u16, KeyRecord)>, Fault>
-    ensures records { (mode : ModeValue) → IfOk result (λ records. AreOffered mode (cell_in) (width_in_key) records.items (offered mode (lists_of names.now fields.now) (code_of codes.now name.now.bytes))) }
-    ensures faultless { OnOk result (name_faults reading.file reading.whole name.now ++ fields_faults reading.file names.now [] reading.whole fields.now ≡ []) }
-    ensures fault { IfErr result (λ e. Contains (Memory ∷ (name_faults reading.file reading.whole name.now ++ fields_faults reading.file names.now [] reading.whole fields.now)) e) }
+    ensures records { (mode : ModeValue) → IfOk result (λ records. AreOffered mode (cell_in) (width_in_key) records.items (offered known.now fields.now mode (code_of codes.now name.now.bytes))) }
+    ensures faultless { OnOk result (name_faults reading.file reading.whole name.now ++ content_faults reading.file known.now reading.whole fields.now ≡ []) }
+    ensures fault { IfErr result (λ e. Contains (Memory ∷ (name_faults reading.file reading.whole name.now ++ content_faults reading.file known.now reading.whole fields.now)) e) }
 {
     if name.as_slice().len() > MOST_NAME_BYTES {
         return Err(Fault::TooMany(reading.at(reading.whole)));
     }
-    let lists = read_lists(alloc, names, reading, fields, notes)?;
+    let key = read_content(alloc, known, reading, fields, notes)?;
     match codes.code_of(name.as_slice()) {
-        Some(code) => one_record(alloc, code, KeyRecord::of(lists)),
+        Some(code) => one_record(alloc, code, key),
         None => {
             notes.count(Note::UnknownKey);
             Ok(no_records(alloc))
+        }
+    }
+}
+
+/// What a statement gives; a fault of its name is at a word.
+fn read_statement(
+    alloc: Global,
+    codes: &Codes,
+    known: &Known,
+    reading: Reading,
+    word: Span,
+    statement: &Statement,
+    notes: &mut Notes,
+) -> Result<Vec<(u16, KeyRecord)>, Fault>
+    ensures records { (mode : ModeValue) → IfOk result (λ records. AreOffered mode (cell_in) (width_in_key) records.items (said_offers codes.now known.now mode (key_in statement.now))) }
+    ensures faultless { OnOk result (said_faults reading.file known.now statement.now word reading.whole (key_in statement.now) ≡ []) }
+    ensures fault { IfErr result (λ e. Contains (Memory ∷ said_faults reading.file known.now statement.now word reading.whole (key_in statement.now)) e) }
+{
+    match key_in(statement) {
+        None => {
+            check_other(known.modifiers, reading.file, word, statement)?;
+            Ok(no_records(alloc))
+        }
+        Some((name, fields)) => {
+            read_key(alloc, codes, known, reading, name, fields.as_slice(), notes)
         }
     }
 }
@@ -101,14 +148,14 @@ fn read_key(
 fn read_item(
     alloc: Global,
     codes: &Codes,
-    names: &NameTable,
+    known: &Known,
     place: Place,
     item: &Item,
     notes: &mut Notes,
 ) -> Result<Vec<(u16, KeyRecord)>, Fault>
-    ensures records { IfOk result (λ records. AreOffered (mode_of item.now) (cell_in) (width_in_key) records.items (item_offers codes.now names.now item.now)) }
-    ensures faultless { OnOk result (item_faults place.file names.now item.now ≡ []) }
-    ensures fault { IfErr result (λ e. Contains (Memory ∷ item_faults place.file names.now item.now) e) }
+    ensures records { IfOk result (λ records. AreOffered (mode_of item.now) (cell_in) (width_in_key) records.items (item_offers codes.now known.now item.now)) }
+    ensures faultless { OnOk result (item_faults place.file known.now item.now ≡ []) }
+    ensures fault { IfErr result (λ e. Contains (Memory ∷ item_faults place.file known.now item.now) e) }
 {
     match item {
         Item::Include { .. } => Ok(no_records(alloc)),
@@ -116,19 +163,14 @@ fn read_item(
             statement,
             span,
             ..
-        } => match key_in(statement) {
-            None => Err(Fault::UnknownField(At {
+        } => {
+            let reading = Reading {
                 file: place.file,
-                span: item.word_span(),
-            })),
-            Some((name, fields)) => {
-                let reading = Reading {
-                    file: place.file,
-                    whole: *span,
-                };
-                read_key(alloc, codes, names, reading, name, fields.as_slice(), notes)
-            }
-        },
+                whole: *span,
+            };
+            let word = item.word_span();
+            read_statement(alloc, codes, known, reading, word, statement, notes)
+        }
     }
 }
 
@@ -137,13 +179,13 @@ impl<'a> Fields<Context<'a>> for KeyRecord {
 
     type Cell = Cell;
 
-    type Value = Keysyms;
+    type Value = CellValue;
 
-    type Defaults = ();
+    type Defaults = SectionDefaults;
 
     type Notes = Notes;
 
-    ghost rules = { λ context. key_rules context.codes.now context.names.now };
+    ghost rules = { λ context. key_rules context.codes.now context.names.now context.modifiers.now.names };
 
     ghost moves = { key_moves };
 
@@ -151,26 +193,33 @@ impl<'a> Fields<Context<'a>> for KeyRecord {
 
     ghost width = { λ r g. width_in_key r g };
 
-    fn start(_alloc: Global, _context: &Context<'a>) {}
+    fn start(_alloc: Global, _context: &Context<'a>) -> SectionDefaults {
+        SectionDefaults::none()
+    }
 
     fn next(
-        _alloc: Global,
-        _context: &Context<'a>,
-        _defaults: (),
-        _item: &Item,
-    ) -> Result<(), Fault> {
-        Ok(())
+        alloc: Global,
+        context: &Context<'a>,
+        defaults: SectionDefaults,
+        item: &Item,
+    ) -> Result<SectionDefaults, Fault> {
+        defaults.next(alloc, context.modifiers, item)
     }
 
     fn read(
         alloc: Global,
         context: &Context<'a>,
-        _defaults: &(),
+        defaults: &SectionDefaults,
         place: Place,
         item: &Item,
         notes: &mut Notes,
     ) -> Result<Vec<(u16, KeyRecord)>, Fault> {
-        read_item(alloc, context.codes, context.names, place, item, notes)
+        let known = Known {
+            names: context.names,
+            modifiers: context.modifiers,
+            defaults,
+        };
+        read_item(alloc, context.codes, &known, place, item, notes)
     }
 
     fn absorb(&mut self, _alloc: Global, other: KeyRecord, mode: Mode) -> Result<(), Fault>
@@ -231,9 +280,9 @@ pub struct Keys {
 
 impl Model for Keys {
     ghost use Rattle.std.specs.Prelude.{List, ℕ};
-    ghost use Rattle.kx_symbols.specs.Keys.{KeyLists};
+    ghost use Rattle.kx_symbols.specs.Keys.{KeyContent};
 
-    ghost Value = { List (ℕ × KeyLists) };
+    ghost Value = { List (ℕ × KeyContent) };
 
     ghost view = { λ k. k.by_code.entries };
 }
@@ -251,21 +300,29 @@ impl Keys {
 /// place where a map is included.
 ///
 /// # Errors
-/// The faults of the statements, at their places: `BadValue` at the number of no keysym, at a second list for a group, at
-/// what no symbols field takes, and at an index that is no group; `GroupRange` at a group outside of 1 to 32 and at a list
-/// for which none is left; `TooMany` at a statement whose name has over 255 bytes or with over eight keysyms in braces;
-/// `UnknownField` at what isn't read yet; `Memory`.
+/// The faults of these statements and of the defaults for them, at their places: `BadValue` at the number of no keysym, at an
+/// action among keysyms and a keysym among actions, at braces with several actions, at a second list of a kind for a group,
+/// at what no field of lists takes, and at an index that is no group; `GroupRange` at a group outside of 1 to 32 and at a
+/// list for which none is left; `TooMany` at a statement whose name has over 255 bytes or with over eight keysyms in
+/// braces; `UnknownField` at a field or statement that a symbols section doesn't have; those of the arguments of actions
+/// and of what is said of keys besides; `Memory`. Declarations of virtual modifiers, modifier maps and names of groups are
+/// passed over.
 pub fn symbols(
     alloc: Global,
     expansion: &Expansion,
     codes: &Codes,
     names: &NameTable,
+    modifiers: &ModNames,
 ) -> Result<(Keys, Notes), Fault>
-    ensures shows { IfOk result (λ found. KeysShow found.0 codes.now names.now (expanded_body expansion.now)) }
-    ensures faultless { OnOk result (faults_of nat_eq (key_rules codes.now names.now) key_moves (expanded_body expansion.now) ≡ []) }
-    ensures fault { IfErr result (λ e. Contains (Memory ∷ faults_of nat_eq (key_rules codes.now names.now) key_moves (expanded_body expansion.now)) e) }
+    ensures shows { IfOk result (λ found. KeysShow found.0 codes.now names.now modifiers.now.names (expanded_body expansion.now)) }
+    ensures faultless { OnOk result (faults_of nat_eq (key_rules codes.now names.now modifiers.now.names) key_moves (expanded_body expansion.now) ≡ []) }
+    ensures fault { IfErr result (λ e. Contains (Memory ∷ faults_of nat_eq (key_rules codes.now names.now modifiers.now.names) key_moves (expanded_body expansion.now)) e) }
 {
-    let context = Context { codes, names };
+    let context = Context {
+        codes,
+        names,
+        modifiers,
+    };
     let merged = merge::<Context, KeyRecord>(alloc, &context, expansion)?;
     let keys = Keys {
         by_code: merged.records,

@@ -4,16 +4,18 @@ ghost use Rattle.std.specs.List.{flat_map};
 ghost use Rattle.std.specs.Option.{option_map};
 ghost use Rattle.ks_core.specs.Names.{is_written_back};
 ghost use Rattle.kx_lex.specs.declared.fault.Fault.TheVariants.{Memory};
-ghost use Rattle.kx_symbols.specs.KeyFaults.{call_faults, count_faults, element_faults, part_faults, symbol_faults};
+ghost use Rattle.kx_symbols.specs.KeyFaults.{count_faults, element_faults, elements_faults, part_faults, symbol_faults};
 ghost use Rattle.kx_basics.specs.Keysyms.{IsKeysym};
-ghost use Rattle.kx_symbols.specs.Keysyms.{element_level, given, keysym_of_text, number_keysym, part_keysyms, symbol_keysym, word_keysym};
+ghost use Rattle.kx_symbols.specs.Keysyms.{element_level, given, keysym_of_text, levels_of, number_keysym, part_keysyms, symbol_keysym, word_keysym};
 
+use crate::known::Reading;
 use arrayvec::ArrayVec;
 use ks_core::{NameTable, Note, Notes};
 use kx_basics::{GREATEST_KEYSYM, MOST_KEYSYMS};
-use kx_lex::{At, Fault, Span};
-use kx_parse::{Call, Element, Part, Symbol};
-use std::alloc::AllocError;
+use kx_lex::{At, Fault};
+use kx_lists::{LevelValue, Levels};
+use kx_parse::{Element, List as Listed, Part, Symbol};
+use std::alloc::{AllocError, Global};
 use std::marker::Model;
 
 /// The keysym of `None` and `VoidSymbol`.
@@ -36,6 +38,14 @@ impl Model for Keysyms {
     ghost invariant = { λ k. All IsKeysym k.numbers.items };
 }
 
+impl LevelValue for Keysyms {
+    fn copied(&self) -> Result<Keysyms, AllocError> {
+        Ok(Keysyms {
+            numbers: self.numbers.clone()?,
+        })
+    }
+}
+
 impl Keysyms {
     fn none() -> Keysyms
         ensures { result ≡ [] }
@@ -43,14 +53,6 @@ impl Keysyms {
         Keysyms {
             numbers: ArrayVec::new(),
         }
-    }
-
-    pub(crate) fn copied(&self) -> Result<Keysyms, AllocError>
-        ensures { IfOk result (λ copy. copy ≡ self.now) }
-    {
-        Ok(Keysyms {
-            numbers: self.numbers.clone()?,
-        })
     }
 
     fn push(&mut self, keysym: u32)
@@ -78,34 +80,6 @@ impl Keysyms {
             None
         } else {
             Some(self)
-        }
-    }
-}
-
-/// Where a list of a key statement stands.
-#[derive(Clone, Copy, Debug, PartialEq, Eq)]
-pub(crate) enum Standing {
-    /// By itself among the fields.
-    Alone,
-    /// As what a symbols field sets.
-    InSymbols,
-}
-
-/// Where a statement stands.
-#[derive(Clone, Copy, Debug, PartialEq, Eq)]
-pub(crate) struct Reading {
-    pub file: u32,
-    /// All of the statement.
-    pub whole: Span,
-}
-
-impl Reading {
-    pub fn at(self, span: Span) -> At
-        ensures { result ≡ record { file = self.file; span = span } }
-    {
-        At {
-            file: self.file,
-            span,
         }
     }
 }
@@ -181,21 +155,10 @@ pub fn symbol_keysym(
     }
 }
 
-/// An action, which no list of keysyms has.
-fn call_fault(reading: Reading, standing: Standing, call: &Call) -> Fault
-    ensures { Contains (call_faults reading.file standing call.now) result }
-{
-    match standing {
-        Standing::Alone => Fault::UnknownField(reading.at(call.word.span)),
-        Standing::InSymbols => Fault::BadValue(reading.at(call.span)),
-    }
-}
-
 /// Adds what a part of a level gives.
 fn add_part(
     names: &NameTable,
     reading: Reading,
-    standing: Standing,
     part: &Part,
     keysyms: &mut Keysyms,
     notes: &mut Notes,
@@ -203,8 +166,8 @@ fn add_part(
     requires { length keysyms.old < 8 }
     ensures value { OnOk result (keysyms.new ≡ keysyms.old ++ part_keysyms names.now part.now) }
     ensures few { OnOk result (length keysyms.new ≤ length keysyms.old + 1) }
-    ensures faultless { OnOk result (part_faults reading.file standing part.now ≡ []) }
-    ensures fault { IfErr result (λ e. Contains (Memory ∷ part_faults reading.file standing part.now) e) }
+    ensures faultless { OnOk result (part_faults reading.file part.now ≡ []) }
+    ensures fault { IfErr result (λ e. Contains (Memory ∷ part_faults reading.file part.now) e) }
 {
     match part {
         Part::Symbol(symbol) => {
@@ -213,7 +176,7 @@ fn add_part(
             }
             Ok(())
         }
-        Part::Call(call) => Err(call_fault(reading, standing, call)),
+        Part::Call(call) => Err(Fault::BadValue(reading.at(call.span))),
     }
 }
 
@@ -221,35 +184,33 @@ fn add_part(
 fn braces_keysyms(
     names: &NameTable,
     reading: Reading,
-    standing: Standing,
     parts: &[Part],
     notes: &mut Notes,
 ) -> Result<Keysyms, Fault>
     ensures value { IfOk result (λ keysyms. keysyms ≡ flat_map (part_keysyms names.now) parts.now) }
-    ensures faultless { OnOk result (count_faults reading.file reading.whole parts.now ++ flat_map (part_faults reading.file standing) parts.now ≡ []) }
-    ensures fault { IfErr result (λ e. Contains (Memory ∷ (count_faults reading.file reading.whole parts.now ++ flat_map (part_faults reading.file standing) parts.now)) e) }
+    ensures faultless { OnOk result (count_faults reading.file reading.whole parts.now ++ flat_map (part_faults reading.file) parts.now ≡ []) }
+    ensures fault { IfErr result (λ e. Contains (Memory ∷ (count_faults reading.file reading.whole parts.now ++ flat_map (part_faults reading.file) parts.now)) e) }
 {
     let mut keysyms = Keysyms::none();
     if parts.len() > MOST_KEYSYMS {
         return Err(Fault::TooMany(reading.at(reading.whole)));
     }
     'parts: for part in parts {
-        add_part(names, reading, standing, part, &mut keysyms, notes)?;
+        add_part(names, reading, part, &mut keysyms, notes)?;
     }
     Ok(keysyms)
 }
 
 /// What an element of a list gives its level.
-pub(crate) fn element_level(
+fn element_level(
     names: &NameTable,
     reading: Reading,
-    standing: Standing,
     element: &Element,
     notes: &mut Notes,
 ) -> Result<Option<Keysyms>, Fault>
     ensures value { IfOk result (λ level. level ≡ element_level names.now element.now) }
-    ensures faultless { OnOk result (element_faults reading.file standing reading.whole element.now ≡ []) }
-    ensures fault { IfErr result (λ e. Contains (Memory ∷ element_faults reading.file standing reading.whole element.now) e) }
+    ensures faultless { OnOk result (element_faults reading.file reading.whole element.now ≡ []) }
+    ensures fault { IfErr result (λ e. Contains (Memory ∷ element_faults reading.file reading.whole element.now) e) }
 {
     match element {
         Element::Symbol(symbol) => match symbol_keysym(names, reading.file, symbol, notes)? {
@@ -260,10 +221,30 @@ pub(crate) fn element_level(
                 Ok(Some(keysyms))
             }
         },
-        Element::Call(call) => Err(call_fault(reading, standing, call)),
+        Element::Call(call) => Err(Fault::BadValue(reading.at(call.span))),
         Element::Braces(braces) => {
-            let keysyms = braces_keysyms(names, reading, standing, braces.parts.as_slice(), notes)?;
+            let keysyms = braces_keysyms(names, reading, braces.parts.as_slice(), notes)?;
             Ok(keysyms.given())
         }
     }
+}
+
+/// The keysyms of a list by level.
+pub(crate) fn read_levels(
+    alloc: Global,
+    names: &NameTable,
+    reading: Reading,
+    list: &Listed,
+    notes: &mut Notes,
+) -> Result<Levels<Keysyms>, Fault>
+    ensures value { IfOk result (λ levels. levels ≡ levels_of names.now list.now) }
+    ensures faultless { OnOk result (elements_faults reading.file reading.whole list.now ≡ []) }
+    ensures fault { IfErr result (λ e. Contains (Memory ∷ elements_faults reading.file reading.whole list.now) e) }
+{
+    let elements = list.elements.as_slice();
+    let mut levels = Vec::with_capacity(alloc, elements.len())?;
+    'elements: for element in elements {
+        levels.push(element_level(names, reading, element, notes)?)?;
+    }
+    Ok(Levels::of(levels))
 }

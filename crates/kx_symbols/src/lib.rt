@@ -1,15 +1,19 @@
 //! What the key statements of a keymap's symbols give each key.
 #![tactic(auto)]
 
+mod actions;
+mod cells;
+mod checks;
+mod defaults;
 mod fields;
-mod groups;
 mod keys;
 mod keysyms;
-mod levels;
+mod kinds;
+mod known;
 mod record;
+mod settings;
 
-pub use groups::group_of;
+pub use cells::{Cell, CellValue};
 pub use keys::{Keys, symbols};
 pub use keysyms::{Keysyms, symbol_keysym};
-pub use levels::Levels;
 pub use record::KeyRecord;

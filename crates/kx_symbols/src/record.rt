@@ -1,242 +1,98 @@
 //! What the statements of a key give.
-ghost use Rattle.std.specs.Prelude.{◌≡◌, ◌-◌, ◌<◌, ◌≤◌, ◌^◌, ℕ, None, IfOk, nat_lt, length, OnOk, false, max, nat_eq, if◌then◌else◌};
+ghost use Rattle.std.specs.Prelude.{◌≡◌, ◌≤◌, ℕ, None, IsTrue, OnOk, false, max};
 ghost use Rattle.std.specs.Option.{option_map};
 ghost use Rattle.kx_merge.specs.Moved.{moved_value, moved_width};
-ghost use Rattle.kx_merge.specs.Offers.{is_replace, taken, widened};
-ghost use Rattle.kx_symbols.specs.Keys.{cell_in, key_moves, list_in_key, width_in_key};
-ghost use Rattle.kx_symbols.specs.Lists.{level_in, level_of, width_in, width_of};
-ghost use Rattle.kx_symbols.specs.declared.record.Cell.TheVariants.{Keysyms as KeysymsOf};
+ghost use Rattle.kx_merge.specs.Offers.{taken, widened};
+ghost use Rattle.kx_settings.specs.Settings.{setting_in};
+ghost use Rattle.kx_symbols.specs.Keys.{HasAction, cell_in, content_of, key_moves, width_in_key};
+ghost use Rattle.kx_symbols.specs.declared.cells.Cell.TheVariants.{Keysyms as KeysymsOf, Action as ActionOf, Setting as SettingOf};
+ghost use Rattle.kx_symbols.specs.declared.cells.CellValue.TheVariants.{Keysyms as KeysymsValue, Action as ActionValue, Setting as SettingOfKey};
 
-use crate::fields::widen;
+use crate::actions::LevelAction;
+use crate::cells::Cell;
+use crate::fields::StatementLists;
 use crate::keysyms::Keysyms;
-use crate::levels::Levels;
+use kx_actions::KeyAction;
+use kx_lists::GroupLists;
 use kx_parse::Mode;
+use kx_settings::{KeySettings, SettingCell};
 use std::alloc::{AllocError, Global};
 use std::marker::Model;
 
-/// What can have a value in a key; groups and levels are counted from 0.
-#[derive(Clone, Copy, Debug, PartialEq, Eq)]
-pub enum Cell {
-    /// The keysyms of a group and a level.
-    Keysyms(usize, usize),
-}
-
-/// What the statements of a key give: a list of levels for each of its groups that has one.
+/// What the statements of a key give: for each group a list of keysyms and one of actions, where it has them, and what they
+/// say of the key besides.
 #[derive(Debug, Drop)]
 pub struct KeyRecord {
-    /// The group of the first list, counted from 0.
-    from: u8,
-    lists: Vec<Option<Levels>>,
+    symbols: GroupLists<Keysyms>,
+    actions: GroupLists<LevelAction>,
+    settings: KeySettings,
 }
 
 impl Model for KeyRecord {
-    ghost use Rattle.kx_symbols.specs.Keys.{KeyLists};
+    ghost use Rattle.kx_symbols.specs.Keys.{KeyContent};
 
-    ghost Value = { KeyLists };
+    ghost Value = { KeyContent };
 
-    ghost view = { λ r. record { from = r.from; lists = r.lists.items } };
-}
-
-/// The levels of a group once later ones were taken up under a mode that isn't replace.
-fn joined(
-    old: Option<Levels>,
-    later: Option<Levels>,
-    mode: Mode,
-) -> Result<Option<Levels>, AllocError>
-    requires { is_replace mode ≡ false }
-    ensures levels { IfOk result (λ list. (l : ℕ) → level_of list l ≡ taken mode (level_of old l) (level_of later l)) }
-    ensures long { IfOk result (λ list. width_of list ≡ max (width_of old) (width_of later)) }
-{
-    match (old, later) {
-        (Some(mut levels), Some(later)) => {
-            levels.absorb(later, mode)?;
-            Ok(Some(levels))
-        }
-        (None, later) => Ok(later),
-        (old, None) => Ok(old),
-    }
-}
-
-/// The levels of a group once later ones were taken up under a mode that isn't replace; those stay as they are.
-fn joined_copied(
-    alloc: Global,
-    old: Option<Levels>,
-    later: &Option<Levels>,
-    mode: Mode,
-) -> Result<Option<Levels>, AllocError>
-    requires { is_replace mode ≡ false }
-    ensures levels { IfOk result (λ list. (l : ℕ) → level_of list l ≡ taken mode (level_of old l) (level_of later.now l)) }
-    ensures long { IfOk result (λ list. width_of list ≡ max (width_of old) (width_of later.now)) }
-{
-    let Some(later) = later else {
-        return Ok(old);
-    };
-    let mut levels = match old {
-        Some(levels) => levels,
-        None => Levels::none(alloc),
-    };
-    levels.absorb_copied(later, mode)?;
-    Ok(Some(levels))
-}
-
-/// Takes up a later list of a group, where there is one; it stays as it is.
-fn absorb_list_copied(
-    alloc: Global,
-    lists: &mut Vec<Option<Levels>>,
-    group: usize,
-    later: &Option<Levels>,
-    mode: Mode,
-) -> Result<(), AllocError>
-    requires mode { is_replace mode ≡ false }
-    requires group { group < 2 ^ 63 }
-    ensures levels { OnOk result ((g l : ℕ) → level_in lists.new.items g l ≡ (if nat_eq g group then taken mode (level_in lists.old.items g l) (level_of later.now l) else level_in lists.old.items g l)) }
-    ensures widths { OnOk result ((g : ℕ) → width_in lists.new.items g ≡ (if nat_eq g group then max (width_in lists.old.items g) (width_of later.now) else width_in lists.old.items g)) }
-{
-    widen(lists, group + 1)?;
-    let old = lists[group].take();
-    lists[group] = joined_copied(alloc, old, later, mode)?;
-    Ok(())
-}
-
-/// Takes up later lists, of which the first is that of a group, under a mode that isn't replace; they stay as they are.
-fn absorb_lists_copied(
-    alloc: Global,
-    lists: &mut Vec<Option<Levels>>,
-    from: usize,
-    later: &[Option<Levels>],
-    mode: Mode,
-) -> Result<(), AllocError>
-    requires mode { is_replace mode ≡ false }
-    requires from { from < 2 ^ 8 }
-    ensures levels { OnOk result ((g l : ℕ) → level_in lists.new.items g l ≡ taken mode (level_in lists.old.items g l) (if nat_lt g from then None else level_in later.now (g - from) l)) }
-    ensures widths { OnOk result ((g : ℕ) → width_in lists.new.items g ≡ max (width_in lists.old.items g) (if nat_lt g from then 0 else width_in later.now (g - from))) }
-{
-    'lists: for place in 0..later.len() {
-        absorb_list_copied(alloc, lists, from + place, &later[place], mode)?;
-    }
-    Ok(())
-}
-
-/// Takes up a later list of a group, where there is one.
-fn absorb_list(
-    lists: &mut Vec<Option<Levels>>,
-    group: usize,
-    later: Option<Levels>,
-    mode: Mode,
-) -> Result<(), AllocError>
-    requires mode { is_replace mode ≡ false }
-    requires group { group < 2 ^ 63 }
-    ensures levels { OnOk result ((g l : ℕ) → level_in lists.new.items g l ≡ (if nat_eq g group then taken mode (level_in lists.old.items g l) (level_of later l) else level_in lists.old.items g l)) }
-    ensures widths { OnOk result ((g : ℕ) → width_in lists.new.items g ≡ (if nat_eq g group then max (width_in lists.old.items g) (width_of later) else width_in lists.old.items g)) }
-{
-    widen(lists, group + 1)?;
-    let old = lists[group].take();
-    lists[group] = joined(old, later, mode)?;
-    Ok(())
-}
-
-/// Takes up later lists, of which the first is that of a group, under a mode that isn't replace.
-fn absorb_lists(
-    lists: &mut Vec<Option<Levels>>,
-    from: usize,
-    later: Vec<Option<Levels>>,
-    mode: Mode,
-) -> Result<(), AllocError>
-    requires mode { is_replace mode ≡ false }
-    requires from { from < 2 ^ 8 }
-    ensures levels { OnOk result ((g l : ℕ) → level_in lists.new.items g l ≡ taken mode (level_in lists.old.items g l) (if nat_lt g from then None else level_in later.items (g - from) l)) }
-    ensures widths { OnOk result ((g : ℕ) → width_in lists.new.items g ≡ max (width_in lists.old.items g) (if nat_lt g from then 0 else width_in later.items (g - from))) }
-{
-    let mut later = later;
-    'lists: for place in 0..later.len() {
-        let list = later[place].take();
-        absorb_list(lists, from + place, list, mode)?;
-    }
-    Ok(())
+    ghost view = { λ r. record { symbols = r.symbols; actions = r.actions; settings = r.settings } };
 }
 
 impl KeyRecord {
-    /// The record of these lists, of which the first is that of the first group.
-    pub(crate) fn of(lists: Vec<Option<Levels>>) -> KeyRecord
-        ensures { result ≡ record { from = 0; lists = lists.items } }
+    /// The record of what one statement gives.
+    pub(crate) fn of(lists: StatementLists, settings: KeySettings) -> KeyRecord
+        ensures { result ≡ content_of lists settings }
     {
-        KeyRecord { from: 0, lists }
+        KeyRecord {
+            symbols: GroupLists::of(lists.symbols),
+            actions: GroupLists::of(lists.actions),
+            settings,
+        }
     }
 
     /// How many groups there are to look for: behind the last list there is none.
     pub fn group_count(&self) -> usize
         ensures { (group : ℕ) → result ≤ group → width_in_key self.now group ≡ 0 }
     {
-        usize::from(self.from) + self.lists.len()
+        self.symbols.group_count().max(self.actions.group_count())
     }
 
-    fn list(&self, group: usize) -> Option<&Levels>
-        ensures { option_map (λ levels. levels.now) result ≡ list_in_key self.now group }
-    {
-        let from = usize::from(self.from);
-        if group < from {
-            return None;
-        }
-        match self.lists.get(group - from) {
-            Some(Some(levels)) => Some(levels),
-            _ => None,
-        }
-    }
-
-    /// How many levels a group has, counted from 0.
+    /// How many levels a group has, counted from 0: as many as the longer of its lists.
     pub fn width(&self, group: usize) -> usize
         ensures { result ≡ width_in_key self.now group }
     {
-        match self.list(group) {
-            Some(levels) => levels.len(),
-            None => 0,
-        }
+        self.symbols.width(group).max(self.actions.width(group))
     }
 
     /// The keysyms of a group and a level, both counted from 0.
     pub fn keysyms(&self, group: usize, level: usize) -> Option<&Keysyms>
-        ensures { option_map (λ keysyms. keysyms.now) result ≡ cell_in self.now (KeysymsOf group level) }
+        ensures { option_map (λ keysyms. KeysymsValue keysyms.now) result ≡ cell_in self.now (KeysymsOf group level) }
     {
-        self.list(group)?.keysyms(level)
+        self.symbols.get(group, level)
     }
 
-    /// Begins at the first group.
-    fn settle(&mut self) -> Result<(), AllocError>
-        ensures from { OnOk result (self.new.from ≡ 0) }
-        ensures cells { OnOk result ((c : Cell) → cell_in self.new c ≡ cell_in self.old c) }
-        ensures widths { OnOk result ((g : ℕ) → width_in_key self.new g ≡ width_in_key self.old g) }
+    /// The action of a group and a level, both counted from 0.
+    pub fn action(&self, group: usize, level: usize) -> Option<KeyAction>
+        ensures { option_map (λ action. ActionValue action) result ≡ cell_in self.now (ActionOf group level) }
     {
-        'groups: while self.from > 0 {
-            self.lists.insert(0, None)?;
-            self.from -= 1;
-        }
-        Ok(())
-    }
-
-    /// Takes up what a later statement or include gives.
-    pub(crate) fn join(&mut self, other: KeyRecord, mode: Mode) -> Result<(), AllocError>
-        ensures cells { OnOk result ((c : Cell) → cell_in self.new c ≡ taken mode (cell_in self.old c) (cell_in other c)) }
-        ensures widths { OnOk result ((g : ℕ) → width_in_key self.new g ≡ widened mode (width_in_key self.old g) (width_in_key other g)) }
-    {
-        match mode {
-            Mode::Replace => {
-                *self = other;
-                Ok(())
-            }
-            Mode::Augment => self.join_lists(other, mode),
-            Mode::Override => self.join_lists(other, mode),
+        match self.actions.get(group, level) {
+            Some(action) => Some(action.action()),
+            None => None,
         }
     }
 
-    /// Takes up what a later statement or include gives under a mode that isn't replace.
-    fn join_lists(&mut self, other: KeyRecord, mode: Mode) -> Result<(), AllocError>
-        requires { is_replace mode ≡ false }
-        ensures cells { OnOk result ((c : Cell) → cell_in self.new c ≡ taken mode (cell_in self.old c) (cell_in other c)) }
-        ensures widths { OnOk result ((g : ℕ) → width_in_key self.new g ≡ max (width_in_key self.old g) (width_in_key other g)) }
+    /// Whether a group and a level have an action, however far beyond the levels of the group's type.
+    pub fn has_action(&self) -> bool
+        ensures some { IsTrue result → HasAction self.now }
+        ensures none { result ≡ false → (group level : ℕ) → cell_in self.now (ActionOf group level) ≡ None }
     {
-        self.settle()?;
-        absorb_lists(&mut self.lists, usize::from(other.from), other.lists, mode)?;
-        Ok(())
+        self.actions.has_value()
+    }
+
+    /// What is said of the key besides its lists: the types of its groups, its own type, its virtual modifiers and its range.
+    pub fn settings(&self) -> &KeySettings
+        ensures value { result.now ≡ self.now.settings }
+        ensures cells { (cell : SettingCell) → option_map (λ value. SettingOfKey value) (setting_in result.now cell) ≡ cell_in self.now (SettingOf cell) }
+    {
+        &self.settings
     }
 
     /// The record that nothing was given.
@@ -245,34 +101,21 @@ impl KeyRecord {
         ensures widths { (g : ℕ) → width_in_key result g ≡ 0 }
     {
         KeyRecord {
-            from: 0,
-            lists: Vec::new(alloc),
+            symbols: GroupLists::none(alloc),
+            actions: GroupLists::none(alloc),
+            settings: KeySettings::none(alloc),
         }
     }
 
-    /// Forgets what was given.
-    fn clear(&mut self)
-        ensures cells { (c : Cell) → cell_in self.new c ≡ None }
-        ensures widths { (g : ℕ) → width_in_key self.new g ≡ 0 }
+    /// Takes up what a later statement or include gives.
+    pub(crate) fn join(&mut self, other: KeyRecord, mode: Mode) -> Result<(), AllocError>
+        ensures cells { OnOk result ((c : Cell) → cell_in self.new c ≡ taken mode (cell_in self.old c) (cell_in other c)) }
+        ensures widths { OnOk result ((g : ℕ) → width_in_key self.new g ≡ widened mode (width_in_key self.old g) (width_in_key other g)) }
     {
-        self.from = 0;
-        self.lists.clear();
-    }
-
-    /// The lists where the map of the record is moved to a group, counted from 1, and the group of the first of them,
-    /// counted from 0: the record's first group becomes that group, and the others go.
-    fn placed(&self, group: Option<u8>) -> (u8, &[Option<Levels>])
-        ensures cells { (c : Cell) → cell_in (record { from = result.0; lists = result.1.now }) c ≡ moved_value key_moves group (cell_in self.now) c }
-        ensures widths { (g : ℕ) → width_in_key (record { from = result.0; lists = result.1.now }) g ≡ moved_width key_moves group (width_in_key self.now) g }
-    {
-        let Some(group) = group else {
-            return (self.from, self.lists.as_slice());
-        };
-        if group == 0 || self.from > 0 {
-            return (0, &[]);
-        }
-        let count = self.lists.len().min(1);
-        (group - 1, &self.lists[..count])
+        self.symbols.join(other.symbols, mode)?;
+        self.actions.join(other.actions, mode)?;
+        self.settings.join(other.settings, mode)?;
+        Ok(())
     }
 
     /// Takes up what a record of an included map gives, as it stands where its map is moved to a group.
@@ -286,31 +129,10 @@ impl KeyRecord {
         ensures cells { OnOk result ((c : Cell) → cell_in self.new c ≡ taken mode (cell_in self.old c) (moved_value key_moves group (cell_in other.now) c)) }
         ensures widths { OnOk result ((g : ℕ) → width_in_key self.new g ≡ widened mode (width_in_key self.old g) (moved_width key_moves group (width_in_key other.now) g)) }
     {
-        let (from, later) = other.placed(group);
-        match mode {
-            Mode::Replace => {
-                self.clear();
-                self.join_copied(alloc, from, later, Mode::Override)
-            }
-            Mode::Augment => self.join_copied(alloc, from, later, mode),
-            Mode::Override => self.join_copied(alloc, from, later, mode),
-        }
-    }
-
-    /// Takes up later lists, of which the first is that of a group, under a mode that isn't replace.
-    fn join_copied(
-        &mut self,
-        alloc: Global,
-        from: u8,
-        later: &[Option<Levels>],
-        mode: Mode,
-    ) -> Result<(), AllocError>
-        requires { is_replace mode ≡ false }
-        ensures cells { OnOk result ((c : Cell) → cell_in self.new c ≡ taken mode (cell_in self.old c) (cell_in (record { from = from; lists = later.now }) c)) }
-        ensures widths { OnOk result ((g : ℕ) → width_in_key self.new g ≡ max (width_in_key self.old g) (width_in_key (record { from = from; lists = later.now }) g)) }
-    {
-        self.settle()?;
-        absorb_lists_copied(alloc, &mut self.lists, usize::from(from), later, mode)?;
+        self.symbols.join_moved(alloc, &other.symbols, group, mode)?;
+        self.actions.join_moved(alloc, &other.actions, group, mode)?;
+        self.settings
+            .join_moved(alloc, &other.settings, group, mode)?;
         Ok(())
     }
 }

@@ -1,11 +1,12 @@
-use Rattle.std.proofs.Common.{◌∷◌, []}
+use Rattle.std.proofs.Common.{◌∷◌}
 use Rattle.kx_lex.specs.declared.fault.Fault.TheVariants.{Memory}
 use Rattle.kx_symbols.specs.KeyFaults.{fields_faults}
+use Rattle.kx_symbols.specs.Lists.{no_lists}
 use Rattle.kx_symbols.proofs.Statements.{field_blames}
 use Rattle.kx_symbols.proofs.Loops.{passed}
 use Rattle.kx_symbols.proofs.fields.read_lists.Goals as goal
 
 pub returns-in_err-add_field-clause-fault : goal.returns-in_err-add_field-clause-fault
 returns-in_err-add_field-clause-fault c =
-    passed c.from_residual.result (Memory ∷ fields_faults c.args.reading.file c.args.names.now [] c.args.reading.whole c.args.fields.now) c.in_err-add_field.field-0.0 c.from_residual.ensures.1
-    (field_blames c.args.reading.file c.args.names.now c.args.reading.whole c.args.fields.now c.fields.lists.items c.fields.field-index c.field-item.result c.in_err-add_field.field-0.0 c.fields-test.true c.field-item.is c.fields.invariant.1 c.in_err-add_field.ensures.fault)
+    passed c.from_residual.result (Memory ∷ fields_faults c.args.reading.file c.args.known.now c.args.reading.whole no_lists c.args.fields.now) c.in_err-add_field.field-0.0 c.from_residual.ensures.1
+    (field_blames c.args.reading.file c.args.known.now c.args.reading.whole c.args.fields.now c.fields.lists c.fields.field-index c.field-item.result c.in_err-add_field.field-0.0 c.fields-test.true c.field-item.is c.fields.invariant.1 c.in_err-add_field.ensures.fault)

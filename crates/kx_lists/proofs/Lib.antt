@@ -1,0 +1,4 @@
+mod TakenUp
+mod Joining
+mod Values
+mod Widening

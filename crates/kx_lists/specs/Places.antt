@@ -1,0 +1,36 @@
+-- Which group a list of a key statement is given to, and the faults of its place.
+use Rattle.std.specs.Prelude.{ℕ, ◌++◌, nat_le, nat_lt, List, [], ◌∷◌, Option, None, Some, if◌then◌else◌}
+use Rattle.kx_basics.specs.declared.limits.TheConstants.{MOST_GROUPS}
+use Rattle.kx_lex.specs.declared.fault.Fault.{Fault}
+use Rattle.kx_lex.specs.declared.fault.Fault.TheVariants.{BadValue, GroupRange}
+use Rattle.kx_parse.specs.declared.tree.Index.{Index}
+use Rattle.kx_parse.specs.declared.tree.List.{List as Listed}
+use Rattle.kx_include.specs.IncludeFaults.{at}
+use Rattle.kx_settings.specs.Groups.{group_at, group_faults}
+use Rattle.kx_lists.specs.Lists.{Lists, free_group, has_list, with_list}
+
+module _ {X : Type 0} where
+  -- a group that has no list yet
+  abbrev pub open_group : Lists X → Option ℕ → Option ℕ
+  open_group lists None = None
+  open_group lists (Some group) = if has_list lists group then None else Some group
+
+  -- a list without an index is given to the first group that has none
+  abbrev pub group_for : Lists X → Option Index → Option ℕ
+  group_for lists None = if nat_lt (free_group lists) MOST_GROUPS then Some (free_group lists) else None
+  group_for lists (Some index) = open_group lists (group_at index.value)
+
+  -- a list that is given to no group, as by a faulty index, isn't taken
+  abbrev pub given_list : Lists X → Option ℕ → List (Option X) → Lists X
+  given_list lists None levels = lists
+  given_list lists (Some group) levels = with_list lists group levels
+
+module _ {X : Type 0} (file : ℕ) where
+  abbrev pub second_faults : Lists X → Listed → Option ℕ → List Fault
+  second_faults lists list None = []
+  second_faults lists list (Some group) = if has_list lists group then BadValue (at file list.span) ∷ [] else []
+
+  -- a key has MOST_GROUPS groups at most, and a statement gives each one list of a kind at most
+  abbrev pub place_faults : Lists X → Option Index → Listed → List Fault
+  place_faults lists None list = if nat_le MOST_GROUPS (free_group lists) then GroupRange (at file list.span) ∷ [] else []
+  place_faults lists (Some index) list = group_faults file index.value ++ second_faults lists list (group_at index.value)

@@ -1,0 +1,4 @@
+mod Cellwise
+mod Going
+mod Moving
+mod Virtual

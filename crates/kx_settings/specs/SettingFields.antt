@@ -1,0 +1,156 @@
+-- What a field of a key says that isn't a list, and its faults; `names` are the virtual modifiers by number.
+use Rattle.std.specs.Prelude.{ℕ, Bool, true, false, List, [], ◌∷◌, ◌++◌, Option, None, Some, is_some, if◌then◌else◌}
+use Rattle.std.specs.Option.{option_and_then, option_map, option_map_or}
+use Rattle.kx_include.specs.IncludeFaults.{at}
+use Rattle.kx_lex.specs.declared.fault.Fault.{Fault}
+use Rattle.kx_lex.specs.declared.fault.Fault.TheVariants.{BadValue, UnknownField}
+use Rattle.kx_lex.specs.declared.name.Name.{Name}
+use Rattle.kx_parse.specs.declared.tree.Expression.{Expression}
+use Rattle.kx_parse.specs.declared.tree.Field.{Field}
+use Rattle.kx_parse.specs.declared.tree.Index.{Index}
+use Rattle.kx_parse.specs.declared.tree.Setting.{Setting}
+use Rattle.kx_parse.specs.declared.tree.Setting.TheVariants.{Off, On, To}
+use Rattle.kx_parse.specs.declared.tree.Term.{Term}
+use Rattle.kx_parse.specs.declared.tree.Term.TheVariants.{Text, Word}
+use Rattle.kx_parse.specs.declared.tree.Value.TheVariants.{Expression as Expressed, Call as Called, List as Listed}
+use Rattle.kx_tables.specs.declared.rows.Range.{Range}
+use Rattle.kx_tables.specs.declared.rows.Range.TheVariants as ranges
+use Rattle.kx_settings.specs.Groups.{group_at, group_faults, single}
+use Rattle.kx_settings.specs.Settings.{kept_name}
+use Rattle.kx_settings.specs.VirtualMasks.{virtual_mask, virtual_mask_faults}
+use Rattle.kx_settings.specs.Words.{among, field_named, truth_words}
+use Rattle.kx_settings.specs.declared.given.Given.{Given}
+use Rattle.kx_settings.specs.declared.given.Given.TheVariants as gives
+use Rattle.kx_settings.specs.declared.words.RangeField.{RangeField}
+use Rattle.kx_settings.specs.declared.words.RangeField.TheVariants as words
+use Rattle.kx_settings.specs.declared.words.SettingField.{SettingField}
+use Rattle.kx_settings.specs.declared.words.SettingField.TheVariants as fields
+
+abbrev pub expression_in : Setting → Option Expression
+expression_in (To (Expressed e)) = Some e
+expression_in _ = None
+
+abbrev pub term_text : Term → Option (List ℕ)
+term_text (Text text) = Some (kept_name text.bytes)
+term_text _ = None
+
+-- a type is named by one text
+abbrev pub text_of : Expression → Option (List ℕ)
+text_of e = single e.rest (term_text e.first)
+
+abbrev pub term_word : Term → Option Name
+term_word (Word word) = Some word
+term_word _ = None
+
+abbrev pub lone_word : Expression → Option Name
+lone_word e = single e.rest (term_word e.first)
+
+-- a truth value is one word
+abbrev pub truth_of : Expression → Option Bool
+truth_of e = option_and_then (λ w. among truth_words w.bytes) (lone_word e)
+
+-- a field without a value is true, with `!` false
+abbrev pub truth_in : Setting → Option Bool
+truth_in Off = Some false
+truth_in On = Some true
+truth_in (To (Expressed e)) = truth_of e
+truth_in (To _) = None
+
+-- false means the other of the two
+abbrev pub wrap_if : Bool → Range
+wrap_if true = ranges.Wrap
+wrap_if false = ranges.Clamp
+
+abbrev pub clamp_if : Bool → Range
+clamp_if true = ranges.Clamp
+clamp_if false = ranges.Wrap
+
+abbrev pub name_in : Setting → Option (List ℕ)
+name_in s = option_and_then text_of (expression_in s)
+
+-- with an index the type is a group's, without one the key's
+abbrev pub type_given : Option Index → Setting → Option Given
+type_given None s = option_map gives.KeyType (name_in s)
+type_given (Some index) s = option_and_then (λ group. option_map (gives.GroupType group) (name_in s)) (group_at index.value)
+
+abbrev pub range_in : RangeField → Setting → Option Range
+range_in words.Wrap s = option_map wrap_if (truth_in s)
+range_in words.Clamp s = option_map clamp_if (truth_in s)
+range_in words.Redirect s = option_map ranges.Redirect (option_and_then group_at (expression_in s))
+
+-- what is read of a field that may give nothing
+abbrev pub given_any : Option (Option Given) → Option Given
+given_any o = option_and_then (λ given. given) o
+
+-- only a type takes an index
+abbrev pub unindexed : Option Index → Option Given → Option Given
+unindexed index given = if is_some index then None else given
+
+module _ (names : List (List ℕ)) where
+  abbrev pub mods_in : Setting → Option ℕ
+  mods_in s = option_and_then (virtual_mask names) (expression_in s)
+
+  abbrev pub field_given : Option SettingField → Option Index → Setting → Option Given
+  field_given (Some fields.KeyType) index s = type_given index s
+  field_given (Some fields.VirtualMods) index s = unindexed index (option_map gives.VirtualMods (mods_in s))
+  field_given (Some (fields.Range which)) index s = unindexed index (option_map gives.Range (range_in which s))
+  field_given (Some fields.Unused) index s = None
+  field_given None index s = None
+
+  -- what a field gives whose word is this one: its own, or the one behind the point of a default
+  abbrev pub named_given : Name → Field → Option Given
+  named_given word field = field_given (field_named word.bytes) field.place.index field.setting
+
+module _ (file : ℕ) where
+  -- of a value that is no expression; where none is written, the fault is at the field
+  abbrev pub other_faults : Field → Setting → List Fault
+  other_faults field (To (Expressed e)) = []
+  other_faults field (To (Called call)) = BadValue (at file call.span) ∷ []
+  other_faults field (To (Listed list)) = BadValue (at file list.span) ∷ []
+  other_faults field Off = BadValue (at file field.span) ∷ []
+  other_faults field On = BadValue (at file field.span) ∷ []
+
+  -- of a value, where an expression has some faults
+  abbrev pub value_faults : (Expression → List Fault) → Field → Setting → List Fault
+  value_faults faults field s = other_faults field s ++ option_map_or faults (expression_in s) []
+
+  abbrev pub text_faults : Expression → List Fault
+  text_faults e = if is_some (text_of e) then [] else BadValue (at file e.span) ∷ []
+
+  abbrev pub truth_faults : Expression → List Fault
+  truth_faults e = if is_some (truth_of e) then [] else BadValue (at file e.span) ∷ []
+
+  abbrev pub flag_faults : Field → Setting → List Fault
+  flag_faults field Off = []
+  flag_faults field On = []
+  flag_faults field (To value) = value_faults truth_faults field (To value)
+
+  abbrev pub index_faults : Option Index → List Fault
+  index_faults None = []
+  index_faults (Some index) = group_faults file index.value
+
+  abbrev pub type_faults : Field → List Fault
+  type_faults field = index_faults field.place.index ++ value_faults text_faults field field.setting
+
+  abbrev pub range_faults : RangeField → Field → List Fault
+  range_faults words.Wrap field = flag_faults field field.setting
+  range_faults words.Clamp field = flag_faults field field.setting
+  range_faults words.Redirect field = value_faults (group_faults file) field field.setting
+
+  abbrev pub no_index_faults : Name → Option Index → List Fault
+  no_index_faults word index = if is_some index then UnknownField (at file word.span) ∷ [] else []
+
+  module _ (names : List (List ℕ)) where
+    abbrev pub mods_faults : Field → List Fault
+    mods_faults field = value_faults (virtual_mask_faults names file) field field.setting
+
+    abbrev pub field_faults : Name → Field → Option SettingField → List Fault
+    field_faults word field (Some fields.KeyType) = type_faults field
+    field_faults word field (Some fields.VirtualMods) = no_index_faults word field.place.index ++ mods_faults field
+    field_faults word field (Some (fields.Range which)) = no_index_faults word field.place.index ++ range_faults which field
+    field_faults word field (Some fields.Unused) = []
+    field_faults word field None = UnknownField (at file word.span) ∷ []
+
+    -- of a field whose word is this one
+    abbrev pub named_faults : Name → Field → List Fault
+    named_faults word field = field_faults word field (field_named word.bytes)

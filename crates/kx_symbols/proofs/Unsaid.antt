@@ -1,0 +1,31 @@
+-- A statement of lists alone says nothing besides.
+use Rattle.std.proofs.Common.{◌≡◌, ℕ, false, List, [], ◌∷◌, None, refl, sym, ap, ◌∙◌}
+use Rattle.std.specs.List.{list_any}
+use Rattle.std.specs.Option.{option_or}
+use Rattle.std.proofs.lemmas.Bool.{false≢true}
+use Rattle.kx_parse.specs.declared.tree.KeyField.{KeyField}
+use Rattle.kx_parse.specs.declared.tree.KeyField.TheVariants as fields
+use Rattle.kx_settings.specs.KeyFields.{cell_given, effective, setting_faults}
+use Rattle.kx_settings.specs.Settings.{last_given, no_settings, setting_in}
+use Rattle.kx_settings.specs.declared.cells.SettingCell.{SettingCell}
+use Rattle.kx_settings.specs.declared.cells.SettingCell.TheVariants as cells
+use Rattle.kx_symbols.specs.Lists.{is_field}
+
+nothing_given : (names : List (List ℕ)) (cell : SettingCell) (fs : List KeyField) → list_any is_field fs ≡ false → last_given (cell_given names cell) fs ≡ None
+nothing_given names cell [] h = refl
+nothing_given names cell (fields.List list ∷ fs) h = ap (λ o. option_or o None) (nothing_given names cell fs h)
+nothing_given names cell (fields.Field field ∷ fs) h = absurd (false≢true (sym h))
+
+unset : (cell : SettingCell) → setting_in no_settings cell ≡ None
+unset (cells.GroupType group) = refl
+unset cells.KeyType = refl
+unset cells.VirtualMods = refl
+unset cells.Range = refl
+
+pub unsaid : (names : List (List ℕ)) (fs : List KeyField) → list_any is_field fs ≡ false → (cell : SettingCell) → effective names no_settings fs cell ≡ None
+unsaid names fs h cell = ap (λ o. option_or o (setting_in no_settings cell)) (nothing_given names cell fs h) ∙ unset cell
+
+pub unblamed : (file : ℕ) (names : List (List ℕ)) (fs : List KeyField) → list_any is_field fs ≡ false → setting_faults file names fs ≡ []
+unblamed file names [] h = refl
+unblamed file names (fields.List list ∷ fs) h = unblamed file names fs h
+unblamed file names (fields.Field field ∷ fs) h = absurd (false≢true (sym h))

@@ -1,0 +1,43 @@
+//! What key statements are read against, and where they stand.
+ghost use Rattle.std.specs.Prelude.{◌≡◌};
+
+use crate::defaults::SectionDefaults;
+use ks_core::NameTable;
+use kx_lex::{At, Span};
+use kx_masks::ModNames;
+use std::marker::Model;
+
+/// The names and the defaults that a key statement is read against.
+#[derive(Drop)]
+pub(crate) struct Known<'a> {
+    pub names: &'a NameTable,
+    pub modifiers: &'a ModNames,
+    pub defaults: &'a SectionDefaults,
+}
+
+impl<'a> Model for Known<'a> {
+    ghost use Rattle.kx_symbols.specs.Known.{Known as KnownValue};
+
+    ghost Value = { KnownValue };
+
+    ghost view = { λ k. record { names = k.names.now; modifiers = k.modifiers.now.names; defaults = k.defaults.now } };
+}
+
+/// Where a statement stands.
+#[derive(Clone, Copy, Debug, PartialEq, Eq)]
+pub(crate) struct Reading {
+    pub file: u32,
+    /// All of the statement.
+    pub whole: Span,
+}
+
+impl Reading {
+    pub fn at(self, span: Span) -> At
+        ensures { result ≡ record { file = self.file; span = span } }
+    {
+        At {
+            file: self.file,
+            span,
+        }
+    }
+}

@@ -1,0 +1,61 @@
+//! What key statements say besides lists.
+ghost use Rattle.std.specs.Prelude.{◌≡◌, ◌∷◌, [], Contains, IfErr, IfOk, OnOk};
+ghost use Rattle.std.specs.List.{list_any};
+ghost use Rattle.kx_lex.specs.declared.fault.Fault.TheVariants.{Memory};
+ghost use Rattle.kx_settings.specs.KeyFields.{effective, setting_faults};
+ghost use Rattle.kx_settings.specs.Settings.{no_settings, setting_in};
+ghost use Rattle.kx_symbols.specs.Lists.{is_field};
+
+use crate::known::Known;
+use kx_lex::Fault;
+use kx_masks::ModNames;
+use kx_parse::KeyField;
+use kx_settings::{KeyDefaults, KeySettings, SettingCell, read_settings};
+use std::alloc::Global;
+
+/// Whether a field isn't a list by itself.
+fn has_field(fields: &[KeyField]) -> bool
+    ensures { result ≡ list_any is_field fields.now }
+{
+    fields.iter().any(|field| match field {
+        KeyField::List(_) => false,
+        KeyField::Field(_) => true,
+    })
+}
+
+/// What the fields of a key statement of a file say besides lists, where no default stands before it. Most statements have
+/// lists alone, and say nothing.
+fn read_alone(
+    alloc: Global,
+    modifiers: &ModNames,
+    file: u32,
+    fields: &[KeyField],
+) -> Result<KeySettings, Fault>
+    ensures cells { IfOk result (λ settings. (cell : SettingCell) → setting_in settings cell ≡ effective modifiers.now.names no_settings fields.now cell) }
+    ensures faultless { OnOk result (setting_faults file modifiers.now.names fields.now ≡ []) }
+    ensures fault { IfErr result (λ e. Contains (Memory ∷ setting_faults file modifiers.now.names fields.now) e) }
+{
+    if has_field(fields) {
+        let none = KeyDefaults::none(alloc);
+        read_settings(alloc, modifiers, file, fields, &none)
+    } else {
+        Ok(KeySettings::none(alloc))
+    }
+}
+
+/// What the fields of a key statement of a file say besides lists.
+pub(crate) fn read_besides(
+    alloc: Global,
+    known: &Known,
+    file: u32,
+    fields: &[KeyField],
+) -> Result<KeySettings, Fault>
+    ensures cells { IfOk result (λ settings. (cell : SettingCell) → setting_in settings cell ≡ effective known.now.modifiers known.now.defaults.keys fields.now cell) }
+    ensures faultless { OnOk result (setting_faults file known.now.modifiers fields.now ≡ []) }
+    ensures fault { IfErr result (λ e. Contains (Memory ∷ setting_faults file known.now.modifiers fields.now) e) }
+{
+    match known.defaults.keys() {
+        Some(defaults) => read_settings(alloc, known.modifiers, file, fields, defaults),
+        None => read_alone(alloc, known.modifiers, file, fields),
+    }
+}
