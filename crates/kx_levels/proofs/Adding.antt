@@ -1,9 +1,10 @@
 -- One entry more.
-use Rattle.std.proofs.Common.{◌≡◌, ℕ, ◌<◌, ◌==◌, ◌^◌, ◌&&◌, ◌||◌, ◌++◌, Bool, true, false, cond, nat_eq, List, [], ◌∷◌, map, Option, None, Some, All, Contains, refl, sym, ap, ◌∙◌, subst}
+use Rattle.std.proofs.Common.{◌≡◌, ℕ, ◌<◌, ◌==◌, ◌^◌, ◌&&◌, ◌||◌, ◌++◌, Bool, true, false, cond, nat_eq, List, [], ◌∷◌, map, Option, None, Some, All, Contains, refl, sym, ap, ◌∙◌, subst, fold, not, append_assoc, if◌then◌else◌}
 use Rattle.std.specs.List.{IsDistinct, find, list_any}
 use Rattle.std.specs.Option.{option_or}
 use Rattle.std.specs.Cmp.{nat_eq_equiv}
 use Rattle.std.proofs.lemmas.Bool.{false≢true, eq-eqb, eqb-false, eqb-true}
+use Rattle.std.proofs.lemmas.List.{append-nil}
 use Rattle.std.proofs.lemmas.List.Elements.{All-nil, All-push, All-weaker, Contains-append_left, Contains-push}
 use Rattle.std.proofs.lemmas.List.Folds.{find-append}
 use Rattle.std.proofs.lemmas.Map.Keys.{IsDistinct-push}
@@ -12,8 +13,9 @@ use Rattle.kx_mods.specs.Mods.{mask}
 use Rattle.kx_tables.specs.declared.rows.EntryRow.{EntryRow}
 use Rattle.kx_types.specs.declared.entry.TypeEntry.{TypeEntry}
 use Rattle.kx_levels.specs.Going.{AreAlike, ComesOf, IsRowOf, RowsOf, entry_at, mask_of, row_at}
+use Rattle.kx_levels.specs.Rows.{entry_rows, has_row, row_of, set_mask, with_entry}
 use Rattle.kx_levels.specs.Selecting.{RealSet, are_same, is_live}
-use Rattle.kx_levels.proofs.Bits.{mask_test}
+use Rattle.kx_levels.proofs.Bits.{has_set, mask_test, set_small}
 
 some≢none : {X : Type 0} (x : X) → Some x ≡ None → ⊥
 some≢none x e = cc
@@ -74,7 +76,7 @@ module _ (real : ℕ → RealSet) where
     unfolding is_here
     skipped dead = kept (λ w low past. ap (λ b. b && are_same (real e.mask) (has w)) dead)
 
-    pub doubled : (m : ℕ) → m < 2 ^ 8 → ((r : ℕ) → has m r ≡ real e.mask r) → list_any (λ (row : EntryRow). mask row.mods == m) rows ≡ true → RowsOf real (es ++ e ∷ []) rows
+    pub doubled : (m : ℕ) → m < 2 ^ 8 → ((r : ℕ) → r < 8 → has m r ≡ real e.mask r) → list_any (λ (row : EntryRow). mask row.mods == m) rows ≡ true → RowsOf real (es ++ e ∷ []) rows
     unfolding is_here
     doubled m small bits there = kept (λ w low past. ap (λ b. is_live real e.mask && b) (sym (mask_test m w (real e.mask) small low bits) ∙ other w past (m == w) refl) ∙ none (is_live real e.mask))
       where
@@ -106,3 +108,30 @@ module _ (real : ℕ → RealSet) where
   pub no_rows : RowsOf real [] []
   unfolding IsDistinct
   no_rows = record { alike = λ w low. tt; each = All-nil (ComesOf real []); apart = tt }
+
+  is_row : (e : TypeEntry) → IsRowOf real e (row_of real e)
+  is_row e = record {
+    mods_are = λ r within. has_set (real e.mask) r within;
+    level_is = refl;
+    preserve_are = λ r within. has_set (real e.preserve) r within;
+    mods_fit = set_small (real e.mask);
+    preserve_fit = set_small (real e.preserve);
+  }
+
+  -- one entry more
+  entry_more : (es : List TypeEntry) (e : TypeEntry) (rows : List EntryRow) → RowsOf real es rows → RowsOf real (es ++ e ∷ []) (with_entry real rows e)
+  entry_more es e rows before = by (is_live real e.mask) refl (has_row real (set_mask (real e.mask)) rows) refl
+    where
+      by : (live : Bool) → is_live real e.mask ≡ live → (there : Bool) → has_row real (set_mask (real e.mask)) rows ≡ there → RowsOf real (es ++ e ∷ []) (if live && not there then rows ++ row_of real e ∷ [] else rows)
+      by false dead there is = skipped es e rows before dead
+      by true lives true is = doubled es e rows before (set_mask (real e.mask)) (set_small (real e.mask)) (has_set (real e.mask)) is
+      by true lives false is = added es e rows before (row_of real e) lives (is_row e) is
+
+  entries_more : (before after : List TypeEntry) (rows : List EntryRow) → RowsOf real before rows → RowsOf real (before ++ after) (fold (with_entry real) rows after)
+  entries_more before [] rows so_far = subst (λ es. RowsOf real es rows) (sym (append-nil before)) so_far
+  entries_more before (e ∷ after) rows so_far =
+      subst (λ es. RowsOf real es (fold (with_entry real) (with_entry real rows e) after)) (append_assoc before (e ∷ []) after)
+      (entries_more (before ++ e ∷ []) after (with_entry real rows e) (entry_more before e rows so_far))
+
+  pub rows_hold : (es : List TypeEntry) → RowsOf real es (entry_rows real es)
+  rows_hold es = entries_more [] es [] no_rows

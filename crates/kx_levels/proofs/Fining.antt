@@ -86,8 +86,8 @@ module _ (real : ℕ → RealSet) (wider : (a b r : ℕ) → real (meet a b) r �
         level = record { some_level = omega (arith, level, some); level_within = omega (arith, level, most) };
         mods = is.mods_fit;
         preserve = is.preserve_fit;
-        mods_within = within_mask (mask row.mods) (mask mods) is.mods_fit (λ r h. bits r ∙ wider e.mask t.modifiers r (ap (λ s. real s r) law.within ∙ sym (is.mods_are r) ∙ h));
-        preserve_within = within_mask (mask row.preserve) (mask row.mods) is.preserve_fit (λ r h. is.mods_are r ∙ wider e.preserve e.mask r (ap (λ s. real s r) law.preserve_within ∙ sym (is.preserve_are r) ∙ h));
+        mods_within = within_mask (mask row.mods) (mask mods) is.mods_fit (λ r within h. bits r ∙ wider e.mask t.modifiers r (ap (λ s. real s r) law.within ∙ sym (is.mods_are r within) ∙ h));
+        preserve_within = within_mask (mask row.preserve) (mask row.mods) is.preserve_fit (λ r within h. is.mods_are r within ∙ wider e.preserve e.mask r (ap (λ s. real s r) law.preserve_within ∙ sym (is.preserve_are r within) ∙ h));
       }
 
   pub rows_fine : RowsAreFine t mods rows

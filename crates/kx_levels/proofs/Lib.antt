@@ -1,4 +1,4 @@
 mod Adding
-mod Bits
+pub mod Bits
 mod Fining
 mod Whole

@@ -42,7 +42,7 @@ module _ (real : ℕ → RealSet) where
 
     consumed_alike : (name : List ℕ) (row : Option EntryRow) (e : Option TypeEntry) (r : ℕ) → r < 8 → AreAlike real row e → has (consumed_mods (resolved_type name t mods rows) row) r ≡ (real t.modifiers r && not (preserved_by real e r))
     consumed_alike name None None r within same = bits r ∙ and_true (real t.modifiers r)
-    consumed_alike name (Some row) (Some e) r within same = has_without (mask mods) (mask row.preserve) r same.preserve_fit within ∙ (λ i. bits r i && not (same.preserve_are r i))
+    consumed_alike name (Some row) (Some e) r within same = has_without (mask mods) (mask row.preserve) r same.preserve_fit within ∙ (λ i. bits r i && not (same.preserve_are r within i))
     consumed_alike name None (Some e) r within same = absurd same
     consumed_alike name (Some row) None r within same = absurd same
 

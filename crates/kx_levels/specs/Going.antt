@@ -15,9 +15,9 @@ row_at w rows = find (λ row. mask_of row == w) rows
 
 module _ (real : ℕ → RealSet) where
   pub record IsRowOf (e : TypeEntry) (row : EntryRow) : Type 0 where
-    pub mods_are : (r : ℕ) → has (mask row.mods) r ≡ real e.mask r
+    pub mods_are : (r : ℕ) → r < 8 → has (mask row.mods) r ≡ real e.mask r
     pub level_is : row.level ≡ e.level
-    pub preserve_are : (r : ℕ) → has (mask row.preserve) r ≡ real e.preserve r
+    pub preserve_are : (r : ℕ) → r < 8 → has (mask row.preserve) r ≡ real e.preserve r
     pub mods_fit : mask row.mods < 2 ^ 8
     pub preserve_fit : mask row.preserve < 2 ^ 8
 

@@ -1,5 +1,7 @@
 -- What the rows of a key type's entries show.
-use Rattle.std.specs.Prelude.{◌≡◌, ℕ, ◌+◌, ◌<◌, ◌≤◌, ◌==◌, ◌^◌, ◌&&◌, All, Bool, List, Option, None, Some, find, length}
+use Rattle.std.specs.Prelude.{◌≡◌, ℕ, zero, suc, ◌+◌, ◌<◌, ◌≤◌, ◌==◌, ◌^◌, ◌&&◌, ◌++◌, not, All, Bool, List, [], ◌∷◌, Option, None, Some, find, fold, length, if◌then◌else◌}
+use Rattle.std.specs.Int.RustNames.{bit_or}
+use Rattle.std.specs.List.{list_any}
 use Rattle.kx_basics.specs.declared.limits.TheConstants.{MOST_NAME_BYTES}
 use Rattle.kx_builder.specs.Fine.{TypeIsFine}
 use Rattle.kx_builder.specs.Resolved.{ResolvedType, consumed_mods, entry_chosen}
@@ -9,7 +11,34 @@ use Rattle.kx_mods.specs.declared.mods.Mods.{Mods}
 use Rattle.kx_tables.specs.Keymap.{level_of}
 use Rattle.kx_tables.specs.declared.rows.EntryRow.{EntryRow}
 use Rattle.kx_types.specs.KeyTypes.{Definition}
-use Rattle.kx_levels.specs.Selecting.{RealSet, consumed, level_selected}
+use Rattle.kx_types.specs.declared.entry.TypeEntry.{TypeEntry}
+use Rattle.kx_levels.specs.Selecting.{RealSet, consumed, is_live, level_selected}
+
+-- the mask of those of a set below a number
+unfoldable pub mask_below : ℕ → RealSet → ℕ
+mask_below zero s = 0
+mask_below (suc n) s = bit_or (mask_below n s) (if s n then 2 ^ n else 0)
+
+-- a set of the eight real modifiers as a mask
+abbrev pub set_mask : RealSet → ℕ
+set_mask s = mask_below 8 s
+
+abbrev pub mods_of : RealSet → Mods
+mods_of s = record { 0 = set_mask s }
+
+module _ (real : ℕ → RealSet) where
+  abbrev pub row_of : TypeEntry → EntryRow
+  row_of e = record { mods = mods_of (real e.mask); level = e.level; preserve = mods_of (real e.preserve) }
+
+  abbrev pub has_row : ℕ → List EntryRow → Bool
+  has_row m rows = list_any (λ (row : EntryRow). mask row.mods == m) rows
+
+  -- an entry that is live has a row, where no earlier one has the same modifiers
+  abbrev pub with_entry : List EntryRow → TypeEntry → List EntryRow
+  with_entry rows e = if is_live real e.mask && not (has_row (set_mask (real e.mask)) rows) then rows ++ row_of e ∷ [] else rows
+
+  abbrev pub entry_rows : List TypeEntry → List EntryRow
+  entry_rows es = fold with_entry [] es
 
 abbrev pub resolved_type : List ℕ → Definition → Mods → List EntryRow → ResolvedType
 resolved_type name t mods rows = record { name = name; mods = mods; levels = t.levels; entries = rows }

@@ -5,9 +5,7 @@ ghost use Rattle.kx_masks.specs.Sets.{has, real_of as stood_for};
 ghost use Rattle.kx_masks.specs.Standing.{stands_for};
 ghost use Rattle.kx_mods.specs.Mods.{mask};
 ghost use Rattle.kx_tables.specs.declared.rows.EntryRow.{EntryRow as RowValue};
-ghost use Rattle.kx_types.specs.declared.entry.TypeEntry.{TypeEntry as EntryValue};
-ghost use Rattle.kx_levels.specs.Going.{RowsOf};
-ghost use Rattle.kx_levels.specs.Rows.{RowsAreFine, RowsShow};
+ghost use Rattle.kx_levels.specs.Rows.{RowsAreFine, RowsShow, entry_rows, mods_of, with_entry};
 ghost use Rattle.kx_levels.specs.Selecting.{is_live};
 
 use kx_masks::{NameSet, real_of};
@@ -41,7 +39,9 @@ fn has_row(rows: &[EntryRow], mods: Mods) -> bool
 }
 
 /// The real modifiers that a set stands for.
+#[tactic(auto, using(crate::proofs::Bits::mods_is))]
 fn real_mods(set: NameSet, stands: &[Mods]) -> Mods
+    ensures value { result ≡ mods_of (stood_for (stands_for stands.now) set) }
     ensures bits { (r : ℕ) → has (mask result) r ≡ stood_for (stands_for stands.now) set r }
     ensures fits { mask result < 2 ^ 8 }
 {
@@ -50,7 +50,7 @@ fn real_mods(set: NameSet, stands: &[Mods]) -> Mods
 
 /// Takes up an entry behind others.
 fn add_row(rows: &mut Vec<EntryRow>, entry: TypeEntry, stands: &[Mods]) -> Result<(), AllocError>
-    ensures { OnOk result ((before : List EntryValue) → RowsOf (stood_for (stands_for stands.now)) before rows.old.items → RowsOf (stood_for (stands_for stands.now)) (before ++ entry ∷ []) rows.new.items) }
+    ensures { OnOk result (rows.new.items ≡ with_entry (stood_for (stands_for stands.now)) rows.old.items entry) }
 {
     let mods = real_mods(entry.mask, stands);
     if !is_live(entry.mask, mods) {
@@ -73,7 +73,7 @@ fn entry_rows(
     entries: &[TypeEntry],
     stands: &[Mods],
 ) -> Result<Vec<EntryRow>, AllocError>
-    ensures { IfOk result (λ rows. RowsOf (stood_for (stands_for stands.now)) entries.now rows.items) }
+    ensures { IfOk result (λ rows. rows.items ≡ entry_rows (stood_for (stands_for stands.now)) entries.now) }
 {
     let mut rows = Vec::new(alloc);
     'entries: for entry in entries {
@@ -89,6 +89,8 @@ impl TypeRows {
     /// # Errors
     /// Where a growth is refused.
     pub fn of(alloc: Global, key_type: &KeyType, stands: &[Mods]) -> Result<TypeRows, AllocError>
+        ensures mods { IfOk result (λ rows. rows.mods ≡ mods_of (stood_for (stands_for stands.now) key_type.now.modifiers)) }
+        ensures entries { IfOk result (λ rows. rows.entries.items ≡ entry_rows (stood_for (stands_for stands.now)) key_type.now.entries) }
         ensures shows { IfOk result (λ rows. RowsShow (stood_for (stands_for stands.now)) key_type.now rows.mods rows.entries.items) }
         ensures fine { IfOk result (λ rows. RowsAreFine key_type.now rows.mods rows.entries.items) }
     {

@@ -162,6 +162,13 @@ impl ModNames {
         }
     }
 
+    /// The masks that are declared for virtual modifiers, by number.
+    pub fn declared_masks(&self) -> &[Mods]
+        ensures { result.now ≡ self.now.masks }
+    {
+        self.masks.as_slice()
+    }
+
     /// The modifiers that a mask of a file names.
     ///
     /// # Errors

@@ -1,5 +1,5 @@
 -- What fields declare is lawful where each level that they name is one.
-use Rattle.std.proofs.Common.{◌≡◌, ℕ, ◌≤◌, ◌==◌, max, nat_eq, Bool, true, false, List, [], ◌∷◌, ◌++◌, map, fold, Option, None, Some, unwrap_or, refl, sym, ap, ◌∙◌, subst, All, arith, if◌then◌else◌, cond}
+use Rattle.std.proofs.Common.{◌≡◌, ℕ, ◌≤◌, ◌==◌, max, nat_eq, Bool, true, false, List, [], ◌∷◌, ◌++◌, fold, Option, None, Some, unwrap_or, ap, ◌∙◌, All, arith, if◌then◌else◌}
 use Rattle.std.specs.List.{list_any}
 use Rattle.std.specs.Int.RustNames.{bit_and}
 use Rattle.std.specs.Int.Bits.{and_self}
@@ -9,9 +9,8 @@ use Rattle.indexmap.specs.IndexSet.{insert_key}
 use Rattle.kx_basics.specs.declared.limits.TheConstants.{MOST_LEVELS}
 use Rattle.kx_masks.specs.Sets.{meet}
 use Rattle.kx_types.specs.Firsts.{or_else, last_given, with_key, each_once}
-use Rattle.kx_types.specs.KeyTypes.{Definition, definition_of, entries_of, entry_of, level_in, levels_of, mapped, mask_in, modifiers_of, preserved}
-use Rattle.kx_types.specs.Lawful.{EntryIsLawful, IsLawful, IsLevel, NamesLevel}
-use Rattle.kx_types.specs.declared.entry.TypeEntry.{TypeEntry}
+use Rattle.kx_types.specs.KeyTypes.{Definition, definition_of, entry_of, level_in, levels_of, mapped, mask_in, modifiers_of, preserved}
+use Rattle.kx_types.specs.Lawful.{EntryIsLawful, IsLawful, NamesLevel}
 use Rattle.kx_types.specs.declared.saying.Saying.{Saying}
 use Rattle.kx_types.specs.declared.saying.Saying.TheVariants.{Modifiers, Map, Preserve, LevelName}
 

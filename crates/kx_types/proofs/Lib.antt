@@ -1,4 +1,5 @@
 mod Blames
+mod Few
 mod Given
 mod Laws
 mod Loops

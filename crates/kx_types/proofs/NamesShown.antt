@@ -1,13 +1,11 @@
 -- Types by name are what the records show.
-use Rattle.std.proofs.Common.{◌≡◌, ℕ, Bool, true, false, cond, List, [], ◌∷◌, map, Option, None, Some, refl, sym, ap, ◌∙◌, position, ◌+◌}
+use Rattle.std.proofs.Common.{◌≡◌, ℕ, Bool, true, false, cond, List, [], ◌∷◌, map, Option, None, Some, refl, sym, ap, ◌∙◌, position}
 use Rattle.std.specs.Map.{keys_of, lookup}
-use Rattle.std.specs.Option.{option_and_then, option_map}
+use Rattle.std.specs.Option.{option_and_then}
 use Rattle.std.specs.Str.{bytes_eq}
 use Rattle.indexmap.specs.IndexMap.{IndexMap, get, keys}
 use Rattle.kx_include.specs.Expansion.{Body}
-use Rattle.kx_merge.specs.Offers.{Offer}
 use Rattle.kx_merge.specs.Records.{Shows, cell_in}
-use Rattle.kx_types.specs.KeyTypes.{Definition}
 use Rattle.kx_types.specs.Records.{declared_cell, declared_width}
 use Rattle.kx_types.specs.Shown.{shown_entry}
 use Rattle.kx_types.specs.Types.{NamedTypes, TypesShow, names_in, type_named, type_offers}

@@ -1,5 +1,5 @@
 -- What is given last in a list, and what is given in it, each once.
-use Rattle.std.specs.Prelude.{Bool, List, [], ◌∷◌, fold, Option, None, Some}
+use Rattle.std.specs.Prelude.{Bool, List, [], fold, Option, None, Some}
 use Rattle.indexmap.specs.IndexSet.{insert_key}
 
 abbrev pub or_else : {X : Type 0} → Option X → Option X → Option X

@@ -1,5 +1,5 @@
 //! The key types that a keymap's statements declare.
-ghost use Rattle.std.specs.Prelude.{◌≡◌, ◌++◌, ◌∷◌, [], ℕ, Contains, IfErr, IfOk, List, None, OnOk, Option, Some, length, option_to_list, position, slice_get, unwrap_or, IfSome, IsTrue, ◌↔◌, ◌<◌};
+ghost use Rattle.std.specs.Prelude.{◌≡◌, ◌≤◌, ◌++◌, ◌∷◌, [], ℕ, Contains, IfErr, IfOk, List, None, OnOk, Option, Some, length, option_to_list, position, slice_get, unwrap_or, IfSome, IsTrue, ◌↔◌, ◌<◌};
 ghost use Rattle.std.specs.List.{flat_map};
 ghost use Rattle.std.specs.Option.{option_and_then, option_map};
 ghost use Rattle.std.specs.Str.{bytes_eq};
@@ -298,7 +298,7 @@ pub fn types(alloc: Global, expansion: &Expansion, modifiers: &ModNames) -> Resu
     ensures faultless { OnOk result (types_faults modifiers.now.names (expanded_body expansion.now) ≡ []) }
     ensures fault { IfErr result (λ e. Contains (Memory ∷ types_faults modifiers.now.names (expanded_body expansion.now)) e) }
 {
-    count_names::<TypeName>(alloc, MOST_TYPES, Names::new(alloc), expansion)?;
+    let _counted = count_names::<TypeName>(alloc, MOST_TYPES, Names::new(alloc), expansion)?;
     let merged = merge::<ModNames, DeclaredType>(alloc, modifiers, expansion)?;
     Ok(Types::of(merged.records))
 }

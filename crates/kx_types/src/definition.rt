@@ -1,5 +1,5 @@
 //! What the fields of a type say together.
-ghost use Rattle.std.specs.Prelude.{◌≡◌, All, ℕ, Option, None, Some, IfOk, OnOk, nat_eq, unwrap_or};
+ghost use Rattle.std.specs.Prelude.{◌≡◌, [], All, ℕ, Option, None, Some, IfOk, OnOk, nat_eq, unwrap_or};
 ghost use Rattle.indexmap.specs.IndexMap.{get};
 ghost use Rattle.kx_types.specs.Firsts.{each_once, last_given, or_else, with_key};
 ghost use Rattle.kx_types.specs.Lawful.{IsLawful, NamesLevel};
@@ -222,6 +222,17 @@ impl KeyType {
         })
     }
 
+    /// The type without modifiers that has one level.
+    pub fn one_level(alloc: Global) -> KeyType
+        ensures { result ≡ record { modifiers = 0; levels = 1; entries = [] } }
+    {
+        KeyType {
+            modifiers: NameSet::none(),
+            levels: 1,
+            entries: Vec::new(alloc),
+        }
+    }
+
     /// The same type again.
     pub(crate) fn copied(&self, alloc: Global) -> Result<KeyType, AllocError>
         ensures { IfOk result (λ t. t ≡ self.now) }
@@ -242,7 +253,8 @@ impl KeyType {
 
     /// How many levels there are, 1 to 64.
     pub fn levels(&self) -> u8
-        ensures { result ≡ self.now.levels }
+        ensures value { result ≡ self.now.levels }
+        ensures lawful { IsLawful self.now }
     {
         self.levels
     }

@@ -1,5 +1,6 @@
 //! Key types by name.
-ghost use Rattle.std.specs.Prelude.{◌≡◌, ◌<◌, ◌↔◌, [], ℕ, IfSome, IsTrue, List, Option, length, map, position, slice_get};
+ghost use Rattle.kx_types.specs.declared.limits.TheConstants.{MOST_TYPES};
+ghost use Rattle.std.specs.Prelude.{◌≡◌, ◌≤◌, ◌<◌, ◌↔◌, [], ℕ, IfSome, IsTrue, List, Option, length, map, position, slice_get};
 ghost use Rattle.std.specs.Option.{option_map};
 ghost use Rattle.std.specs.Str.{bytes_eq};
 ghost use Rattle.kx_types.specs.Shown.{shown_entry};
@@ -26,11 +27,17 @@ impl Model for Types {
     ghost Value = { NamedTypes };
 
     ghost view = { λ t. map shown_entry t.by_name.entries };
+
+    ghost use Rattle.std.specs.Prelude.{length, ◌≤◌};
+    ghost use Rattle.kx_types.specs.declared.limits.TheConstants.{MOST_TYPES};
+
+    ghost invariant = { λ t. length t.by_name.entries ≤ MOST_TYPES };
 }
 
 impl Types {
     /// The types of these records.
     pub(crate) fn of(by_name: IndexMap<TypeName, DeclaredType>) -> Types
+        requires { length by_name.entries ≤ MOST_TYPES }
         ensures { result ≡ map shown_entry by_name.entries }
     {
         Types { by_name }
@@ -38,7 +45,8 @@ impl Types {
 
     /// How many types there are.
     pub fn len(&self) -> usize
-        ensures { result ≡ length self.now }
+        ensures value { result ≡ length self.now }
+        ensures few { result ≤ MOST_TYPES }
     {
         self.by_name.len()
     }

@@ -1,9 +1,7 @@
 use Rattle.std.proofs.Common.{◌≡◌, ap, ◌∙◌, unwrap_or}
-use Rattle.indexmap.specs.IndexMap.{get}
 use Rattle.kx_masks.specs.Sets.{meet}
 use Rattle.kx_types.specs.Firsts.{last_given}
 use Rattle.kx_types.specs.KeyTypes.{entries_of, entry_of, mapped, preserved}
-use Rattle.kx_types.specs.declared.entry.TypeEntry.{TypeEntry}
 use Rattle.kx_types.proofs.Loops.{map_goes}
 use Rattle.kx_types.proofs.definition.entries_of.Goals as goal
 

@@ -1,4 +1,4 @@
-use Rattle.std.proofs.Common.{◌≡◌, ℕ, nat_eq, take}
+use Rattle.std.proofs.Common.{◌≡◌, nat_eq, take}
 use Rattle.kx_types.specs.Firsts.{each_once}
 use Rattle.kx_types.specs.KeyTypes.{mask_in}
 use Rattle.kx_types.proofs.definition.masks_of.Given as goal

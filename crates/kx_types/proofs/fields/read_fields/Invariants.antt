@@ -1,4 +1,4 @@
-use Rattle.std.proofs.Common.{◌≡◌, ◌++◌, [], All, take}
+use Rattle.std.proofs.Common.{◌≡◌, [], All, take}
 use Rattle.std.specs.List.{flat_map}
 use Rattle.kx_types.specs.Lawful.{NamesLevel}
 use Rattle.kx_types.specs.TypeFields.{field_faults, sayings_of}

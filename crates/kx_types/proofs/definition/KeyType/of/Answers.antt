@@ -1,5 +1,5 @@
 use Rattle.std.proofs.Common.{◌≡◌, ap, subst, sym, ◌∙◌}
-use Rattle.kx_types.specs.KeyTypes.{Definition, definition_of, entries_of}
+use Rattle.kx_types.specs.KeyTypes.{definition_of, entries_of}
 use Rattle.kx_types.specs.Lawful.{IsLawful}
 use Rattle.kx_types.proofs.Laws.{lawful}
 use Rattle.kx_types.proofs.definition.KeyType.of.Goals as goal
