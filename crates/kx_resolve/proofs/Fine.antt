@@ -1,61 +1,33 @@
 -- What keys resolve to is fine where names and keysyms keep their bounds.
-use Rattle.std.proofs.Common.{ℕ, zero, suc, ◌+◌, ◌≡◌, ◌<◌, ◌≤◌, ◌^◌, nat_lt, Bool, true, false, ◌||◌, ◌&&◌, All, List, [], ◌∷◌, ◌++◌, Option, None, Some, is_some, length, slice_get, refl, ap, ◌∙◌, subst, sym, arith, lt-suc_self, lt_trans, append_assoc, ◌⊎◌, inl, inr}
-use Rattle.std.proofs.lemmas.Bool.{lt-ltb, ltb-true}
-use Rattle.std.proofs.lemmas.List.{append-nil, length-append}
-use Rattle.std.proofs.lemmas.List.Elements.{All-append, All-cons, All-from_recursion, All-nil, All-push, All-weaker}
-use Rattle.std.proofs.lemmas.Option.{none-some, same_Some, slice_get_within}
-use Rattle.std.specs.List.{flat_map}
-use Rattle.std.specs.Prelude.{codes, if◌then◌else◌}
-use Rattle.kx_resolve.proofs.Whole.{some_below}
-use Rattle.kx_resolve.specs.Bounds.{BoundsBelow, KeepsBounds, OneCode}
-use Rattle.kx_resolve.specs.Keys.{KeyGiven, first_level, group_count, group_of, groups_of, groups_within, has_groups, has_level, key_if_named, key_of, keys_below, one_level, resolved_of, some_groups_below, types_if}
+use Rattle.std.proofs.Common.{ℕ, zero, suc, ◌≡◌, ◌<◌, ◌≤◌, ◌||◌, Bool, true, false, All, List, [], ◌∷◌, ◌++◌, Option, None, Some, length, map, slice_get, get_or, refl, ap, ◌∙◌, subst, sym, arith, lt-suc_self, lt_trans, eq-or-lt_of_le, ◌⊎◌, inl, inr}
+use Rattle.std.specs.List.{list_any}
+use Rattle.std.specs.Option.{IsSomeAnd, option_map}
+use Rattle.std.specs.Str.{bytes_eq}
+use Rattle.std.specs.Cmp.Lexicographic.{bytes_decides}
+use Rattle.std.proofs.lemmas.Bool.{false≢true}
+use Rattle.std.proofs.lemmas.Grind.{flat_map-append}
+use Rattle.std.proofs.lemmas.List.{append-nil, length-append, length-map, map-append}
+use Rattle.std.proofs.lemmas.List.Elements.{All-append, All-cons, All-nil, All-push, All-weaker}
+use Rattle.std.proofs.lemmas.List.Folds.{list_any-append}
+use Rattle.std.proofs.lemmas.Map.Keys.{apart_from_distinct}
+use Rattle.std.proofs.lemmas.Option.{none-some, same_Some, slice_get-get_or, slice_get-map, slice_get_within}
 use Rattle.kx_builder.proofs.Agreeing.{All_at}
-use Rattle.kx_builder.specs.Fine.{Apart, CellIsFine, EntryIsFine, GroupIsFine, IsFine, KeyIsFine, Rising, TypeIsFine, types_met}
+use Rattle.kx_builder.specs.Fine.{Apart, CellIsFine, EntryIsFine, GroupIsFine, InOrderOfUse, IsFine, KeyIsFine, Rising, TypeIsFine}
 use Rattle.kx_builder.specs.Placed.{all_groups}
 use Rattle.kx_builder.specs.Resolved.{ResolvedGroup, ResolvedKey, ResolvedType}
-use Rattle.kx_builder.specs.Whole.{GroupIsWhole}
-
--- ---- Groups
-
-within_few : (key : KeyGiven) (n : ℕ) → groups_within key n ≤ n
-unfolding groups_within
-within_few key zero = omega arith
-within_few key (suc n) = by (has_level key n) (within_few key n)
-  where
-    by : (b : Bool) → groups_within key n ≤ n → (if b then suc n else groups_within key n) ≤ suc n
-    by true few = omega arith
-    by false few = omega (arith, few)
-
-pub count_few : (key : KeyGiven) → group_count key ≤ 32
-unfolding group_count
-count_few key = within_few key 32
-
-pub groups_length : (key : KeyGiven) (n : ℕ) → length (groups_of key n) ≡ n
-unfolding groups_of
-groups_length key zero = refl
-groups_length key (suc n) = omega (arith, length-append (groups_of key n) (group_of key n ∷ []), groups_length key n)
-
-groups_fine : (types : List ResolvedType) (key : KeyGiven) (n : ℕ) → (0 < n → types ≡ one_level ∷ []) → ((group : ℕ) → group < n → CellIsFine (first_level key group)) → All (GroupIsFine types) (groups_of key n)
-unfolding groups_of
-groups_fine types key zero h fine = All-nil (GroupIsFine types)
-groups_fine types key (suc n) h fine =
-    let one : types ≡ one_level ∷ [] = h (omega arith) in
-    All-push (GroupIsFine types) (groups_of key n) (group_of key n) (groups_fine types key n (λ more. one) (λ group less. fine group (lt_trans less (lt-suc_self n))))
-    (record {
-      whole = subst (λ ts. GroupIsWhole ts (group_of key n)) (sym one) refl;
-      each_cell = All-cons CellIsFine (first_level key n) [] (fine n (lt-suc_self n)) (All-nil CellIsFine);
-    })
-
-of_first_type : (key : KeyGiven) (n : ℕ) → All (λ (g : ResolvedGroup). g.key_type ≡ 0) (groups_of key n)
-unfolding groups_of
-of_first_type key zero = All-nil (λ (g : ResolvedGroup). g.key_type ≡ 0)
-of_first_type key (suc n) = All-push (λ (g : ResolvedGroup). g.key_type ≡ 0) (groups_of key n) (group_of key n) (of_first_type key n) refl
+use Rattle.kx_builder.specs.Whole.{GroupIsWhole, IsWhole, KeyIsWhole, LevelExists, TypeIsWhole}
+use Rattle.kx_levels.specs.Selecting.{RealSet}
+use Rattle.kx_resolve.proofs.Order.{all_there, in_order, stands_at}
+use Rattle.kx_typing.proofs.Counting.{count_few}
+use Rattle.kx_resolve.proofs.Typed.{types_fine, used_distinct}
+use Rattle.kx_resolve.specs.Bounds.{BoundsBelow, CellsAreFine, GroupsAreFine, KeepsBounds, OneCode, TypeHolds, levels_of_group}
+use Rattle.kx_typing.specs.Given.{KeyGiven}
+use Rattle.kx_typing.specs.GroupTypes.{content_group, group_count, group_type_name}
+use Rattle.kx_resolve.specs.Deeds.{Deeds}
+use Rattle.kx_resolve.specs.Keys.{Keyed, cell_of, cells_of, group_of, groups_of, key_if_named, key_of, keys_below, resolved_of, type_names, type_names_below, type_names_if, type_of, type_place, types_used}
+use Rattle.kx_types.specs.KeyTypes.{Definition}
 
 -- ---- Lists that grow at their end
-
-flat_append : {X Y : Type 0} (f : X → List Y) (xs ys : List X) → flat_map f (xs ++ ys) ≡ flat_map f xs ++ flat_map f ys
-flat_append f [] ys = refl
-flat_append f (x ∷ xs) ys = ap (λ zs. f x ++ zs) (flat_append f xs ys) ∙ sym (append_assoc (f x) (flat_map f xs) (flat_map f ys))
 
 at_end : {X : Type 0} (xs : List X) (x a : X) (i : ℕ) → slice_get (xs ++ x ∷ []) i ≡ Some a → (slice_get xs i ≡ Some a) ⊎ ((i ≡ length xs) × (x ≡ a))
 at_end [] x a zero e = inr (refl, same_Some x a e)
@@ -85,144 +57,262 @@ rising_push f xs x rising below = λ i j a b less at before.
           ]
     ]
 
--- ---- Types
+pub front_at : {X : Type 0} (xs ys : List X) (i : ℕ) → i < length xs → slice_get (xs ++ ys) i ≡ slice_get xs i
+front_at [] ys i less = absurd (omega (arith, less))
+front_at (x ∷ xs) ys zero less = refl
+front_at (x ∷ xs) ys (suc i) less = front_at xs ys i (omega (arith, less))
 
-type_fine : TypeIsFine one_level
-type_fine = record {
-  mods = omega arith;
-  some_level = omega arith;
-  levels = omega arith;
-  each_entry = All-nil (EntryIsFine one_level);
-  entries_apart = λ i j x y less at before. absurd (none-some x at);
-  entries_fit = omega arith;
-  name_fits = omega arith;
-  each_byte = All-from_recursion (λ b. b < 2 ^ 8) (codes "ONE_LEVEL") ((omega arith, (omega arith, (omega arith, (omega arith, (omega arith, (omega arith, (omega arith, (omega arith, (omega arith, tt))))))))));
-}
+pub end_at : {X : Type 0} (xs : List X) (x : X) → slice_get (xs ++ x ∷ []) (length xs) ≡ Some x
+end_at [] x = refl
+end_at (y ∷ ys) x = end_at ys x
 
-types_fine : (some : Bool) → All TypeIsFine (types_if some)
-types_fine true = All-cons TypeIsFine one_level [] type_fine (All-nil TypeIsFine)
-types_fine false = All-nil TypeIsFine
+-- ---- Levels and groups by their numbers
 
-pub types_few : (some : Bool) → length (types_if some) ≤ 1
-types_few true = omega arith
-types_few false = omega arith
+module _ (deeds : Deeds) (key : KeyGiven) (group : ℕ) where
+  pub cells_length : (n : ℕ) → length (cells_of deeds key group n) ≡ n
+  unfolding cells_of
+  cells_length zero = refl
+  cells_length (suc n) = omega (arith, length-append (cells_of deeds key group n) (cell_of deeds key group n ∷ []), cells_length n)
 
--- one type at most has a name that no other has
-one_apart : {X Y : Type 0} (f : X → Y) (xs : List X) → length xs ≤ 1 → Apart f xs
-one_apart f xs few = λ i j x y less at before. absurd (omega (arith, few, less, slice_get_within xs i x at))
+  pub cell_at : (n level : ℕ) → level < n → slice_get (cells_of deeds key group n) level ≡ Some (cell_of deeds key group level)
+  unfolding cells_of
+  cell_at zero level less = absurd (omega (arith, less))
+  cell_at (suc n) level less =
+      elim (eq-or-lt_of_le upto) [
+        | inl same ↦ ap (slice_get (cells_of deeds key group n ++ cell_of deeds key group n ∷ [])) (same ∙ sym (cells_length n)) ∙ end_at (cells_of deeds key group n) (cell_of deeds key group n) ∙ ap (λ l. Some (cell_of deeds key group l)) (sym same)
+        | inr before ↦ front_at (cells_of deeds key group n) (cell_of deeds key group n ∷ []) level (omega (arith, before, cells_length n)) ∙ cell_at n level before
+      ]
+    where
+      upto : level ≤ n
+      upto = omega (arith, less)
 
-met_some : (gs : List ResolvedGroup) → 0 < length gs → 1 ≤ types_met gs
-met_some [] some = absurd (omega (arith, some))
-met_some (g ∷ gs) some = omega arith
+  cells_fine : (n : ℕ) → CellsAreFine deeds key group n → All CellIsFine (cells_of deeds key group n)
+  unfolding cells_of
+  cells_fine zero fine = All-nil CellIsFine
+  cells_fine (suc n) fine = All-push CellIsFine (cells_of deeds key group n) (cell_of deeds key group n) (cells_fine n (λ level less. fine level (lt_trans less (lt-suc_self n)))) (fine n (lt-suc_self n))
 
--- ---- Keys
+module _ (declared : List ℕ → Option Definition) (used : List (List ℕ)) (deeds : Deeds) (key : KeyGiven) where
+  pub groups_length : (n : ℕ) → length (groups_of declared used deeds key n) ≡ n
+  unfolding groups_of
+  groups_length zero = refl
+  groups_length (suc n) = omega (arith, length-append (groups_of declared used deeds key n) (group_of declared used deeds key n ∷ []), groups_length n)
 
-module _ (name : ℕ → Option (List ℕ)) (key : ℕ → KeyGiven) where
-  -- what stands of codes below a number is named so
+  pub group_at : (n group : ℕ) → group < n → slice_get (groups_of declared used deeds key n) group ≡ Some (group_of declared used deeds key group)
+  unfolding groups_of
+  group_at zero group less = absurd (omega (arith, less))
+  group_at (suc n) group less =
+      elim (eq-or-lt_of_le upto) [
+        | inl same ↦ ap (slice_get (groups_of declared used deeds key n ++ group_of declared used deeds key n ∷ [])) (same ∙ sym (groups_length n)) ∙ end_at (groups_of declared used deeds key n) (group_of declared used deeds key n) ∙ ap (λ g. Some (group_of declared used deeds key g)) (sym same)
+        | inr before ↦ front_at (groups_of declared used deeds key n) (group_of declared used deeds key n ∷ []) group (omega (arith, before, groups_length n)) ∙ group_at n group before
+      ]
+    where
+      upto : group ≤ n
+      upto = omega (arith, less)
+
+  group_types : (n : ℕ) → map (λ (g : ResolvedGroup). g.key_type) (groups_of declared used deeds key n) ≡ map (type_place used) (type_names declared key n)
+  unfolding groups_of type_names
+  group_types zero = refl
+  group_types (suc n) =
+      map-append (λ (g : ResolvedGroup). g.key_type) (groups_of declared used deeds key n) (group_of declared used deeds key n ∷ [])
+      ∙ ap (λ ps. ps ++ type_place used (group_type_name declared key n) ∷ []) (group_types n)
+      ∙ sym (map-append (type_place used) (type_names declared key n) (group_type_name declared key n ∷ []))
+
+module _ (declared : List ℕ → Option Definition) (key : KeyGiven) where
+  names_have : (n group : ℕ) → group < n → list_any (bytes_eq (group_type_name declared key group)) (type_names declared key n) ≡ true
+  unfolding type_names
+  names_have zero group less = absurd (omega (arith, less))
+  names_have (suc n) group less =
+      elim (eq-or-lt_of_le upto) [
+        | inl same ↦ append (group_type_name declared key n ∷ []) ∙ ap (λ b. list_any test (type_names declared key n) || (b || false)) ((bytes_decides (group_type_name declared key group) (group_type_name declared key n)).1 (ap (group_type_name declared key) same)) ∙ or_true (list_any test (type_names declared key n))
+        | inr before ↦ append (group_type_name declared key n ∷ []) ∙ ap (λ b. b || list_any test (group_type_name declared key n ∷ [])) (names_have n group before)
+      ]
+    where
+      test : List ℕ → Bool
+      test = bytes_eq (group_type_name declared key group)
+
+      append : (xs : List (List ℕ)) → list_any (bytes_eq (group_type_name declared key group)) (type_names declared key n ++ xs) ≡ (list_any (bytes_eq (group_type_name declared key group)) (type_names declared key n) || list_any (bytes_eq (group_type_name declared key group)) xs)
+      append xs = list_any-append (bytes_eq (group_type_name declared key group)) (type_names declared key n) xs
+
+      upto : group ≤ n
+      upto = omega (arith, less)
+
+      or_true : (b : Bool) → (b || true) ≡ true
+      or_true true = refl
+      or_true false = refl
+
+-- ---- The type of each group is one that is used
+
+module _ (real : ℕ → RealSet) (declared : List ℕ → Option Definition) (keyed : Keyed) where
+  abbrev name : ℕ → Option (List ℕ)
+  name = keyed.name
+
+  abbrev key : ℕ → KeyGiven
+  key = keyed.key
+
+  abbrev used : List (List ℕ)
+  used = types_used declared name key
+
+  abbrev types : List ResolvedType
+  types = map (type_of real declared) used
+
+  if_has : (code group : ℕ) (of_key : List ℕ) (o : Option (List ℕ)) → o ≡ Some of_key → group < group_count (key code) → list_any (bytes_eq (group_type_name declared (key code) group)) (type_names_if declared o (key code)) ≡ true
+  if_has code group of_key None is less = absurd (none-some of_key is)
+  if_has code group of_key (Some n) is less = names_have declared (key code) (group_count (key code)) group less
+
+  below_has : (n code group : ℕ) (of_key : List ℕ) → code < n → name code ≡ Some of_key → group < group_count (key code) → list_any (bytes_eq (group_type_name declared (key code) group)) (type_names_below declared name key n) ≡ true
+  unfolding type_names_below
+  below_has zero code group of_key less is within = absurd (omega (arith, less))
+  below_has (suc n) code group of_key less is within =
+      elim (eq-or-lt_of_le upto) [
+        | inl same ↦ append ∙ ap (λ b. list_any test (type_names_below declared name key n) || b) (subst (λ c. list_any test (type_names_if declared (name c) (key c)) ≡ true) same (if_has code group of_key (name code) is within)) ∙ or_true (list_any test (type_names_below declared name key n))
+        | inr before ↦ append ∙ ap (λ b. b || list_any test (type_names_if declared (name n) (key n))) (below_has n code group of_key before is within)
+      ]
+    where
+      test : List ℕ → Bool
+      test = bytes_eq (group_type_name declared (key code) group)
+
+      append : list_any (bytes_eq (group_type_name declared (key code) group)) (type_names_below declared name key n ++ type_names_if declared (name n) (key n)) ≡ (list_any (bytes_eq (group_type_name declared (key code) group)) (type_names_below declared name key n) || list_any (bytes_eq (group_type_name declared (key code) group)) (type_names_if declared (name n) (key n)))
+      append = list_any-append (bytes_eq (group_type_name declared (key code) group)) (type_names_below declared name key n) (type_names_if declared (name n) (key n))
+
+      upto : code ≤ n
+      upto = omega (arith, less)
+
+      or_true : (b : Bool) → (b || true) ≡ true
+      or_true true = refl
+      or_true false = refl
+
+  pub type_used : (code group : ℕ) (of_key : List ℕ) → code < 4096 → name code ≡ Some of_key → group < group_count (key code) → list_any (bytes_eq (group_type_name declared (key code) group)) (types_used declared name key) ≡ true
+  unfolding types_used
+  type_used code group of_key less is within = all_there (group_type_name declared (key code) group) [] (type_names_below declared name key 4096) (below_has 4096 code group of_key less is within)
+
+  -- a group's type stands at its place
+  pub type_at : (code group : ℕ) (of_key : List ℕ) → code < 4096 → name code ≡ Some of_key → group < group_count (key code) → slice_get types (type_place used (group_type_name declared (key code) group)) ≡ Some (type_of real declared (group_type_name declared (key code) group))
+  type_at code group of_key less is within =
+      slice_get-map (type_of real declared) used (type_place used (group_type_name declared (key code) group))
+      ∙ ap (option_map (type_of real declared)) (stands_at (group_type_name declared (key code) group) used (type_used code group of_key less is within))
+
+  group_fine : (code group : ℕ) (of_key : List ℕ) → code < 4096 → name code ≡ Some of_key → group < group_count (key code) → CellsAreFine (keyed.deeds code) (key code) (content_group (key code) group) (levels_of_group declared (key code) group) → GroupIsFine types (group_of declared used (keyed.deeds code) (key code) group)
+  group_fine code group of_key less is within fine = record {
+    whole = subst (λ o. IsSomeAnd o (λ (t : ResolvedType). length (group_of declared used (keyed.deeds code) (key code) group).cells ≡ t.levels)) (sym (type_at code group of_key less is within)) (cells_length (keyed.deeds code) (key code) (content_group (key code) group) (levels_of_group declared (key code) group));
+    each_cell = cells_fine (keyed.deeds code) (key code) (content_group (key code) group) (levels_of_group declared (key code) group) fine;
+  }
+
+  groups_fine : (code n : ℕ) (of_key : List ℕ) → code < 4096 → name code ≡ Some of_key → n ≤ group_count (key code) → GroupsAreFine declared (keyed.deeds code) (key code) n → All (GroupIsFine types) (groups_of declared used (keyed.deeds code) (key code) n)
+  unfolding groups_of
+  groups_fine code zero of_key less is within fine = All-nil (GroupIsFine types)
+  groups_fine code (suc n) of_key less is within fine =
+      All-push (GroupIsFine types) (groups_of declared used (keyed.deeds code) (key code) n) (group_of declared used (keyed.deeds code) (key code) n)
+      (groups_fine code n of_key less is (omega (arith, within)) (λ group below. fine group (lt_trans below (lt-suc_self n))))
+      (group_fine code n of_key less is (omega (arith, within)) (fine n (lt-suc_self n)))
+
+  -- ---- Keys
+
   record IsNamed (n : ℕ) (k : ResolvedKey) : Type 0 where
     below : k.code < n
     named : name k.code ≡ Some k.name
 
-  named_one : (n : ℕ) (o : Option (List ℕ)) → name n ≡ o → All (IsNamed (suc n)) (key_if_named n o (key n))
+  named_one : (n : ℕ) (o : Option (List ℕ)) → name n ≡ o → All (IsNamed (suc n)) (key_if_named declared used (keyed.deeds n) (key n) n o (keyed.modmap n))
   named_one n None is = All-nil (IsNamed (suc n))
-  named_one n (Some of_key) is = All-cons (IsNamed (suc n)) (key_of n of_key (key n)) [] (record { below = lt-suc_self n; named = is }) (All-nil (IsNamed (suc n)))
+  named_one n (Some of_key) is = All-cons (IsNamed (suc n)) (key_of declared used (keyed.deeds n) (key n) n of_key (keyed.modmap n)) [] (record { below = lt-suc_self n; named = is }) (All-nil (IsNamed (suc n)))
 
-  all_named : (n : ℕ) → All (IsNamed n) (keys_below name key n)
+  all_named : (n : ℕ) → All (IsNamed n) (keys_below declared used keyed n)
   unfolding keys_below
   all_named zero = All-nil (IsNamed zero)
   all_named (suc n) =
-      All-append (IsNamed (suc n)) (keys_below name key n) (key_if_named n (name n) (key n))
-      (All-weaker (IsNamed n) (IsNamed (suc n)) (λ k is. record { below = lt_trans is.below (lt-suc_self n); named = is.named }) (keys_below name key n) (all_named n))
+      All-append (IsNamed (suc n)) (keys_below declared used keyed n) (key_if_named declared used (keyed.deeds n) (key n) n (name n) (keyed.modmap n))
+      (All-weaker (IsNamed n) (IsNamed (suc n)) (λ k is. record { below = lt_trans is.below (lt-suc_self n); named = is.named }) (keys_below declared used keyed n) (all_named n))
       (named_one n (name n) refl)
 
-  rises_one : (n : ℕ) (o : Option (List ℕ)) (ks : List ResolvedKey) → Rising (λ (k : ResolvedKey). k.code) ks → All (λ (k : ResolvedKey). k.code < n) ks → Rising (λ (k : ResolvedKey). k.code) (ks ++ key_if_named n o (key n))
+  rises_one : (n : ℕ) (o : Option (List ℕ)) (ks : List ResolvedKey) → Rising (λ (k : ResolvedKey). k.code) ks → All (λ (k : ResolvedKey). k.code < n) ks → Rising (λ (k : ResolvedKey). k.code) (ks ++ key_if_named declared used (keyed.deeds n) (key n) n o (keyed.modmap n))
   rises_one n None ks rising below = subst (Rising (λ (k : ResolvedKey). k.code)) (sym (append-nil ks)) rising
-  rises_one n (Some of_key) ks rising below = rising_push (λ (k : ResolvedKey). k.code) ks (key_of n of_key (key n)) rising below
+  rises_one n (Some of_key) ks rising below = rising_push (λ (k : ResolvedKey). k.code) ks (key_of declared used (keyed.deeds n) (key n) n of_key (keyed.modmap n)) rising below
 
-  rises : (n : ℕ) → Rising (λ (k : ResolvedKey). k.code) (keys_below name key n)
+  rises : (n : ℕ) → Rising (λ (k : ResolvedKey). k.code) (keys_below declared used keyed n)
   unfolding keys_below
   rises zero = rising_nil (λ (k : ResolvedKey). k.code)
-  rises (suc n) = rises_one n (name n) (keys_below name key n) (rises n) (All-weaker (IsNamed n) (λ (k : ResolvedKey). k.code < n) (λ k is. is.below) (keys_below name key n) (all_named n))
+  rises (suc n) = rises_one n (name n) (keys_below declared used keyed n) (rises n) (All-weaker (IsNamed n) (λ (k : ResolvedKey). k.code < n) (λ k is. is.below) (keys_below declared used keyed n) (all_named n))
 
-  names_apart : OneCode name → (n : ℕ) → Apart (λ (k : ResolvedKey). k.name) (keys_below name key n)
+  names_apart : OneCode name → (n : ℕ) → Apart (λ (k : ResolvedKey). k.name) (keys_below declared used keyed n)
   names_apart one n = λ i j x y less at before same.
-      let later = All_at (IsNamed n) (keys_below name key n) i x (all_named n) at in
-      let earlier = All_at (IsNamed n) (keys_below name key n) j y (all_named n) before in
+      let later = All_at (IsNamed n) (keys_below declared used keyed n) i x (all_named n) at in
+      let earlier = All_at (IsNamed n) (keys_below declared used keyed n) j y (all_named n) before in
       let rise : y.code < x.code = rises n i j x y less at before in
       let equal : y.code ≡ x.code = one y.code x.code x.name (earlier.named ∙ ap Some same) later.named in
       omega (arith, rise, equal)
 
-  -- ---- All groups are of the first type, and where a key has one there is one
-
-  one_type : (n : ℕ) (o : Option (List ℕ)) → All (λ (g : ResolvedGroup). g.key_type ≡ 0) (all_groups (key_if_named n o (key n)))
-  one_type n None = All-nil (λ (g : ResolvedGroup). g.key_type ≡ 0)
-  one_type n (Some of_key) = All-append (λ (g : ResolvedGroup). g.key_type ≡ 0) (groups_of (key n) (group_count (key n))) [] (of_first_type (key n) (group_count (key n))) (All-nil (λ (g : ResolvedGroup). g.key_type ≡ 0))
-
-  first_type : (n : ℕ) → All (λ (g : ResolvedGroup). g.key_type ≡ 0) (all_groups (keys_below name key n))
-  unfolding keys_below
-  first_type zero = All-nil (λ (g : ResolvedGroup). g.key_type ≡ 0)
-  first_type (suc n) =
-      subst (All (λ (g : ResolvedGroup). g.key_type ≡ 0)) (sym (flat_append (λ (k : ResolvedKey). k.groups) (keys_below name key n) (key_if_named n (name n) (key n))))
-      (All-append (λ (g : ResolvedGroup). g.key_type ≡ 0) (all_groups (keys_below name key n)) (all_groups (key_if_named n (name n) (key n))) (first_type n) (one_type n (name n)))
-
-  some_in_one : (n : ℕ) (o : Option (List ℕ)) → (is_some o && nat_lt 0 (group_count (key n))) ≡ true → 0 < length (all_groups (key_if_named n o (key n)))
-  some_in_one n None is = absurd (cc is)
-  some_in_one n (Some of_key) is = omega (arith, length-append (groups_of (key n) (group_count (key n))) [], groups_length (key n) (group_count (key n)), ltb-true 0 (group_count (key n)) is)
-
-  some_group : (n : ℕ) → some_groups_below name key n ≡ true → 0 < length (all_groups (keys_below name key n))
-  unfolding keys_below some_groups_below
-  some_group zero is = absurd (cc is)
-  some_group (suc n) is = by (some_groups_below name key n) refl (some_group n) is
-    where
-      both : length (all_groups (keys_below name key n ++ key_if_named n (name n) (key n))) ≡ length (all_groups (keys_below name key n)) + length (all_groups (key_if_named n (name n) (key n)))
-      both = ap length (flat_append (λ (k : ResolvedKey). k.groups) (keys_below name key n) (key_if_named n (name n) (key n))) ∙ length-append (all_groups (keys_below name key n)) (all_groups (key_if_named n (name n) (key n)))
-
-      by : (b : Bool) → some_groups_below name key n ≡ b → (some_groups_below name key n ≡ true → 0 < length (all_groups (keys_below name key n))) → (b || has_groups name key n) ≡ true → 0 < length (all_groups (keys_below name key n ++ key_if_named n (name n) (key n)))
-      by true before earlier h = omega (arith, both, earlier before)
-      by false before earlier h = omega (arith, both, some_in_one n (name n) h)
-
-  -- ---- Keys are fine, and all that they resolve to
-
-  key_fine : (types : List ResolvedType) (n : ℕ) (o : Option (List ℕ)) → name n ≡ o → n ≤ 4095 → (has_groups name key n ≡ true → types ≡ one_level ∷ []) → ((of_key : List ℕ) → name n ≡ Some of_key → KeepsBounds of_key (key n)) → All (KeyIsFine types) (key_if_named n o (key n))
-  key_fine types n None is small h bounds = All-nil (KeyIsFine types)
-  key_fine types n (Some of_key) is small h bounds =
+  key_fine : (n : ℕ) (o : Option (List ℕ)) → name n ≡ o → n < 4096 → ((of_key : List ℕ) → name n ≡ Some of_key → KeepsBounds declared of_key (keyed.modmap n) (keyed.deeds n) (key n)) → All (KeyIsFine types) (key_if_named declared used (keyed.deeds n) (key n) n o (keyed.modmap n))
+  key_fine n None is small bounds = All-nil (KeyIsFine types)
+  key_fine n (Some of_key) is small bounds =
       let keeps = bounds of_key is in
-      let types_are : 0 < group_count (key n) → types ≡ one_level ∷ [] = λ some. h (subst (λ o. (is_some o && nat_lt 0 (group_count (key n))) ≡ true) (sym is) (lt-ltb 0 (group_count (key n)) some)) in
-      All-cons (KeyIsFine types) (key_of n of_key (key n)) []
+      All-cons (KeyIsFine types) (key_of declared used (keyed.deeds n) (key n) n of_key (keyed.modmap n)) []
       (record {
-        code_fits = small;
-        mapped = omega arith;
-        range_holds = tt;
-        few = omega (arith, groups_length (key n) (group_count (key n)), count_few (key n));
-        each_group = groups_fine types (key n) (group_count (key n)) types_are keeps.levels;
+        code_fits = omega (arith, small);
+        mapped = keeps.mapped;
+        range_holds = keeps.range;
+        few = omega (arith, groups_length declared used (keyed.deeds n) (key n) (group_count (key n)), count_few (key n));
+        each_group = groups_fine n (group_count (key n)) of_key small is (omega arith) keeps.cells;
         name_fits = keeps.short;
         each_byte = keeps.bytes;
       })
       (All-nil (KeyIsFine types))
 
-  keys_fine : (types : List ResolvedType) (n : ℕ) → n ≤ 4096 → ((code : ℕ) → code < n → has_groups name key code ≡ true → types ≡ one_level ∷ []) → BoundsBelow name key n → All (KeyIsFine types) (keys_below name key n)
+  pub keys_fine : (n : ℕ) → n ≤ 4096 → BoundsBelow declared keyed n → All (KeyIsFine types) (keys_below declared used keyed n)
   unfolding keys_below
-  keys_fine types zero small h bounds = All-nil (KeyIsFine types)
-  keys_fine types (suc n) small h bounds =
-      All-append (KeyIsFine types) (keys_below name key n) (key_if_named n (name n) (key n))
-      (keys_fine types n (omega (arith, small)) (λ code less. h code (lt_trans less (lt-suc_self n))) (λ code less. bounds code (lt_trans less (lt-suc_self n))))
-      (key_fine types n (name n) refl (omega (arith, small)) (h n (lt-suc_self n)) (bounds n (lt-suc_self n)))
+  keys_fine zero small bounds = All-nil (KeyIsFine types)
+  keys_fine (suc n) small bounds =
+      All-append (KeyIsFine types) (keys_below declared used keyed n) (key_if_named declared used (keyed.deeds n) (key n) n (name n) (keyed.modmap n))
+      (keys_fine n (omega (arith, small)) (λ code less. bounds code (lt_trans less (lt-suc_self n))))
+      (key_fine n (name n) refl (omega (arith, small)) (bounds n (lt-suc_self n)))
 
-  all_used : (some : Bool) → some_groups_below name key 4096 ≡ some → length (types_if some) ≤ types_met (all_groups (keys_below name key 4096))
-  all_used true is = met_some (all_groups (keys_below name key 4096)) (some_group 4096 is)
-  all_used false is = omega arith
+  -- ---- Types stand by first use, and no two have one name
 
-  pub resolved_fine : OneCode name → BoundsBelow name key 4096 → IsFine (resolved_of name key)
-  unfolding resolved_of
-  resolved_fine one bounds = record {
-    each_type = types_fine (some_groups_below name key 4096);
-    types_fit = omega (arith, types_few (some_groups_below name key 4096));
-    types_apart = one_apart (λ (t : ResolvedType). t.name) (types_if (some_groups_below name key 4096)) (types_few (some_groups_below name key 4096));
-    order = record {
-      each_first = λ i g at. let first = All_at (λ (g : ResolvedGroup). g.key_type ≡ 0) (all_groups (keys_below name key 4096)) i g (first_type 4096) at in omega (arith, first);
-      all_used = all_used (some_groups_below name key 4096) refl;
-    };
-    each_key = keys_fine (types_if (some_groups_below name key 4096)) 4096 (omega arith) (λ code less is. ap types_if (some_below name key 4096 code less is)) bounds;
-    codes_rise = rises 4096;
-    keys_apart = names_apart one 4096;
-  }
+  one_types : (n : ℕ) (o : Option (List ℕ)) → map (λ (g : ResolvedGroup). g.key_type) (all_groups (key_if_named declared used (keyed.deeds n) (key n) n o (keyed.modmap n))) ≡ map (type_place used) (type_names_if declared o (key n))
+  one_types n None = refl
+  one_types n (Some of_key) = ap (map (λ (g : ResolvedGroup). g.key_type)) (append-nil (groups_of declared used (keyed.deeds n) (key n) (group_count (key n)))) ∙ group_types declared used (keyed.deeds n) (key n) (group_count (key n))
+
+  below_types : (n : ℕ) → map (λ (g : ResolvedGroup). g.key_type) (all_groups (keys_below declared used keyed n)) ≡ map (type_place used) (type_names_below declared name key n)
+  unfolding keys_below type_names_below
+  below_types zero = refl
+  below_types (suc n) =
+      ap (map (λ (g : ResolvedGroup). g.key_type)) (flat_map-append (λ (k : ResolvedKey). k.groups) (keys_below declared used keyed n) (key_if_named declared used (keyed.deeds n) (key n) n (name n) (keyed.modmap n)))
+      ∙ map-append (λ (g : ResolvedGroup). g.key_type) (all_groups (keys_below declared used keyed n)) (all_groups (key_if_named declared used (keyed.deeds n) (key n) n (name n) (keyed.modmap n)))
+      ∙ (λ i. below_types n i ++ one_types n (name n) i)
+      ∙ sym (map-append (type_place used) (type_names_below declared name key n) (type_names_if declared (name n) (key n)))
+
+  order : InOrderOfUse (length types) (all_groups (keys_below declared used keyed 4096))
+  unfolding types_used
+  order = subst (λ n. InOrderOfUse n (all_groups (keys_below declared used keyed 4096))) (sym (length-map used (type_of real declared))) (in_order (type_names_below declared name key 4096) (all_groups (keys_below declared used keyed 4096)) (below_types 4096))
+
+  type_name_at : (i : ℕ) (t : ResolvedType) → slice_get types i ≡ Some t → (i < length used) × (t.name ≡ get_or used i [])
+  type_name_at i t at =
+      let inside : i < length types = slice_get_within types i t at in
+      let within : i < length used = omega (arith, inside, length-map used (type_of real declared)) in
+      let is : Some (type_of real declared (get_or used i [])) ≡ Some t = sym (slice_get-map (type_of real declared) used i ∙ ap (option_map (type_of real declared)) (slice_get-get_or used i [] within)) ∙ at in
+      (within, ap (λ (u : ResolvedType). u.name) (sym (same_Some (type_of real declared (get_or used i [])) t is)))
+
+  types_apart : Apart (λ (t : ResolvedType). t.name) types
+  types_apart = λ i j x y less at before same.
+      let later = type_name_at i x at in
+      let earlier = type_name_at j y before in
+      let equal : get_or used j [] ≡ get_or used i [] = sym earlier.1 ∙ same ∙ later.1 in
+      false≢true (sym (apart_from_distinct bytes_eq used j i [] (used_distinct declared name key) less later.0) ∙ (bytes_decides (get_or used j []) (get_or used i [])).1 equal)
+
+  module _ (few : length used ≤ 4097) (hold : All (TypeHolds real declared) used) (bounds : BoundsBelow declared keyed 4096) where
+    pub resolved_fine : OneCode name → IsFine (resolved_of real declared keyed)
+    unfolding resolved_of
+    resolved_fine one = record {
+      each_type = types_fine real declared used hold;
+      types_fit = omega (arith, few, length-map used (type_of real declared));
+      types_apart = types_apart;
+      order = order;
+      each_key = keys_fine 4096 (omega arith) bounds;
+      codes_rise = rises 4096;
+      keys_apart = names_apart one 4096;
+    }
+
+    pub resolved_whole : IsWhole (resolved_of real declared keyed)
+    unfolding resolved_of
+    resolved_whole = record {
+      each_type = All-weaker TypeIsFine TypeIsWhole (λ t holds. record { some_level = holds.some_level; level_of_each = All-weaker (EntryIsFine t) (LevelExists t.levels) (λ e entry. entry.level) t.entries holds.each_entry }) types (types_fine real declared used hold);
+      each_key = All-weaker (KeyIsFine types) (KeyIsWhole types) (λ k holds. All-weaker (GroupIsFine types) (GroupIsWhole types) (λ g group. group.whole) k.groups holds.each_group) (keys_below declared used keyed 4096) (keys_fine 4096 (omega arith) bounds);
+    }

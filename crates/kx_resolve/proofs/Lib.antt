@@ -1,9 +1,10 @@
+mod Agree
 mod Fine
 mod Growing
-mod Joining
-mod Keymaps
+mod Meant
 mod Names
-mod Refusals
+mod Order
 mod Small
 mod Steps
+mod Typed
 mod Whole

@@ -1,69 +1,73 @@
--- What one number more makes of keys and their groups.
-use Rattle.std.proofs.Common.{ℕ, zero, suc, ◌+◌, ◌≡◌, ◌<◌, ◌≤◌, min, nat_lt, false, ◌||◌, List, [], ◌∷◌, ◌++◌, Option, None, refl, subst, ap, ◌∙◌, arith, sym, eq-or-lt_of_le, lt-suc_self, lt_trans, inl, inr, if◌then◌else◌}
-use Rattle.kx_resolve.specs.Given.{given_in}
-use Rattle.kx_resolve.specs.Keys.{KeyGiven, group_count, group_of, groups_of, groups_within, has_groups, has_level, key_if_named, keys_below, resolved_of, some_groups_below, types_if}
+-- What one number more makes of keys, groups, levels and the types that they use.
+use Rattle.std.proofs.Common.{ℕ, zero, suc, ◌+◌, ◌≡◌, List, [], ◌∷◌, ◌++◌, Option, None, map, refl, subst, ap, ◌∙◌, arith}
+use Rattle.kx_levels.specs.Selecting.{RealSet}
+use Rattle.kx_masks.specs.Counted.{with_names}
+use Rattle.kx_typing.specs.Given.{KeyGiven, given_in}
+use Rattle.kx_typing.specs.GroupTypes.{group_count, group_type_name, groups_within}
+use Rattle.kx_resolve.specs.Deeds.{Deeds}
+use Rattle.kx_resolve.specs.Keys.{Keyed, cell_of, cells_of, group_of, groups_of, key_if_named, keys_below, resolved_of, type_names, type_names_below, type_names_if, type_of, types_used}
+use Rattle.kx_types.specs.KeyTypes.{Definition}
 
 one_more : (n : ℕ) → suc n ≡ n + 1
 one_more n = omega arith
 
+-- ---- Levels
+
 module _ (key : KeyGiven) where
-  pub within_none : groups_within key 0 ≡ 0
-  unfolding groups_within
-  within_none = refl
+  module _ (deeds : Deeds) (group : ℕ) where
+    pub cells_none : cells_of deeds key group 0 ≡ []
+    unfolding cells_of
+    cells_none = refl
 
-  pub within_next : (n : ℕ) → groups_within key (n + 1) ≡ (if has_level key n then n + 1 else groups_within key n)
-  unfolding groups_within
-  within_next n = subst (λ m. groups_within key m ≡ (if has_level key n then m else groups_within key n)) (one_more n) refl
+    pub cells_next : (n : ℕ) → cells_of deeds key group (n + 1) ≡ cells_of deeds key group n ++ cell_of deeds key group n ∷ []
+    unfolding cells_of
+    cells_next n = subst (λ m. cells_of deeds key group m ≡ cells_of deeds key group n ++ cell_of deeds key group n ∷ []) (one_more n) refl
 
-  pub within_all : groups_within key 32 ≡ group_count key
-  unfolding group_count
-  within_all = refl
+  module _ (declared : List ℕ → Option Definition) where
+    pub names_none : type_names declared key 0 ≡ []
+    unfolding type_names
+    names_none = refl
 
-  -- groups without levels at the end don't count
-  within_upto : (n m : ℕ) → n ≤ m → ((group : ℕ) → n ≤ group → group < m → key.width group ≡ 0) → groups_within key m ≡ groups_within key n
-  unfolding groups_within
-  within_upto n zero less none = let last : zero ≡ n = omega (arith, less) in ap (groups_within key) last
-  within_upto n (suc m) less none =
-      elim (eq-or-lt_of_le less) [
-        | inl same ↦ sym (ap (groups_within key) same)
-        | inr before ↦
-            let within : n ≤ m = omega (arith, before) in
-            ap (λ w. if nat_lt 0 w then suc m else groups_within key m) (none m within (lt-suc_self m)) ∙ within_upto n m within (λ group from upto. none group from (lt_trans upto (lt-suc_self m)))
-      ]
+    pub names_next : (n : ℕ) → type_names declared key (n + 1) ≡ type_names declared key n ++ group_type_name declared key n ∷ []
+    unfolding type_names
+    names_next n = subst (λ m. type_names declared key m ≡ type_names declared key n ++ group_type_name declared key n ∷ []) (one_more n) refl
 
-  pub within_few : (most end : ℕ) → ((group : ℕ) → most ≤ group → key.width group ≡ 0) → end ≡ min most 32 → groups_within key end ≡ group_count key
-  within_few most end none is =
-      let few : end ≤ 32 = omega (arith, is) in
-      sym (within_upto end 32 few (λ group from upto. let past : most ≤ group = omega (arith, is, from, upto) in none group past)) ∙ within_all
+    module _ (used : List (List ℕ)) (deeds : Deeds) where
+      pub groups_none : groups_of declared used deeds key 0 ≡ []
+      unfolding groups_of
+      groups_none = refl
 
-  pub groups_none : groups_of key 0 ≡ []
-  unfolding groups_of
-  groups_none = refl
+      pub groups_next : (n : ℕ) → groups_of declared used deeds key (n + 1) ≡ groups_of declared used deeds key n ++ group_of declared used deeds key n ∷ []
+      unfolding groups_of
+      groups_next n = subst (λ m. groups_of declared used deeds key m ≡ groups_of declared used deeds key n ++ group_of declared used deeds key n ∷ []) (one_more n) refl
 
-  pub groups_next : (n : ℕ) → groups_of key (n + 1) ≡ groups_of key n ++ group_of key n ∷ []
-  unfolding groups_of
-  groups_next n = subst (λ m. groups_of key m ≡ groups_of key n ++ group_of key n ∷ []) (one_more n) refl
+-- ---- Keys
 
-module _ (name : ℕ → Option (List ℕ)) (key : ℕ → KeyGiven) where
-  pub below_none : keys_below name key 0 ≡ []
+module _ (declared : List ℕ → Option Definition) (name : ℕ → Option (List ℕ)) (key : ℕ → KeyGiven) where
+  pub used_none : type_names_below declared name key 0 ≡ []
+  unfolding type_names_below
+  used_none = refl
+
+  pub used_next : (n : ℕ) → type_names_below declared name key (n + 1) ≡ type_names_below declared name key n ++ type_names_if declared (name n) (key n)
+  unfolding type_names_below
+  used_next n = subst (λ m. type_names_below declared name key m ≡ type_names_below declared name key n ++ type_names_if declared (name n) (key n)) (one_more n) refl
+
+  pub used_is : with_names [] (type_names_below declared name key 4096) ≡ types_used declared name key
+  unfolding types_used
+  used_is = refl
+
+module _ (declared : List ℕ → Option Definition) (used : List (List ℕ)) (keyed : Keyed) where
+  pub below_none : keys_below declared used keyed 0 ≡ []
   unfolding keys_below
   below_none = refl
 
-  pub below_next : (n : ℕ) → keys_below name key (n + 1) ≡ keys_below name key n ++ key_if_named n (name n) (key n)
+  pub below_next : (n : ℕ) → keys_below declared used keyed (n + 1) ≡ keys_below declared used keyed n ++ key_if_named declared used (keyed.deeds n) (keyed.key n) n (keyed.name n) (keyed.modmap n)
   unfolding keys_below
-  below_next n = subst (λ m. keys_below name key m ≡ keys_below name key n ++ key_if_named n (name n) (key n)) (one_more n) refl
+  below_next n = subst (λ m. keys_below declared used keyed m ≡ keys_below declared used keyed n ++ key_if_named declared used (keyed.deeds n) (keyed.key n) n (keyed.name n) (keyed.modmap n)) (one_more n) refl
 
-  pub some_none : some_groups_below name key 0 ≡ false
-  unfolding some_groups_below
-  some_none = refl
-
-  pub some_next : (n : ℕ) → some_groups_below name key (n + 1) ≡ (some_groups_below name key n || has_groups name key n)
-  unfolding some_groups_below
-  some_next n = subst (λ m. some_groups_below name key m ≡ (some_groups_below name key n || has_groups name key n)) (one_more n) refl
-
-  pub resolved_is : record { types = types_if (some_groups_below name key 4096); keys = keys_below name key 4096 } ≡ resolved_of name key
-  unfolding resolved_of
-  resolved_is = refl
+pub resolved_is : (real : ℕ → RealSet) (declared : List ℕ → Option Definition) (keyed : Keyed) → record { types = map (type_of real declared) (types_used declared keyed.name keyed.key); keys = keys_below declared (types_used declared keyed.name keyed.key) keyed 4096 } ≡ resolved_of real declared keyed
+unfolding resolved_of
+resolved_is real declared keyed = refl
 
 -- ---- A key that no statement names
 
@@ -76,5 +80,9 @@ pub none_count : group_count (given_in None) ≡ 0
 unfolding group_count
 none_count = none_within 32
 
-pub none_groups : groups_of (given_in None) (group_count (given_in None)) ≡ []
-none_groups = ap (groups_of (given_in None)) none_count ∙ groups_none (given_in None)
+module _ (declared : List ℕ → Option Definition) where
+  pub none_groups : (used : List (List ℕ)) (deeds : Deeds) → groups_of declared used deeds (given_in None) (group_count (given_in None)) ≡ []
+  none_groups used deeds = ap (groups_of declared used deeds (given_in None)) none_count ∙ groups_none (given_in None) declared used deeds
+
+  pub none_names : type_names declared (given_in None) (group_count (given_in None)) ≡ []
+  none_names = ap (type_names declared (given_in None)) none_count ∙ names_none (given_in None) declared

@@ -1,54 +1,52 @@
--- What keys resolve to is whole: each group has one level, as its type.
-use Rattle.std.proofs.Common.{ℕ, zero, suc, ◌≡◌, ◌<◌, ◌≤◌, nat_lt, Bool, true, false, ◌||◌, ◌&&◌, All, List, [], ◌∷◌, Option, None, Some, is_some, refl, ap, ◌∙◌, subst, sym, arith, eq-or-lt_of_le, lt-suc_self, lt_trans, inl, inr}
-use Rattle.std.proofs.Math.Bool.{or-true}
-use Rattle.std.proofs.lemmas.Bool.{lt-ltb}
-use Rattle.std.proofs.lemmas.List.Elements.{All-append, All-cons, All-nil, All-push}
-use Rattle.kx_resolve.specs.Keys.{KeyGiven, group_count, group_of, groups_of, has_groups, key_if_named, key_of, keys_below, one_level, resolved_of, some_groups_below, types_if}
-use Rattle.kx_builder.specs.Resolved.{ResolvedType}
-use Rattle.kx_builder.specs.Whole.{GroupIsWhole, IsWhole, KeyIsWhole, LevelExists, TypeIsWhole}
+-- What is built key by key is what keys resolve to.
+use Rattle.std.proofs.Common.{ℕ, zero, suc, ◌+◌, ◌≡◌, ◌≤◌, All, List, [], Option, None, Some, length, map, true, ap, ◌∙◌, subst, sym, arith, eq-or-lt_of_le, inl, inr}
+use Rattle.std.specs.List.{list_any}
+use Rattle.std.specs.Str.{bytes_eq}
+use Rattle.std.proofs.lemmas.List.{length-append}
+use Rattle.kx_builder.specs.Agreement.{ShowsSame}
+use Rattle.kx_builder.specs.Resolved.{Resolved}
+use Rattle.kx_levels.specs.Selecting.{RealSet}
+use Rattle.kx_resolve.proofs.Steps.{resolved_is}
+use Rattle.kx_resolve.proofs.Typed.{found_holds}
+use Rattle.kx_resolve.specs.Bounds.{BoundsBelow, KeepsBounds, TypeHolds}
+use Rattle.kx_resolve.specs.Keys.{Keyed, key_if_named, keys_below, resolved_of, type_of, types_used}
+use Rattle.kx_tables.specs.Keymap.{Keymap}
+use Rattle.kx_types.specs.KeyTypes.{Definition}
 
-groups_whole : (types : List ResolvedType) (key : KeyGiven) (n : ℕ) → (0 < n → types ≡ one_level ∷ []) → All (GroupIsWhole types) (groups_of key n)
-unfolding groups_of
-groups_whole types key zero h = All-nil (GroupIsWhole types)
-groups_whole types key (suc n) h =
-    let one : types ≡ one_level ∷ [] = h (omega arith) in
-    All-push (GroupIsWhole types) (groups_of key n) (group_of key n) (groups_whole types key n (λ more. one)) (subst (λ ts. GroupIsWhole ts (group_of key n)) (sym one) refl)
+pub same_trans : (a b c : Keymap) → ShowsSame a b → ShowsSame b c → ShowsSame a c
+same_trans a b c one two = record {
+  groups = one.groups ∙ two.groups;
+  known = λ code. one.known code ∙ two.known code;
+  shown = λ code group mods. one.shown code group mods ∙ two.shown code group mods;
+  lamps = one.lamps ∙ two.lamps;
+}
 
-type_whole : TypeIsWhole one_level
-type_whole = record { some_level = omega arith; level_of_each = All-nil (LevelExists 1) }
+module _ (declared : List ℕ → Option Definition) (used : List (List ℕ)) (keyed : Keyed) where
+  one_at_most : (n : ℕ) (o : Option (List ℕ)) → length (key_if_named declared used (keyed.deeds n) (keyed.key n) n o (keyed.modmap n)) ≤ 1
+  one_at_most n None = omega arith
+  one_at_most n (Some of_key) = omega arith
 
-types_whole : (some : Bool) → All TypeIsWhole (types_if some)
-types_whole true = All-cons TypeIsWhole one_level [] type_whole (All-nil TypeIsWhole)
-types_whole false = All-nil TypeIsWhole
+  pub below_few : (n : ℕ) → length (keys_below declared used keyed n) ≤ n
+  unfolding keys_below
+  below_few zero = omega arith
+  below_few (suc n) = omega (arith, below_few n, one_at_most n (keyed.name n), length-append (keys_below declared used keyed n) (key_if_named declared used (keyed.deeds n) (keyed.key n) n (keyed.name n) (keyed.modmap n)))
 
-module _ (name : ℕ → Option (List ℕ)) (key : ℕ → KeyGiven) where
-  pub some_below : (n code : ℕ) → code < n → has_groups name key code ≡ true → some_groups_below name key n ≡ true
-  unfolding some_groups_below
-  some_below zero code less is = absurd (omega arith)
-  some_below (suc n) code less is =
-      let upto : code ≤ n = omega arith in
+module _ (declared : List ℕ → Option Definition) (keyed : Keyed) where
+  pub bounds_next : (n : ℕ) → BoundsBelow declared keyed n → ((of_key : List ℕ) → keyed.name n ≡ Some of_key → KeepsBounds declared of_key (keyed.modmap n) (keyed.deeds n) (keyed.key n)) → BoundsBelow declared keyed (n + 1)
+  bounds_next n below keeps = λ code less of_key is.
+      let upto : code ≤ n = omega (arith, less) in
       elim (eq-or-lt_of_le upto) [
-        | inl same ↦ ap (λ b. some_groups_below name key n || b) (subst (λ c. has_groups name key c ≡ true) same is) ∙ or-true (some_groups_below name key n)
-        | inr before ↦ ap (λ b. b || has_groups name key n) (some_below n code before is)
+        | inl same ↦ subst (λ c. KeepsBounds declared of_key (keyed.modmap c) (keyed.deeds c) (keyed.key c)) (sym same) (keeps of_key (ap keyed.name (sym same) ∙ is))
+        | inr before ↦ below code before of_key is
       ]
 
-  named_whole : (types : List ResolvedType) (code : ℕ) (given : Option (List ℕ)) → name code ≡ given → (has_groups name key code ≡ true → types ≡ one_level ∷ []) → All (KeyIsWhole types) (key_if_named code given (key code))
-  named_whole types code None is h = All-nil (KeyIsWhole types)
-  named_whole types code (Some n) is h =
-      let groups = groups_whole types (key code) (group_count (key code)) (λ some. h (subst (λ o. (is_some o && nat_lt 0 (group_count (key code))) ≡ true) (sym is) (lt-ltb 0 (group_count (key code)) some))) in
-      All-cons (KeyIsWhole types) (key_of code n (key code)) [] groups (All-nil (KeyIsWhole types))
+module _ (real : ℕ → RealSet) (declared : List ℕ → Option Definition) (used : List (List ℕ)) (keyed : Keyed) (same : used ≡ types_used declared keyed.name keyed.key) where
+  pub tree_whole : (old r : Resolved) → old ≡ record { types = map (type_of real declared) used; keys = [] } → r ≡ record old { keys = keys_below declared used keyed 4096 } → r ≡ resolved_of real declared keyed
+  tree_whole old r is more =
+      more
+      ∙ (λ i. record { types = (is i).types; keys = keys_below declared used keyed 4096 })
+      ∙ (λ i. record { types = map (type_of real declared) (same i); keys = keys_below declared (same i) keyed 4096 })
+      ∙ resolved_is real declared keyed
 
-  keys_whole : (types : List ResolvedType) (n : ℕ) → ((code : ℕ) → code < n → has_groups name key code ≡ true → types ≡ one_level ∷ []) → All (KeyIsWhole types) (keys_below name key n)
-  unfolding keys_below
-  keys_whole types zero h = All-nil (KeyIsWhole types)
-  keys_whole types (suc n) h =
-      All-append (KeyIsWhole types) (keys_below name key n) (key_if_named n (name n) (key n))
-      (keys_whole types n (λ code less. h code (lt_trans less (lt-suc_self n))))
-      (named_whole types n (name n) refl (h n (lt-suc_self n)))
-
-  pub resolved_whole : IsWhole (resolved_of name key)
-  unfolding resolved_of
-  resolved_whole = record {
-    each_type = types_whole (some_groups_below name key 4096);
-    each_key = keys_whole (types_if (some_groups_below name key 4096)) 4096 (λ code less is. ap types_if (some_below 4096 code less is));
-  }
+  pub each_holds : All (TypeHolds real declared) used → (of_name : List ℕ) → list_any (bytes_eq of_name) (types_used declared keyed.name keyed.key) ≡ true → TypeHolds real declared of_name
+  each_holds hold of_name there = found_holds (TypeHolds real declared) (types_used declared keyed.name keyed.key) of_name (subst (All (TypeHolds real declared)) same hold) there

@@ -1,19 +1,68 @@
 -- What tables need of the names of keys and of their keysyms.
-use Rattle.std.specs.Prelude.{ℕ, ◌≡◌, ◌<◌, ◌≤◌, All, List, Option, Some, length}
-use Rattle.kx_resolve.specs.Keys.{KeyGiven, first_level, group_count}
-use Rattle.kx_builder.specs.Fine.{CellIsFine}
+use Rattle.std.specs.Prelude.{ℕ, ◌≡◌, ◌<◌, ◌≤◌, ◌^◌, true, All, List, [], ◌∷◌, Option, Some, length}
+use Rattle.std.specs.Set.{is_member}
+use Rattle.std.specs.Str.{bytes_eq}
+use Rattle.kx_typing.specs.Given.{KeyGiven}
+use Rattle.kx_typing.specs.GroupTypes.{content_group, group_count, group_type_name, one_level_name, type_definition}
+use Rattle.kx_mods.specs.Mods.{mask}
+use Rattle.kx_mods.specs.declared.mods.Mods.{Mods}
+use Rattle.kx_resolve.specs.Deeds.{Deeds}
+use Rattle.kx_resolve.specs.Keys.{Keyed, cell_of, type_of}
+use Rattle.kx_tables.specs.Sound.{RangeHolds}
+use Rattle.kx_builder.specs.Fine.{CellIsFine, TypeIsFine}
+use Rattle.kx_builder.specs.Pushes.{last_groups}
+use Rattle.kx_builder.specs.Resolved.{ResolvedCell, ResolvedGroup, ResolvedKey}
+use Rattle.kx_levels.specs.Rows.{RowsShow}
+use Rattle.kx_levels.specs.Selecting.{RealSet}
 use Rattle.kx_basics.specs.KeyNames.{IsKeyByte}
+use Rattle.kx_types.specs.KeyTypes.{Definition}
 use Rattle.kx_basics.specs.declared.limits.TheConstants.{MOST_NAME_BYTES}
 
-pub record KeepsBounds (name : List ℕ) (key : KeyGiven) : Type 0 where
-  pub short : length name ≤ MOST_NAME_BYTES
-  pub bytes : All IsKeyByte name
-  pub levels : (group : ℕ) → group < group_count key → CellIsFine (first_level key group)
+-- the cells of a group's levels below a number
+abbrev pub CellsAreFine : Deeds → KeyGiven → ℕ → ℕ → Type 0
+CellsAreFine deeds key group n = (level : ℕ) → level < n → CellIsFine (cell_of deeds key group level)
 
--- each key of a code below a number does
-abbrev pub BoundsBelow : (ℕ → Option (List ℕ)) → (ℕ → KeyGiven) → ℕ → Type 0
-BoundsBelow name key n = (code : ℕ) → code < n → (of_key : List ℕ) → name code ≡ Some of_key → KeepsBounds of_key (key code)
+module _ (declared : List ℕ → Option Definition) where
+  abbrev pub levels_of_group : KeyGiven → ℕ → ℕ
+  levels_of_group key group = (type_definition declared (group_type_name declared key group)).levels
+
+  -- those of the groups below a number
+  abbrev pub GroupsAreFine : Deeds → KeyGiven → ℕ → Type 0
+  GroupsAreFine deeds key n = (group : ℕ) → group < n → CellsAreFine deeds key (content_group key group) (levels_of_group key group)
+
+  pub record KeepsBounds (name : List ℕ) (modmap : Mods) (deeds : Deeds) (key : KeyGiven) : Type 0 where
+    pub short : length name ≤ MOST_NAME_BYTES
+    pub bytes : All IsKeyByte name
+    pub mapped : mask modmap < 2 ^ 8
+    pub range : RangeHolds key.range
+    pub cells : GroupsAreFine deeds key (group_count key)
+
+  -- each key of a code below a number does
+  abbrev pub BoundsBelow : Keyed → ℕ → Type 0
+  BoundsBelow keyed n = (code : ℕ) → code < n → (of_key : List ℕ) → keyed.name code ≡ Some of_key → KeepsBounds of_key (keyed.modmap code) (keyed.deeds code) (keyed.key code)
 
 -- a name is that of one code
 abbrev pub OneCode : (ℕ → Option (List ℕ)) → Type 0
 OneCode name = (code other : ℕ) (of_key : List ℕ) → name code ≡ Some of_key → name other ≡ Some of_key → code ≡ other
+
+-- ---- What holds of a type that is used
+
+module _ (real : ℕ → RealSet) (declared : List ℕ → Option Definition) where
+  -- its rows show what it gives, and keep the rules of tables
+  pub record TypeHolds (name : List ℕ) : Type 0 where
+    pub shows : RowsShow real (type_definition declared name) (type_of real declared name).mods (type_of real declared name).entries
+    pub fine : TypeIsFine (type_of real declared name)
+
+-- it is one of those declared, or ONE_LEVEL
+abbrev pub IsOneOf : List (List ℕ) → List ℕ → Type 0
+IsOneOf names name = is_member bytes_eq (one_level_name ∷ names) name ≡ true
+
+-- ---- The levels that were pushed last
+
+abbrev pub last_cells_of : List ResolvedGroup → List ResolvedCell
+last_cells_of [] = []
+last_cells_of (g ∷ []) = g.cells
+last_cells_of (g ∷ h ∷ gs) = last_cells_of (h ∷ gs)
+
+abbrev pub last_cells : List ResolvedKey → List ResolvedCell
+last_cells ks = last_cells_of (last_groups ks)

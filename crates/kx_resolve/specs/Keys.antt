@@ -1,82 +1,117 @@
--- What keys resolve to, by what their statements give them: as yet every group is of the built-in type ONE_LEVEL.
-use Rattle.std.specs.Prelude.{ℕ, zero, suc, nat_lt, Bool, false, ◌&&◌, ◌||◌, List, [], ◌∷◌, ◌++◌, Option, None, Some, codes, is_some, unwrap_or, if◌then◌else◌}
+-- What keys resolve to, by what their statements give them: the types that they use, and the keys by code.
+use Rattle.std.specs.Prelude.{ℕ, zero, suc, List, [], ◌∷◌, ◌++◌, Option, None, Some, map, position, unwrap_or}
+use Rattle.std.specs.Str.{bytes_eq}
 use Rattle.kx_builder.specs.Resolved.{Resolved, ResolvedCell, ResolvedGroup, ResolvedKey, ResolvedType}
+use Rattle.kx_levels.specs.Rows.{entry_rows, mods_of}
+use Rattle.kx_levels.specs.Selecting.{RealSet}
+use Rattle.kx_masks.specs.Counted.{with_names}
 use Rattle.kx_mods.specs.declared.mods.Mods.{Mods}
-use Rattle.kx_tables.specs.declared.rows.Action.TheVariants as actions
-use Rattle.kx_tables.specs.declared.rows.Range.TheVariants.{Wrap}
+use Rattle.kx_resolve.specs.Deeds.{Deeds, deeds_of}
+use Rattle.kx_symbols.specs.Keys.{KeyContent, key_at}
+use Rattle.kx_codes.specs.Codes.{Codes, name_of}
+use Rattle.kx_typing.specs.Given.{KeyGiven, given_in}
+use Rattle.kx_typing.specs.GroupTypes.{content_group, group_count, group_type_name, type_definition}
+use Rattle.kx_types.specs.KeyTypes.{Definition}
 
--- what the statements of a key give it, by group and level, both counted from 0
-pub record KeyGiven : Type 0 where
-  pub keysyms : ℕ → ℕ → Option (List ℕ)
-  -- how many levels a group has
-  pub width : ℕ → ℕ
+-- ---- Types; `real` is what a set of modifiers stands for, `declared` are the types by name
+
+module _ (real : ℕ → RealSet) where
+  abbrev pub type_with : List ℕ → Definition → ResolvedType
+  type_with name type = record { name = name; mods = mods_of (real type.modifiers); levels = type.levels; entries = entry_rows real type.entries }
+
+  abbrev pub type_of : (List ℕ → Option Definition) → List ℕ → ResolvedType
+  type_of declared name = type_with name (type_definition declared name)
+
+module _ (declared : List ℕ → Option Definition) where
+  -- the types' names of a number of groups of a key, in order
+  unfoldable pub type_names : KeyGiven → ℕ → List (List ℕ)
+  type_names key zero = []
+  type_names key (suc n) = type_names key n ++ group_type_name declared key n ∷ []
+
+  -- a code without a name is no key
+  abbrev pub type_names_if : Option (List ℕ) → KeyGiven → List (List ℕ)
+  type_names_if None key = []
+  type_names_if (Some name) key = type_names key (group_count key)
+
+  module _ (name : ℕ → Option (List ℕ)) (key : ℕ → KeyGiven) where
+    -- those of the keys of the codes below a number
+    unfoldable pub type_names_below : ℕ → List (List ℕ)
+    type_names_below zero = []
+    type_names_below (suc code) = type_names_below code ++ type_names_if (name code) (key code)
+
+    -- each once, in the order of first use; codes are at most 4,095
+    unfoldable pub types_used : List (List ℕ)
+    types_used = with_names [] (type_names_below 4096)
+
+-- ---- Keys
+
+-- `deeds` are what the levels of the key do
+module _ (deeds : Deeds) (key : KeyGiven) where
+  abbrev pub cell_of : ℕ → ℕ → ResolvedCell
+  cell_of group level = record { syms = unwrap_or (key.keysyms group level) []; action = deeds group level }
+
+  -- the cells of a group's levels below a number: what is behind the levels of its type is lost
+  unfoldable pub cells_of : ℕ → ℕ → List ResolvedCell
+  cells_of group zero = []
+  cells_of group (suc level) = cells_of group level ++ cell_of group level ∷ []
+
+-- `used` are the types by their places
+abbrev pub type_place : List (List ℕ) → List ℕ → ℕ
+type_place used name = unwrap_or (position (bytes_eq name) used) 0
+
+module _ (declared : List ℕ → Option Definition) (used : List (List ℕ)) (deeds : Deeds) (key : KeyGiven) where
+  abbrev pub group_of : ℕ → ResolvedGroup
+  group_of group = record {
+    key_type = type_place used (group_type_name declared key group);
+    cells = cells_of deeds key (content_group key group) (type_definition declared (group_type_name declared key group)).levels;
+  }
+
+  -- the groups of a number of them, in order
+  unfoldable pub groups_of : ℕ → List ResolvedGroup
+  groups_of zero = []
+  groups_of (suc n) = groups_of n ++ group_of n ∷ []
+
+  -- `modmap` are the real modifiers that the key is mapped to
+  abbrev pub key_of : ℕ → List ℕ → Mods → ResolvedKey
+  key_of code name modmap = record { code = code; name = name; modmap = modmap; range = key.range; groups = groups_of (group_count key) }
+
+  abbrev pub key_if_named : ℕ → Option (List ℕ) → Mods → List ResolvedKey
+  key_if_named code None modmap = []
+  key_if_named code (Some name) modmap = key_of code name modmap ∷ []
+
+-- a keymap's keys by code: their names, what statements give them, the modifiers that they are mapped to, and what their
+-- levels do
+pub record Keyed : Type 0 where
+  pub name : ℕ → Option (List ℕ)
+  pub key : ℕ → KeyGiven
+  pub modmap : ℕ → Mods
+  pub deeds : ℕ → Deeds
+
+module _ (declared : List ℕ → Option Definition) (used : List (List ℕ)) (keyed : Keyed) where
+  -- the keys of the codes below a number, in order
+  unfoldable pub keys_below : ℕ → List ResolvedKey
+  keys_below zero = []
+  keys_below (suc code) = keys_below code ++ key_if_named declared used (keyed.deeds code) (keyed.key code) code (keyed.name code) (keyed.modmap code)
+
+-- ---- All together
+
+module _ (real : ℕ → RealSet) (declared : List ℕ → Option Definition) (keyed : Keyed) where
+  unfoldable pub resolved_of : Resolved
+  resolved_of = record {
+    types = map (type_of real declared) (types_used declared keyed.name keyed.key);
+    keys = keys_below declared (types_used declared keyed.name keyed.key) keyed 4096;
+  }
+
+-- ---- What was read of codes and keys
 
 abbrev pub no_mods : Mods
 no_mods = record { 0 = 0 }
 
--- the built-in type: no modifiers, one level
-abbrev pub one_level : ResolvedType
-one_level = record { name = codes "ONE_LEVEL"; mods = no_mods; levels = 1; entries = [] }
-
--- ---- Groups
-
-abbrev pub has_level : KeyGiven → ℕ → Bool
-has_level key group = nat_lt 0 (key.width group)
-
--- of so many groups those up to the last that has a level
-unfoldable pub groups_within : KeyGiven → ℕ → ℕ
-groups_within key zero = 0
-groups_within key (suc n) = if has_level key n then suc n else groups_within key n
-
--- a key has at most 32 groups
-unfoldable pub group_count : KeyGiven → ℕ
-group_count key = groups_within key 32
-
--- a group without levels takes the content of the first
-abbrev pub content_group : KeyGiven → ℕ → ℕ
-content_group key group = if has_level key group then group else 0
-
--- the one level of a group: what is behind it is lost
-abbrev pub first_level : KeyGiven → ℕ → ResolvedCell
-first_level key group = record { syms = unwrap_or (key.keysyms (content_group key group) 0) []; action = actions.None }
-
-abbrev pub group_of : KeyGiven → ℕ → ResolvedGroup
-group_of key group = record { key_type = 0; cells = first_level key group ∷ [] }
-
--- the groups of a number of them, in order
-unfoldable pub groups_of : KeyGiven → ℕ → List ResolvedGroup
-groups_of key zero = []
-groups_of key (suc n) = groups_of key n ++ group_of key n ∷ []
-
--- ---- Keys
-
--- a key without a modifier map; a group that it doesn't have is taken modulo
-abbrev pub key_of : ℕ → List ℕ → KeyGiven → ResolvedKey
-key_of code name key = record { code = code; name = name; modmap = no_mods; range = Wrap; groups = groups_of key (group_count key) }
-
--- a code without a name is no key
-abbrev pub key_if_named : ℕ → Option (List ℕ) → KeyGiven → List ResolvedKey
-key_if_named code None key = []
-key_if_named code (Some name) key = key_of code name key ∷ []
-
--- the built-in type, where a key has a group of it
-abbrev pub types_if : Bool → List ResolvedType
-types_if some = if some then one_level ∷ [] else []
-
-module _ (name : ℕ → Option (List ℕ)) (key : ℕ → KeyGiven) where
-  -- the keys of the codes below a number, in order
-  unfoldable pub keys_below : ℕ → List ResolvedKey
-  keys_below zero = []
-  keys_below (suc code) = keys_below code ++ key_if_named code (name code) (key code)
-
-  abbrev pub has_groups : ℕ → Bool
-  has_groups code = is_some (name code) && nat_lt 0 (group_count (key code))
-
-  -- a key of a code below a number has a group
-  unfoldable pub some_groups_below : ℕ → Bool
-  some_groups_below zero = false
-  some_groups_below (suc code) = some_groups_below code || has_groups code
-
-  -- codes are at most 4,095
-  unfoldable pub resolved_of : Resolved
-  resolved_of = record { types = types_if (some_groups_below 4096); keys = keys_below 4096 }
+-- as yet no key has a modifier map
+abbrev pub keyed_of : (ℕ → RealSet) → Codes → List (ℕ × KeyContent) → Keyed
+keyed_of real codes keys = record {
+  name = name_of codes;
+  key = λ code. given_in (key_at keys code);
+  modmap = λ code. no_mods;
+  deeds = λ code. deeds_of real no_mods (given_in (key_at keys code));
+}

@@ -1,5 +1,4 @@
+pub mod Deeds
 pub mod Keys
+pub mod Shown
 pub mod Bounds
-pub mod Given
-pub mod Meaning
-pub mod Source

@@ -1,8 +1,8 @@
-//! The keymap that a source's statements mean, in tables.
+//! The tables of a keymap's keys and of the types that they use.
 #![tactic(auto)]
 
-mod compiling;
+mod keys;
 mod resolving;
+mod using;
 
-pub use compiling::tables;
 pub use resolving::resolve;

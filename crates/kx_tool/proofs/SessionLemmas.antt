@@ -6,7 +6,7 @@ use Rattle.ks_core.specs.Entry.{Entry}
 use Rattle.kx_image.proofs.Refused.{one_content}
 use Rattle.kx_image.specs.Image.{IsImage}
 use Rattle.kx_include.specs.Source.{Handed}
-use Rattle.kx_resolve.specs.Source.{HasFault}
+use Rattle.kx_source.specs.Source.{HasFault}
 use Rattle.kx_lex.specs.declared.fault.Fault.{Fault}
 use Rattle.kx_lex.specs.declared.fault.Fault.TheVariants.{Memory}
 use Rattle.kx_tables.specs.Content.{Content}

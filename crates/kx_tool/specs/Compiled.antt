@@ -3,9 +3,9 @@ use Rattle.std.specs.Prelude.{◌≡◌, ℕ, List}
 use Rattle.ks_core.specs.Entry.{Entry}
 use Rattle.kx_image.specs.Image.{IsImage, image as image_of}
 use Rattle.kx_image.specs.declared.header.Edition.TheVariants.{Two}
-use Rattle.kx_resolve.specs.Meaning.{keymap_in}
+use Rattle.kx_source.specs.Meaning.{keymap_in}
 use Rattle.kx_include.specs.Source.{Handed}
-use Rattle.kx_resolve.specs.Source.{Means}
+use Rattle.kx_source.specs.Source.{Means}
 use Rattle.kx_tables.specs.Content.{Content}
 use Rattle.kx_tables.specs.Keymap.{keymap_of}
 use Rattle.kx_run.specs.Replies.{run}

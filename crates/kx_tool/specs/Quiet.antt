@@ -3,7 +3,7 @@ use Rattle.std.specs.Prelude.{◌≡◌, ◌≢◌, ◌≤◌, ◌⊎◌, ℕ, L
 use Rattle.ks_core.specs.Entry.{Entry}
 use Rattle.kx_include.specs.Source.{Handed}
 use Rattle.kx_lex.specs.declared.fault.Fault.TheVariants.{Memory}
-use Rattle.kx_resolve.specs.Source.{HasFault}
+use Rattle.kx_source.specs.Source.{HasFault}
 use Rattle.kx_tool.specs.declared.fault.ReplayFault.TheVariants.{Write}
 use Rattle.kx_tool.specs.declared.fault.SessionFault.{SessionFault}
 use Rattle.kx_tool.specs.declared.fault.SessionFault.TheVariants.{Compile, Replay}

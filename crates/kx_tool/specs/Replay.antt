@@ -10,7 +10,7 @@ use Rattle.kx_image.specs.declared.fault.ImageFault.{ImageFault}
 use Rattle.kx_tables.specs.Content.{Content}
 use Rattle.kx_run.specs.World.{opening}
 use Rattle.kx_include.specs.Source.{Handed}
-use Rattle.kx_resolve.specs.Source.{HasFault as HasSourceFault}
+use Rattle.kx_source.specs.Source.{HasFault as HasSourceFault}
 use Rattle.kx_lex.specs.declared.fault.Fault.TheVariants.{Memory}
 use Rattle.kx_tool.specs.Answer.{answers_from}
 use Rattle.kx_tool.specs.Compiled.{IsCompiled}

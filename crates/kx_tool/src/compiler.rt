@@ -1,7 +1,7 @@
 ghost use Rattle.std.specs.Prelude.{◌≡◌, ◌⊎◌, IfErr, IfOk};
 ghost use Rattle.kx_image.specs.Image.{IsImage, image};
 ghost use Rattle.kx_image.specs.declared.header.Edition.TheVariants.{Two};
-ghost use Rattle.kx_resolve.specs.Source.{HasFault};
+ghost use Rattle.kx_source.specs.Source.{HasFault};
 ghost use Rattle.kx_lex.specs.declared.fault.Fault.TheVariants.{Memory};
 ghost use Rattle.kx_tables.specs.Content.{Content};
 ghost use Rattle.kx_tool.specs.Compiled.{IsCompiled};
@@ -9,7 +9,7 @@ ghost use Rattle.kx_tool.specs.Compiled.{IsCompiled};
 use ks_core::{Lent, NameTable, Notes};
 use kx_include::Files;
 use kx_lex::Fault;
-use kx_resolve::tables;
+use kx_source::tables;
 use kx_tables::{Owned, Tables};
 use std::alloc::Global;
 

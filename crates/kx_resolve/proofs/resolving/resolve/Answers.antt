@@ -1,84 +1,83 @@
-use Rattle.std.proofs.Common.{ℕ, ◌+◌, ◌≡◌, ◌++◌, List, Option, length, sym, subst, ap, ◌∙◌, arith}
-use Rattle.kx_codes.specs.Codes.{name_of}
-use Rattle.kx_resolve.proofs.Fine.{resolved_fine}
-use Rattle.kx_resolve.proofs.Small.{below_few, bounds_next, types_alone_small}
-use Rattle.kx_resolve.proofs.Steps.{below_next, below_none, resolved_is}
-use Rattle.kx_resolve.proofs.Whole.{resolved_whole}
-use Rattle.kx_resolve.specs.Bounds.{BoundsBelow}
-use Rattle.kx_resolve.specs.Given.{given_in}
-use Rattle.kx_resolve.specs.Keys.{KeyGiven, key_if_named, keys_below, resolved_of, some_groups_below, types_if}
+use Rattle.std.proofs.Common.{ℕ, ◌≡◌, ◌≤◌, All, List, Option, length, sym, subst, ap, ◌∙◌, arith}
 use Rattle.kx_builder.specs.Agreement.{ShowsSame}
 use Rattle.kx_builder.specs.Fine.{IsFine}
 use Rattle.kx_builder.specs.Placed.{content_of_resolved}
 use Rattle.kx_builder.specs.Resolved.{Resolved, keymap_of_resolved}
-use Rattle.kx_builder.specs.Small.{IsSmall}
 use Rattle.kx_builder.specs.Whole.{IsWhole}
+use Rattle.kx_codes.specs.Codes.{name_of}
+use Rattle.kx_levels.specs.Selecting.{RealSet}
+use Rattle.kx_masks.specs.Sets.{real_of}
+use Rattle.kx_masks.specs.Standing.{stands_for}
+use Rattle.kx_resolve.proofs.Agree.{keymaps_agree}
+use Rattle.kx_resolve.proofs.Fine.{resolved_fine, resolved_whole}
+use Rattle.kx_resolve.proofs.Typed.{used_usable}
+use Rattle.kx_resolve.proofs.Whole.{each_holds, same_trans, tree_whole}
+use Rattle.kx_resolve.specs.Bounds.{BoundsBelow, TypeHolds}
+use Rattle.kx_typing.specs.Given.{given_in}
+use Rattle.kx_resolve.specs.Keys.{Keyed, keyed_of, resolved_of, types_used}
+use Rattle.kx_resolve.specs.Shown.{keymap_meant}
+use Rattle.kx_symbols.specs.Keys.{key_at}
 use Rattle.kx_tables.specs.Keymap.{keymap_of}
 use Rattle.kx_tables.specs.Parts.{content_of}
-use Rattle.kx_symbols.specs.Keys.{key_at}
+use Rattle.kx_types.specs.KeyTypes.{Definition}
+use Rattle.kx_types.specs.Types.{type_named}
+use Rattle.std.proofs.lemmas.List.Elements.{All-weaker}
+use Rattle.kx_resolve.proofs.Typed.{IsUsable}
 use Rattle.kx_resolve.proofs.resolving.resolve.Goals as goal
-use Rattle.kx_resolve.proofs.resolving.resolve.Goals.{After-into_parts}
+use Rattle.kx_resolve.proofs.resolving.resolve.Goals.{After-drop-used-inside-5 as AtEnd}
 
--- types, and the keys of the codes below a number
-abbrev tree : (ℕ → Option (List ℕ)) → (ℕ → KeyGiven) → ℕ → Resolved
-tree name key n = record { types = types_if (some_groups_below name key 4096); keys = keys_below name key n }
+pub with_types-requires-clause-few : goal.with_types-requires-clause-few
+with_types-requires-clause-few c = c.in_ok-used.ensures.few
 
-tree_next : (name : ℕ → Option (List ℕ)) (key : ℕ → KeyGiven) (n : ℕ) (r s : Resolved) → r ≡ tree name key n → s ≡ record r { keys = r.keys ++ key_if_named n (name n) (key n) } → s ≡ tree name key (n + 1)
-tree_next name key n r s is more =
-    more
-    ∙ (λ i. record { types = (is i).types; keys = (is i).keys ++ key_if_named n (name n) (key n) })
-    ∙ (λ i. record { types = types_if (some_groups_below name key 4096); keys = sym (below_next name key n) i })
+pub with_types-requires-clause-short : goal.with_types-requires-clause-short
+with_types-requires-clause-short c =
+    let declared = type_named c.args.types.now in
+    subst (All (λ name. length name ≤ 255)) (sym c.in_ok-used.ensures.used)
+    (All-weaker (IsUsable declared) (λ name. length name ≤ 255) (λ name usable. usable.short) (types_used declared (name_of c.args.codes.now) (λ code. given_in (key_at c.args.keys.now code))) (used_usable declared (name_of c.args.codes.now) (λ code. given_in (key_at c.args.keys.now code))))
 
-pub codes-init : goal.codes-init
-codes-init c =
-    let name : ℕ → Option (List ℕ) = name_of c.args.codes.now in
-    let key : ℕ → KeyGiven = λ code. given_in (key_at c.args.keys.now code) in (
-      c.in_ok-builder.ensures.types ∙ (λ i. record { types = types_if (some_groups_below name key 4096); keys = sym (below_none name key) i }),
-      subst IsSmall (sym c.in_ok-builder.ensures.types) (types_alone_small (some_groups_below name key 4096)),
-      λ code less of_key is. absurd (omega (arith, less)),
-    )
+pub push_keys-requires-clause-small : goal.push_keys-requires-clause-small
+push_keys-requires-clause-small c = c.in_ok-builder.ensures.small
 
-pub codes-preserved : goal.codes-preserved
-codes-preserved c =
-    let name : ℕ → Option (List ℕ) = name_of c.args.codes.now in
-    let key : ℕ → KeyGiven = λ code. given_in (key_at c.args.keys.now code) in (
-      tree_next name key c.codes.code c.codes.builder c.push_code.new.builder c.codes.invariant.0 c.in_ok-push_code.ensures.pushed,
-      c.in_ok-push_code.ensures.small,
-      bounds_next name key c.codes.code c.codes.invariant.2 c.in_ok-push_code.ensures.bounds,
-    )
+pub push_keys-requires-clause-keyless : goal.push_keys-requires-clause-keyless
+push_keys-requires-clause-keyless c = ap (λ (r : Resolved). r.keys) c.in_ok-builder.ensures.types
 
-pub push_code-requires-clause-small : goal.push_code-requires-clause-small
-push_code-requires-clause-small c = c.codes.invariant.1
+pub push_keys-requires-clause-places : goal.push_keys-requires-clause-places
+push_keys-requires-clause-places c = omega (arith, c.in_ok-used.ensures.few)
 
-pub push_code-requires-clause-few : goal.push_code-requires-clause-few
-push_code-requires-clause-few c =
-    let name : ℕ → Option (List ℕ) = name_of c.args.codes.now in
-    let key : ℕ → KeyGiven = λ code. given_in (key_at c.args.keys.now code) in
-    let count : length c.codes.builder.keys ≡ length (keys_below name key c.codes.code) = ap (λ (r : Resolved). length r.keys) c.codes.invariant.0 in
-    omega (arith, c.codes-test.true, count, below_few name key c.codes.code)
+abbrev meant : AtEnd → Resolved
+meant c = resolved_of (real_of (stands_for c.args.stands.now)) (type_named c.args.types.now) (keyed_of (real_of (stands_for c.args.stands.now)) c.args.codes.now c.args.keys.now)
 
-abbrev meant : After-into_parts → Resolved
-meant c = resolved_of (name_of c.args.codes.now) (λ code. given_in (key_at c.args.keys.now code))
+built : (c : AtEnd) → c.push_keys.new.builder ≡ meant c
+built c = tree_whole (real_of (stands_for c.args.stands.now)) (type_named c.args.types.now) c.in_ok-used.used (keyed_of (real_of (stands_for c.args.stands.now)) c.args.codes.now c.args.keys.now) c.in_ok-used.ensures.used c.in_ok-builder.builder c.push_keys.new.builder c.in_ok-builder.ensures.types c.in_ok-push_keys.ensures.pushed
 
-built : (c : After-into_parts) → c.codes.builder ≡ meant c
-built c =
-    let all : c.codes.code ≡ 4096 = omega (arith, c.codes-test.false, c.codes.auto.code-end) in
-    let name : ℕ → Option (List ℕ) = name_of c.args.codes.now in
-    let key : ℕ → KeyGiven = λ code. given_in (key_at c.args.keys.now code) in
-    let last : c.codes.builder ≡ record { types = types_if (some_groups_below name key 4096); keys = keys_below name key 4096 } = c.codes.invariant.0 ∙ (λ i. record { types = types_if (some_groups_below name key 4096); keys = keys_below name key (all i) }) in
-    last ∙ resolved_is name key
+module _ (c : AtEnd) where
+  abbrev real : ℕ → RealSet
+  real = real_of (stands_for c.args.stands.now)
+
+  abbrev declared : List ℕ → Option Definition
+  declared = type_named c.args.types.now
+
+  abbrev keyed : Keyed
+  keyed = keyed_of (real_of (stands_for c.args.stands.now)) c.args.codes.now c.args.keys.now
+
+  few : length (types_used declared keyed.name keyed.key) ≤ 4097
+  few = subst (λ (u : List (List ℕ)). length u ≤ 4097) c.in_ok-used.ensures.used c.in_ok-used.ensures.few
+
+  hold : All (TypeHolds real declared) (types_used declared keyed.name keyed.key)
+  hold = subst (All (TypeHolds real declared)) c.in_ok-used.ensures.used c.in_ok-builder.ensures.hold
+
+  bounds : BoundsBelow declared keyed 4096
+  bounds = c.in_ok-push_keys.ensures.bounds
 
 pub returns-clause-content : goal.returns-clause-content
 returns-clause-content c = c.into_parts.ensures.content ∙ ap content_of_resolved (built c)
 
 pub returns-clause-agrees : goal.returns-clause-agrees
 returns-clause-agrees c =
-    subst (λ r. ShowsSame (keymap_of (content_of c.into_parts.result)) (keymap_of_resolved r)) (built c)
-    (c.into_parts.ensures.agrees (subst IsWhole (sym (built c)) (resolved_whole (name_of c.args.codes.now) (λ code. given_in (key_at c.args.keys.now code)))))
+    same_trans (keymap_of (content_of c.into_parts.result)) (keymap_of_resolved (meant c)) (keymap_meant (real c) (declared c) (keyed c))
+    (subst (λ r. ShowsSame (keymap_of (content_of c.into_parts.result)) (keymap_of_resolved r)) (built c)
+    (c.into_parts.ensures.agrees (subst IsWhole (sym (built c)) (resolved_whole (real c) (declared c) (keyed c) (few c) (hold c) (bounds c)))))
+    (keymaps_agree (real c) (declared c) (keyed c) (each_holds (real c) (declared c) c.in_ok-used.used (keyed c) c.in_ok-used.ensures.used c.in_ok-builder.ensures.hold))
 
 pub returns-clause-sound : goal.returns-clause-sound
-returns-clause-sound c = λ one.
-    let name : ℕ → Option (List ℕ) = name_of c.args.codes.now in
-    let key : ℕ → KeyGiven = λ code. given_in (key_at c.args.keys.now code) in
-    let all : c.codes.code ≡ 4096 = omega (arith, c.codes-test.false, c.codes.auto.code-end) in
-    c.into_parts.ensures.sound (subst IsFine (sym (built c)) (resolved_fine name key one (subst (BoundsBelow name key) all c.codes.invariant.2)))
+returns-clause-sound c = λ one. c.into_parts.ensures.sound (subst IsFine (sym (built c)) (resolved_fine (real c) (declared c) (keyed c) (few c) (hold c) (bounds c) one))

@@ -1,6 +1,6 @@
 use Rattle.std.proofs.Common.{◌≡◌, ◌⊎◌, IfErr, OnOk, refl, sym, subst, ◌∙◌}
 use Rattle.kx_image.specs.Image.{IsImage}
-use Rattle.kx_resolve.specs.Source.{HasFault}
+use Rattle.kx_source.specs.Source.{HasFault}
 use Rattle.kx_lex.specs.declared.fault.Fault.TheVariants.{Memory}
 use Rattle.kx_tables.specs.Content.{Content}
 use Rattle.kx_tool.specs.Compiled.{IsCompiled}

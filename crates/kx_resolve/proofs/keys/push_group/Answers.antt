@@ -1,0 +1,48 @@
+use Rattle.std.proofs.Common.{ℕ, ◌≡◌, ◌++◌, ◌∷◌, [], fold, length, ap, sym, ◌∙◌, subst, arith}
+use Rattle.std.proofs.lemmas.List.{length-append}
+use Rattle.std.proofs.lemmas.List.Elements.{All-nil}
+use Rattle.kx_builder.specs.Pushes.{last_groups, with_cell, with_group}
+use Rattle.kx_builder.specs.Resolved.{Resolved, ResolvedGroup}
+use Rattle.kx_builder.specs.Small.{CellIsSmall, GroupIsSmall, IsSmall}
+use Rattle.kx_masks.specs.Sets.{real_of}
+use Rattle.kx_masks.specs.Standing.{stands_for}
+use Rattle.kx_resolve.proofs.Growing.{group_then_cells, groups_grow, new_cells, small_with_group}
+use Rattle.kx_resolve.specs.Bounds.{last_cells}
+use Rattle.kx_typing.specs.Given.{given}
+use Rattle.kx_resolve.specs.Deeds.{deeds_of}
+use Rattle.kx_resolve.specs.Keys.{cells_of, type_place}
+use Rattle.kx_types.specs.Types.{type_named}
+use Rattle.kx_typing.specs.GroupTypes.{type_definition}
+use Rattle.kx_resolve.proofs.keys.push_group.Goals as goal
+
+abbrev bare : ℕ → ResolvedGroup
+bare place = record { key_type = place; cells = [] }
+
+bare_small : (place : ℕ) → GroupIsSmall (bare place)
+bare_small place = record { few_cells = omega arith; small_cells = All-nil CellIsSmall }
+
+pub push_levels-requires-clause-small : goal.push_levels-requires-clause-small
+push_levels-requires-clause-small c =
+    subst IsSmall (sym c.in_ok-push_bare_group.ensures.pushed) (small_with_group c.args.builder.now (bare c.type_place.result) c.requires.small (bare_small c.type_place.result) c.requires.few)
+
+pub push_levels-requires-clause-some : goal.push_levels-requires-clause-some
+push_levels-requires-clause-some c =
+    let grown : length (last_groups c.push_bare_group.new.builder.keys) ≡ length (last_groups c.args.builder.now.keys ++ bare c.type_place.result ∷ []) = ap (λ (r : Resolved). length (last_groups r.keys)) c.in_ok-push_bare_group.ensures.pushed ∙ ap length (groups_grow (bare c.type_place.result) c.args.builder.now.keys c.requires.some) in
+    omega (arith, grown, length-append (last_groups c.args.builder.now.keys) (bare c.type_place.result ∷ []))
+
+pub push_levels-requires-clause-bare : goal.push_levels-requires-clause-bare
+push_levels-requires-clause-bare c =
+    ap (λ (r : Resolved). last_cells r.keys) c.in_ok-push_bare_group.ensures.pushed ∙ new_cells (bare c.type_place.result) c.args.builder.now.keys c.requires.some
+
+pub returns-clause-pushed : goal.returns-clause-pushed
+returns-clause-pushed c =
+    let key = given c.args.key.key.now in
+    let deeds = deeds_of (real_of (stands_for c.args.key.stands.now)) c.args.key.modmap (given c.args.key.key.now) in
+    let declared = type_named c.args.types.now in
+    let used = c.args.used.now in
+    let place = c.type_place.ensures ∙ ap (type_place used) c.group_type_name-name.ensures in
+    let levels = c.levels_of.ensures.value ∙ ap (λ n. (type_definition declared n).levels) c.group_type_name-name.ensures in
+    c.in_ok-push_levels.ensures.pushed
+    ∙ ap (λ r. fold with_cell r (cells_of deeds key c.content_group.result c.levels_of.result)) c.in_ok-push_bare_group.ensures.pushed
+    ∙ group_then_cells c.args.builder.now (bare c.type_place.result) (cells_of deeds key c.content_group.result c.levels_of.result)
+    ∙ (λ i. with_group c.args.builder.now (record { key_type = place i; cells = cells_of deeds key (c.content_group.ensures i) (levels i) }))

@@ -1,0 +1,14 @@
+use Rattle.std.proofs.Common.{◌≡◌}
+use Rattle.kx_masks.specs.Sets.{real_of}
+use Rattle.kx_masks.specs.Standing.{stands_for}
+use Rattle.kx_resolve.specs.Bounds.{BoundsBelow}
+use Rattle.kx_resolve.specs.Keys.{keyed_of, keys_below}
+use Rattle.kx_builder.specs.Small.{IsSmall}
+use Rattle.kx_types.specs.Types.{type_named}
+use Rattle.kx_resolve.proofs.keys.push_keys.Given as goal
+
+abbrev pub invariant-codes : goal.invariant-codes
+invariant-codes l =
+    (l.builder ≡ record l.fn.builder { keys = keys_below (type_named l.types) l.used (keyed_of (real_of (stands_for l.stands)) l.codes l.keys) l.code })
+    × IsSmall l.builder
+    × BoundsBelow (type_named l.types) (keyed_of (real_of (stands_for l.stands)) l.codes l.keys) l.code

@@ -1,0 +1,57 @@
+-- The keymap that keys and types mean: for a code, an effective group and effective modifiers what the key gives (X
+-- Keyboard Extension, keyboard mapping: key types and groups).
+use Rattle.std.specs.Prelude.{ℕ, zero, suc, pos, ◌-◌, ◌==◌, nat_lt, List, [], max, Option, None, Some, is_some, unwrap_or, if◌then◌else◌}
+use Rattle.kx_levels.specs.Rows.{set_mask}
+use Rattle.kx_levels.specs.Selecting.{RealSet, consumed, level_selected}
+use Rattle.kx_masks.specs.Sets.{has, real_part}
+use Rattle.kx_typing.specs.Given.{KeyGiven}
+use Rattle.kx_typing.specs.GroupTypes.{content_group, group_count, group_type_name, type_definition}
+use Rattle.kx_tables.specs.Keymap.{Keymap, Shown, nothing_shown}
+use Rattle.kx_tables.specs.Range.{in_range}
+use Rattle.kx_resolve.specs.Deeds.{Deeds}
+use Rattle.kx_resolve.specs.Keys.{Keyed}
+use Rattle.kx_types.specs.KeyTypes.{Definition}
+
+-- `real` is what a set of modifiers stands for, `declared` are the types by name
+module _ (real : ℕ → RealSet) (declared : List ℕ → Option Definition) where
+  -- what a key gives under a type: the keysyms of the level that the effective modifiers select
+  abbrev pub shown_by : Definition → Deeds → KeyGiven → ℕ → RealSet → Shown
+  shown_by type deeds key group effective = record {
+    syms = unwrap_or (key.keysyms group (level_selected real type effective - 1)) [];
+    consumed = set_mask (consumed real type effective);
+    action = deeds group (level_selected real type effective - 1);
+  }
+
+  abbrev pub shown_in : Deeds → KeyGiven → ℕ → ℕ → Shown
+  shown_in deeds key group mods = shown_by (type_definition declared (group_type_name declared key group)) deeds key (content_group key group) (has (real_part mods))
+
+  -- a key without groups gives nothing
+  abbrev pub shown_for : Deeds → KeyGiven → ℕ → ℕ → Shown
+  shown_for deeds key group mods = if group_count key == 0 then nothing_shown else shown_in deeds key (in_range (pos group) (group_count key) key.range) mods
+
+-- keycodes are at most 4,095
+abbrev pub name_within : (ℕ → Option (List ℕ)) → ℕ → Option (List ℕ)
+name_within name code = if nat_lt code 4096 then name code else None
+
+module _ (name : ℕ → Option (List ℕ)) (key : ℕ → KeyGiven) where
+  abbrev pub groups_if : Option (List ℕ) → ℕ → ℕ
+  groups_if None code = 0
+  groups_if (Some of_key) code = group_count (key code)
+
+  -- the greatest number of groups of a key of a code below a number
+  unfoldable pub most_groups_below : ℕ → ℕ
+  most_groups_below zero = 0
+  most_groups_below (suc code) = max (most_groups_below code) (groups_if (name code) code)
+
+module _ (real : ℕ → RealSet) (declared : List ℕ → Option Definition) (keyed : Keyed) where
+  abbrev pub shown_if : Option (List ℕ) → ℕ → ℕ → ℕ → Shown
+  shown_if None code group mods = nothing_shown
+  shown_if (Some of_key) code group mods = shown_for real declared (keyed.deeds code) (keyed.key code) group mods
+
+  abbrev pub keymap_meant : Keymap
+  keymap_meant = record {
+    groups = max 1 (most_groups_below keyed.name keyed.key 4096);
+    known = λ code. is_some (name_within keyed.name code);
+    shown = λ code group mods. shown_if (name_within keyed.name code) code group mods;
+    lamps = [];
+  }

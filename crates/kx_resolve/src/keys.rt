@@ -1,0 +1,284 @@
+//! Keys, pushed group by group and level by level.
+ghost use Rattle.std.specs.Prelude.{◌≡◌, ◌≤◌, ◌<◌, ◌++◌, ◌^◌, ℕ, IfErr, OnOk, List, [], Some, fold, length};
+ghost use Rattle.kx_basics.specs.declared.limits.TheConstants.{CODES, MOST_GROUPS, MOST_LEVELS, MOST_NAME_BYTES};
+ghost use Rattle.kx_builder.specs.Fine.{CellIsFine};
+ghost use Rattle.kx_builder.specs.Pushes.{last_groups, with_cell, with_group, with_key};
+ghost use Rattle.kx_builder.specs.Small.{IsSmall};
+ghost use Rattle.kx_builder.specs.declared.fault.BuildFault.TheVariants as builds;
+ghost use Rattle.kx_codes.specs.Codes.{name_of};
+ghost use Rattle.kx_lex.specs.declared.fault.Fault.TheVariants.{Memory};
+ghost use Rattle.kx_masks.specs.Sets.{real_of};
+ghost use Rattle.kx_masks.specs.Standing.{stands_for};
+ghost use Rattle.kx_resolve.specs.Bounds.{BoundsBelow, CellsAreFine, GroupsAreFine, KeepsBounds, last_cells, levels_of_group};
+ghost use Rattle.kx_resolve.specs.Deeds.{deeds_of};
+ghost use Rattle.kx_resolve.specs.Keys.{cell_of, cells_of, group_of, key_if_named, key_of, keyed_of, keys_below, no_mods, type_place};
+ghost use Rattle.kx_symbols.specs.Keys.{key_at};
+ghost use Rattle.kx_tables.specs.Sound.{ActionHolds, RangeHolds};
+ghost use Rattle.kx_typing.specs.Given.{given, given_in};
+ghost use Rattle.kx_typing.specs.GroupTypes.{content_group, group_count};
+ghost use Rattle.kx_types.specs.Types.{type_named};
+
+use ks_core::{Note, Notes};
+use kx_actions::real_action;
+use kx_basics::CODES;
+use kx_builder::{BuildFault, Builder};
+use kx_codes::Codes;
+use kx_lex::Fault;
+use kx_masks::Names;
+use kx_mods::Mods;
+use kx_symbols::{KeyRecord, Keys};
+use kx_tables::{Action, Range};
+use kx_types::Types;
+use kx_typing::{
+    action_at, content_group, falls_back, group_count, group_type_name, keysyms_at, levels_of,
+    range,
+};
+
+/// A key with what it is read against.
+#[derive(Clone, Copy)]
+struct KeyMeaning<'a> {
+    key: &'a KeyRecord,
+    /// The real modifiers that it is mapped to.
+    modmap: Mods,
+    /// What each virtual modifier stands for, by its number.
+    stands: &'a [Mods],
+}
+
+impl KeyMeaning<'_> {
+    /// What a level of a group does, both counted from 0.
+    #[tactic(auto, using(crate::proofs::Meant::becomes_meant))]
+    fn action(self, group: usize, level: usize) -> Action
+        ensures value { result ≡ deeds_of (real_of (stands_for self.entry.stands.now)) self.entry.modmap (given self.entry.key.now) group level }
+        ensures holds { ActionHolds result }
+    {
+        match action_at(self.key, group, level) {
+            None => Action::None,
+            Some(action) => real_action(action, self.modmap, self.stands),
+        }
+    }
+}
+
+/// The refusal of what has its place and whose numbers fit.
+pub(crate) fn refused(fault: BuildFault) -> Fault
+    requires { fault ≡ builds.Memory }
+    ensures { result ≡ Memory }
+{
+    match fault {
+        BuildFault::Memory => Fault::Memory,
+        BuildFault::TooMany | BuildFault::Misplaced => unreachable!(),
+    }
+}
+
+/// Pushes a level of a group.
+#[tactic(auto, using(crate::proofs::Small::cell_refused))]
+fn push_level(
+    builder: &mut Builder,
+    key: KeyMeaning,
+    group: usize,
+    level: usize,
+) -> Result<(), Fault>
+    requires small { IsSmall builder.old }
+    requires some { 0 < length (last_groups builder.old.keys) }
+    ensures pushed { OnOk result (builder.new ≡ with_cell builder.old (cell_of (deeds_of (real_of (stands_for key.entry.stands.now)) key.entry.modmap (given key.entry.key.now)) (given key.entry.key.now) group level)) }
+    ensures fine { CellIsFine (cell_of (deeds_of (real_of (stands_for key.entry.stands.now)) key.entry.modmap (given key.entry.key.now)) (given key.entry.key.now) group level) }
+    ensures err { IfErr result (λ e. e ≡ Memory) }
+{
+    builder
+        .push_cell(keysyms_at(key.key, group, level), key.action(group, level))
+        .map_err(refused)
+}
+
+/// Pushes the levels of a group that has none yet.
+#[tactic(auto, using(crate::proofs::Steps::cells_none, crate::proofs::Steps::cells_next))]
+fn push_levels(
+    builder: &mut Builder,
+    key: KeyMeaning,
+    group: usize,
+    levels: usize,
+) -> Result<(), Fault>
+    requires small { IsSmall builder.old }
+    requires some { 0 < length (last_groups builder.old.keys) }
+    requires bare { last_cells builder.old.keys ≡ [] }
+    requires few { levels ≤ MOST_LEVELS }
+    ensures pushed { OnOk result (builder.new ≡ fold with_cell builder.old (cells_of (deeds_of (real_of (stands_for key.entry.stands.now)) key.entry.modmap (given key.entry.key.now)) (given key.entry.key.now) group levels)) }
+    ensures fine { OnOk result (CellsAreFine (deeds_of (real_of (stands_for key.entry.stands.now)) key.entry.modmap (given key.entry.key.now)) (given key.entry.key.now) group levels) }
+    ensures small { OnOk result (IsSmall builder.new) }
+    ensures err { IfErr result (λ e. e ≡ Memory) }
+{
+    'levels: for level in 0..levels {
+        push_level(builder, key, group, level)?;
+    }
+    Ok(())
+}
+
+/// Pushes a group without its levels.
+#[tactic(auto, using(crate::proofs::Small::group_refused))]
+fn push_bare_group(builder: &mut Builder, key_type: u16) -> Result<(), Fault>
+    requires small { IsSmall builder.old }
+    requires some { 0 < length builder.old.keys }
+    requires few { length (last_groups builder.old.keys) < MOST_GROUPS }
+    ensures pushed { OnOk result (builder.new ≡ with_group builder.old (record { key_type = key_type; cells = [] })) }
+    ensures err { IfErr result (λ e. e ≡ Memory) }
+{
+    builder.push_group(key_type).map_err(refused)
+}
+
+/// The place of a type among those that are used.
+fn type_place(used: &Names, name: &[u8]) -> u16
+    requires { length used.now < 2 ^ 16 }
+    ensures { result ≡ type_place used.now name.now }
+{
+    match used.number_of(name) {
+        Some(place) => place as u16,
+        None => 0,
+    }
+}
+
+/// Pushes a group with its levels.
+fn push_group(
+    builder: &mut Builder,
+    types: &Types,
+    used: &Names,
+    key: KeyMeaning,
+    group: usize,
+) -> Result<(), Fault>
+    requires small { IsSmall builder.old }
+    requires some { 0 < length builder.old.keys }
+    requires few { length (last_groups builder.old.keys) < MOST_GROUPS }
+    requires places { length used.now < 2 ^ 16 }
+    ensures pushed { OnOk result (builder.new ≡ with_group builder.old (group_of (type_named types.now) used.now (deeds_of (real_of (stands_for key.entry.stands.now)) key.entry.modmap (given key.entry.key.now)) (given key.entry.key.now) group)) }
+    ensures fine { OnOk result (CellsAreFine (deeds_of (real_of (stands_for key.entry.stands.now)) key.entry.modmap (given key.entry.key.now)) (given key.entry.key.now) (content_group (given key.entry.key.now) group) (levels_of_group (type_named types.now) (given key.entry.key.now) group)) }
+    ensures small { OnOk result (IsSmall builder.new) }
+    ensures err { IfErr result (λ e. e ≡ Memory) }
+{
+    let name = group_type_name(types, key.key, group);
+    push_bare_group(builder, type_place(used, name))?;
+    push_levels(
+        builder,
+        key,
+        content_group(key.key, group),
+        levels_of(types, name),
+    )?;
+    Ok(())
+}
+
+/// Pushes a key without its groups.
+#[tactic(auto, using(crate::proofs::Small::key_refused))]
+fn push_bare_key(
+    builder: &mut Builder,
+    code: u16,
+    name: &[u8],
+    modmap: Mods,
+    range: Range,
+) -> Result<(), Fault>
+    requires small { IsSmall builder.old }
+    requires short { length name.now ≤ MOST_NAME_BYTES }
+    ensures pushed { OnOk result (builder.new ≡ with_key builder.old (record { code = code; name = name.now; modmap = modmap; range = range; groups = [] })) }
+    ensures err { IfErr result (λ e. e ≡ Memory) }
+{
+    builder.push_key(code, name, modmap, range).map_err(refused)
+}
+
+/// Notes a group that has another type than it wants, or has keysyms or an action behind the levels of its type.
+fn note_group(types: &Types, key: &KeyRecord, group: usize, notes: &mut Notes) {
+    let content = content_group(key, group);
+    if falls_back(types, key, content) {
+        notes.count(Note::OtherType);
+    }
+    let levels = levels_of(types, group_type_name(types, key, group));
+    let lost = |level| key.keysyms(content, level).is_some()
+        || key.action(content, level).is_some();
+    if (levels..key.width(content)).any(lost) {
+        notes.count(Note::LostLevels);
+    }
+}
+
+/// Pushes a key with its groups.
+fn push_key(
+    builder: &mut Builder,
+    types: &Types,
+    used: &Names,
+    code: u16,
+    name: &[u8],
+    key: KeyMeaning,
+    notes: &mut Notes,
+) -> Result<(), Fault>
+    requires small { IsSmall builder.old }
+    requires few { length builder.old.keys < CODES }
+    requires short { length name.now ≤ MOST_NAME_BYTES }
+    requires places { length used.now < 2 ^ 16 }
+    ensures pushed { OnOk result (builder.new ≡ with_key builder.old (key_of (type_named types.now) used.now (deeds_of (real_of (stands_for key.entry.stands.now)) key.entry.modmap (given key.entry.key.now)) (given key.entry.key.now) code name.now key.entry.modmap)) }
+    ensures fine { OnOk result (GroupsAreFine (type_named types.now) (deeds_of (real_of (stands_for key.entry.stands.now)) key.entry.modmap (given key.entry.key.now)) (given key.entry.key.now) (group_count (given key.entry.key.now))) }
+    ensures range { RangeHolds (given key.entry.key.now).range }
+    ensures small { OnOk result (IsSmall builder.new) }
+    ensures err { IfErr result (λ e. e ≡ Memory) }
+{
+    push_bare_key(builder, code, name, key.modmap, range(key.key))?;
+    'groups: for group in 0..group_count(key.key) {
+        note_group(types, key.key, group, notes);
+        push_group(builder, types, used, key, group)?;
+    }
+    Ok(())
+}
+
+/// Pushes the key of a code, where the code has a name.
+#[tactic(auto, using(crate::proofs::Steps::none_groups))]
+fn push_code(
+    builder: &mut Builder,
+    codes: &Codes,
+    types: &Types,
+    used: &Names,
+    keys: &Keys,
+    stands: &[Mods],
+    code: u16,
+    notes: &mut Notes,
+) -> Result<(), Fault>
+    requires small { IsSmall builder.old }
+    requires few { length builder.old.keys < CODES }
+    requires places { length used.now < 2 ^ 16 }
+    ensures pushed { OnOk result (builder.new ≡ record builder.old { keys = builder.old.keys ++ key_if_named (type_named types.now) used.now (deeds_of (real_of (stands_for stands.now)) no_mods (given_in (key_at keys.now code))) (given_in (key_at keys.now code)) code (name_of codes.now code) no_mods }) }
+    ensures bounds { OnOk result ((name : List ℕ) → name_of codes.now code ≡ Some name → KeepsBounds (type_named types.now) name no_mods (deeds_of (real_of (stands_for stands.now)) no_mods (given_in (key_at keys.now code))) (given_in (key_at keys.now code))) }
+    ensures small { OnOk result (IsSmall builder.new) }
+    ensures err { IfErr result (λ e. e ≡ Memory) }
+{
+    let modmap = Mods::NONE;
+    match (codes.name_of(code), keys.key(code)) {
+        (Some(name), Some(key)) => {
+            let key = KeyMeaning {
+                key,
+                modmap,
+                stands,
+            };
+            push_key(builder, types, used, code, name, key, notes)?;
+            Ok(())
+        }
+        (Some(name), None) => {
+            push_bare_key(builder, code, name, modmap, Range::Wrap)?;
+            Ok(())
+        }
+        (None, _) => Ok(()),
+    }
+}
+
+/// Pushes the keys that keycodes name, in the order of their codes.
+pub(crate) fn push_keys(
+    builder: &mut Builder,
+    codes: &Codes,
+    types: &Types,
+    used: &Names,
+    keys: &Keys,
+    stands: &[Mods],
+    notes: &mut Notes,
+) -> Result<(), Fault>
+    requires small { IsSmall builder.old }
+    requires keyless { builder.old.keys ≡ [] }
+    requires places { length used.now < 2 ^ 16 }
+    ensures pushed { OnOk result (builder.new ≡ record builder.old { keys = keys_below (type_named types.now) used.now (keyed_of (real_of (stands_for stands.now)) codes.now keys.now) CODES }) }
+    ensures bounds { OnOk result (BoundsBelow (type_named types.now) (keyed_of (real_of (stands_for stands.now)) codes.now keys.now) CODES) }
+    ensures err { IfErr result (λ e. e ≡ Memory) }
+{
+    'codes: for code in 0..CODES {
+        push_code(builder, codes, types, used, keys, stands, code, notes)?;
+    }
+    Ok(())
+}

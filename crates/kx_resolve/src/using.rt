@@ -1,0 +1,168 @@
+//! The key types that keys use.
+ghost use Rattle.std.specs.Prelude.{◌≡◌, ◌≤◌, ◌<◌, ◌+◌, ℕ, All, IfErr, IfOk, OnOk, List, [], Some, length, map, slice_get};
+ghost use Rattle.kx_basics.specs.declared.limits.TheConstants.{MOST_NAME_BYTES};
+ghost use Rattle.kx_builder.specs.Fine.{TypeIsFine};
+ghost use Rattle.kx_builder.specs.Pushes.{with_type};
+ghost use Rattle.kx_builder.specs.Small.{IsSmall};
+ghost use Rattle.kx_codes.specs.Codes.{name_of};
+ghost use Rattle.kx_levels.specs.Rows.{RowsShow, entry_rows, mods_of};
+ghost use Rattle.kx_lex.specs.declared.fault.Fault.TheVariants.{Memory};
+ghost use Rattle.kx_masks.specs.Counted.{with_names};
+ghost use Rattle.kx_masks.specs.Sets.{real_of};
+ghost use Rattle.kx_masks.specs.Standing.{stands_for};
+ghost use Rattle.kx_resolve.specs.Bounds.{TypeHolds};
+ghost use Rattle.kx_typing.specs.Given.{given, given_in};
+ghost use Rattle.kx_typing.specs.GroupTypes.{group_count};
+ghost use Rattle.kx_resolve.specs.Keys.{no_mods, type_names, type_names_if, type_of, type_with, types_used};
+ghost use Rattle.kx_symbols.specs.Keys.{key_at};
+ghost use Rattle.kx_types.specs.Types.{type_named};
+ghost use Rattle.kx_types.specs.declared.limits.TheConstants.{MOST_TYPES};
+
+use crate::keys::refused;
+use kx_basics::CODES;
+use kx_builder::Builder;
+use kx_codes::Codes;
+use kx_levels::TypeRows;
+use kx_lex::Fault;
+use kx_masks::Names;
+use kx_mods::Mods;
+use kx_symbols::{KeyRecord, Keys};
+use kx_types::{KeyType, Types};
+use kx_typing::{group_count, group_type_name};
+use std::alloc::Global;
+
+/// Takes up the types of a key's groups.
+fn use_key(alloc: Global, types: &Types, key: &KeyRecord, used: &mut Names) -> Result<(), Fault>
+    ensures used { OnOk result (used.new ≡ with_names used.old (type_names (type_named types.now) (given key.now) (group_count (given key.now)))) }
+    ensures err { IfErr result (λ e. e ≡ Memory) }
+{
+    'groups: for group in 0..group_count(key) {
+        used.add(alloc, group_type_name(types, key, group))?;
+    }
+    Ok(())
+}
+
+/// Takes up the types of the key of a code, where the code has a name.
+fn use_code(
+    alloc: Global,
+    codes: &Codes,
+    types: &Types,
+    keys: &Keys,
+    code: u16,
+    used: &mut Names,
+) -> Result<(), Fault>
+    ensures used { OnOk result (used.new ≡ with_names used.old (type_names_if (type_named types.now) (name_of codes.now code) (given_in (key_at keys.now code)))) }
+    ensures err { IfErr result (λ e. e ≡ Memory) }
+{
+    match (codes.name_of(code), keys.key(code)) {
+        (Some(_), Some(key)) => use_key(alloc, types, key, used),
+        (Some(_), None) => Ok(()),
+        (None, _) => Ok(()),
+    }
+}
+
+/// The names of the types that keys use, in the order of first use.
+pub(crate) fn types_used(
+    alloc: Global,
+    codes: &Codes,
+    types: &Types,
+    keys: &Keys,
+) -> Result<Names, Fault>
+    ensures used { IfOk result (λ used. used ≡ types_used (type_named types.now) (name_of codes.now) (λ c. given_in (key_at keys.now c))) }
+    ensures few { IfOk result (λ used. length used ≤ MOST_TYPES + 1) }
+    ensures err { IfErr result (λ e. e ≡ Memory) }
+{
+    let mut used = Names::new(alloc);
+    'codes: for code in 0..CODES {
+        use_code(alloc, codes, types, keys, code, &mut used)?;
+    }
+    prove!(used.len() <= types.len() + 1);
+    Ok(used)
+}
+
+/// Pushes a type under a name.
+#[tactic(auto, using(crate::proofs::Small::type_refused))]
+fn push_with(
+    alloc: Global,
+    builder: &mut Builder,
+    name: &[u8],
+    key_type: &KeyType,
+    stands: &[Mods],
+) -> Result<(), Fault>
+    requires small { IsSmall builder.old }
+    requires keyless { builder.old.keys ≡ [] }
+    requires short { length name.now ≤ MOST_NAME_BYTES }
+    ensures pushed { OnOk result (builder.new ≡ with_type builder.old (type_with (real_of (stands_for stands.now)) name.now key_type.now)) }
+    ensures shows { OnOk result (RowsShow (real_of (stands_for stands.now)) key_type.now (mods_of (real_of (stands_for stands.now) key_type.now.modifiers)) (entry_rows (real_of (stands_for stands.now)) key_type.now.entries)) }
+    ensures fine { OnOk result (TypeIsFine (type_with (real_of (stands_for stands.now)) name.now key_type.now)) }
+    ensures err { IfErr result (λ e. e ≡ Memory) }
+{
+    let rows = TypeRows::of(alloc, key_type, stands)?;
+    builder
+        .push_type(name, rows.mods, key_type.levels(), rows.entries.as_slice())
+        .map_err(refused)
+}
+
+/// Pushes the type of a name.
+fn push_type(
+    alloc: Global,
+    builder: &mut Builder,
+    types: &Types,
+    stands: &[Mods],
+    name: &[u8],
+) -> Result<(), Fault>
+    requires small { IsSmall builder.old }
+    requires keyless { builder.old.keys ≡ [] }
+    requires short { length name.now ≤ MOST_NAME_BYTES }
+    ensures pushed { OnOk result (builder.new ≡ with_type builder.old (type_of (real_of (stands_for stands.now)) (type_named types.now) name.now)) }
+    ensures holds { OnOk result (TypeHolds (real_of (stands_for stands.now)) (type_named types.now) name.now) }
+    ensures err { IfErr result (λ e. e ≡ Memory) }
+{
+    match types.named(name) {
+        None => push_with(alloc, builder, name, &KeyType::one_level(alloc), stands),
+        Some(key_type) => push_with(alloc, builder, name, key_type, stands),
+    }
+}
+
+/// Pushes the type of a name by its number.
+fn push_numbered(
+    alloc: Global,
+    builder: &mut Builder,
+    types: &Types,
+    stands: &[Mods],
+    used: &Names,
+    number: usize,
+) -> Result<(), Fault>
+    requires small { IsSmall builder.old }
+    requires keyless { builder.old.keys ≡ [] }
+    requires short { All (λ name. length name ≤ MOST_NAME_BYTES) used.now }
+    ensures pushed { OnOk result ((name : List ℕ) → slice_get used.now number ≡ Some name → builder.new ≡ with_type builder.old (type_of (real_of (stands_for stands.now)) (type_named types.now) name)) }
+    ensures holds { OnOk result ((name : List ℕ) → slice_get used.now number ≡ Some name → TypeHolds (real_of (stands_for stands.now)) (type_named types.now) name) }
+    ensures err { IfErr result (λ e. e ≡ Memory) }
+{
+    match used.name(number) {
+        Some(name) => push_type(alloc, builder, types, stands, name),
+        None => Ok(()),
+    }
+}
+
+/// A builder with the types of these names.
+pub(crate) fn with_types(
+    alloc: Global,
+    types: &Types,
+    stands: &[Mods],
+    used: &Names,
+) -> Result<Builder, Fault>
+    requires few { length used.now ≤ MOST_TYPES + 1 }
+    requires short { All (λ name. length name ≤ MOST_NAME_BYTES) used.now }
+    ensures types { IfOk result (λ builder. builder ≡ record { types = map (type_of (real_of (stands_for stands.now)) (type_named types.now)) used.now; keys = [] }) }
+    ensures hold { OnOk result (All (TypeHolds (real_of (stands_for stands.now)) (type_named types.now)) used.now) }
+    ensures small { IfOk result (λ builder. IsSmall builder) }
+    ensures err { IfErr result (λ e. e ≡ Memory) }
+{
+    let mut builder = Builder::new(alloc);
+    'names: for number in 0..used.len() {
+        push_numbered(alloc, &mut builder, types, stands, used, number)?;
+    }
+    Ok(builder)
+}

@@ -1,0 +1,4 @@
+mod Joining
+mod Keymaps
+mod Names
+mod Refusals

@@ -1,0 +1,78 @@
+-- A refusal of one part of a source is one of the source.
+use Rattle.std.proofs.Common.{ℕ, ◌≡◌, ◌⊎◌, List, [], ◌∷◌, ◌++◌, Contains, Result, Ok, Err, IfErr, nat_eq, refl, sym, subst, ap, ◌∙◌, inl, inr}
+use Rattle.std.proofs.lemmas.List.Elements.{All-cons, All-contains, All-nil, Contains-append_cases, Contains-append_left, Contains-append_right}
+use Rattle.std.specs.Result.{IsErrAnd}
+use Rattle.ks_core.specs.Entry.{Entry}
+use Rattle.kx_codes.specs.CodeFaults.{faults_of as keycodes_faults}
+use Rattle.kx_include.specs.Expansion.{body_of}
+use Rattle.kx_include.specs.Library.{Library, sections_in}
+use Rattle.kx_lex.specs.declared.fault.Fault.{Fault}
+use Rattle.kx_lex.specs.declared.fault.Fault.TheVariants.{Memory}
+use Rattle.kx_masks.specs.Declarations.{modifier_faults}
+use Rattle.kx_merge.specs.Bodies.{faults_of}
+use Rattle.kx_parse.specs.declared.tree.Kind.TheVariants.{Keycodes, Symbols, Types}
+use Rattle.kx_source.specs.Meaning.{codes_in, modifier_bodies_of, modifiers_of}
+use Rattle.kx_source.specs.Source.{HasFaultIn, statement_faults, unread}
+use Rattle.kx_symbols.specs.Keys.{key_moves, key_rules}
+use Rattle.kx_types.specs.Types.{types_faults}
+
+-- an Err that is answered for another is the same
+pub passed : {X : Type 0} (r : Result X Fault) (P : Fault → Type 0) (e : Fault) → IsErrAnd r (λ y. y ≡ e) → P e → IfErr r P
+passed (Ok x) P e is has = absurd is
+passed (Err y) P e is has = subst P (sym is) has
+
+-- want of memory, or one of some faults
+among : (fs : List Fault) (e : Fault) → Contains (Memory ∷ fs) e → (e ≡ Memory) ⊎ Contains fs e
+among fs e has =
+    elim (Contains-append_cases (Memory ∷ []) fs e has) [
+      | inl memory ↦ inl (All-contains (λ (x : Fault). x ≡ Memory) (Memory ∷ []) e (All-cons (λ (x : Fault). x ≡ Memory) Memory [] refl (All-nil (λ (x : Fault). x ≡ Memory))) memory)
+      | inr fault ↦ inr fault
+    ]
+
+module _ (names : List Entry) (library : Library) where
+  abbrev pub of_sections : List Fault
+  of_sections = unread (sections_in library 0)
+
+  abbrev pub of_modifiers : List Fault
+  of_modifiers = modifier_faults (modifier_bodies_of library)
+
+  abbrev pub of_keycodes : List Fault
+  of_keycodes = keycodes_faults (body_of library Keycodes)
+
+  abbrev pub of_types : List Fault
+  of_types = types_faults (modifiers_of library) (body_of library Types)
+
+  abbrev pub of_keys : List Fault
+  of_keys = faults_of nat_eq (key_rules (codes_in library) names (modifiers_of library)) key_moves (body_of library Symbols)
+
+  -- a fault of one part is one of the source
+  has_fault : (fs : List Fault) (e : Fault) → (Contains fs e → Contains (statement_faults names library) e) → Contains (Memory ∷ fs) e → (e ≡ Memory) ⊎ HasFaultIn names library e
+  has_fault fs e part has =
+      elim (among fs e has) [
+        | inl memory ↦ inl memory
+        | inr fault ↦ inr (inr (part fault))
+      ]
+
+  behind_sections : (fs : List Fault) (e : Fault) → Contains fs e → Contains (of_sections ++ fs) e
+  behind_sections fs e has = Contains-append_right of_sections fs e has
+
+  behind_modifiers : (fs : List Fault) (e : Fault) → Contains fs e → Contains (of_sections ++ (of_modifiers ++ fs)) e
+  behind_modifiers fs e has = behind_sections (of_modifiers ++ fs) e (Contains-append_right of_modifiers fs e has)
+
+  behind_keycodes : (fs : List Fault) (e : Fault) → Contains fs e → Contains (of_sections ++ (of_modifiers ++ (of_keycodes ++ fs))) e
+  behind_keycodes fs e has = behind_modifiers (of_keycodes ++ fs) e (Contains-append_right of_keycodes fs e has)
+
+  pub modifiers_refused : (e : Fault) → Contains (Memory ∷ of_modifiers) e → (e ≡ Memory) ⊎ HasFaultIn names library e
+  modifiers_refused e has = has_fault of_modifiers e (λ fault. behind_sections (of_modifiers ++ (of_keycodes ++ (of_types ++ of_keys))) e (Contains-append_left of_modifiers (of_keycodes ++ (of_types ++ of_keys)) e fault)) has
+
+  pub keycodes_refused : (e : Fault) → Contains (Memory ∷ of_keycodes) e → (e ≡ Memory) ⊎ HasFaultIn names library e
+  keycodes_refused e has = has_fault of_keycodes e (λ fault. behind_modifiers (of_keycodes ++ (of_types ++ of_keys)) e (Contains-append_left of_keycodes (of_types ++ of_keys) e fault)) has
+
+  pub types_refused : (e : Fault) → Contains (Memory ∷ of_types) e → (e ≡ Memory) ⊎ HasFaultIn names library e
+  types_refused e has = has_fault of_types e (λ fault. behind_keycodes (of_types ++ of_keys) e (Contains-append_left of_types of_keys e fault)) has
+
+  pub keys_refused : (e : Fault) → Contains (Memory ∷ of_keys) e → (e ≡ Memory) ⊎ HasFaultIn names library e
+  keys_refused e has = has_fault of_keys e (λ fault. behind_keycodes (of_types ++ of_keys) e (Contains-append_right of_types of_keys e fault)) has
+
+  pub all_faultless : of_sections ≡ [] → of_modifiers ≡ [] → of_keycodes ≡ [] → of_types ≡ [] → of_keys ≡ [] → statement_faults names library ≡ []
+  all_faultless sections modifiers keycodes types keys = λ i. sections i ++ (modifiers i ++ (keycodes i ++ (types i ++ keys i)))
