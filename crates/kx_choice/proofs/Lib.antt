@@ -1,0 +1,3 @@
+mod Firsts
+mod Parting
+pub mod Same

@@ -1,0 +1,4 @@
+pub mod Triggers
+pub mod Interpretations
+pub mod Choosing
+pub mod Indexed

@@ -1,0 +1,129 @@
+//! The interpretations of a keymap, and which one is chosen.
+ghost use Rattle.std.specs.Prelude.{◌≡◌, ◌++◌, ◌∷◌, [], ℕ, IfErr, List, OnOk, nat_eq, if◌then◌else◌};
+ghost use Rattle.indexmap.specs.IndexMap.{get};
+ghost use Rattle.kx_lex.specs.declared.fault.Fault.TheVariants.{Memory};
+ghost use Rattle.kx_mods.specs.Mods.{mask};
+ghost use Rattle.kx_choice.specs.Choosing.{chosen};
+ghost use Rattle.kx_choice.specs.Indexed.{IsIndexed, bucket_in};
+ghost use Rattle.kx_choice.specs.Interpretations.{Interpretation as InterpretationValue};
+
+use crate::choice::least_allowed;
+use crate::interpretation::Interpretation;
+use crate::trigger::WantedKeysym;
+use indexmap::IndexMap;
+use kx_lex::Fault;
+use kx_mods::Mods;
+use std::alloc::Global;
+use std::marker::Model;
+
+/// The interpretations of a keymap, in the order in which they are first named; seen as their list.
+#[derive(Drop)]
+pub struct Interpretations {
+    all: Vec<Interpretation>,
+    /// Those of a keysym, by its number.
+    named: IndexMap<u32, Vec<Interpretation>>,
+    /// Those of any keysym.
+    any: Vec<Interpretation>,
+}
+
+impl Model for Interpretations {
+    ghost use Rattle.std.specs.Prelude.{List};
+    ghost use Rattle.kx_choice.specs.Indexed.{IsIndexed};
+    ghost use Rattle.kx_choice.specs.Interpretations.{Interpretation};
+
+    ghost Value = { List Interpretation };
+
+    ghost view = { λ t. t.all.items };
+
+    ghost invariant = { λ t. IsIndexed (λ v. v.items) t.named t.any.items t.all.items };
+}
+
+impl Interpretations {
+    ghost use Rattle.std.specs.Prelude.{◌≡◌, IfErr, IfOk};
+    ghost use Rattle.kx_lex.specs.declared.fault.Fault.TheVariants.{Memory};
+    ghost use Rattle.kx_mods.specs.Mods.{mask};
+    ghost use Rattle.std.specs.Option.{option_map};
+    ghost use Rattle.kx_choice.specs.Choosing.{IsFirstOrNone, chosen, matches};
+
+    /// These interpretations.
+    pub fn of(alloc: Global, all: Vec<Interpretation>) -> Result<Interpretations, Fault>
+        ensures value { IfOk result (λ t. t ≡ all.items) }
+        ensures err { IfErr result (λ e. e ≡ Memory) }
+    {
+        let mut named = IndexMap::new(alloc);
+        let mut any = Vec::new(alloc);
+        'all: for interpretation in &all {
+            add_indexed(alloc, &mut named, &mut any, *interpretation)?;
+        }
+        Ok(Interpretations { all, named, any })
+    }
+
+    /// The interpretations in order.
+    pub fn as_slice(&self) -> &[Interpretation]
+        ensures { result.now ≡ self.now }
+    {
+        self.all.as_slice()
+    }
+
+    /// The interpretation that is chosen for a keysym at the first level of a key, or at another, where the key is mapped
+    /// to these modifiers: of those that are for it one of a named keysym, else one of any keysym, and of those the first
+    /// in the order of [`Condition`](crate::Condition), then of the keymap. None where none is for it.
+    pub fn choose(&self, keysym: u32, first_level: bool, modmap: Mods) -> Option<&Interpretation>
+        ensures value { option_map (λ i. i.now) result ≡ chosen self.now keysym first_level (mask modmap) }
+        ensures first { IsFirstOrNone (matches first_level (mask modmap) keysym) self.now (option_map (λ i. i.now) result) }
+    {
+        match least_allowed(bucket_in(&self.named, keysym), first_level, modmap) {
+            Some(interpretation) => Some(interpretation),
+            None => least_allowed(self.any.as_slice(), first_level, modmap),
+        }
+    }
+}
+
+/// The interpretations of a keysym.
+fn bucket_in(named: &IndexMap<u32, Vec<Interpretation>>, keysym: u32) -> &[Interpretation]
+    ensures { result.now ≡ bucket_in (λ v. v.items) named.now keysym }
+{
+    match named.get(&keysym) {
+        Some(bucket) => bucket.as_slice(),
+        None => &[],
+    }
+}
+
+/// Adds an interpretation behind others of its keysym.
+fn add_named(
+    alloc: Global,
+    named: &mut IndexMap<u32, Vec<Interpretation>>,
+    keysym: u32,
+    interpretation: Interpretation,
+) -> Result<(), Fault>
+    ensures added { OnOk result ((k : ℕ) → bucket_in (λ v. v.items) named.new k ≡ bucket_in (λ v. v.items) named.old k ++ (if nat_eq keysym k then interpretation ∷ [] else [])) }
+    ensures err { IfErr result (λ e. e ≡ Memory) }
+{
+    if let Some(bucket) = named.get_mut(&keysym) {
+        bucket.push(interpretation)?;
+        return Ok(());
+    }
+    let mut bucket = Vec::new(alloc);
+    bucket.push(interpretation)?;
+    named.insert(keysym, bucket)?;
+    Ok(())
+}
+
+/// Adds an interpretation behind others.
+fn add_indexed(
+    alloc: Global,
+    named: &mut IndexMap<u32, Vec<Interpretation>>,
+    any: &mut Vec<Interpretation>,
+    interpretation: Interpretation,
+) -> Result<(), Fault>
+    ensures added { (all : List InterpretationValue) → IsIndexed (λ v. v.items) named.old any.old.items all → OnOk result (IsIndexed (λ v. v.items) named.new any.new.items (all ++ interpretation ∷ [])) }
+    ensures err { IfErr result (λ e. e ≡ Memory) }
+{
+    match interpretation.trigger().keysym {
+        WantedKeysym::Named(keysym) => add_named(alloc, named, keysym, interpretation),
+        WantedKeysym::Any => {
+            any.push(interpretation)?;
+            Ok(())
+        }
+    }
+}

@@ -1,0 +1,6 @@
+mod Behind
+mod Going
+mod Lasting
+mod Listed
+mod Offering
+mod Single

@@ -1,0 +1,70 @@
+-- What records show is listed in their order.
+use Rattle.std.proofs.Common.{◌≡◌, ℕ, Bool, false, List, map, Option, None, Some, unwrap_or, refl, ap, ◌∙◌, subst}
+use Rattle.std.specs.Option.{option_and_then, option_map}
+use Rattle.std.proofs.Math.Path.{fun_ext}
+use Rattle.indexmap.specs.IndexMap.{IndexMap, get, keys}
+use Rattle.ks_core.specs.Entry.{Entry}
+use Rattle.kx_actions.specs.declared.action.KeyAction.{KeyAction}
+use Rattle.kx_include.specs.Expansion.{Body}
+use Rattle.kx_merge.specs.Bodies.{offers_of}
+use Rattle.kx_merge.specs.Records.{Shows, cell_in}
+use Rattle.kx_choice.specs.Interpretations.{Interpretation}
+use Rattle.kx_choice.specs.Triggers.{same_trigger}
+use Rattle.kx_choice.specs.contracts.trigger.TriggerPartialEq.TheImpl.{ghosts}
+use Rattle.kx_choice.specs.declared.trigger.Trigger.{Trigger}
+use Rattle.kx_choice.proofs.Same.{told_as_said}
+use Rattle.kx_compat.specs.Given.{FieldValues}
+use Rattle.kx_compat.specs.Giving.{no_values, value_action, value_first_level_only, value_modifier, values_cell, values_width, interpretation_with}
+use Rattle.kx_compat.specs.Meaning.{compat_moves, compat_rules, interpretation_by, interpretation_offers, interpretations_of}
+use Rattle.kx_compat.specs.Shown.{interpretation_recorded}
+use Rattle.kx_compat.specs.declared.values.Cell.{Cell}
+use Rattle.kx_compat.specs.declared.values.Cell.TheVariants as cells
+use Rattle.kx_compat.specs.declared.values.FieldValue.{FieldValue}
+use Rattle.kx_compat.specs.declared.values.FieldValue.TheVariants.{Action, Modifier, FirstLevelOnly}
+
+action_shown : (o : Option FieldValues) → (unwrap_or o no_values).action ≡ option_and_then value_action (cell_in values_cell o cells.Action)
+action_shown None = refl
+action_shown (Some v) = one v.action
+  where
+    one : (a : Option KeyAction) → a ≡ option_and_then value_action (option_map Action a)
+    one None = refl
+    one (Some x) = refl
+
+modifier_shown : (o : Option FieldValues) → (unwrap_or o no_values).modifier ≡ option_and_then value_modifier (cell_in values_cell o cells.Modifier)
+modifier_shown None = refl
+modifier_shown (Some v) = one v.modifier
+  where
+    one : (m : Option ℕ) → m ≡ option_and_then value_modifier (option_map Modifier m)
+    one None = refl
+    one (Some x) = refl
+
+levels_shown : (o : Option FieldValues) → (unwrap_or o no_values).first_level_only ≡ option_and_then value_first_level_only (cell_in values_cell o cells.Levels)
+levels_shown None = refl
+levels_shown (Some v) = one v.first_level_only
+  where
+    one : (l : Option Bool) → l ≡ option_and_then value_first_level_only (option_map FirstLevelOnly l)
+    one None = refl
+    one (Some x) = refl
+
+module _ {S : Type 0} (records : IndexMap Trigger FieldValues S) (table : List Entry) (names : List (List ℕ)) (body : Body) where
+  as-said : Shows {K = Trigger} {C = Cell} {V = FieldValue} {R = FieldValues} values_cell values_width ghosts.eq (keys records) (get ghosts.eq records) (offers_of ghosts.eq (compat_rules table names) compat_moves body)
+      → Shows {K = Trigger} {C = Cell} {V = FieldValue} {R = FieldValues} values_cell values_width same_trigger (keys records) (get same_trigger records) (interpretation_offers table names body)
+  as-said shows = subst (λ eq. Shows {K = Trigger} {C = Cell} {V = FieldValue} {R = FieldValues} values_cell values_width eq (keys records) (get eq records) (offers_of eq (compat_rules table names) compat_moves body)) told_as_said shows
+
+  shown-by : Shows {K = Trigger} {C = Cell} {V = FieldValue} {R = FieldValues} values_cell values_width same_trigger (keys records) (get same_trigger records) (interpretation_offers table names body) → (trigger : Trigger) → interpretation_recorded records trigger ≡ interpretation_by (interpretation_offers table names body) trigger
+  shown-by shows trigger =
+      let o = get same_trigger records trigger in
+      let a = action_shown o ∙ ap (option_and_then value_action) (shows.cells_are trigger cells.Action) in
+      let m = modifier_shown o ∙ ap (option_and_then value_modifier) (shows.cells_are trigger cells.Modifier) in
+      let l = levels_shown o ∙ ap (option_and_then value_first_level_only) (shows.cells_are trigger cells.Levels) in
+      λ i. record { trigger = trigger; action = a i; modifier = m i; first_level_only = unwrap_or (l i) false }
+
+  pub listed_are : (all : List Interpretation) → Shows {K = Trigger} {C = Cell} {V = FieldValue} {R = FieldValues} values_cell values_width ghosts.eq (keys records) (get ghosts.eq records) (offers_of ghosts.eq (compat_rules table names) compat_moves body)
+      → all ≡ map (interpretation_recorded records) (keys records) → all ≡ interpretations_of table names body
+  listed_are all derived is =
+      let shows = as-said derived in
+      is ∙ ap (λ f. map f (keys records)) (fun_ext (shown-by shows)) ∙ ap (map (interpretation_by (interpretation_offers table names body))) shows.names_are
+
+-- what is read of records for a trigger
+pub recorded : {S : Type 0} (records : IndexMap Trigger FieldValues S) (trigger : Trigger) (o : Option FieldValues) (i : Interpretation) → o ≡ get ghosts.eq records trigger → i ≡ interpretation_with trigger (unwrap_or o no_values) → i ≡ interpretation_recorded records trigger
+recorded records trigger o i found is = is ∙ ap (λ p. interpretation_with trigger (unwrap_or p no_values)) (found ∙ ap (λ eq. get eq records trigger) told_as_said)

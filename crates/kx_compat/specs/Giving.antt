@@ -1,0 +1,57 @@
+-- What the fields of an interpretation are given: the last of several that give one, and by mode.
+use Rattle.std.specs.Prelude.{Bool, false, ℕ, List, Option, None, Some, unwrap_or}
+use Rattle.std.specs.Option.{option_and_then, option_map, option_or}
+use Rattle.kx_actions.specs.Settings.{last_given}
+use Rattle.kx_actions.specs.declared.action.KeyAction.{KeyAction}
+use Rattle.kx_choice.specs.Interpretations.{Interpretation}
+use Rattle.kx_choice.specs.declared.trigger.Trigger.{Trigger}
+use Rattle.kx_compat.specs.declared.values.Cell.{Cell}
+use Rattle.kx_compat.specs.declared.values.Cell.TheVariants as cells
+use Rattle.kx_compat.specs.declared.values.FieldValue.{FieldValue}
+use Rattle.kx_compat.specs.declared.values.FieldValue.TheVariants.{Action, Modifier, FirstLevelOnly}
+use Rattle.kx_compat.specs.Given.{FieldValues}
+
+abbrev pub no_values : FieldValues
+no_values = record { action = None; modifier = None; first_level_only = None }
+
+-- the value of a field, where it is this one
+abbrev pub value_action : FieldValue → Option KeyAction
+value_action (Action action) = Some action
+value_action _ = None
+
+abbrev pub value_modifier : FieldValue → Option ℕ
+value_modifier (Modifier number) = Some number
+value_modifier _ = None
+
+abbrev pub value_first_level_only : FieldValue → Option Bool
+value_first_level_only (FirstLevelOnly only) = Some only
+value_first_level_only _ = None
+
+-- a field that is given anew has what it is given
+abbrev pub with_value : FieldValues → Option FieldValue → FieldValues
+with_value v None = v
+with_value v (Some (Action action)) = record v { action = Some action }
+with_value v (Some (Modifier number)) = record v { modifier = Some number }
+with_value v (Some (FirstLevelOnly only)) = record v { first_level_only = Some only }
+
+module _ {X : Type 0} (gives : X → Option FieldValue) where
+  -- each field has what the last gives that gives it anything, else what it had before them
+  abbrev pub last_values : FieldValues → List X → FieldValues
+  last_values before xs = record {
+    action = option_or (last_given (λ x. option_and_then value_action (gives x)) xs) before.action;
+    modifier = option_or (last_given (λ x. option_and_then value_modifier (gives x)) xs) before.modifier;
+    first_level_only = option_or (last_given (λ x. option_and_then value_first_level_only (gives x)) xs) before.first_level_only;
+  }
+
+-- an interpretation has a cell for each field
+abbrev pub values_cell : FieldValues → Cell → Option FieldValue
+values_cell v cells.Action = option_map Action v.action
+values_cell v cells.Modifier = option_map Modifier v.modifier
+values_cell v cells.Levels = option_map FirstLevelOnly v.first_level_only
+
+abbrev pub values_width : FieldValues → ℕ → ℕ
+values_width v group = 0
+
+-- without `useModMapMods` it is for any level
+abbrev pub interpretation_with : Trigger → FieldValues → Interpretation
+interpretation_with trigger values = record { trigger = trigger; action = values.action; modifier = values.modifier; first_level_only = unwrap_or values.first_level_only false }

@@ -1,0 +1,107 @@
+-- For which keys an interpretation is: for those with a keysym, where their modifiers meet a condition.
+use Rattle.std.specs.Prelude.{ℕ, Bool, false, List, [], ◌∷◌, Option, None, Some, if◌then◌else◌, codes}
+use Rattle.std.specs.Option.{option_and_then, option_map, option_map_or}
+use Rattle.std.specs.Str.{str_eq_ignore_ascii_case}
+use Rattle.ks_core.specs.Entry.{Entry}
+use Rattle.kx_actions.specs.Values.{lone_word}
+use Rattle.kx_actions.specs.Words.{among}
+use Rattle.kx_include.specs.IncludeFaults.{at}
+use Rattle.kx_lex.specs.declared.fault.Fault.{Fault}
+use Rattle.kx_lex.specs.declared.fault.Fault.TheVariants.{BadValue, UnknownField}
+use Rattle.kx_masks.specs.Masks.{mask_set, real_mask_faults}
+use Rattle.kx_parse.specs.declared.tree.Argument.{Argument}
+use Rattle.kx_parse.specs.declared.tree.Argument.TheVariants.{Plain}
+use Rattle.kx_parse.specs.declared.tree.Call.{Call}
+use Rattle.kx_parse.specs.declared.tree.Expression.{Expression}
+use Rattle.kx_parse.specs.declared.tree.PlacedArgument.{PlacedArgument}
+use Rattle.kx_parse.specs.declared.tree.Predicate.{Predicate}
+use Rattle.kx_parse.specs.declared.tree.Predicate.TheVariants as predicates
+use Rattle.kx_parse.specs.declared.tree.Symbol.{Symbol}
+use Rattle.kx_parse.specs.declared.tree.Symbol.TheVariants.{Word, Number}
+use Rattle.kx_symbols.specs.Keysyms.{is_no_symbol, symbol_keysym}
+use Rattle.kx_choice.specs.declared.trigger.Condition.{Condition}
+use Rattle.kx_choice.specs.declared.trigger.Condition.TheVariants.{Exactly, AllOf, NoneOf, AnyOf, AnyOfOrNone}
+use Rattle.kx_choice.specs.declared.trigger.Trigger.{Trigger}
+use Rattle.kx_choice.specs.declared.trigger.WantedKeysym.{WantedKeysym}
+use Rattle.kx_choice.specs.declared.trigger.WantedKeysym.TheVariants.{Any, Named}
+
+-- ---- The keysym
+
+abbrev pub is_any : Symbol → Bool
+is_any (Word word) = is_no_symbol word.bytes
+is_any (Number number) = false
+
+-- a symbol without a keysym is for any where it says so; a name that no keysym has is for none
+abbrev pub keysym_among : Symbol → Option ℕ → Option WantedKeysym
+keysym_among symbol (Some keysym) = Some (Named keysym)
+keysym_among symbol None = if is_any symbol then Some Any else None
+
+abbrev pub wanted_keysym : List Entry → Symbol → Option WantedKeysym
+wanted_keysym table symbol = keysym_among symbol (symbol_keysym table symbol)
+
+-- ---- The modifiers, as a mask of real ones, and the condition
+
+abbrev pub Wanted : Type 0
+Wanted = Condition × ℕ
+
+-- read without regard to case
+abbrev pub condition_words : List (List ℕ × Condition)
+condition_words = (codes "exactly", Exactly) ∷ (codes "allOf", AllOf) ∷ (codes "noneOf", NoneOf) ∷ (codes "anyOf", AnyOf) ∷ (codes "anyOfOrNone", AnyOfOrNone) ∷ []
+
+abbrev pub plain_mask : Argument → Option Expression
+plain_mask (Plain e) = Some e
+plain_mask _ = None
+
+-- the mask of a call with one argument, a mask without a name
+abbrev pub only_mask : List PlacedArgument → Option Expression
+only_mask (a ∷ []) = plain_mask a.argument
+only_mask _ = None
+
+-- all eight
+abbrev pub all_real : ℕ
+all_real = 255
+
+abbrev pub is_any_word : Expression → Bool
+is_any_word e = option_map_or (λ w. str_eq_ignore_ascii_case w.bytes (codes "any")) (lone_word e) false
+
+abbrev pub called_with : Condition → Option Expression → Option Wanted
+called_with condition mask = option_map (λ e. (condition, mask_set [] e)) mask
+
+abbrev pub call_wants : Call → Option Wanted
+call_wants call = option_and_then (λ condition. called_with condition (only_mask call.arguments)) (among condition_words call.word.bytes)
+
+abbrev pub mask_wants : Expression → Wanted
+mask_wants e = if is_any_word e then (AnyOf, all_real) else (Exactly, mask_set [] e)
+
+-- no predicate is AnyOfOrNone of all, the word Any is AnyOf of all, and a mask by itself is Exactly
+abbrev pub predicate_wants : Option Predicate → Option Wanted
+predicate_wants None = Some (AnyOfOrNone, all_real)
+predicate_wants (Some (predicates.Call call)) = call_wants call
+predicate_wants (Some (predicates.Mask e)) = Some (mask_wants e)
+
+module _ (file : ℕ) (names : List (List ℕ)) where
+  abbrev pub only_mask_faults : Call → Option Expression → List Fault
+  only_mask_faults call None = BadValue (at file call.span) ∷ []
+  only_mask_faults call (Some e) = real_mask_faults file names e
+
+  abbrev pub condition_faults : Call → Option Condition → List Fault
+  condition_faults call None = UnknownField (at file call.word.span) ∷ []
+  condition_faults call (Some condition) = only_mask_faults call (only_mask call.arguments)
+
+  abbrev pub mask_predicate_faults : Expression → List Fault
+  mask_predicate_faults e = if is_any_word e then [] else real_mask_faults file names e
+
+  -- a predicate is about real modifiers alone
+  abbrev pub predicate_faults : Option Predicate → List Fault
+  predicate_faults None = []
+  predicate_faults (Some (predicates.Call call)) = condition_faults call (among condition_words call.word.bytes)
+  predicate_faults (Some (predicates.Mask e)) = mask_predicate_faults e
+
+-- ---- Both
+
+abbrev pub trigger_with : Option WantedKeysym → Option Wanted → Option Trigger
+trigger_with (Some keysym) (Some wanted) = Some (record { keysym = keysym; condition = wanted.0; mask = wanted.1 })
+trigger_with _ _ = None
+
+abbrev pub trigger_of : List Entry → Symbol → Option Predicate → Option Trigger
+trigger_of table symbol predicate = trigger_with (wanted_keysym table symbol) (predicate_wants predicate)

@@ -1,0 +1,269 @@
+//! What the fields of interpretations are given.
+ghost use Rattle.std.specs.Prelude.{◌≡◌, [], Contains, IfErr, IfOk, OnOk, Some};
+ghost use Rattle.kx_actions.specs.Arguments.{action_faults, action_of};
+ghost use Rattle.kx_actions.specs.Values.{meaning_among};
+ghost use Rattle.kx_actions.specs.Words.{among};
+ghost use Rattle.kx_compat.specs.FieldWords.{action_value, call_faults, expression_faults, field_faults, field_named, field_value, field_words, indexed, level_words, levels_faults, levels_value, modifier_faults, modifier_of, modifier_value, setting_faults, setting_value, word_faults, word_modifier};
+
+use crate::predicates::{bad_value, lone_word, unknown_field};
+use crate::values::FieldValue;
+use ks_core::{Note, Notes};
+use kx_actions::{ActionDefaults, KeyAction, is_action_word, read};
+use kx_choice::{GivenAction, GivenModifier};
+use kx_lex::{Apart, At, Fault, Name, Span};
+use kx_masks::{ModNames, real_mask};
+use kx_parse::{Call, Expression, Field, Index, Setting, Value};
+
+/// What the fields of an interpretation set.
+#[derive(Clone, Copy)]
+pub(crate) enum InterpretField {
+    /// The action of levels.
+    Action,
+    /// The virtual modifier of keys.
+    Modifier,
+    /// Whether modifiers are seen at the first level alone.
+    Levels,
+    /// What is read and not used.
+    Unused,
+}
+
+fn word_field(word: &[u8]) -> Option<InterpretField>
+    ensures { result ≡ among field_words word.now }
+{
+    if word.eq_ignore_ascii_case(b"action") {
+        Some(InterpretField::Action)
+    } else if word.eq_ignore_ascii_case(b"virtualModifier") {
+        Some(InterpretField::Modifier)
+    } else if word.eq_ignore_ascii_case(b"virtualMod") {
+        Some(InterpretField::Modifier)
+    } else if word.eq_ignore_ascii_case(b"useModMapMods") {
+        Some(InterpretField::Levels)
+    } else if word.eq_ignore_ascii_case(b"useModMap") {
+        Some(InterpretField::Levels)
+    } else if word.eq_ignore_ascii_case(b"repeat") {
+        Some(InterpretField::Unused)
+    } else if word.eq_ignore_ascii_case(b"locking") {
+        Some(InterpretField::Unused)
+    } else {
+        None
+    }
+}
+
+/// A field where it stands with an index, or without.
+fn indexed(index: &Option<Apart<Index>>, field: InterpretField) -> Option<InterpretField>
+    ensures { result ≡ indexed index.now field }
+{
+    match (index, field) {
+        (None, field) => Some(field),
+        (Some(_), InterpretField::Unused) => Some(InterpretField::Unused),
+        (Some(_), _) => None,
+    }
+}
+
+fn field_named(word: &[u8], index: &Option<Apart<Index>>) -> Option<InterpretField>
+    ensures { result ≡ field_named word.now index.now }
+{
+    match word_field(word) {
+        Some(field) => indexed(index, field),
+        None => None,
+    }
+}
+
+fn level_named(word: &[u8]) -> Option<bool>
+    ensures { result ≡ among level_words word.now }
+{
+    if word.eq_ignore_ascii_case(b"level1") {
+        Some(true)
+    } else if word.eq_ignore_ascii_case(b"levelone") {
+        Some(true)
+    } else if word.eq_ignore_ascii_case(b"anylevel") {
+        Some(false)
+    } else if word.eq_ignore_ascii_case(b"any") {
+        Some(false)
+    } else {
+        None
+    }
+}
+
+/// The action of a call, which is noted where it has no effect.
+fn read_action(
+    names: &ModNames,
+    file: u32,
+    actions: &ActionDefaults,
+    call: &Call,
+    notes: &mut Notes,
+) -> Result<KeyAction, Fault>
+    ensures value { IfOk result (λ action. action ≡ action_of names.now.names actions.now call.now) }
+    ensures faultless { OnOk result (action_faults file names.now.names call.now ≡ []) }
+    ensures fault { IfErr result (λ e. Contains (action_faults file names.now.names call.now) e) }
+{
+    if !is_action_word(call.word.bytes.as_slice()) {
+        notes.count(Note::IdleAction);
+    }
+    read(names, file, call, actions)
+}
+
+/// The virtual modifier that a word names.
+fn read_word_modifier(
+    names: &ModNames,
+    file: u32,
+    whole: Span,
+    word: &Name,
+) -> Result<GivenModifier, Fault>
+    ensures value { IfOk result (λ number. Some number ≡ word_modifier names.now.names word.now) }
+    ensures faultless { OnOk result (word_faults file names.now.names whole (Some word.now) ≡ []) }
+    ensures fault { IfErr result (λ e. Contains (word_faults file names.now.names whole (Some word.now)) e) }
+{
+    let bytes = word.bytes.as_slice();
+    if real_mask(bytes).is_some() {
+        return Err(bad_value(file, whole));
+    }
+    match names.number_of(bytes) {
+        Some(number) => Ok(GivenModifier::of(number)),
+        None => Err(Fault::UnknownModifier(At {
+            file,
+            span: word.span,
+        })),
+    }
+}
+
+/// The virtual modifier that an expression names.
+fn read_modifier(
+    names: &ModNames,
+    file: u32,
+    expression: &Expression,
+) -> Result<GivenModifier, Fault>
+    ensures value { IfOk result (λ number. Some number ≡ modifier_of names.now.names expression.now) }
+    ensures faultless { OnOk result (modifier_faults file names.now.names expression.now ≡ []) }
+    ensures fault { IfErr result (λ e. Contains (modifier_faults file names.now.names expression.now) e) }
+{
+    match lone_word(expression) {
+        Some(word) => read_word_modifier(names, file, expression.span, word),
+        None => Err(bad_value(file, expression.span)),
+    }
+}
+
+/// Whether modifiers are seen at the first level alone.
+fn read_levels(file: u32, expression: &Expression) -> Result<bool, Fault>
+    ensures value { IfOk result (λ only. Some only ≡ meaning_among level_words expression.now) }
+    ensures faultless { OnOk result (levels_faults file expression.now ≡ []) }
+    ensures fault { IfErr result (λ e. Contains (levels_faults file expression.now) e) }
+{
+    let word = lone_word(expression).ok_or(bad_value(file, expression.span))?;
+    level_named(word.bytes.as_slice()).ok_or(bad_value(file, expression.span))
+}
+
+/// The action that a field is set to.
+fn action_setting(
+    names: &ModNames,
+    file: u32,
+    actions: &ActionDefaults,
+    whole: Span,
+    setting: &Setting,
+    notes: &mut Notes,
+) -> Result<FieldValue, Fault>
+    ensures value { IfOk result (λ value. Some value ≡ action_value names.now.names actions.now setting.now) }
+    ensures faultless { OnOk result (call_faults file (action_faults file names.now.names) whole setting.now ≡ []) }
+    ensures fault { IfErr result (λ e. Contains (call_faults file (action_faults file names.now.names) whole setting.now) e) }
+{
+    match setting {
+        Setting::To(Value::Call(call)) => {
+            let action = read_action(names, file, actions, call, notes)?;
+            Ok(FieldValue::Action(GivenAction::of(action)))
+        }
+        Setting::To(Value::Expression(expression)) => Err(bad_value(file, expression.span)),
+        Setting::To(Value::List(list)) => Err(bad_value(file, list.span)),
+        Setting::Off | Setting::On => Err(bad_value(file, whole)),
+    }
+}
+
+/// The virtual modifier that a field is set to.
+fn modifier_setting(
+    names: &ModNames,
+    file: u32,
+    whole: Span,
+    setting: &Setting,
+) -> Result<FieldValue, Fault>
+    ensures value { IfOk result (λ value. Some value ≡ modifier_value names.now.names setting.now) }
+    ensures faultless { OnOk result (expression_faults file (modifier_faults file names.now.names) whole setting.now ≡ []) }
+    ensures fault { IfErr result (λ e. Contains (expression_faults file (modifier_faults file names.now.names) whole setting.now) e) }
+{
+    match setting {
+        Setting::To(Value::Expression(expression)) => {
+            let modifier = read_modifier(names, file, expression)?;
+            Ok(FieldValue::Modifier(modifier))
+        }
+        Setting::To(Value::Call(call)) => Err(bad_value(file, call.span)),
+        Setting::To(Value::List(list)) => Err(bad_value(file, list.span)),
+        Setting::Off | Setting::On => Err(bad_value(file, whole)),
+    }
+}
+
+/// Whether a field is set to the first level alone.
+fn levels_setting(file: u32, whole: Span, setting: &Setting) -> Result<FieldValue, Fault>
+    ensures value { IfOk result (λ value. Some value ≡ levels_value setting.now) }
+    ensures faultless { OnOk result (expression_faults file (levels_faults file) whole setting.now ≡ []) }
+    ensures fault { IfErr result (λ e. Contains (expression_faults file (levels_faults file) whole setting.now) e) }
+{
+    match setting {
+        Setting::To(Value::Expression(expression)) => {
+            let only = read_levels(file, expression)?;
+            Ok(FieldValue::FirstLevelOnly(only))
+        }
+        Setting::To(Value::Call(call)) => Err(bad_value(file, call.span)),
+        Setting::To(Value::List(list)) => Err(bad_value(file, list.span)),
+        Setting::Off | Setting::On => Err(bad_value(file, whole)),
+    }
+}
+
+/// What a field is given by its setting; nothing, where it is read and not used.
+fn known_setting(
+    names: &ModNames,
+    file: u32,
+    actions: &ActionDefaults,
+    known: InterpretField,
+    whole: Span,
+    setting: &Setting,
+    notes: &mut Notes,
+) -> Result<Option<FieldValue>, Fault>
+    ensures value { IfOk result (λ value. value ≡ setting_value names.now.names actions.now setting.now known) }
+    ensures faultless { OnOk result (setting_faults file names.now.names whole setting.now known ≡ []) }
+    ensures fault { IfErr result (λ e. Contains (setting_faults file names.now.names whole setting.now known) e) }
+{
+    match known {
+        InterpretField::Action => Ok(Some(action_setting(
+            names, file, actions, whole, setting, notes,
+        )?)),
+        InterpretField::Modifier => Ok(Some(modifier_setting(names, file, whole, setting)?)),
+        InterpretField::Levels => Ok(Some(levels_setting(file, whole, setting)?)),
+        InterpretField::Unused => Ok(None),
+    }
+}
+
+/// What a field of a file gives that `word` names, under the defaults for actions before it. Actions without effect are
+/// noted.
+pub(crate) fn read_field(
+    names: &ModNames,
+    file: u32,
+    actions: &ActionDefaults,
+    word: &Name,
+    field: &Field,
+    notes: &mut Notes,
+) -> Result<Option<FieldValue>, Fault>
+    ensures value { IfOk result (λ value. value ≡ field_value names.now.names actions.now word.now field.now) }
+    ensures faultless { OnOk result (field_faults file names.now.names word.now field.now ≡ []) }
+    ensures fault { IfErr result (λ e. Contains (field_faults file names.now.names word.now field.now) e) }
+{
+    match field_named(word.bytes.as_slice(), &field.place.index) {
+        None => Err(unknown_field(file, word)),
+        Some(known) => known_setting(
+            names,
+            file,
+            actions,
+            known,
+            field.span,
+            &field.setting,
+            notes,
+        ),
+    }
+}

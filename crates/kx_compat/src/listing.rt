@@ -1,0 +1,91 @@
+//! The interpretations that compat sections declare.
+ghost use Rattle.std.specs.Prelude.{◌≡◌, ◌∷◌, [], Contains, IfErr, IfOk, OnOk, map};
+ghost use Rattle.indexmap.specs.IndexMap.{keys};
+ghost use Rattle.kx_include.specs.Shared.{expanded_body};
+ghost use Rattle.kx_lex.specs.declared.fault.Fault.TheVariants.{Memory};
+ghost use Rattle.kx_masks.specs.Once.{OffersOnce};
+ghost use Rattle.kx_compat.specs.Giving.{interpretation_with};
+ghost use Rattle.kx_compat.specs.Meaning.{compat_faults, compat_rules, interpretations_of};
+ghost use Rattle.kx_compat.specs.Sections.{DefaultsAreLast};
+ghost use Rattle.kx_choice.specs.Triggers.{same_trigger};
+ghost use Rattle.kx_compat.specs.Shown.{interpretation_recorded};
+
+use crate::record::Context;
+use crate::values::FieldValues;
+use indexmap::IndexMap;
+use ks_core::{NameTable, Notes};
+use kx_choice::{Interpretation, Interpretations, Trigger};
+use kx_include::Expansion;
+use kx_lex::Fault;
+use kx_masks::ModNames;
+use kx_merge::merge;
+use std::alloc::Global;
+
+/// What these values say of keys.
+fn interpretation_with(trigger: Trigger, values: FieldValues) -> Interpretation
+    ensures { result ≡ interpretation_with trigger values }
+{
+    Interpretation::of(
+        trigger,
+        values.action(),
+        values.modifier(),
+        values.first_level_only().unwrap_or(false),
+    )
+}
+
+/// The interpretation that records have for some keys.
+fn interpretation_among(
+    records: &IndexMap<Trigger, FieldValues>,
+    trigger: Trigger,
+) -> Interpretation
+    ensures { result ≡ interpretation_recorded records.now trigger }
+{
+    match records.get(&trigger) {
+        Some(values) => interpretation_with(trigger, *values),
+        None => interpretation_with(trigger, FieldValues::none()),
+    }
+}
+
+/// The interpretations that records have, in order.
+fn listed(
+    alloc: Global,
+    records: &IndexMap<Trigger, FieldValues>,
+) -> Result<Vec<Interpretation>, Fault>
+    ensures value { IfOk result (λ all. all.items ≡ map (interpretation_recorded records.now) (keys records.now)) }
+    ensures err { IfErr result (λ e. e ≡ Memory) }
+{
+    let mut all = Vec::new(alloc);
+    let triggers = records.keys();
+    'triggers: for trigger in triggers.as_slice() {
+        all.push(interpretation_among(records, *trigger))?;
+    }
+    Ok(all)
+}
+
+/// The interpretations that the compat sections of a keymap declare, and what is passed over in them, which counts for each
+/// place where a map is included.
+///
+/// # Errors
+/// The faults of the statements, at their places: `UnknownField` at a statement or a field that compat sections don't have,
+/// at a field with an index where none is taken, at an argument that an action doesn't have, and at a predicate of another
+/// name; `BadValue` at a value of the wrong kind, at a field without one, at the number of no keysym, at a predicate without
+/// its one mask, and in a predicate at a virtual modifier; `GroupRange` at a group outside of its range; `UnknownModifier` at
+/// a modifier that is neither real nor declared; `Memory`.
+pub fn interpretations(
+    alloc: Global,
+    expansion: &Expansion,
+    names: &ModNames,
+    table: &NameTable,
+) -> Result<(Interpretations, Notes), Fault>
+    ensures shows { IfOk result (λ found. found.0 ≡ interpretations_of table.now names.now.names (expanded_body expansion.now)) }
+    ensures defaults { DefaultsAreLast names.now.names }
+    ensures once { OffersOnce same_trigger (compat_rules table.now names.now.names) }
+    ensures faultless { OnOk result (compat_faults table.now names.now.names (expanded_body expansion.now) ≡ []) }
+    ensures fault { IfErr result (λ e. Contains (Memory ∷ compat_faults table.now names.now.names (expanded_body expansion.now)) e) }
+{
+    let context = Context { table, names };
+    let merged = merge::<Context, FieldValues>(alloc, &context, expansion)?;
+    let all = listed(alloc, &merged.records)?;
+    let interpretations = Interpretations::of(alloc, all)?;
+    Ok((interpretations, merged.notes))
+}

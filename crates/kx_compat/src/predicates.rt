@@ -1,0 +1,196 @@
+//! For which keys the symbol and the predicate of an interpretation are.
+ghost use Rattle.std.specs.Prelude.{◌≡◌, ◌∷◌, [], Contains, IfErr, IfOk, OnOk, Some};
+ghost use Rattle.std.specs.Option.{option_map};
+ghost use Rattle.kx_actions.specs.Values.{lone_word};
+ghost use Rattle.kx_actions.specs.Words.{among};
+ghost use Rattle.kx_include.specs.IncludeFaults.{at};
+ghost use Rattle.kx_lex.specs.declared.fault.Fault.TheVariants.{BadValue, Memory, UnknownField};
+ghost use Rattle.kx_masks.specs.Masks.{mask_set};
+ghost use Rattle.kx_mods.specs.Mods.{mask};
+ghost use Rattle.kx_symbols.specs.KeyFaults.{symbol_faults};
+ghost use Rattle.kx_compat.specs.Triggers.{call_wants, condition_faults, condition_words, is_any, is_any_word, keysym_among, mask_predicate_faults, mask_wants, only_mask, only_mask_faults, plain_mask, predicate_faults, predicate_wants, wanted_keysym};
+
+use ks_core::{NameTable, Notes};
+use kx_choice::{Condition, WantedKeysym};
+use kx_lex::{Apart, At, Fault, Name, Span};
+use kx_masks::ModNames;
+use kx_mods::Mods;
+use kx_parse::{Argument, Call, Expression, PlacedArgument, Predicate, Symbol, Term};
+use kx_symbols::symbol_keysym;
+
+pub(crate) fn bad_value(file: u32, span: Span) -> Fault
+    ensures { result ≡ BadValue (at file span) }
+{
+    Fault::BadValue(At { file, span })
+}
+
+pub(crate) fn unknown_field(file: u32, word: &Name) -> Fault
+    ensures { result ≡ UnknownField (at file word.now.span) }
+{
+    Fault::UnknownField(At {
+        file,
+        span: word.span,
+    })
+}
+
+/// The word of an expression that is one word.
+pub(crate) fn lone_word(expression: &Expression) -> Option<&Name>
+    ensures { option_map (λ w. w.now) result ≡ lone_word expression.now }
+{
+    match expression.rest.as_slice() {
+        [] => match &expression.first {
+            Term::Word(word) => Some(word),
+            _ => None,
+        },
+        _ => None,
+    }
+}
+
+fn is_any(symbol: &Symbol) -> bool
+    ensures { result ≡ is_any symbol.now }
+{
+    match symbol {
+        Symbol::Word(word) => {
+            let bytes = word.bytes.as_slice();
+            bytes.eq_ignore_ascii_case(b"any") || bytes.eq_ignore_ascii_case(b"nosymbol")
+        }
+        Symbol::Number(_) => false,
+    }
+}
+
+/// What a symbol with this keysym is for.
+fn keysym_among(symbol: &Symbol, keysym: Option<u32>) -> Option<WantedKeysym>
+    ensures { result ≡ keysym_among symbol.now keysym }
+{
+    match keysym {
+        Some(keysym) => Some(WantedKeysym::Named(keysym)),
+        None => {
+            if is_any(symbol) {
+                Some(WantedKeysym::Any)
+            } else {
+                None
+            }
+        }
+    }
+}
+
+/// What a symbol is for; none where no keysym has the name, which is noted.
+pub(crate) fn read_keysym(
+    table: &NameTable,
+    file: u32,
+    symbol: &Symbol,
+    notes: &mut Notes,
+) -> Result<Option<WantedKeysym>, Fault>
+    ensures value { IfOk result (λ wanted. wanted ≡ wanted_keysym table.now symbol.now) }
+    ensures faultless { OnOk result (symbol_faults file symbol.now ≡ []) }
+    ensures fault { IfErr result (λ e. Contains (Memory ∷ symbol_faults file symbol.now) e) }
+{
+    let keysym = symbol_keysym(table, file, symbol, notes)?;
+    Ok(keysym_among(symbol, keysym))
+}
+
+fn condition_named(word: &[u8]) -> Option<Condition>
+    ensures { result ≡ among condition_words word.now }
+{
+    if word.eq_ignore_ascii_case(b"exactly") {
+        Some(Condition::Exactly)
+    } else if word.eq_ignore_ascii_case(b"allOf") {
+        Some(Condition::AllOf)
+    } else if word.eq_ignore_ascii_case(b"noneOf") {
+        Some(Condition::NoneOf)
+    } else if word.eq_ignore_ascii_case(b"anyOf") {
+        Some(Condition::AnyOf)
+    } else if word.eq_ignore_ascii_case(b"anyOfOrNone") {
+        Some(Condition::AnyOfOrNone)
+    } else {
+        None
+    }
+}
+
+fn plain_mask(argument: &Argument) -> Option<&Expression>
+    ensures { option_map (λ e. e.now) result ≡ plain_mask argument.now }
+{
+    match argument {
+        Argument::Plain(expression) => Some(expression),
+        Argument::Off(_) => None,
+        Argument::Set { .. } => None,
+    }
+}
+
+/// The mask of a call with one argument, a mask without a name.
+fn only_mask(arguments: &[PlacedArgument]) -> Option<&Expression>
+    ensures { option_map (λ e. e.now) result ≡ only_mask arguments.now }
+{
+    match arguments {
+        [placed] => plain_mask(&placed.argument),
+        _ => None,
+    }
+}
+
+/// The modifiers that the call of a condition names.
+fn read_only_mask(names: &ModNames, file: u32, call: &Call) -> Result<Mods, Fault>
+    ensures value { IfOk result (λ mods. Some (mask mods) ≡ option_map (mask_set []) (only_mask call.now.arguments)) }
+    ensures faultless { OnOk result (only_mask_faults file names.now.names call.now (only_mask call.now.arguments) ≡ []) }
+    ensures fault { IfErr result (λ e. Contains (only_mask_faults file names.now.names call.now (only_mask call.now.arguments)) e) }
+{
+    match only_mask(call.arguments.as_slice()) {
+        Some(expression) => names.real_mask_of(file, expression),
+        None => Err(bad_value(file, call.span)),
+    }
+}
+
+/// The condition and the modifiers of a call.
+fn read_call(names: &ModNames, file: u32, call: &Call) -> Result<(Condition, Mods), Fault>
+    ensures value { IfOk result (λ wanted. Some (wanted.0, mask wanted.1) ≡ call_wants call.now) }
+    ensures faultless { OnOk result (condition_faults file names.now.names call.now (among condition_words call.now.word.bytes) ≡ []) }
+    ensures fault { IfErr result (λ e. Contains (condition_faults file names.now.names call.now (among condition_words call.now.word.bytes)) e) }
+{
+    match condition_named(call.word.bytes.as_slice()) {
+        Some(condition) => Ok((condition, read_only_mask(names, file, call)?)),
+        None => Err(unknown_field(file, &call.word)),
+    }
+}
+
+fn is_any_word(expression: &Expression) -> bool
+    ensures { result ≡ is_any_word expression.now }
+{
+    match lone_word(expression) {
+        Some(word) => word.bytes.as_slice().eq_ignore_ascii_case(b"any"),
+        None => false,
+    }
+}
+
+/// The condition and the modifiers of a mask without a call.
+fn read_mask(
+    names: &ModNames,
+    file: u32,
+    expression: &Expression,
+) -> Result<(Condition, Mods), Fault>
+    ensures value { IfOk result (λ wanted. (wanted.0, mask wanted.1) ≡ mask_wants expression.now) }
+    ensures faultless { OnOk result (mask_predicate_faults file names.now.names expression.now ≡ []) }
+    ensures fault { IfErr result (λ e. Contains (mask_predicate_faults file names.now.names expression.now) e) }
+{
+    if is_any_word(expression) {
+        return Ok((Condition::AnyOf, Mods::from_mask(255)));
+    }
+    Ok((Condition::Exactly, names.real_mask_of(file, expression)?))
+}
+
+/// The condition and the modifiers of a predicate.
+pub(crate) fn read_predicate(
+    names: &ModNames,
+    file: u32,
+    predicate: &Option<Apart<Predicate>>,
+) -> Result<(Condition, Mods), Fault>
+    ensures value { IfOk result (λ wanted. Some (wanted.0, mask wanted.1) ≡ predicate_wants predicate.now) }
+    ensures faultless { OnOk result (predicate_faults file names.now.names predicate.now ≡ []) }
+    ensures fault { IfErr result (λ e. Contains (predicate_faults file names.now.names predicate.now) e) }
+{
+    match predicate {
+        None => Ok((Condition::AnyOfOrNone, Mods::from_mask(255))),
+        Some(predicate) => match predicate.get() {
+            Predicate::Call(call) => read_call(names, file, call),
+            Predicate::Mask(expression) => read_mask(names, file, expression),
+        },
+    }
+}

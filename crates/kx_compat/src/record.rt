@@ -1,0 +1,128 @@
+//! The records of interpretations.
+ghost use Rattle.std.specs.Prelude.{◌≡◌, ℕ, IfErr, None, OnOk, unwrap_or};
+ghost use Rattle.std.proofs.Common.{◌∙◌, ap, rules, sym};
+ghost use Rattle.kx_lex.specs.declared.fault.Fault.TheVariants.{Memory};
+ghost use Rattle.kx_merge.specs.Moved.{moved_key, moved_value, moved_width};
+ghost use Rattle.kx_merge.specs.Offers.{taken, widened};
+ghost use Rattle.kx_compat.specs.Meaning.{compat_moves, compat_rules};
+ghost use Rattle.kx_compat.specs.Giving.{values_cell, values_width};
+
+use crate::defaults::CompatDefaults;
+use crate::statements::read_item;
+use crate::values::{Cell, FieldValue, FieldValues};
+use ks_core::{NameTable, Notes};
+use kx_choice::Trigger;
+use kx_include::Place;
+use kx_lex::Fault;
+use kx_masks::ModNames;
+use kx_merge::Fields;
+use kx_parse::{Item, Mode};
+use std::alloc::Global;
+
+/// What the statements of a compat section are read against.
+#[derive(Clone, Copy)]
+pub struct Context<'a> {
+    pub table: &'a NameTable,
+    pub names: &'a ModNames,
+}
+
+impl<'a> Fields<Context<'a>> for FieldValues {
+    type Key = Trigger;
+
+    type Cell = Cell;
+
+    type Value = FieldValue;
+
+    type Defaults = CompatDefaults;
+
+    type Notes = Notes;
+
+    ghost rules = { λ context. compat_rules context.table.now context.names.now.names };
+
+    ghost moves = { compat_moves };
+
+    ghost cell = { values_cell };
+
+    ghost width = { values_width };
+
+    fn start(_alloc: Global, _context: &Context<'a>) -> CompatDefaults {
+        CompatDefaults::none()
+    }
+
+    fn next(
+        _alloc: Global,
+        context: &Context<'a>,
+        defaults: CompatDefaults,
+        item: &Item,
+    ) -> Result<CompatDefaults, Fault> {
+        Ok(defaults.next(context.names, item))
+    }
+
+    fn read(
+        alloc: Global,
+        context: &Context<'a>,
+        defaults: &CompatDefaults,
+        place: Place,
+        item: &Item,
+        notes: &mut Notes,
+    ) -> Result<Vec<(Trigger, FieldValues)>, Fault> {
+        read_item(
+            alloc,
+            context.table,
+            context.names,
+            place.file,
+            defaults,
+            item,
+            notes,
+        )
+    }
+
+    fn absorb(&mut self, _alloc: Global, other: FieldValues, mode: Mode) -> Result<(), Fault>
+        ensures cells { OnOk result ((c : Cell) → values_cell self.new c ≡ taken mode (values_cell self.old c) (values_cell other c)) }
+        ensures widths { OnOk result ((g : ℕ) → values_width self.new g ≡ widened mode (values_width self.old g) (values_width other g)) }
+        ensures err { IfErr result (λ e. e ≡ Memory) }
+    {
+        *self = self.joined(other, mode);
+        Ok(())
+    }
+
+    fn none(_alloc: Global) -> FieldValues
+        ensures cells { (c : Cell) → values_cell result c ≡ None }
+        ensures widths { (g : ℕ) → values_width result g ≡ 0 }
+    {
+        FieldValues::none()
+    }
+
+    fn absorb_moved(
+        &mut self,
+        _alloc: Global,
+        other: &FieldValues,
+        _group: Option<u8>,
+        mode: Mode,
+    ) -> Result<(), Fault>
+        ensures cells { OnOk result ((c : Cell) → values_cell self.new c ≡ taken mode (values_cell self.old c) (moved_value compat_moves _group (values_cell other.now) c)) }
+        ensures widths { OnOk result ((g : ℕ) → values_width self.new g ≡ widened mode (values_width self.old g) (moved_width compat_moves _group (values_width other.now) g)) }
+        ensures err { IfErr result (λ e. e ≡ Memory) }
+    {
+        *self = self.joined(*other, mode);
+        Ok(())
+    }
+
+    fn key_in(key: &Trigger, _group: Option<u8>) -> Option<Trigger>
+        ensures { result ≡ moved_key compat_moves _group key.now }
+    {
+        Some(*key)
+    }
+
+    fn no_notes() -> Notes {
+        Notes::new()
+    }
+
+    fn add_notes(notes: &mut Notes, other: &Notes) {
+        *notes = notes.saturating_add(*other);
+    }
+
+    ghost apart = { λ n j k to one two. ap (λ key. unwrap_or key to) (one ∙ sym two) };
+
+    ghost same = { λ j k e. Prim.search rules };
+}

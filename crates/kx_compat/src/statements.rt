@@ -1,0 +1,336 @@
+//! What the statements of a compat section say of interpretations.
+ghost use Rattle.std.specs.Prelude.{◌≡◌, ◌++◌, ◌∷◌, [], Contains, IfErr, IfOk, OnOk};
+ghost use Rattle.std.specs.List.{flat_map};
+ghost use Rattle.std.specs.Option.{option_map};
+ghost use Rattle.kx_lex.specs.declared.fault.Fault.TheVariants.{Memory};
+ghost use Rattle.kx_parse.specs.declared.tree.Mode.{Mode as ModeValue};
+ghost use Rattle.kx_merge.specs.Records.{AreOffered, mode_of};
+ghost use Rattle.kx_symbols.specs.KeyFaults.{symbol_faults};
+ghost use Rattle.kx_compat.specs.Meaning.{item_offers, offers_to, said_offers, values_offer};
+ghost use Rattle.kx_compat.specs.Sections.{alone_faults, field_in, interpretation_faults, interpretation_in, is_indicator, is_other, item_faults, lamp_faults, lone_faults, member_faults, other_faults, own_faults, own_value, said_faults, values_of};
+ghost use Rattle.kx_compat.specs.Triggers.{predicate_faults, trigger_of, trigger_with};
+ghost use Rattle.kx_compat.specs.Giving.{values_cell, values_width};
+ghost use Rattle.kx_mods.specs.Mods.{mask};
+
+use crate::defaults::{CompatDefaults, field_in, is_interpret};
+use crate::fields::read_field;
+use crate::predicates::{read_keysym, read_predicate, unknown_field};
+use crate::values::{FieldValue, FieldValues};
+use ks_core::{NameTable, Notes};
+use kx_actions::ActionDefaults;
+use kx_choice::{Condition, Trigger, WantedKeysym};
+use kx_lex::{Apart, At, Fault, Name, Row, Span};
+use kx_masks::ModNames;
+use kx_mods::Mods;
+use kx_parse::{Field, Item, Predicate, Statement, Symbol};
+use std::alloc::Global;
+
+/// The symbol, the predicate and the fields of an interpretation.
+fn interpretation_in(
+    statement: &Statement,
+) -> Option<(&Symbol, &Option<Apart<Predicate>>, &Row<Field>)>
+    ensures { option_map (λ i. (i.0.now, i.1.now, i.2.now)) result ≡ interpretation_in statement.now }
+{
+    match statement {
+        Statement::Interpretation {
+            symbol,
+            predicate,
+            fields,
+        } => Some((symbol, predicate, fields)),
+        Statement::Keycode { .. } => None,
+        Statement::Alias { .. } => None,
+        Statement::IndicatorName { .. } => None,
+        Statement::VirtualModifiers(_) => None,
+        Statement::KeyType { .. } => None,
+        Statement::Indicator { .. } => None,
+        Statement::Group { .. } => None,
+        Statement::Key { .. } => None,
+        Statement::ModifierMap { .. } => None,
+        Statement::Field(_) => None,
+    }
+}
+
+/// Whether a statement of a compat section says nothing of interpretations.
+fn is_other(statement: &Statement) -> bool
+    ensures { result ≡ is_other statement.now }
+{
+    match statement {
+        Statement::VirtualModifiers(_) => true,
+        Statement::Indicator { .. } => true,
+        Statement::Group { .. } => true,
+        Statement::Keycode { .. } => false,
+        Statement::Alias { .. } => false,
+        Statement::IndicatorName { .. } => false,
+        Statement::KeyType { .. } => false,
+        Statement::Interpretation { .. } => false,
+        Statement::Key { .. } => false,
+        Statement::ModifierMap { .. } => false,
+        Statement::Field(_) => false,
+    }
+}
+
+fn trigger_with(keysym: Option<WantedKeysym>, condition: Condition, mods: Mods) -> Option<Trigger>
+    ensures { result ≡ trigger_with keysym (Some (condition, mask mods)) }
+{
+    match keysym {
+        Some(keysym) => Some(Trigger {
+            keysym,
+            condition,
+            mask: mods.mask(),
+        }),
+        None => None,
+    }
+}
+
+/// For which keys an interpretation is; for none, where no keysym has its name, which is noted.
+fn read_trigger(
+    table: &NameTable,
+    names: &ModNames,
+    file: u32,
+    symbol: &Symbol,
+    predicate: &Option<Apart<Predicate>>,
+    notes: &mut Notes,
+) -> Result<Option<Trigger>, Fault>
+    ensures value { IfOk result (λ trigger. trigger ≡ trigger_of table.now symbol.now predicate.now) }
+    ensures faultless { OnOk result (symbol_faults file symbol.now ++ predicate_faults file names.now.names predicate.now ≡ []) }
+    ensures fault { IfErr result (λ e. Contains (Memory ∷ (symbol_faults file symbol.now ++ predicate_faults file names.now.names predicate.now)) e) }
+{
+    let keysym = read_keysym(table, file, symbol, notes)?;
+    let (condition, mods) = read_predicate(names, file, predicate)?;
+    Ok(trigger_with(keysym, condition, mods))
+}
+
+/// What a field in an interpretation gives it.
+fn read_own(
+    names: &ModNames,
+    file: u32,
+    defaults: &CompatDefaults,
+    field: &Field,
+    notes: &mut Notes,
+) -> Result<Option<FieldValue>, Fault>
+    ensures value { IfOk result (λ value. value ≡ own_value names.now.names defaults.now field.now) }
+    ensures faultless { OnOk result (own_faults file names.now.names field.now ≡ []) }
+    ensures fault { IfErr result (λ e. Contains (own_faults file names.now.names field.now) e) }
+{
+    let word = &field.place.word;
+    if field.place.member.is_some() {
+        return Err(unknown_field(file, word));
+    }
+    read_field(names, file, &defaults.actions, word, field, notes)
+}
+
+/// What the fields of an interpretation give it, behind the defaults.
+fn read_values(
+    names: &ModNames,
+    file: u32,
+    defaults: &CompatDefaults,
+    fields: &[Field],
+    notes: &mut Notes,
+) -> Result<FieldValues, Fault>
+    ensures value { IfOk result (λ values. values ≡ values_of names.now.names defaults.now fields.now) }
+    ensures faultless { OnOk result (flat_map (own_faults file names.now.names) fields.now ≡ []) }
+    ensures fault { IfErr result (λ e. Contains (flat_map (own_faults file names.now.names) fields.now) e) }
+{
+    let mut values = defaults.values;
+    'fields: for field in fields {
+        values = values.with(read_own(names, file, defaults, field, notes)?);
+    }
+    Ok(values)
+}
+
+fn no_records(alloc: Global) -> Vec<(Trigger, FieldValues)>
+    ensures { (mode : ModeValue) → AreOffered mode (values_cell) (values_width) result.items [] }
+{
+    Vec::new(alloc)
+}
+
+fn one_record(
+    alloc: Global,
+    trigger: Trigger,
+    values: FieldValues,
+) -> Result<Vec<(Trigger, FieldValues)>, Fault>
+    ensures records { (mode : ModeValue) → IfOk result (λ records. AreOffered mode (values_cell) (values_width) records.items (values_offer mode trigger values ∷ [])) }
+    ensures err { IfErr result (λ e. e ≡ Memory) }
+{
+    let mut records = Vec::new(alloc);
+    records.push((trigger, values))?;
+    Ok(records)
+}
+
+/// What is given to the interpretation for some keys.
+fn records_for(
+    alloc: Global,
+    trigger: Option<Trigger>,
+    values: FieldValues,
+) -> Result<Vec<(Trigger, FieldValues)>, Fault>
+    ensures records { (mode : ModeValue) → IfOk result (λ records. AreOffered mode (values_cell) (values_width) records.items (offers_to mode values trigger)) }
+    ensures err { IfErr result (λ e. e ≡ Memory) }
+{
+    match trigger {
+        None => Ok(no_records(alloc)),
+        Some(trigger) => one_record(alloc, trigger, values),
+    }
+}
+
+/// What an interpretation gives.
+fn read_interpretation(
+    alloc: Global,
+    table: &NameTable,
+    names: &ModNames,
+    file: u32,
+    defaults: &CompatDefaults,
+    symbol: &Symbol,
+    predicate: &Option<Apart<Predicate>>,
+    fields: &[Field],
+    notes: &mut Notes,
+) -> Result<Vec<(Trigger, FieldValues)>, Fault>
+    ensures records { (mode : ModeValue) → IfOk result (λ records. AreOffered mode (values_cell) (values_width) records.items (said_offers table.now names.now.names defaults.now mode (Some (symbol.now, predicate.now, fields.now)))) }
+    ensures faultless { OnOk result (interpretation_faults file names.now.names (symbol.now, predicate.now, fields.now) ≡ []) }
+    ensures fault { IfErr result (λ e. Contains (Memory ∷ interpretation_faults file names.now.names (symbol.now, predicate.now, fields.now)) e) }
+{
+    let trigger = read_trigger(table, names, file, symbol, predicate, notes)?;
+    let values = read_values(names, file, defaults, fields, notes)?;
+    records_for(alloc, trigger, values)
+}
+
+fn is_indicator(word: &[u8]) -> bool
+    ensures { result ≡ is_indicator word.now }
+{
+    word.eq_ignore_ascii_case(b"indicator")
+}
+
+/// Checks a default for a field of interpretations.
+fn check_member(
+    names: &ModNames,
+    file: u32,
+    actions: &ActionDefaults,
+    field: &Field,
+    notes: &mut Notes,
+) -> Result<(), Fault>
+    ensures faultless { OnOk result (member_faults file names.now.names field.now field.now.place.member ≡ []) }
+    ensures fault { IfErr result (λ e. Contains (member_faults file names.now.names field.now field.now.place.member) e) }
+{
+    match &field.place.member {
+        None => Err(unknown_field(file, &field.place.word)),
+        Some(member) => {
+            read_field(names, file, actions, member.get(), field, notes)?;
+            Ok(())
+        }
+    }
+}
+
+/// Checks a default for a field of indicators.
+fn check_lamp(file: u32, field: &Field) -> Result<(), Fault>
+    ensures faultless { OnOk result (lamp_faults file [] field.now field.now.place.member ≡ []) }
+    ensures fault { IfErr result (λ e. Contains (lamp_faults file [] field.now field.now.place.member) e) }
+{
+    if field.place.member.is_some() {
+        Ok(())
+    } else {
+        Err(unknown_field(file, &field.place.word))
+    }
+}
+
+/// Checks a field that stands alone.
+fn check_lone(
+    names: &ModNames,
+    file: u32,
+    actions: &ActionDefaults,
+    field: &Field,
+    notes: &mut Notes,
+) -> Result<(), Fault>
+    ensures faultless { OnOk result (lone_faults file names.now.names field.now ≡ []) }
+    ensures fault { IfErr result (λ e. Contains (lone_faults file names.now.names field.now) e) }
+{
+    let word = field.place.word.bytes.as_slice();
+    if is_interpret(word) {
+        return check_member(names, file, actions, field, notes);
+    }
+    if is_indicator(word) {
+        return check_lamp(file, field);
+    }
+    match actions.behind(names, file, field) {
+        Ok(_) => Ok(()),
+        Err(fault) => Err(fault),
+    }
+}
+
+/// Checks a statement that is no interpretation; `word` is what a fault of an unknown statement names.
+fn check_other(
+    names: &ModNames,
+    file: u32,
+    actions: &ActionDefaults,
+    word: Span,
+    statement: &Statement,
+    notes: &mut Notes,
+) -> Result<(), Fault>
+    ensures faultless { OnOk result (alone_faults file names.now.names statement.now word (field_in statement.now) ≡ []) }
+    ensures fault { IfErr result (λ e. Contains (alone_faults file names.now.names statement.now word (field_in statement.now)) e) }
+{
+    match field_in(statement) {
+        Some(field) => check_lone(names, file, actions, field, notes),
+        None => {
+            if is_other(statement) {
+                return Ok(());
+            }
+            Err(Fault::UnknownField(At { file, span: word }))
+        }
+    }
+}
+
+/// What a statement gives; `word` is what a fault of an unknown statement names.
+fn read_statement(
+    alloc: Global,
+    table: &NameTable,
+    names: &ModNames,
+    file: u32,
+    defaults: &CompatDefaults,
+    word: Span,
+    statement: &Statement,
+    notes: &mut Notes,
+) -> Result<Vec<(Trigger, FieldValues)>, Fault>
+    ensures records { (mode : ModeValue) → IfOk result (λ records. AreOffered mode (values_cell) (values_width) records.items (said_offers table.now names.now.names defaults.now mode (interpretation_in statement.now))) }
+    ensures faultless { OnOk result (said_faults file names.now.names statement.now word (interpretation_in statement.now) ≡ []) }
+    ensures fault { IfErr result (λ e. Contains (Memory ∷ said_faults file names.now.names statement.now word (interpretation_in statement.now)) e) }
+{
+    match interpretation_in(statement) {
+        Some((symbol, predicate, fields)) => read_interpretation(
+            alloc,
+            table,
+            names,
+            file,
+            defaults,
+            symbol,
+            predicate,
+            fields.as_slice(),
+            notes,
+        ),
+        None => {
+            check_other(names, file, &defaults.actions, word, statement, notes)?;
+            Ok(no_records(alloc))
+        }
+    }
+}
+
+/// What an item gives, under the defaults before it in its section.
+pub(crate) fn read_item(
+    alloc: Global,
+    table: &NameTable,
+    names: &ModNames,
+    file: u32,
+    defaults: &CompatDefaults,
+    item: &Item,
+    notes: &mut Notes,
+) -> Result<Vec<(Trigger, FieldValues)>, Fault>
+    ensures records { IfOk result (λ records. AreOffered (mode_of item.now) (values_cell) (values_width) records.items (item_offers table.now names.now.names defaults.now item.now)) }
+    ensures faultless { OnOk result (item_faults file names.now.names item.now ≡ []) }
+    ensures fault { IfErr result (λ e. Contains (Memory ∷ item_faults file names.now.names item.now) e) }
+{
+    let word = item.word_span();
+    match item {
+        Item::Include { .. } => Ok(no_records(alloc)),
+        Item::Statement { statement, .. } => read_statement(
+            alloc, table, names, file, defaults, word, statement, notes,
+        ),
+    }
+}

@@ -1,0 +1,135 @@
+//! What the fields of an interpretation are given together.
+ghost use Rattle.std.specs.Prelude.{◌≡◌};
+ghost use Rattle.kx_merge.specs.Offers.{taken};
+
+use kx_choice::{GivenAction, GivenModifier};
+use kx_parse::Mode;
+use std::marker::Model;
+
+/// What can have a value in an interpretation.
+#[derive(Clone, Copy)]
+pub enum Cell {
+    Action,
+    Modifier,
+    Levels,
+}
+
+/// What one field gives.
+#[derive(Clone, Copy)]
+pub enum FieldValue {
+    Action(GivenAction),
+    Modifier(GivenModifier),
+    /// Whether modifiers are seen at the first level alone.
+    FirstLevelOnly(bool),
+}
+
+/// What fields give; nothing, where they aren't written.
+#[derive(Clone, Copy)]
+pub struct FieldValues {
+    action: Option<GivenAction>,
+    modifier: Option<GivenModifier>,
+    first_level_only: Option<bool>,
+}
+
+impl Model for FieldValues {
+    ghost use Rattle.kx_compat.specs.Given.{FieldValues};
+
+    ghost Value = { FieldValues };
+
+    ghost view = { λ v. record { action = v.action; modifier = v.modifier; first_level_only = v.first_level_only } };
+
+    ghost inverse = { λ v. record { action = v.action; modifier = v.modifier; first_level_only = v.first_level_only } };
+}
+
+/// What a value under a mode makes of the one before it.
+fn taken<T: Drop>(mode: Mode, old: Option<T>, new: Option<T>) -> Option<T>
+    ensures { result ≡ taken mode old new }
+{
+    match mode {
+        Mode::Augment => old.or(new),
+        Mode::Override => new.or(old),
+        Mode::Replace => new,
+    }
+}
+
+impl FieldValues {
+    ghost use Rattle.std.specs.Prelude.{◌≡◌};
+    ghost use Rattle.kx_merge.specs.Offers.{taken};
+    ghost use Rattle.kx_compat.specs.Giving.{no_values, values_cell, with_value};
+    ghost use Rattle.kx_compat.specs.declared.values.Cell.{Cell as CellName};
+
+    /// Nothing is given.
+    pub(crate) fn none() -> FieldValues
+        ensures { result ≡ no_values }
+    {
+        FieldValues {
+            action: None,
+            modifier: None,
+            first_level_only: None,
+        }
+    }
+
+    /// These with what a field gives anew.
+    pub(crate) fn with(self, value: Option<FieldValue>) -> FieldValues
+        ensures { result ≡ with_value self value }
+    {
+        match value {
+            None => self,
+            Some(value) => self.with_one(value),
+        }
+    }
+
+    fn with_one(self, value: FieldValue) -> FieldValues
+        ensures { result ≡ with_value self (Some value) }
+    {
+        match value {
+            FieldValue::Action(action) => FieldValues {
+                action: Some(action),
+                modifier: self.modifier,
+                first_level_only: self.first_level_only,
+            },
+            FieldValue::Modifier(modifier) => FieldValues {
+                action: self.action,
+                modifier: Some(modifier),
+                first_level_only: self.first_level_only,
+            },
+            FieldValue::FirstLevelOnly(only) => FieldValues {
+                action: self.action,
+                modifier: self.modifier,
+                first_level_only: Some(only),
+            },
+        }
+    }
+
+    /// The action that is given.
+    pub(crate) fn action(&self) -> Option<GivenAction>
+        ensures { result ≡ self.now.action }
+    {
+        self.action
+    }
+
+    /// The virtual modifier that is given.
+    pub(crate) fn modifier(&self) -> Option<GivenModifier>
+        ensures { result ≡ self.now.modifier }
+    {
+        self.modifier
+    }
+
+    /// Whether modifiers are seen at the first level alone, where that is given.
+    pub(crate) fn first_level_only(&self) -> Option<bool>
+        ensures { result ≡ self.now.first_level_only }
+    {
+        self.first_level_only
+    }
+
+    /// What is given once more is given under a mode.
+    pub(crate) fn joined(self, other: FieldValues, mode: Mode) -> FieldValues
+        ensures { (c : CellName) → values_cell result c ≡ taken mode (values_cell self c) (values_cell other c) }
+    {
+        FieldValues {
+            action: taken(mode, self.action, other.action),
+            modifier: taken(mode, self.modifier, other.modifier),
+            first_level_only: taken(mode, self.first_level_only, other.first_level_only),
+        }
+    }
+}

@@ -1,0 +1,7 @@
+mod Behind
+mod Bits
+mod Going
+mod Lasting
+mod Longest
+mod Offering
+mod Single

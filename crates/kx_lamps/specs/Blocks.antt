@@ -1,0 +1,106 @@
+-- The statements of indicators in a compat section: the names that they write, the defaults behind them, and their faults.
+use Rattle.std.specs.Prelude.{◌≡◌, ℕ, fold, nat_lt, Bool, List, [], ◌∷◌, ◌++◌, length, Option, None, Some, is_some, if◌then◌else◌, codes}
+use Rattle.std.specs.List.{flat_map}
+use Rattle.std.specs.Str.{str_eq_ignore_ascii_case}
+use Rattle.kx_actions.specs.Values.{is_faultless}
+use Rattle.kx_basics.specs.declared.limits.TheConstants.{MOST_NAME_BYTES}
+use Rattle.kx_include.specs.IncludeFaults.{at}
+use Rattle.kx_lex.specs.declared.fault.Fault.{Fault}
+use Rattle.kx_lex.specs.declared.fault.Fault.TheVariants.{TooMany}
+use Rattle.kx_lex.specs.declared.name.Name.{Name}
+use Rattle.kx_lex.specs.declared.token.Span.{Span}
+use Rattle.kx_parse.specs.declared.tree.Field.{Field}
+use Rattle.kx_parse.specs.declared.tree.Item.{Item}
+use Rattle.kx_parse.specs.declared.tree.Item.TheVariants.{Include, Statement}
+use Rattle.kx_parse.specs.declared.tree.Statement.{Statement as Said}
+use Rattle.kx_parse.specs.declared.tree.Statement.TheVariants as said
+use Rattle.kx_lamps.specs.Given.{LampValues}
+use Rattle.kx_lamps.specs.Giving.{last_values, no_values, with_value}
+use Rattle.kx_lamps.specs.LampFields.{field_faults, field_value}
+use Rattle.kx_lamps.specs.declared.values.LampValue.{LampValue}
+
+-- the name and the fields of an indicator
+abbrev pub indicator_in : Said → Option (Name × List Field)
+indicator_in (said.Indicator name fields) = Some (name, fields)
+indicator_in _ = None
+
+abbrev pub is_indicator : List ℕ → Bool
+is_indicator word = str_eq_ignore_ascii_case word (codes "indicator")
+
+abbrev pub member_of : Field → Option Name
+member_of field = if is_indicator field.place.word.bytes then field.place.member else None
+
+abbrev pub given_of : Field → Option Name → Option (Name × Field)
+given_of field None = None
+given_of field (Some member) = Some (member, field)
+
+-- a default for indicators, as `indicator.groups = all;`, and the word of its field
+abbrev pub default_in : Said → Option (Name × Field)
+default_in (said.Field field) = given_of field (member_of field)
+default_in _ = None
+
+abbrev pub item_default : Item → Option (Name × Field)
+item_default (Statement mode statement first whole) = default_in statement
+item_default (Include mode text span) = None
+
+-- ---- Names
+
+abbrev pub written_name : Option (Name × List Field) → List (List ℕ)
+written_name None = []
+written_name (Some i) = i.0.bytes ∷ []
+
+-- the name of the indicator that a statement is about
+abbrev pub lamp_names : Item → List (List ℕ)
+lamp_names (Statement mode statement first whole) = written_name (indicator_in statement)
+lamp_names (Include mode text span) = []
+
+-- ---- Defaults
+
+-- `names` are the virtual modifiers by number
+module _ (names : List (List ℕ)) where
+  -- a default with a fault, in whatever file it stands, gives nothing
+  abbrev pub default_value : Name → Field → Option LampValue
+  default_value member field = if is_faultless (field_faults 0 names member field) then field_value names member field else None
+
+  abbrev pub given_value : Option (Name × Field) → Option LampValue
+  given_value None = None
+  given_value (Some given) = default_value given.0 given.1
+
+  -- the defaults behind one more statement
+  abbrev pub next_default : LampValues → Item → LampValues
+  next_default d item = with_value d (given_value (item_default item))
+
+  -- the defaults behind the statements of a section are what the last of them gives that gives a field anything
+  abbrev pub DefaultsAreLast : Type 0
+  DefaultsAreLast = (statements : List Item) → fold next_default no_values statements ≡ last_values (λ item. given_value (item_default item)) no_values statements
+
+  -- a field of a word of another's is read and not used
+  abbrev pub own_value : Field → Option LampValue
+  own_value field = if is_some field.place.member then None else field_value names field.place.word field
+
+  -- what is written last in an indicator, else the default before it
+  abbrev pub values_of : LampValues → List Field → LampValues
+  values_of d fields = last_values own_value d fields
+
+-- ---- Faults
+
+module _ (file : ℕ) (names : List (List ℕ)) where
+  abbrev pub own_faults : Field → List Fault
+  own_faults field = if is_some field.place.member then [] else field_faults file names field.place.word field
+
+  -- an indicator's name has at most 255 bytes; `whole` is the statement
+  abbrev pub name_faults : Span → Name → List Fault
+  name_faults whole name = if nat_lt MOST_NAME_BYTES (length name.bytes) then TooMany (at file whole) ∷ [] else []
+
+  abbrev pub default_faults : Option (Name × Field) → List Fault
+  default_faults None = []
+  default_faults (Some given) = field_faults file names given.0 given.1
+
+  abbrev pub said_faults : Said → Span → Option (Name × List Field) → List Fault
+  said_faults statement whole None = default_faults (default_in statement)
+  said_faults statement whole (Some i) = name_faults whole i.0 ++ flat_map own_faults i.1
+
+  -- those of indicators; those of other statements are none of these
+  abbrev pub item_faults : Item → List Fault
+  item_faults (Statement mode statement first whole) = said_faults statement whole (indicator_in statement)
+  item_faults (Include mode text span) = []

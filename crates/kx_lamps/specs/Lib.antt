@@ -1,0 +1,9 @@
+pub mod LampMasks
+pub mod LampFields
+pub mod Given
+pub mod Giving
+pub mod Lamps
+pub mod Blocks
+pub mod Meaning
+pub mod Bounds
+pub mod Shown

@@ -1,0 +1,119 @@
+//! What the fields of indicators are given.
+ghost use Rattle.std.specs.Prelude.{◌≡◌, [], Contains, IfErr, IfOk, OnOk, Some};
+ghost use Rattle.kx_include.specs.IncludeFaults.{at};
+ghost use Rattle.kx_lex.specs.declared.fault.Fault.TheVariants.{BadValue};
+ghost use Rattle.kx_lamps.specs.LampFields.{expression_faults, expression_in, expression_value, field_faults, field_named, field_value, known_value, placed_faults, setting_faults};
+
+use crate::masks::{MaskKind, read_mask};
+use crate::states::GivenStates;
+use crate::values::{LampField, LampValue};
+use kx_lex::{At, Fault, Name, Span};
+use kx_masks::ModNames;
+use kx_parse::{Expression, Field, Setting, Value};
+
+fn bad_value(file: u32, span: Span) -> Fault
+    ensures { result ≡ BadValue (at file span) }
+{
+    Fault::BadValue(At { file, span })
+}
+
+fn field_named(word: &[u8]) -> Option<LampField>
+    ensures { result ≡ field_named word.now }
+{
+    if word.eq_ignore_ascii_case(b"modifiers") || word.eq_ignore_ascii_case(b"mods") {
+        Some(LampField::Modifiers)
+    } else if word.eq_ignore_ascii_case(b"whichModState") {
+        Some(LampField::ModStates)
+    } else if word.eq_ignore_ascii_case(b"whichGroupState") {
+        Some(LampField::GroupStates)
+    } else if word.eq_ignore_ascii_case(b"groups") {
+        Some(LampField::Groups)
+    } else {
+        None
+    }
+}
+
+/// What a field is given by an expression.
+fn read_expression(
+    names: &ModNames,
+    file: u32,
+    known: LampField,
+    expression: &Expression,
+) -> Result<LampValue, Fault>
+    ensures value { IfOk result (λ value. value ≡ expression_value names.now.names known expression.now) }
+    ensures faultless { OnOk result (expression_faults file names.now.names known expression.now ≡ []) }
+    ensures fault { IfErr result (λ e. Contains (expression_faults file names.now.names known expression.now) e) }
+{
+    match known {
+        LampField::Modifiers => Ok(LampValue::Modifiers(names.mask_of(file, expression)?)),
+        LampField::ModStates => {
+            let mask = read_mask(MaskKind::States, file, expression)?;
+            Ok(LampValue::ModStates(GivenStates::of(mask)))
+        }
+        LampField::GroupStates => {
+            let mask = read_mask(MaskKind::States, file, expression)?;
+            Ok(LampValue::GroupStates(GivenStates::of(mask)))
+        }
+        LampField::Groups => Ok(LampValue::Groups(read_mask(MaskKind::Groups, file, expression)?)),
+    }
+}
+
+/// What a field is given by its setting.
+fn read_setting(
+    names: &ModNames,
+    file: u32,
+    known: LampField,
+    whole: Span,
+    setting: &Setting,
+) -> Result<LampValue, Fault>
+    ensures value { IfOk result (λ value. Some value ≡ known_value names.now.names setting.now (Some known)) }
+    ensures faultless { OnOk result (setting_faults file names.now.names whole known setting.now ≡ []) }
+    ensures fault { IfErr result (λ e. Contains (setting_faults file names.now.names whole known setting.now) e) }
+{
+    match setting {
+        Setting::To(Value::Expression(expression)) => {
+            read_expression(names, file, known, expression)
+        }
+        Setting::To(Value::Call(call)) => Err(bad_value(file, call.span)),
+        Setting::To(Value::List(list)) => Err(bad_value(file, list.span)),
+        Setting::Off | Setting::On => Err(bad_value(file, whole)),
+    }
+}
+
+/// What a field gives that has a meaning, and takes no index.
+fn read_known(
+    names: &ModNames,
+    file: u32,
+    word: &Name,
+    known: LampField,
+    field: &Field,
+) -> Result<LampValue, Fault>
+    ensures value { IfOk result (λ value. Some value ≡ known_value names.now.names field.now.setting (Some known)) }
+    ensures faultless { OnOk result (placed_faults file names.now.names word.now field.now known field.now.place.index ≡ []) }
+    ensures fault { IfErr result (λ e. Contains (placed_faults file names.now.names word.now field.now known field.now.place.index) e) }
+{
+    match &field.place.index {
+        None => read_setting(names, file, known, field.span, &field.setting),
+        Some(_) => Err(Fault::UnknownField(At {
+            file,
+            span: word.span,
+        })),
+    }
+}
+
+/// What a field of a file gives that `word` names; nothing, where it is read and not used.
+pub(crate) fn read_field(
+    names: &ModNames,
+    file: u32,
+    word: &Name,
+    field: &Field,
+) -> Result<Option<LampValue>, Fault>
+    ensures value { IfOk result (λ value. value ≡ field_value names.now.names word.now field.now) }
+    ensures faultless { OnOk result (field_faults file names.now.names word.now field.now ≡ []) }
+    ensures fault { IfErr result (λ e. Contains (field_faults file names.now.names word.now field.now) e) }
+{
+    match field_named(word.bytes.as_slice()) {
+        None => Ok(None),
+        Some(known) => Ok(Some(read_known(names, file, word, known, field)?)),
+    }
+}
