@@ -1,0 +1,6 @@
+pub mod Chosen
+pub mod Listing
+pub mod RangeLemmas
+pub mod Rows
+pub mod Signs
+pub mod Telling

@@ -1,0 +1,4 @@
+pub mod ActionText
+pub mod Masks
+pub mod Phrases
+pub mod Printed
