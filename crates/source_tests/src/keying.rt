@@ -3,6 +3,7 @@ use ks_core::{NameTable, Notes};
 use kx_codes::codes;
 use kx_include::{Bodies, Library};
 use kx_lex::Fault;
+use kx_masks::ModNames;
 use kx_symbols::{Keys, symbols};
 use std::alloc::Global;
 use std::process::Abort;
@@ -14,7 +15,14 @@ const RU: &[u8] = b"xkb_symbols \"x\" { key <A> { [ U0444 ], [ 7 ] }; };";
 
 fn keys_in(alloc: Global, bodies: &Bodies) -> Result<(Keys, Notes), Fault> {
     let codes = codes(alloc, &bodies.keycodes)?;
-    symbols(alloc, &bodies.symbols, &codes, &NameTable::builtin())
+    let modifiers = ModNames::of(alloc, bodies)?;
+    symbols(
+        alloc,
+        &bodies.symbols,
+        &codes,
+        &NameTable::builtin(),
+        &modifiers,
+    )
 }
 
 fn keys_of_library(alloc: Global, library: &Library) -> Result<(Keys, Notes), Fault> {
@@ -172,16 +180,19 @@ fn faults_name_their_place(rt: HostRuntime) -> Result<(), Fail> {
             b"key <A> { symbols=[NoAction()] };",
             "F15 BadValue at 0:80-90",
         ),
-        (b"key <A> { [NoAction()] };", "F14 UnknownField at 0:72-80"),
+        (
+            b"key <A> { symbols=[{ a, SetMods() }] };",
+            "F15 BadValue at 0:85-94",
+        ),
         (
             b"key <A> { [{ a, b, c, d, e, f, g, h, i }] };",
             "F13 TooMany at 0:61-105",
         ),
         (b"key <A> { a.symbols=[a] };", "F14 UnknownField at 0:71-72"),
-        (b"key.type = \"X\";", "F14 UnknownField at 0:61-64"),
+        (b"x.type = \"X\";", "F14 UnknownField at 0:61-62"),
         (
-            b"augment modifier_map Shift { <A> };",
-            "F14 UnknownField at 0:69-81",
+            b"augment type \"X\" { modifiers=none; };",
+            "F14 UnknownField at 0:69-73",
         ),
     ];
     for (items, wanted) in &rows {

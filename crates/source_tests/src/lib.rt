@@ -2,9 +2,17 @@
 #![tactic(auto)]
 
 #[cfg(test)]
+mod acting;
+#[cfg(test)]
 mod coding;
 #[cfg(test)]
+mod describing;
+#[cfg(test)]
+mod interpreting;
+#[cfg(test)]
 mod keying;
+#[cfg(test)]
+mod lighting;
 #[cfg(test)]
 mod masking;
 #[cfg(test)]
@@ -12,4 +20,8 @@ mod merging;
 #[cfg(test)]
 mod resolving;
 #[cfg(test)]
+mod setting;
+#[cfg(test)]
 mod sources;
+#[cfg(test)]
+mod typing;

@@ -2,9 +2,12 @@ use ks_core::{NameTable, Notes};
 use kx_codes::codes;
 use kx_include::{Bodies, Files, Library};
 use kx_lex::Fault;
-use kx_resolve::{resolve, tables};
+use kx_masks::ModNames;
+use kx_resolve::resolve;
+use kx_source::tables;
 use kx_symbols::symbols;
 use kx_tables::{Owned, Parts, Rows, Tables};
+use kx_types::types;
 use std::alloc::Global;
 use std::process::Abort;
 use std::test::Fail;
@@ -58,8 +61,17 @@ fn groups_of_one_level(rt: HostRuntime) -> Result<(), Fail> {
 
 fn resolved_of(alloc: Global, bodies: &Bodies) -> Result<(Parts, Notes), Fault> {
     let codes = codes(alloc, &bodies.keycodes)?;
-    let (keys, _) = symbols(alloc, &bodies.symbols, &codes, &NameTable::builtin())?;
-    resolve(alloc, &codes, &keys)
+    let modifiers = ModNames::of(alloc, bodies)?;
+    let types = types(alloc, &bodies.types, &modifiers)?;
+    let (keys, _) = symbols(
+        alloc,
+        &bodies.symbols,
+        &codes,
+        &NameTable::builtin(),
+        &modifiers,
+    )?;
+    let stands = modifiers.declared_masks();
+    resolve(alloc, &codes, stands, &types, &keys)
 }
 
 fn resolved_in(alloc: Global, text: &[u8]) -> Result<(Parts, Notes), Fault> {
@@ -81,10 +93,14 @@ fn resolves_codes_and_keys(rt: HostRuntime) -> Result<(), Fail> {
 
 #[test]
 fn refusals_name_their_place(rt: HostRuntime) -> Result<(), Fail> {
-    let rows: [(&[u8], &str); 4] = [
+    let rows: [(&[u8], &str); 5] = [
         (
-            b"xkb_keymap { xkb_types { type \"X\" { modifiers = None; }; }; };",
-            "F14 UnknownField at 0:25-29",
+            b"xkb_keymap { xkb_types { type \"T\" { modifiers=Foo; }; }; };",
+            "F12 UnknownModifier at 0:46-49",
+        ),
+        (
+            b"xkb_keymap { xkb_symbols { modifier_map Shift { <A> }; }; };",
+            "F14 UnknownField at 0:27-39",
         ),
         (
             b"xkb_keymap { xkb_compat { }; xkb_compat { group 1 = 1; }; };",

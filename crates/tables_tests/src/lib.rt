@@ -1,4 +1,4 @@
-//! Tests of what stands on tables: modifiers, soundness, the builder, images and keyboards.
+//! Tests of what stands on tables: modifiers, soundness, the builder, images, keyboards and printed texts.
 #![tactic(auto)]
 
 #[cfg(test)]
@@ -11,3 +11,5 @@ mod images;
 mod keyboards;
 #[cfg(test)]
 mod modifiers;
+#[cfg(test)]
+mod printing;

@@ -177,19 +177,19 @@ fn refusals_name_their_place(rt: HostRuntime) -> Result<(), Fail> {
             "F14 UnknownField at 0:41-46",
         ),
         (
-            b"xkb_keymap { xkb_types { type \"A\" { }; }; };",
-            "F14 UnknownField at 0:25-29",
+            b"xkb_keymap { xkb_types { type \"A\" { more=1; }; }; };",
+            "F14 UnknownField at 0:36-40",
         ),
         (
             b"xkb_keymap { xkb_symbols { include \"us\" }; };",
             "F9 FileMissing at 0:35-39",
         ),
         (
-            b"xkb_keymap { xkb_symbols { key <A> { [ NoAction() ] }; }; };",
-            "F14 UnknownField at 0:39-47",
+            b"xkb_keymap { xkb_symbols { key <A> { symbols=[ NoAction() ] }; }; };",
+            "F15 BadValue at 0:47-57",
         ),
         (
-            b"xkb_keymap { xkb_symbols { key <A> { type = \"x\" }; }; };",
+            b"xkb_keymap { xkb_symbols { key <A> { kind = \"x\" }; }; };",
             "F14 UnknownField at 0:37-41",
         ),
         (
