@@ -27,6 +27,7 @@ fn a_type_has_its_entries(rt: HostRuntime) -> Result<(), Fail> {
         b"xkb_keymap { xkb_keycodes { <A>=38; }; xkb_types { type \"TWO_LEVEL\" { modifiers=Shift+Lock; map[Shift]=2; preserve[Lock]=Lock; }; }; xkb_symbols { key <A> { [1, exclam] }; }; };";
     let (tables, notes) = tables_in(rt.alloc(), source)?;
     assert_eq!(rt; notes, Notes::new());
+    assert_eq!(rt; tables.counts().types, 1);
     assert_eq!(rt; tables.type_row(0).mods, Mods::SHIFT.with(Mods::LOCK));
     assert_eq!(rt; tables.type_row(0).levels, 2);
     assert_eq!(rt; tables.counts().entries, 2);
@@ -40,6 +41,7 @@ fn a_later_map_sets_the_level(rt: HostRuntime) -> Result<(), Fail> {
     let source =
         b"xkb_keymap { xkb_keycodes { <A>=38; }; xkb_types { type \"TWO_LEVEL\" { modifiers=Shift+Lock; map[Shift]=2; preserve[Lock]=Lock; map[Lock]=Level2; }; }; xkb_symbols { key <A> { [1, exclam] }; }; };";
     let (tables, _) = tables_in(rt.alloc(), source)?;
+    assert_eq!(rt; tables.counts().entries, 2);
     assert_eq!(rt; tables.entry_row(1), entry(Mods::LOCK, 2, Mods::LOCK));
     Ok(())
 }
@@ -50,6 +52,7 @@ fn entries_without_modifiers_are_not_live(rt: HostRuntime) -> Result<(), Fail> {
     let source =
         b"xkb_keymap { xkb_keycodes { <A>=38; }; xkb_types { virtual_modifiers None5, Alt=Mod1; type \"TWO_LEVEL\" { modifiers=Shift+None5+Alt; map[None5]=2; map[Shift+None5]=2; map[Shift]=1; map[Alt]=2; }; }; xkb_symbols { key <A> { [1, exclam] }; }; };";
     let (tables, _) = tables_in(rt.alloc(), source)?;
+    assert_eq!(rt; tables.counts().types, 1);
     assert_eq!(rt; tables.type_row(0).mods, Mods::SHIFT.with(Mods::MOD1));
     assert_eq!(rt; tables.counts().entries, 2);
     assert_eq!(rt; tables.entry_row(0), entry(Mods::SHIFT, 2, Mods::NONE));
@@ -63,6 +66,9 @@ fn has_type(alloc: Global, list: &[u8], name: &[u8]) -> Result<bool, Fault> {
         b"xkb_keymap { xkb_keycodes { <A>=38; }; xkb_types { type \"ONE_LEVEL\" { modifiers=none; }; type \"TWO_LEVEL\" { map[Shift]=2; }; type \"ALPHABETIC\" { map[Shift]=2; }; type \"KEYPAD\" { map[Shift]=2; }; type \"FOUR_LEVEL\" { map[Shift]=4; }; type \"FOUR_LEVEL_ALPHABETIC\" { map[Shift]=4; }; type \"FOUR_LEVEL_SEMIALPHABETIC\" { map[Shift]=4; }; type \"FOUR_LEVEL_KEYPAD\" { map[Shift]=4; }; }; xkb_symbols { key <A> { ";
     let source = [front, list, b" }; }; };"].concat(alloc)?;
     let (tables, _) = tables_in(alloc, source.as_slice())?;
+    if tables.counts().types == 0 {
+        return Ok(false);
+    }
     Ok(tables.type_name(0) == name)
 }
 
@@ -98,6 +104,7 @@ fn keys_have_types_ranges_and_actions(rt: HostRuntime) -> Result<(), Fail> {
     assert_eq!(rt; tables.type_row(0).mods, Mods::MOD1);
     assert_eq!(rt; tables.type_name(1), b"ONE_LEVEL".as_slice());
     assert_eq!(rt; tables.type_row(1).mods, Mods::SHIFT);
+    assert_eq!(rt; tables.counts().keys, 2);
     assert_eq!(rt; tables.key_row(0).range, Range::Clamp);
     assert_eq!(rt; tables.key_row(1).range, Range::Redirect(1));
     assert_eq!(rt; tables.counts().cells, 4);
