@@ -8,19 +8,13 @@ mod coding;
 #[cfg(test)]
 mod describing;
 #[cfg(test)]
-mod interpreting;
-#[cfg(test)]
 mod keying;
-#[cfg(test)]
-mod lighting;
 #[cfg(test)]
 mod masking;
 #[cfg(test)]
 mod merging;
 #[cfg(test)]
 mod resolving;
-#[cfg(test)]
-mod setting;
 #[cfg(test)]
 mod sources;
 #[cfg(test)]
