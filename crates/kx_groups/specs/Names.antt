@@ -45,6 +45,11 @@ group_name body group = unwrap_or (value_of nat_eq (offers_of nat_eq name_rules 
 abbrev pub name_at : List (List ℕ) → ℕ → List ℕ
 name_at names group = unwrap_or (slice_get names group) []
 
+-- there are few names, and the last of them has bytes
+pub record AreCut (names : List (List ℕ)) : Type 0 where
+  pub few : length names ≤ MOST_GROUPS
+  pub ends : name_at names (length names - 1) ≡ [] → names ≡ []
+
 -- names by group, from the first to the last that has bytes
 pub record AreGroupNames (names : List (List ℕ)) (body : Body) : Type 0 where
   pub names_are : (group : ℕ) → group < MOST_GROUPS → name_at names group ≡ group_name body (group + 1)

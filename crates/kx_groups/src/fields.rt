@@ -1,6 +1,7 @@
 //! The fields that name groups.
-ghost use Rattle.std.specs.Prelude.{◌≡◌, ◌++◌, ◌^◌, [], Contains, IfErr, IfOk, OnOk, Some, min};
+ghost use Rattle.std.specs.Prelude.{◌≡◌, ◌≤◌, ◌++◌, ◌^◌, [], Contains, IfErr, IfOk, OnOk, Some, length, min};
 ghost use Rattle.std.specs.Option.{option_map};
+ghost use Rattle.kx_basics.specs.declared.limits.TheConstants.{MOST_NAME_BYTES};
 ghost use Rattle.kx_groups.specs.Fields.{field_faults, group_faults, index_faults, indexed_group, is_name, known_group, name_in, set_text, setting_faults, term_text, text_faults, text_of};
 ghost use Rattle.kx_settings.specs.Groups.{group_of as group_named, is_group};
 
@@ -119,6 +120,7 @@ fn expression_text<'a>(
     expression: &'a Expression,
 ) -> Result<&'a [u8], Fault>
     ensures value { IfOk result (λ text. Some text.now ≡ text_of expression.now) }
+    ensures short { IfOk result (λ text. length text.now ≤ MOST_NAME_BYTES) }
     ensures faultless { OnOk result (text_faults file whole expression.now.span (text_of expression.now) ≡ []) }
     ensures fault { IfErr result (λ e. Contains (text_faults file whole expression.now.span (text_of expression.now)) e) }
 {
@@ -139,6 +141,7 @@ fn expression_text<'a>(
 /// The text that a field of a statement sets.
 fn read_text<'a>(file: u32, whole: Span, field: &'a Field) -> Result<&'a [u8], Fault>
     ensures value { IfOk result (λ text. Some text.now ≡ set_text field.now.setting) }
+    ensures short { IfOk result (λ text. length text.now ≤ MOST_NAME_BYTES) }
     ensures faultless { OnOk result (setting_faults file whole field.now.span field.now.setting ≡ []) }
     ensures fault { IfErr result (λ e. Contains (setting_faults file whole field.now.span field.now.setting) e) }
 {
@@ -167,6 +170,7 @@ pub(crate) fn read_name<'a>(
 ) -> Result<(u8, &'a [u8]), Fault>
     ensures group { IfOk result (λ name. Some name.0 ≡ indexed_group field.now.place.index) }
     ensures text { IfOk result (λ name. Some name.1.now ≡ set_text field.now.setting) }
+    ensures short { IfOk result (λ name. length name.1.now ≤ MOST_NAME_BYTES) }
     ensures faultless { OnOk result (field_faults file whole field.now ≡ []) }
     ensures fault { IfErr result (λ e. Contains (field_faults file whole field.now) e) }
 {

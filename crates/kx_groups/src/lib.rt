@@ -6,5 +6,6 @@ mod names;
 mod record;
 #[cfg(test)]
 mod tests;
+mod text;
 
 pub use names::{GroupNames, group_names};

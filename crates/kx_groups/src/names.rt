@@ -1,15 +1,17 @@
 //! The names of groups by precedence.
 ghost use Rattle.std.specs.Prelude.{◌≡◌, ◌≤◌, ◌<◌, ◌-◌, ◌+◌, ◌∷◌, [], ℕ, Contains, IfErr, IfOk, OnOk, length, nat_eq, if◌then◌else◌};
+ghost use Rattle.kx_basics.specs.declared.limits.TheConstants.{MOST_NAME_BYTES};
 ghost use Rattle.kx_include.specs.Shared.{expanded_body};
 ghost use Rattle.kx_lex.specs.declared.fault.Fault.TheVariants.{Memory};
 ghost use Rattle.kx_merge.specs.Bodies.{faults_of};
-ghost use Rattle.kx_groups.specs.Names.{AreGroupNames, name_at, name_moves, name_recorded, name_rules};
+ghost use Rattle.kx_groups.specs.Names.{AreCut, AreGroupNames, name_at, name_moves, name_recorded, name_rules};
 
 use crate::record::GroupName;
+use crate::text::NameText;
 use indexmap::IndexMap;
 use kx_basics::MOST_GROUPS;
 use kx_include::Expansion;
-use kx_lex::{Bytes, Fault};
+use kx_lex::Fault;
 use kx_merge::merge;
 use std::alloc::{AllocError, Global};
 use std::marker::Model;
@@ -20,21 +22,25 @@ const GROUPS: usize = 32;
 /// The names of groups, from the first to the last that has a name of a byte or more; seen as the list of their bytes.
 #[derive(Drop)]
 pub struct GroupNames {
-    names: Vec<Bytes>,
+    names: Vec<NameText>,
 }
 
 impl Model for GroupNames {
     ghost use Rattle.std.specs.Prelude.{List, ℕ};
+    ghost use Rattle.kx_groups.specs.Names.{AreCut};
 
     ghost Value = { List (List ℕ) };
 
     ghost view = { λ n. n.names.items };
+
+    ghost invariant = { λ n. AreCut n.names.items };
 }
 
 impl GroupNames {
     /// How many groups there are up to the last that has a name.
     pub fn len(&self) -> usize
-        ensures { result ≡ length self.now }
+        ensures value { result ≡ length self.now }
+        ensures cut { AreCut self.now }
     {
         self.names.len()
     }
@@ -48,7 +54,8 @@ impl GroupNames {
 
     /// The name of a group, counted from 0; of no bytes where it has none.
     pub fn name(&self, group: usize) -> &[u8]
-        ensures { result.now ≡ name_at self.now group }
+        ensures value { result.now ≡ name_at self.now group }
+        ensures short { length result.now ≤ MOST_NAME_BYTES }
     {
         match self.names.get(group) {
             None => &[],
@@ -62,20 +69,20 @@ fn name_among(
     alloc: Global,
     records: &IndexMap<u8, GroupName>,
     group: u8,
-) -> Result<Bytes, AllocError>
+) -> Result<NameText, AllocError>
     ensures { IfOk result (λ name. name ≡ name_recorded records.now group) }
 {
     match records.get(&group) {
-        None => Bytes::of(alloc, &[]),
+        None => NameText::empty(alloc),
         Some(given) => match &given.text {
-            None => Bytes::of(alloc, &[]),
-            Some(text) => Bytes::of(alloc, text.as_slice()),
+            None => NameText::empty(alloc),
+            Some(text) => NameText::of(alloc, text.as_slice()),
         },
     }
 }
 
 /// The names that records have for all groups.
-fn all_names(alloc: Global, records: &IndexMap<u8, GroupName>) -> Result<Vec<Bytes>, AllocError>
+fn all_names(alloc: Global, records: &IndexMap<u8, GroupName>) -> Result<Vec<NameText>, AllocError>
     ensures names { IfOk result (λ names. (group : ℕ) → group < GROUPS → name_at names.items group ≡ name_recorded records.now (group + 1)) }
     ensures all { IfOk result (λ names. length names.items ≡ GROUPS) }
 {
@@ -96,7 +103,7 @@ fn count_with(count: usize, place: usize, name: &[u8]) -> usize
 }
 
 /// How many names there are up to the last that has a byte.
-fn named_count(names: &[Bytes]) -> usize
+fn named_count(names: &[NameText]) -> usize
     requires { length names.now ≤ 32 }
     ensures within { result ≤ length names.now }
     ensures behind { (group : ℕ) → result ≤ group → name_at names.now group ≡ [] }
@@ -110,7 +117,7 @@ fn named_count(names: &[Bytes]) -> usize
 }
 
 /// The names without those of no bytes at the end.
-fn named(names: Vec<Bytes>) -> Vec<Bytes>
+fn named(names: Vec<NameText>) -> Vec<NameText>
     requires { length names.items ≤ 32 }
     ensures names { (group : ℕ) → name_at result.items group ≡ name_at names.items group }
     ensures few { length result.items ≤ 32 }

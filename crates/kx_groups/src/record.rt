@@ -1,7 +1,8 @@
 //! The names that statements give groups.
-ghost use Rattle.std.specs.Prelude.{◌≡◌, ◌∷◌, [], ℕ, Contains, IfErr, IfOk, None, OnOk, Some, nat_eq};
+ghost use Rattle.std.specs.Prelude.{◌≡◌, ◌≤◌, ◌∷◌, [], ℕ, Contains, IfErr, IfOk, None, OnOk, Some, length, nat_eq};
 ghost use Rattle.std.proofs.Common.{◌∙◌, eqb-true, sym};
 ghost use Rattle.std.proofs.lemmas.Option.{cond_some};
+ghost use Rattle.kx_basics.specs.declared.limits.TheConstants.{MOST_NAME_BYTES};
 ghost use Rattle.kx_lex.specs.declared.fault.Fault.TheVariants.{Memory};
 ghost use Rattle.kx_parse.specs.declared.tree.Mode.{Mode as ModeValue};
 ghost use Rattle.kx_merge.specs.Moved.{moved_key, moved_value, moved_width};
@@ -11,8 +12,9 @@ ghost use Rattle.kx_groups.specs.Fields.{field_faults, item_faults};
 ghost use Rattle.kx_groups.specs.Names.{item_offers, name_cell, name_moves, name_offer, name_rules, name_width, named_offers};
 
 use crate::fields::{name_in, read_name};
+use crate::text::NameText;
 use kx_include::Place;
-use kx_lex::{Bytes, Fault, Span};
+use kx_lex::{Fault, Span};
 use kx_merge::Fields;
 use kx_parse::{Field, Item, Mode};
 use std::alloc::{AllocError, Global};
@@ -20,7 +22,7 @@ use std::alloc::{AllocError, Global};
 /// What statements give a group: its name, where they give one.
 #[derive(Debug, Drop)]
 pub struct GroupName {
-    pub(crate) text: Option<Bytes>,
+    pub(crate) text: Option<NameText>,
 }
 
 fn no_records(alloc: Global) -> Vec<(u8, GroupName)>
@@ -30,10 +32,11 @@ fn no_records(alloc: Global) -> Vec<(u8, GroupName)>
 }
 
 fn one_record(alloc: Global, group: u8, text: &[u8]) -> Result<Vec<(u8, GroupName)>, Fault>
+    requires { length text.now ≤ MOST_NAME_BYTES }
     ensures records { (mode : ModeValue) → IfOk result (λ records. AreOffered mode (name_cell) (name_width) records.items (name_offer mode group text.now ∷ [])) }
     ensures err { IfErr result (λ e. e ≡ Memory) }
 {
-    let text = Some(Bytes::of(alloc, text)?);
+    let text = Some(NameText::of(alloc, text)?);
     let mut records = Vec::new(alloc);
     records.push((group, GroupName { text }))?;
     Ok(records)
@@ -73,7 +76,7 @@ fn read_item(alloc: Global, file: u32, item: &Item) -> Result<Vec<(u8, GroupName
     }
 }
 
-fn taken(mode: Mode, old: Option<Bytes>, new: Option<Bytes>) -> Option<Bytes>
+fn taken(mode: Mode, old: Option<NameText>, new: Option<NameText>) -> Option<NameText>
     ensures { result ≡ taken mode old new }
 {
     match mode {
@@ -84,12 +87,12 @@ fn taken(mode: Mode, old: Option<Bytes>, new: Option<Bytes>) -> Option<Bytes>
 }
 
 /// The same name.
-fn copied(alloc: Global, text: &Option<Bytes>) -> Result<Option<Bytes>, AllocError>
+fn copied(alloc: Global, text: &Option<NameText>) -> Result<Option<NameText>, AllocError>
     ensures { IfOk result (λ copy. copy ≡ text.now) }
 {
     match text {
         None => Ok(None),
-        Some(text) => Ok(Some(Bytes::of(alloc, text.as_slice())?)),
+        Some(text) => Ok(Some(NameText::of(alloc, text.as_slice())?)),
     }
 }
 
@@ -98,7 +101,7 @@ impl Fields<()> for GroupName {
 
     type Cell = ();
 
-    type Value = Bytes;
+    type Value = NameText;
 
     type Defaults = ();
 

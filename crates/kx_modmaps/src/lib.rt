@@ -8,4 +8,4 @@ mod target;
 #[cfg(test)]
 mod tests;
 
-pub use maps::{ModifierMaps, modifier_maps};
+pub use maps::{KeysymEntry, ModifierMaps, modifier_maps};

@@ -21,7 +21,7 @@ use Rattle.kx_levels.proofs.Bits.{has_set, same_masks, set_small}
 use Rattle.kx_resolve.specs.Bounds.{TypeHolds}
 use Rattle.kx_typing.specs.Given.{KeyGiven}
 use Rattle.kx_typing.specs.GroupTypes.{content_group, group_count, group_type_name, type_definition}
-use Rattle.kx_resolve.specs.Deeds.{Deeds}
+use Rattle.kx_bearing.specs.Deeds.{Deeds}
 use Rattle.kx_resolve.specs.Keys.{Keyed, cells_of, group_of, groups_of, key_if_named, key_of, keys_below, resolved_of, type_of, types_used}
 use Rattle.kx_resolve.specs.Shown.{groups_if, keymap_meant, most_groups_below, name_within, shown_by, shown_for, shown_if, shown_in}
 use Rattle.kx_tables.specs.Keymap.{level_of, nothing_shown}

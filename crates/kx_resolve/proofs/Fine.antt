@@ -23,7 +23,7 @@ use Rattle.kx_resolve.proofs.Typed.{types_fine, used_distinct}
 use Rattle.kx_resolve.specs.Bounds.{BoundsBelow, CellsAreFine, GroupsAreFine, KeepsBounds, OneCode, TypeHolds, levels_of_group}
 use Rattle.kx_typing.specs.Given.{KeyGiven}
 use Rattle.kx_typing.specs.GroupTypes.{content_group, group_count, group_type_name}
-use Rattle.kx_resolve.specs.Deeds.{Deeds}
+use Rattle.kx_bearing.specs.Deeds.{Deeds}
 use Rattle.kx_resolve.specs.Keys.{Keyed, cell_of, cells_of, group_of, groups_of, key_if_named, key_of, keys_below, resolved_of, type_names, type_names_below, type_names_if, type_of, type_place, types_used}
 use Rattle.kx_types.specs.KeyTypes.{Definition}
 

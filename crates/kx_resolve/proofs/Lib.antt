@@ -1,7 +1,8 @@
 mod Agree
+mod Ending
 mod Fine
 mod Growing
-mod Meant
+mod Lamps
 mod Names
 mod Order
 mod Small

@@ -6,7 +6,7 @@ use Rattle.kx_typing.specs.Given.{KeyGiven}
 use Rattle.kx_typing.specs.GroupTypes.{content_group, group_count, group_type_name, one_level_name, type_definition}
 use Rattle.kx_mods.specs.Mods.{mask}
 use Rattle.kx_mods.specs.declared.mods.Mods.{Mods}
-use Rattle.kx_resolve.specs.Deeds.{Deeds}
+use Rattle.kx_bearing.specs.Deeds.{Deeds}
 use Rattle.kx_resolve.specs.Keys.{Keyed, cell_of, type_of}
 use Rattle.kx_tables.specs.Sound.{RangeHolds}
 use Rattle.kx_builder.specs.Fine.{CellIsFine, TypeIsFine}

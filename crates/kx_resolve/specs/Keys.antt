@@ -6,7 +6,8 @@ use Rattle.kx_levels.specs.Rows.{entry_rows, mods_of}
 use Rattle.kx_levels.specs.Selecting.{RealSet}
 use Rattle.kx_masks.specs.Counted.{with_names}
 use Rattle.kx_mods.specs.declared.mods.Mods.{Mods}
-use Rattle.kx_resolve.specs.Deeds.{Deeds, deeds_of}
+use Rattle.kx_bearing.specs.Deeds.{Deeds, deeds_of}
+use Rattle.kx_choice.specs.Interpretations.{Interpretation}
 use Rattle.kx_symbols.specs.Keys.{KeyContent, key_at}
 use Rattle.kx_codes.specs.Codes.{Codes, name_of}
 use Rattle.kx_typing.specs.Given.{KeyGiven, given_in}
@@ -104,14 +105,11 @@ module _ (real : ℕ → RealSet) (declared : List ℕ → Option Definition) (k
 
 -- ---- What was read of codes and keys
 
-abbrev pub no_mods : Mods
-no_mods = record { 0 = 0 }
-
--- as yet no key has a modifier map
-abbrev pub keyed_of : (ℕ → RealSet) → Codes → List (ℕ × KeyContent) → Keyed
-keyed_of real codes keys = record {
+-- `modmap` are the real modifiers that the keys of codes are mapped to
+abbrev pub keyed_of : (ℕ → RealSet) → Codes → List (ℕ × KeyContent) → (ℕ → Mods) → List Interpretation → Keyed
+keyed_of real codes keys modmap interpretations = record {
   name = name_of codes;
   key = λ code. given_in (key_at keys code);
-  modmap = λ code. no_mods;
-  deeds = λ code. deeds_of real no_mods (given_in (key_at keys code));
+  modmap = modmap;
+  deeds = λ code. deeds_of real interpretations (modmap code) (given_in (key_at keys code));
 }

@@ -1,4 +1,4 @@
-pub mod Deeds
 pub mod Keys
 pub mod Shown
 pub mod Bounds
+pub mod Lit

@@ -8,7 +8,7 @@ use Rattle.kx_typing.specs.Given.{KeyGiven}
 use Rattle.kx_typing.specs.GroupTypes.{content_group, group_count, group_type_name, type_definition}
 use Rattle.kx_tables.specs.Keymap.{Keymap, Shown, nothing_shown}
 use Rattle.kx_tables.specs.Range.{in_range}
-use Rattle.kx_resolve.specs.Deeds.{Deeds}
+use Rattle.kx_bearing.specs.Deeds.{Deeds}
 use Rattle.kx_resolve.specs.Keys.{Keyed}
 use Rattle.kx_types.specs.KeyTypes.{Definition}
 

@@ -7,30 +7,34 @@ ghost use Rattle.kx_builder.specs.Small.{IsSmall};
 ghost use Rattle.kx_builder.specs.declared.fault.BuildFault.TheVariants as builds;
 ghost use Rattle.kx_codes.specs.Codes.{name_of};
 ghost use Rattle.kx_lex.specs.declared.fault.Fault.TheVariants.{Memory};
+ghost use Rattle.kx_mapped.specs.Modmaps.{modmap_at};
 ghost use Rattle.kx_masks.specs.Sets.{real_of};
 ghost use Rattle.kx_masks.specs.Standing.{stands_for};
+ghost use Rattle.kx_mods.specs.Mods.{mask};
 ghost use Rattle.kx_resolve.specs.Bounds.{BoundsBelow, CellsAreFine, GroupsAreFine, KeepsBounds, last_cells, levels_of_group};
-ghost use Rattle.kx_resolve.specs.Deeds.{deeds_of};
-ghost use Rattle.kx_resolve.specs.Keys.{cell_of, cells_of, group_of, key_if_named, key_of, keyed_of, keys_below, no_mods, type_place};
+ghost use Rattle.kx_bearing.specs.Deeds.{deeds_of};
+ghost use Rattle.kx_resolve.specs.Keys.{cell_of, cells_of, group_of, key_if_named, key_of, keyed_of, keys_below, type_place};
 ghost use Rattle.kx_symbols.specs.Keys.{key_at};
 ghost use Rattle.kx_tables.specs.Sound.{ActionHolds, RangeHolds};
 ghost use Rattle.kx_typing.specs.Given.{given, given_in};
-ghost use Rattle.kx_typing.specs.GroupTypes.{content_group, group_count};
+ghost use Rattle.kx_typing.specs.GroupTypes.{content_group, group_count, has_action};
 ghost use Rattle.kx_types.specs.Types.{type_named};
 
+use crate::read::Read;
 use ks_core::{Note, Notes};
-use kx_actions::real_action;
 use kx_basics::CODES;
+use kx_bearing::deed;
 use kx_builder::{BuildFault, Builder};
-use kx_codes::Codes;
+use kx_choice::Interpretations;
 use kx_lex::Fault;
+use kx_mapped::KeyMods;
 use kx_masks::Names;
 use kx_mods::Mods;
-use kx_symbols::{KeyRecord, Keys};
+use kx_symbols::KeyRecord;
 use kx_tables::{Action, Range};
 use kx_types::Types;
 use kx_typing::{
-    action_at, content_group, falls_back, group_count, group_type_name, keysyms_at, levels_of,
+    content_group, falls_back, group_count, group_type_name, has_action, keysyms_at, levels_of,
     range,
 };
 
@@ -38,23 +42,31 @@ use kx_typing::{
 #[derive(Clone, Copy)]
 struct KeyMeaning<'a> {
     key: &'a KeyRecord,
+    /// Whether a level of it has an action.
+    own: bool,
     /// The real modifiers that it is mapped to.
     modmap: Mods,
+    interpretations: &'a Interpretations,
     /// What each virtual modifier stands for, by its number.
     stands: &'a [Mods],
 }
 
 impl KeyMeaning<'_> {
     /// What a level of a group does, both counted from 0.
-    #[tactic(auto, using(crate::proofs::Meant::becomes_meant))]
     fn action(self, group: usize, level: usize) -> Action
-        ensures value { result ≡ deeds_of (real_of (stands_for self.entry.stands.now)) self.entry.modmap (given self.entry.key.now) group level }
+        requires own { self.own ≡ has_action (given self.key.now) }
+        ensures value { result ≡ deeds_of (real_of (stands_for self.entry.stands.now)) self.entry.interpretations.now self.entry.modmap (given self.entry.key.now) group level }
         ensures holds { ActionHolds result }
     {
-        match action_at(self.key, group, level) {
-            None => Action::None,
-            Some(action) => real_action(action, self.modmap, self.stands),
-        }
+        deed(
+            self.interpretations,
+            self.key,
+            self.own,
+            self.modmap,
+            self.stands,
+            group,
+            level,
+        )
     }
 }
 
@@ -79,8 +91,9 @@ fn push_level(
 ) -> Result<(), Fault>
     requires small { IsSmall builder.old }
     requires some { 0 < length (last_groups builder.old.keys) }
-    ensures pushed { OnOk result (builder.new ≡ with_cell builder.old (cell_of (deeds_of (real_of (stands_for key.entry.stands.now)) key.entry.modmap (given key.entry.key.now)) (given key.entry.key.now) group level)) }
-    ensures fine { CellIsFine (cell_of (deeds_of (real_of (stands_for key.entry.stands.now)) key.entry.modmap (given key.entry.key.now)) (given key.entry.key.now) group level) }
+    requires own { key.own ≡ has_action (given key.key.now) }
+    ensures pushed { OnOk result (builder.new ≡ with_cell builder.old (cell_of (deeds_of (real_of (stands_for key.entry.stands.now)) key.entry.interpretations.now key.entry.modmap (given key.entry.key.now)) (given key.entry.key.now) group level)) }
+    ensures fine { CellIsFine (cell_of (deeds_of (real_of (stands_for key.entry.stands.now)) key.entry.interpretations.now key.entry.modmap (given key.entry.key.now)) (given key.entry.key.now) group level) }
     ensures err { IfErr result (λ e. e ≡ Memory) }
 {
     builder
@@ -100,8 +113,9 @@ fn push_levels(
     requires some { 0 < length (last_groups builder.old.keys) }
     requires bare { last_cells builder.old.keys ≡ [] }
     requires few { levels ≤ MOST_LEVELS }
-    ensures pushed { OnOk result (builder.new ≡ fold with_cell builder.old (cells_of (deeds_of (real_of (stands_for key.entry.stands.now)) key.entry.modmap (given key.entry.key.now)) (given key.entry.key.now) group levels)) }
-    ensures fine { OnOk result (CellsAreFine (deeds_of (real_of (stands_for key.entry.stands.now)) key.entry.modmap (given key.entry.key.now)) (given key.entry.key.now) group levels) }
+    requires own { key.own ≡ has_action (given key.key.now) }
+    ensures pushed { OnOk result (builder.new ≡ fold with_cell builder.old (cells_of (deeds_of (real_of (stands_for key.entry.stands.now)) key.entry.interpretations.now key.entry.modmap (given key.entry.key.now)) (given key.entry.key.now) group levels)) }
+    ensures fine { OnOk result (CellsAreFine (deeds_of (real_of (stands_for key.entry.stands.now)) key.entry.interpretations.now key.entry.modmap (given key.entry.key.now)) (given key.entry.key.now) group levels) }
     ensures small { OnOk result (IsSmall builder.new) }
     ensures err { IfErr result (λ e. e ≡ Memory) }
 {
@@ -146,8 +160,9 @@ fn push_group(
     requires some { 0 < length builder.old.keys }
     requires few { length (last_groups builder.old.keys) < MOST_GROUPS }
     requires places { length used.now < 2 ^ 16 }
-    ensures pushed { OnOk result (builder.new ≡ with_group builder.old (group_of (type_named types.now) used.now (deeds_of (real_of (stands_for key.entry.stands.now)) key.entry.modmap (given key.entry.key.now)) (given key.entry.key.now) group)) }
-    ensures fine { OnOk result (CellsAreFine (deeds_of (real_of (stands_for key.entry.stands.now)) key.entry.modmap (given key.entry.key.now)) (given key.entry.key.now) (content_group (given key.entry.key.now) group) (levels_of_group (type_named types.now) (given key.entry.key.now) group)) }
+    requires own { key.own ≡ has_action (given key.key.now) }
+    ensures pushed { OnOk result (builder.new ≡ with_group builder.old (group_of (type_named types.now) used.now (deeds_of (real_of (stands_for key.entry.stands.now)) key.entry.interpretations.now key.entry.modmap (given key.entry.key.now)) (given key.entry.key.now) group)) }
+    ensures fine { OnOk result (CellsAreFine (deeds_of (real_of (stands_for key.entry.stands.now)) key.entry.interpretations.now key.entry.modmap (given key.entry.key.now)) (given key.entry.key.now) (content_group (given key.entry.key.now) group) (levels_of_group (type_named types.now) (given key.entry.key.now) group)) }
     ensures small { OnOk result (IsSmall builder.new) }
     ensures err { IfErr result (λ e. e ≡ Memory) }
 {
@@ -207,8 +222,9 @@ fn push_key(
     requires few { length builder.old.keys < CODES }
     requires short { length name.now ≤ MOST_NAME_BYTES }
     requires places { length used.now < 2 ^ 16 }
-    ensures pushed { OnOk result (builder.new ≡ with_key builder.old (key_of (type_named types.now) used.now (deeds_of (real_of (stands_for key.entry.stands.now)) key.entry.modmap (given key.entry.key.now)) (given key.entry.key.now) code name.now key.entry.modmap)) }
-    ensures fine { OnOk result (GroupsAreFine (type_named types.now) (deeds_of (real_of (stands_for key.entry.stands.now)) key.entry.modmap (given key.entry.key.now)) (given key.entry.key.now) (group_count (given key.entry.key.now))) }
+    requires own { key.own ≡ has_action (given key.key.now) }
+    ensures pushed { OnOk result (builder.new ≡ with_key builder.old (key_of (type_named types.now) used.now (deeds_of (real_of (stands_for key.entry.stands.now)) key.entry.interpretations.now key.entry.modmap (given key.entry.key.now)) (given key.entry.key.now) code name.now key.entry.modmap)) }
+    ensures fine { OnOk result (GroupsAreFine (type_named types.now) (deeds_of (real_of (stands_for key.entry.stands.now)) key.entry.interpretations.now key.entry.modmap (given key.entry.key.now)) (given key.entry.key.now) (group_count (given key.entry.key.now))) }
     ensures range { RangeHolds (given key.entry.key.now).range }
     ensures small { OnOk result (IsSmall builder.new) }
     ensures err { IfErr result (λ e. e ≡ Memory) }
@@ -221,35 +237,42 @@ fn push_key(
     Ok(())
 }
 
+/// What the key of a code is mapped to.
+fn key_mods(modmaps: &KeyMods, code: u16) -> Mods
+    ensures value { result ≡ modmap_at modmaps.now code }
+    ensures fits { mask result < 2 ^ 8 }
+{
+    modmaps.key(code)
+}
+
 /// Pushes the key of a code, where the code has a name.
 #[tactic(auto, using(crate::proofs::Steps::none_groups))]
 fn push_code(
     builder: &mut Builder,
-    codes: &Codes,
-    types: &Types,
+    read: Read,
     used: &Names,
-    keys: &Keys,
-    stands: &[Mods],
     code: u16,
     notes: &mut Notes,
 ) -> Result<(), Fault>
     requires small { IsSmall builder.old }
     requires few { length builder.old.keys < CODES }
     requires places { length used.now < 2 ^ 16 }
-    ensures pushed { OnOk result (builder.new ≡ record builder.old { keys = builder.old.keys ++ key_if_named (type_named types.now) used.now (deeds_of (real_of (stands_for stands.now)) no_mods (given_in (key_at keys.now code))) (given_in (key_at keys.now code)) code (name_of codes.now code) no_mods }) }
-    ensures bounds { OnOk result ((name : List ℕ) → name_of codes.now code ≡ Some name → KeepsBounds (type_named types.now) name no_mods (deeds_of (real_of (stands_for stands.now)) no_mods (given_in (key_at keys.now code))) (given_in (key_at keys.now code))) }
+    ensures pushed { OnOk result (builder.new ≡ record builder.old { keys = builder.old.keys ++ key_if_named (type_named read.entry.types.now) used.now (deeds_of (real_of (stands_for read.entry.stands.now)) read.entry.interpretations.now (modmap_at read.entry.modmaps.now code) (given_in (key_at read.entry.keys.now code))) (given_in (key_at read.entry.keys.now code)) code (name_of read.entry.codes.now code) (modmap_at read.entry.modmaps.now code) }) }
+    ensures bounds { OnOk result ((name : List ℕ) → name_of read.entry.codes.now code ≡ Some name → KeepsBounds (type_named read.entry.types.now) name (modmap_at read.entry.modmaps.now code) (deeds_of (real_of (stands_for read.entry.stands.now)) read.entry.interpretations.now (modmap_at read.entry.modmaps.now code) (given_in (key_at read.entry.keys.now code))) (given_in (key_at read.entry.keys.now code))) }
     ensures small { OnOk result (IsSmall builder.new) }
     ensures err { IfErr result (λ e. e ≡ Memory) }
 {
-    let modmap = Mods::NONE;
-    match (codes.name_of(code), keys.key(code)) {
+    let modmap = key_mods(read.modmaps, code);
+    match (read.codes.name_of(code), read.keys.key(code)) {
         (Some(name), Some(key)) => {
             let key = KeyMeaning {
                 key,
+                own: has_action(key),
                 modmap,
-                stands,
+                interpretations: read.interpretations,
+                stands: read.stands,
             };
-            push_key(builder, types, used, code, name, key, notes)?;
+            push_key(builder, read.types, used, code, name, key, notes)?;
             Ok(())
         }
         (Some(name), None) => {
@@ -263,22 +286,20 @@ fn push_code(
 /// Pushes the keys that keycodes name, in the order of their codes.
 pub(crate) fn push_keys(
     builder: &mut Builder,
-    codes: &Codes,
-    types: &Types,
+    read: Read,
     used: &Names,
-    keys: &Keys,
-    stands: &[Mods],
     notes: &mut Notes,
 ) -> Result<(), Fault>
     requires small { IsSmall builder.old }
     requires keyless { builder.old.keys ≡ [] }
     requires places { length used.now < 2 ^ 16 }
-    ensures pushed { OnOk result (builder.new ≡ record builder.old { keys = keys_below (type_named types.now) used.now (keyed_of (real_of (stands_for stands.now)) codes.now keys.now) CODES }) }
-    ensures bounds { OnOk result (BoundsBelow (type_named types.now) (keyed_of (real_of (stands_for stands.now)) codes.now keys.now) CODES) }
+    ensures pushed { OnOk result (builder.new ≡ record builder.old { keys = keys_below (type_named read.entry.types.now) used.now (keyed_of (real_of (stands_for read.entry.stands.now)) read.entry.codes.now read.entry.keys.now (modmap_at read.entry.modmaps.now) read.entry.interpretations.now) CODES }) }
+    ensures bounds { OnOk result (BoundsBelow (type_named read.entry.types.now) (keyed_of (real_of (stands_for read.entry.stands.now)) read.entry.codes.now read.entry.keys.now (modmap_at read.entry.modmaps.now) read.entry.interpretations.now) CODES) }
+    ensures small { OnOk result (IsSmall builder.new) }
     ensures err { IfErr result (λ e. e ≡ Memory) }
 {
     'codes: for code in 0..CODES {
-        push_code(builder, codes, types, used, keys, stands, code, notes)?;
+        push_code(builder, read, used, code, notes)?;
     }
     Ok(())
 }

@@ -1,8 +1,11 @@
-//! The tables of a keymap's keys and of the types that they use.
+//! The tables of a keymap: its keys, the types that they use, its indicators, and the names of its groups.
 #![tactic(auto)]
 
 mod keys;
+mod lighting;
+mod read;
 mod resolving;
 mod using;
 
+pub use read::Read;
 pub use resolving::resolve;

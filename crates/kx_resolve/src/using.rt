@@ -13,7 +13,7 @@ ghost use Rattle.kx_masks.specs.Standing.{stands_for};
 ghost use Rattle.kx_resolve.specs.Bounds.{TypeHolds};
 ghost use Rattle.kx_typing.specs.Given.{given, given_in};
 ghost use Rattle.kx_typing.specs.GroupTypes.{group_count};
-ghost use Rattle.kx_resolve.specs.Keys.{no_mods, type_names, type_names_if, type_of, type_with, types_used};
+ghost use Rattle.kx_resolve.specs.Keys.{type_names, type_names_if, type_of, type_with, types_used};
 ghost use Rattle.kx_symbols.specs.Keys.{key_at};
 ghost use Rattle.kx_types.specs.Types.{type_named};
 ghost use Rattle.kx_types.specs.declared.limits.TheConstants.{MOST_TYPES};

@@ -1,7 +1,8 @@
 -- The words of a key's fields, which are read without regard to case.
-use Rattle.std.specs.Prelude.{ℕ, Bool, true, false, ◌||◌, List, [], ◌∷◌, Option, None, Some, if◌then◌else◌, codes}
+use Rattle.std.specs.Prelude.{ℕ, Bool, true, false, not, is_some, ◌&&◌, ◌||◌, List, [], ◌∷◌, Option, None, Some, if◌then◌else◌, codes}
 use Rattle.std.specs.List.{list_any}
 use Rattle.std.specs.Str.{str_eq_ignore_ascii_case}
+use Rattle.kx_parse.specs.declared.tree.Place.{Place}
 use Rattle.kx_settings.specs.declared.words.RangeField.TheVariants as ranges
 use Rattle.kx_settings.specs.declared.words.SettingField.{SettingField}
 use Rattle.kx_settings.specs.declared.words.SettingField.TheVariants as fields
@@ -59,3 +60,7 @@ is_key_word word = str_eq_ignore_ascii_case word (codes "key")
 
 abbrev pub truth_words : List (List ℕ × Bool)
 truth_words = (codes "true", true) ∷ (codes "yes", true) ∷ (codes "on", true) ∷ (codes "false", false) ∷ (codes "no", false) ∷ (codes "off", false) ∷ []
+
+-- a field of a symbols section that names a group
+abbrev pub is_group_name : Place → Bool
+is_group_name place = not (is_some place.member) && str_eq_ignore_ascii_case place.word.bytes (codes "name")

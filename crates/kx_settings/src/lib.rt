@@ -20,4 +20,4 @@ pub use defaults::{KeyDefaults, check_default};
 pub use groups::{group_of, read_group};
 pub use settings::KeySettings;
 pub use statement::read_settings;
-pub use words::{is_key_word, is_list_word, is_setting_word};
+pub use words::{is_group_name, is_key_word, is_list_word, is_setting_word};

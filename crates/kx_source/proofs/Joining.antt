@@ -1,38 +1,60 @@
 -- What is read of a source is what its statements mean.
-use Rattle.std.proofs.Common.{ℕ, zero, suc, ◌≡◌, ◌<◌, ◌||◌, ◌&&◌, Bool, List, [], ◌∷◌, Option, None, Some, nat_eq, refl, sym, ap, ◌∙◌, lt_trans, lt-suc_self}
+use Rattle.std.proofs.Common.{ℕ, zero, suc, ◌≡◌, ◌<◌, ◌≤◌, ◌||◌, ◌&&◌, Bool, true, false, List, [], ◌∷◌, Option, None, Some, ◌+◌, fold, length, slice_get, nat_eq, refl, ap, ◌∙◌, arith, lt_trans, lt-suc_self}
+use Rattle.std.proofs.lemmas.Option.{same_Some}
+use Rattle.kx_modmaps.specs.Entries.{same_target}
 use Rattle.std.proofs.Math.Path.{fun_ext}
-use Rattle.std.specs.Option.{option_and_then, option_or}
+use Rattle.std.specs.Option.{option_and_then, option_map, option_or}
 use Rattle.ks_core.specs.Entry.{Entry}
+use Rattle.kx_bearing.specs.Bearing.{Reading, brings, stands}
+use Rattle.kx_bearing.specs.Deeds.{deeds_of}
+use Rattle.kx_bearing.specs.Read.{reading_of}
+use Rattle.kx_builder.specs.Lamps.{ResolvedIndicator, keymap_with}
 use Rattle.kx_builder.specs.Resolved.{Resolved}
+use Rattle.kx_choice.specs.Interpretations.{Interpretation}
 use Rattle.kx_codes.specs.Codes.{Codes, CodesShow, code_of, name_of}
+use Rattle.kx_compat.specs.Meaning.{interpretations_of}
 use Rattle.kx_include.specs.Bodies.{AreBodies}
 use Rattle.kx_include.specs.Expansion.{Body, body_of}
 use Rattle.kx_include.specs.Library.{Library}
 use Rattle.kx_include.specs.Shared.{expanded_body}
 use Rattle.kx_include.specs.declared.expansion.Bodies.{Bodies}
+use Rattle.kx_lamps.specs.Lamps.{Lamp}
+use Rattle.kx_lamps.specs.Meaning.{AreIndicators, Indicators, indicator_names, lamp_of}
 use Rattle.kx_levels.specs.Selecting.{RealSet}
 use Rattle.kx_lex.specs.declared.name.Name.{Name}
+use Rattle.kx_mapped.specs.Mapping.{modmap_of}
 use Rattle.kx_masks.specs.Declarations.{AreModNames, ModNames, declared_mask, modifier_bodies, virtual_names}
 use Rattle.kx_masks.specs.Sets.{any_below, has, has_virtual, real_of, real_part}
 use Rattle.kx_masks.specs.Standing.{stands_for}
-use Rattle.kx_merge.specs.Bodies.{Rules, offers_of}
-use Rattle.kx_merge.specs.Offers.{value_of, width_of}
+use Rattle.kx_merge.specs.Bodies.{Rules, faults_of, offers_of}
+use Rattle.kx_merge.specs.Offers.{Offer, value_of, width_of}
+use Rattle.kx_modmaps.specs.Entries.{entry_target, item_faults as map_item_faults, map_in, targets_of, with_target, word_mask}
+use Rattle.kx_modmaps.specs.Maps.{item_offers as map_item_offers, map_moves, map_offers, map_offers_of, map_rules, offers_to}
+use Rattle.kx_modmaps.specs.declared.record.Cell.{Cell as MapCell}
+use Rattle.kx_modmaps.specs.declared.target.Target.{Target}
+use Rattle.kx_modmaps.specs.declared.target.Target.TheVariants.{Key as KeyTarget, Keysym}
+use Rattle.kx_mods.specs.declared.mods.Mods.{Mods}
+use Rattle.kx_parse.specs.declared.tree.Entry.{Entry as MapEntry}
+use Rattle.kx_parse.specs.declared.tree.Entry.TheVariants.{KeyName, Symbol}
 use Rattle.kx_parse.specs.declared.tree.Item.{Item}
 use Rattle.kx_parse.specs.declared.tree.Item.TheVariants.{Include, Statement}
-use Rattle.kx_parse.specs.declared.tree.Kind.TheVariants.{Keycodes, Symbols, Types}
+use Rattle.kx_parse.specs.declared.tree.Kind.TheVariants.{Compat, Keycodes, Symbols, Types}
 use Rattle.kx_parse.specs.declared.tree.KeyField.{KeyField}
 use Rattle.kx_parse.specs.declared.tree.Mode.{Mode}
 use Rattle.kx_resolve.specs.Keys.{Keyed, keyed_of, resolved_of}
+use Rattle.kx_resolve.specs.Lit.{indicators_of}
 use Rattle.kx_resolve.specs.Shown.{keymap_meant}
-use Rattle.kx_source.specs.Meaning.{codes_in, codes_of, declared_in, key_given, keyed_by, keyed_in, keymap_in, modifier_bodies_of, modifiers_of, real_in, resolved_in, stands_of}
-use Rattle.kx_symbols.specs.KeyFaults.{item_faults, key_in}
+use Rattle.kx_source.specs.Meaning.{codes_in, codes_of, declared_in, declared_masks_of, indicators_by, indicators_in, interpretations_in, key_given, key_in, keyed_in, keymap_in, lamps_from, mapping_by, mapping_in, modifier_bodies_of, modifiers_of, modmap_in, reading_in, real_in, resolved_in}
+use Rattle.kx_source.specs.Source.{keys_faults, maps_faults}
+use Rattle.kx_symbols.specs.KeyFaults.{item_faults, key_in as key_said}
 use Rattle.kx_symbols.specs.Keys.{KeyContent, KeysShow, item_next, item_offers, key_at, key_moves, key_rules, known_under, offered, said_offers}
+use Rattle.kx_symbols.specs.Keysyms.{symbol_keysym}
 use Rattle.kx_symbols.specs.Known.{Defaults, Known, no_defaults}
 use Rattle.kx_symbols.specs.declared.cells.Cell.{Cell}
 use Rattle.kx_symbols.specs.declared.cells.CellValue.{CellValue}
 use Rattle.kx_tables.specs.Keymap.{Keymap}
 use Rattle.kx_types.specs.KeyTypes.{Definition}
-use Rattle.kx_types.specs.Types.{NamedTypes, TypesShow, declared_type, type_named}
+use Rattle.kx_types.specs.Types.{NamedTypes, TypesShow, declared_type, type_named, types_faults}
 use Rattle.kx_typing.specs.Given.{KeyGiven, given_by, given_in}
 
 any_same : (n : ℕ) (f g : ℕ → Bool) → ((k : ℕ) → k < n → f k ≡ g k) → any_below n f ≡ any_below n g
@@ -56,7 +78,7 @@ module _ (c : Codes) (body : Body) (shows : CodesShow c body) where
     said_same known mode (Some key) = ap (offered known key.1 mode) (code_same key.0.bytes)
 
     offers_same : (known : Known) (item : Item) → item_offers c known item ≡ item_offers (codes_of body) known item
-    offers_same known (Statement mode statement first span) = said_same known mode (key_in statement)
+    offers_same known (Statement mode statement first span) = said_same known mode (key_said statement)
     offers_same known (Include mode text span) = refl
 
     pub rules_same : key_rules c names modifiers ≡ key_rules (codes_of body) names modifiers
@@ -67,7 +89,45 @@ module _ (c : Codes) (body : Body) (shows : CodesShow c body) where
       faults = λ d place item. item_faults place.file (known_under c names modifiers d) item;
     }
 
--- ---- Modifiers
+    -- ---- Modifier maps
+
+    target_same : (entry : MapEntry) → entry_target c names entry ≡ entry_target (codes_of body) names entry
+    target_same (KeyName name) = ap (option_map (λ code. KeyTarget code)) (code_same name.bytes)
+    target_same (Symbol symbol) = refl
+
+    targets_same : (entries : List MapEntry) → targets_of c names entries ≡ targets_of (codes_of body) names entries
+    targets_same entries = ap (λ target. fold (λ (targets : List Target) (entry : MapEntry). with_target targets (target entry)) [] entries) (fun_ext target_same)
+
+    map_same : (mode : Mode) (map : Option (Name × List MapEntry)) → map_offers c names mode map ≡ map_offers (codes_of body) names mode map
+    map_same mode None = refl
+    map_same mode (Some map) = ap (offers_to mode (word_mask map.0.bytes)) (targets_same map.1)
+
+    map_items_same : (item : Item) → map_item_offers c names item ≡ map_item_offers (codes_of body) names item
+    map_items_same (Statement mode statement first span) = map_same mode (map_in statement)
+    map_items_same (Include mode text span) = refl
+
+    pub map_rules_same : map_rules c names modifiers ≡ map_rules (codes_of body) names modifiers
+    map_rules_same = λ i. record {
+      start = tt;
+      next = λ d item. tt;
+      offers = λ d place item. map_items_same item i;
+      faults = λ d place item. map_item_faults place.file modifiers item;
+    }
+
+-- ---- Indicators
+
+lamps_by : (lamp : ℕ → Lamp) (n : ℕ) (names : List (List ℕ)) (lamps : List Lamp) → length lamps ≡ length names → ((k : ℕ) → k < length names → slice_get lamps k ≡ Some (lamp (k + n))) → lamps ≡ lamps_from lamp n names
+lamps_by lamp n [] [] same are = refl
+lamps_by lamp n [] (l ∷ ls) same are = absurd (omega (arith, same))
+lamps_by lamp n (x ∷ xs) [] same are = absurd (omega (arith, same))
+lamps_by lamp n (x ∷ xs) (l ∷ ls) same are =
+    let first : 0 < length (x ∷ xs) = omega arith in
+    let fewer : length ls ≡ length xs = omega (arith, same) in
+    let none : 0 + n ≡ n = omega arith in
+    λ i. same_Some l (lamp n) (are 0 first ∙ ap (λ m. Some (lamp m)) none) i
+    ∷ lamps_by lamp (suc n) xs ls fewer (λ k less. let within : suc k < length (x ∷ xs) = omega (arith, less) in let one : suc k + n ≡ k + suc n = omega arith in are (suc k) within ∙ ap (λ m. Some (lamp m)) one) i
+
+-- ---- What is read
 
 module _ (library : Library) (bodies : Bodies) (are : AreBodies library bodies) where
   pub bodies_same : modifier_bodies bodies ≡ modifier_bodies_of library
@@ -77,11 +137,22 @@ module _ (library : Library) (bodies : Bodies) (are : AreBodies library bodies) 
     pub modifiers_same : m.names ≡ modifiers_of library
     modifiers_same = shows.names_are ∙ ap virtual_names bodies_same
 
-    stands_same : (n real : ℕ) → n < 24 → stands_for m.masks n real ≡ stands_of library n real
-    stands_same n real less = ap (λ k. has k real) (shows.masks_are n less ∙ (λ i. declared_mask (modifiers_same i) (bodies_same i) n))
+    masks_same : (n real : ℕ) → n < 24 → stands_for m.masks n real ≡ declared_masks_of library n real
+    masks_same n real less = ap (λ k. has k real) (shows.masks_are n less ∙ (λ i. declared_mask (modifiers_same i) (bodies_same i) n))
 
-    pub real_same : real_of (stands_for m.masks) ≡ real_in library
-    real_same = fun_ext (λ set. fun_ext (λ real. ap (λ b. has (real_part set) real || b) (any_same 24 (λ n. has_virtual set n && stands_for m.masks n real) (λ n. has_virtual set n && stands_of library n real) (λ n less. ap (λ b. has_virtual set n && b) (stands_same n real less)))))
+    pub indicators_same : (found : Indicators) → AreIndicators found m.names (expanded_body bodies.compat) → found ≡ indicators_by (modifiers_of library) (body_of library Compat)
+    indicators_same found same = by_body ∙ (λ i. indicators_by (modifiers_same i) (are.compat i))
+      where
+        counted : length found.names ≡ length (indicator_names (expanded_body bodies.compat))
+        counted = ap length same.names_are
+
+        lamps_are : found.lamps ≡ lamps_from (lamp_of m.names (expanded_body bodies.compat)) 0 (indicator_names (expanded_body bodies.compat))
+        lamps_are =
+            lamps_by (lamp_of m.names (expanded_body bodies.compat)) 0 (indicator_names (expanded_body bodies.compat)) found.lamps (same.as_many ∙ counted)
+            (λ k less. let within : k < length found.names = omega (arith, less, counted) in let none : k ≡ k + 0 = omega arith in same.lamps_are k within ∙ ap (λ j. Some (lamp_of m.names (expanded_body bodies.compat) j)) none)
+
+        by_body : found ≡ indicators_by m.names (expanded_body bodies.compat)
+        by_body = λ i. record { names = same.names_are i; lamps = lamps_are i }
 
     module _ (types : NamedTypes) (types_show : TypesShow types m.names (expanded_body bodies.types)) where
       pub declared_same : type_named types ≡ declared_in library
@@ -89,22 +160,86 @@ module _ (library : Library) (bodies : Bodies) (are : AreBodies library bodies) 
 
       -- ---- Keys, and all together
 
-      module _ (c : Codes) (codes_show : CodesShow c (body_of library Keycodes)) (names : List Entry) (keys : List (ℕ × KeyContent)) (keys_show : KeysShow keys c names m.names (expanded_body bodies.symbols)) where
-        given_same : (λ (code : ℕ). given_in (key_at keys code)) ≡ key_given c names m.names (expanded_body bodies.symbols)
-        given_same = λ i. λ code. given_by (λ cell. keys_show.cells_are code cell i) (λ group. keys_show.widths_are code group i)
+      module _ (c : Codes) (codes_show : CodesShow c (body_of library Keycodes)) (names : List Entry) where
+        pub keys_faults_same : keys_faults c names m.names (expanded_body bodies.symbols) ≡ keys_faults (codes_in library) names (modifiers_of library) (body_of library Symbols)
+        keys_faults_same =
+            (λ i. keys_faults c names (modifiers_same i) (are.symbols i))
+            ∙ ap (λ rules. faults_of nat_eq rules key_moves (body_of library Symbols)) (rules_same c (body_of library Keycodes) codes_show names (modifiers_of library))
 
-        by_rules : Rules ℕ Cell CellValue Defaults → ℕ → KeyGiven
-        by_rules rules code = given_by (value_of nat_eq (offers_of nat_eq rules key_moves (body_of library Symbols)) code) (width_of nat_eq (offers_of nat_eq rules key_moves (body_of library Symbols)) code)
+        pub maps_faults_same : maps_faults c names m.names (expanded_body bodies.symbols) ≡ maps_faults (codes_in library) names (modifiers_of library) (body_of library Symbols)
+        maps_faults_same =
+            (λ i. maps_faults c names (modifiers_same i) (are.symbols i))
+            ∙ ap (λ rules. faults_of same_target rules map_moves (body_of library Symbols)) (map_rules_same c (body_of library Keycodes) codes_show names (modifiers_of library))
 
-        keys_same : (λ (code : ℕ). given_in (key_at keys code)) ≡ key_given (codes_in library) names (modifiers_of library) (body_of library Symbols)
-        unfolding by_rules
-        keys_same = given_same ∙ (λ i. key_given c names (modifiers_same i) (are.symbols i)) ∙ ap by_rules (rules_same c (body_of library Keycodes) codes_show names (modifiers_of library))
+        maps_same : map_offers_of c names m.names (expanded_body bodies.symbols) ≡ map_offers_of (codes_in library) names (modifiers_of library) (body_of library Symbols)
+        maps_same =
+            (λ i. map_offers_of c names (modifiers_same i) (are.symbols i))
+            ∙ ap (λ rules. offers_of same_target rules map_moves (body_of library Symbols)) (map_rules_same c (body_of library Keycodes) codes_show names (modifiers_of library))
 
-        keyed_same : keyed_of (real_of (stands_for m.masks)) c keys ≡ keyed_in names library
-        keyed_same = λ i. keyed_by (real_same i) (names_same c (body_of library Keycodes) codes_show i) (keys_same i)
+        module _ (keys : List (ℕ × KeyContent)) (keys_show : KeysShow keys c names m.names (expanded_body bodies.symbols)) where
+          given_same : (λ (code : ℕ). given_in (key_at keys code)) ≡ key_given c names m.names (expanded_body bodies.symbols)
+          given_same = λ i. λ code. given_by (λ cell. keys_show.cells_are code cell i) (λ group. keys_show.widths_are code group i)
 
-        pub resolved_same : resolved_of (real_of (stands_for m.masks)) (type_named types) (keyed_of (real_of (stands_for m.masks)) c keys) ≡ resolved_in names library
-        resolved_same = λ i. resolved_of (real_same i) (declared_same i) (keyed_same i)
+          by_rules : Rules ℕ Cell CellValue Defaults → ℕ → KeyGiven
+          by_rules rules code = given_by (value_of nat_eq (offers_of nat_eq rules key_moves (body_of library Symbols)) code) (width_of nat_eq (offers_of nat_eq rules key_moves (body_of library Symbols)) code)
 
-        pub keymap_same : keymap_meant (real_of (stands_for m.masks)) (type_named types) (keyed_of (real_of (stands_for m.masks)) c keys) ≡ keymap_in names library
-        keymap_same = λ i. keymap_meant (real_same i) (declared_same i) (keyed_same i)
+          keys_same : (λ (code : ℕ). given_in (key_at keys code)) ≡ key_in names library
+          unfolding by_rules
+          keys_same = given_same ∙ (λ i. key_given c names (modifiers_same i) (are.symbols i)) ∙ ap by_rules (rules_same c (body_of library Keycodes) codes_show names (modifiers_of library))
+
+          module _ (modmaps : ℕ → Mods) (mapped : (code : ℕ) → modmaps code ≡ modmap_of (mapping_by (name_of c) (λ k. given_in (key_at keys k)) (type_named types) (map_offers_of c names m.names (expanded_body bodies.symbols))) code) where
+            pub modmaps_same : modmaps ≡ modmap_in names library
+            modmaps_same = fun_ext mapped ∙ (λ i. modmap_of (mapping_by (names_same c (body_of library Keycodes) codes_show i) (keys_same i) (declared_same i) (maps_same i)))
+
+            module _ (interpretations : List Interpretation) (interpreted : interpretations ≡ interpretations_of names m.names (expanded_body bodies.compat)) where
+              interpretations_same : interpretations ≡ interpretations_in names library
+              interpretations_same = interpreted ∙ (λ i. interpretations_of names (modifiers_same i) (are.compat i))
+
+              -- as it is read, but for the masks that are declared
+              abbrev read_with : (ℕ → RealSet) → Reading
+              read_with masks = record {
+                name = name_of c;
+                key = λ code. given_in (key_at keys code);
+                modmap = modmaps;
+                declared = type_named types;
+                interpretations = interpretations;
+                masks = masks;
+              }
+
+              read_same : read_with (declared_masks_of library) ≡ reading_in names library
+              read_same = λ i. record {
+                name = names_same c (body_of library Keycodes) codes_show i;
+                key = keys_same i;
+                modmap = modmaps_same i;
+                declared = declared_same i;
+                interpretations = interpretations_same i;
+                masks = declared_masks_of library;
+              }
+
+              module _ (found : List Mods) (stand : (n real : ℕ) → n < 24 → stands_for found n real ≡ stands (reading_of c types keys modmaps interpretations m.masks) n real) where
+                stands_same : (n real : ℕ) → n < 24 → stands_for found n real ≡ stands (reading_in names library) n real
+                stands_same n real less =
+                    stand n real less
+                    ∙ ap (λ b. b || any_below 4096 (brings (read_with (declared_masks_of library)) n real)) (masks_same n real less)
+                    ∙ ap (λ r. stands r n real) read_same
+
+                pub real_same : real_of (stands_for found) ≡ real_in names library
+                real_same = fun_ext (λ set. fun_ext (λ real. ap (λ b. has (real_part set) real || b) (any_same 24 (λ n. has_virtual set n && stands_for found n real) (λ n. has_virtual set n && stands (reading_in names library) n real) (λ n less. ap (λ b. has_virtual set n && b) (stands_same n real less)))))
+
+                keyed_same : keyed_of (real_of (stands_for found)) c keys modmaps interpretations ≡ keyed_in names library
+                keyed_same = λ i. record {
+                  name = names_same c (body_of library Keycodes) codes_show i;
+                  key = keys_same i;
+                  modmap = modmaps_same i;
+                  deeds = λ code. deeds_of (real_same i) (interpretations_same i) (modmaps_same i code) (keys_same i code);
+                }
+
+                pub resolved_same : resolved_of (real_of (stands_for found)) (type_named types) (keyed_of (real_of (stands_for found)) c keys modmaps interpretations) ≡ resolved_in names library
+                resolved_same = λ i. resolved_of (real_same i) (declared_same i) (keyed_same i)
+
+                module _ (lamps : Indicators) (lamps_are : AreIndicators lamps m.names (expanded_body bodies.compat)) where
+                  pub lit_same : indicators_of (real_of (stands_for found)) lamps ≡ indicators_in names library
+                  lit_same = λ i. indicators_of (real_same i) (indicators_same lamps lamps_are i)
+
+                  pub keymap_same : keymap_with (keymap_meant (real_of (stands_for found)) (type_named types) (keyed_of (real_of (stands_for found)) c keys modmaps interpretations)) (indicators_of (real_of (stands_for found)) lamps) ≡ keymap_in names library
+                  keymap_same = λ i. keymap_with (keymap_meant (real_same i) (declared_same i) (keyed_same i)) (lit_same i)

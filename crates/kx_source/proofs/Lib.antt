@@ -1,4 +1,6 @@
+mod Ending
 mod Joining
 mod Keymaps
+mod Mapped
 mod Names
 mod Refusals

@@ -1,19 +1,19 @@
 -- A refusal of one part of a source is one of the source.
-use Rattle.std.proofs.Common.{ℕ, ◌≡◌, ◌⊎◌, List, [], ◌∷◌, ◌++◌, Contains, Result, Ok, Err, IfErr, nat_eq, refl, sym, subst, ap, ◌∙◌, inl, inr}
+use Rattle.std.proofs.Common.{ℕ, ◌≡◌, ◌⊎◌, List, [], ◌∷◌, ◌++◌, Contains, Result, Ok, Err, IfErr, refl, sym, subst, inl, inr}
 use Rattle.std.proofs.lemmas.List.Elements.{All-cons, All-contains, All-nil, Contains-append_cases, Contains-append_left, Contains-append_right}
 use Rattle.std.specs.Result.{IsErrAnd}
 use Rattle.ks_core.specs.Entry.{Entry}
 use Rattle.kx_codes.specs.CodeFaults.{faults_of as keycodes_faults}
+use Rattle.kx_compat.specs.Meaning.{compat_faults}
 use Rattle.kx_include.specs.Expansion.{body_of}
-use Rattle.kx_include.specs.Library.{Library, sections_in}
+use Rattle.kx_include.specs.Library.{Library}
+use Rattle.kx_lamps.specs.Meaning.{lamps_faults}
 use Rattle.kx_lex.specs.declared.fault.Fault.{Fault}
 use Rattle.kx_lex.specs.declared.fault.Fault.TheVariants.{Memory}
 use Rattle.kx_masks.specs.Declarations.{modifier_faults}
-use Rattle.kx_merge.specs.Bodies.{faults_of}
-use Rattle.kx_parse.specs.declared.tree.Kind.TheVariants.{Keycodes, Symbols, Types}
+use Rattle.kx_parse.specs.declared.tree.Kind.TheVariants.{Compat, Keycodes, Symbols, Types}
 use Rattle.kx_source.specs.Meaning.{codes_in, modifier_bodies_of, modifiers_of}
-use Rattle.kx_source.specs.Source.{HasFaultIn, statement_faults, unread}
-use Rattle.kx_symbols.specs.Keys.{key_moves, key_rules}
+use Rattle.kx_source.specs.Source.{HasFaultIn, keys_faults, maps_faults, names_faults, statement_faults}
 use Rattle.kx_types.specs.Types.{types_faults}
 
 -- an Err that is answered for another is the same
@@ -30,9 +30,6 @@ among fs e has =
     ]
 
 module _ (names : List Entry) (library : Library) where
-  abbrev pub of_sections : List Fault
-  of_sections = unread (sections_in library 0)
-
   abbrev pub of_modifiers : List Fault
   of_modifiers = modifier_faults (modifier_bodies_of library)
 
@@ -43,7 +40,23 @@ module _ (names : List Entry) (library : Library) where
   of_types = types_faults (modifiers_of library) (body_of library Types)
 
   abbrev pub of_keys : List Fault
-  of_keys = faults_of nat_eq (key_rules (codes_in library) names (modifiers_of library)) key_moves (body_of library Symbols)
+  of_keys = keys_faults (codes_in library) names (modifiers_of library) (body_of library Symbols)
+
+  abbrev pub of_maps : List Fault
+  of_maps = maps_faults (codes_in library) names (modifiers_of library) (body_of library Symbols)
+
+  abbrev pub of_compat : List Fault
+  of_compat = compat_faults names (modifiers_of library) (body_of library Compat)
+
+  abbrev pub of_names : List Fault
+  of_names = names_faults (body_of library Symbols)
+
+  abbrev pub of_lamps : List Fault
+  of_lamps = lamps_faults (modifiers_of library) (body_of library Compat)
+
+  -- those of keys and of what stands behind them
+  abbrev pub of_parts : List Fault
+  of_parts = (of_keys ++ of_maps) ++ (of_compat ++ (of_names ++ of_lamps))
 
   -- a fault of one part is one of the source
   has_fault : (fs : List Fault) (e : Fault) → (Contains fs e → Contains (statement_faults names library) e) → Contains (Memory ∷ fs) e → (e ≡ Memory) ⊎ HasFaultIn names library e
@@ -53,26 +66,23 @@ module _ (names : List Entry) (library : Library) where
         | inr fault ↦ inr (inr (part fault))
       ]
 
-  behind_sections : (fs : List Fault) (e : Fault) → Contains fs e → Contains (of_sections ++ fs) e
-  behind_sections fs e has = Contains-append_right of_sections fs e has
+  behind_modifiers : (fs : List Fault) (e : Fault) → Contains fs e → Contains (of_modifiers ++ fs) e
+  behind_modifiers fs e has = Contains-append_right of_modifiers fs e has
 
-  behind_modifiers : (fs : List Fault) (e : Fault) → Contains fs e → Contains (of_sections ++ (of_modifiers ++ fs)) e
-  behind_modifiers fs e has = behind_sections (of_modifiers ++ fs) e (Contains-append_right of_modifiers fs e has)
-
-  behind_keycodes : (fs : List Fault) (e : Fault) → Contains fs e → Contains (of_sections ++ (of_modifiers ++ (of_keycodes ++ fs))) e
+  behind_keycodes : (fs : List Fault) (e : Fault) → Contains fs e → Contains (of_modifiers ++ (of_keycodes ++ fs)) e
   behind_keycodes fs e has = behind_modifiers (of_keycodes ++ fs) e (Contains-append_right of_keycodes fs e has)
 
   pub modifiers_refused : (e : Fault) → Contains (Memory ∷ of_modifiers) e → (e ≡ Memory) ⊎ HasFaultIn names library e
-  modifiers_refused e has = has_fault of_modifiers e (λ fault. behind_sections (of_modifiers ++ (of_keycodes ++ (of_types ++ of_keys))) e (Contains-append_left of_modifiers (of_keycodes ++ (of_types ++ of_keys)) e fault)) has
+  modifiers_refused e has = has_fault of_modifiers e (λ fault. Contains-append_left of_modifiers (of_keycodes ++ (of_types ++ of_parts)) e fault) has
 
   pub keycodes_refused : (e : Fault) → Contains (Memory ∷ of_keycodes) e → (e ≡ Memory) ⊎ HasFaultIn names library e
-  keycodes_refused e has = has_fault of_keycodes e (λ fault. behind_modifiers (of_keycodes ++ (of_types ++ of_keys)) e (Contains-append_left of_keycodes (of_types ++ of_keys) e fault)) has
+  keycodes_refused e has = has_fault of_keycodes e (λ fault. behind_modifiers (of_keycodes ++ (of_types ++ of_parts)) e (Contains-append_left of_keycodes (of_types ++ of_parts) e fault)) has
 
   pub types_refused : (e : Fault) → Contains (Memory ∷ of_types) e → (e ≡ Memory) ⊎ HasFaultIn names library e
-  types_refused e has = has_fault of_types e (λ fault. behind_keycodes (of_types ++ of_keys) e (Contains-append_left of_types of_keys e fault)) has
+  types_refused e has = has_fault of_types e (λ fault. behind_keycodes (of_types ++ of_parts) e (Contains-append_left of_types of_parts e fault)) has
 
-  pub keys_refused : (e : Fault) → Contains (Memory ∷ of_keys) e → (e ≡ Memory) ⊎ HasFaultIn names library e
-  keys_refused e has = has_fault of_keys e (λ fault. behind_keycodes (of_types ++ of_keys) e (Contains-append_right of_types of_keys e fault)) has
+  pub parts_refused : (e : Fault) → Contains (Memory ∷ of_parts) e → (e ≡ Memory) ⊎ HasFaultIn names library e
+  parts_refused e has = has_fault of_parts e (λ fault. behind_keycodes (of_types ++ of_parts) e (Contains-append_right of_types of_parts e fault)) has
 
-  pub all_faultless : of_sections ≡ [] → of_modifiers ≡ [] → of_keycodes ≡ [] → of_types ≡ [] → of_keys ≡ [] → statement_faults names library ≡ []
-  all_faultless sections modifiers keycodes types keys = λ i. sections i ++ (modifiers i ++ (keycodes i ++ (types i ++ keys i)))
+  pub all_faultless : of_modifiers ≡ [] → of_keycodes ≡ [] → of_types ≡ [] → of_keys ≡ [] → of_maps ≡ [] → of_compat ≡ [] → of_names ≡ [] → of_lamps ≡ [] → statement_faults names library ≡ []
+  all_faultless modifiers keycodes types keys maps compat groups lamps = λ i. modifiers i ++ (keycodes i ++ (types i ++ ((keys i ++ maps i) ++ (compat i ++ (groups i ++ lamps i)))))

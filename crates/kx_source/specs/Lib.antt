@@ -1,2 +1,3 @@
 pub mod Meaning
 pub mod Source
+pub mod Made

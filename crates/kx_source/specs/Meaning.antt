@@ -1,20 +1,35 @@
 -- The keymap that the statements of a keymap's text mean, with the files that it includes.
-use Rattle.std.specs.Prelude.{ℕ, List, [], ◌∷◌, Option, nat_eq}
+use Rattle.std.specs.Prelude.{ℕ, suc, List, [], ◌∷◌, Option, is_some, nat_eq}
 use Rattle.ks_core.specs.Entry.{Entry}
+use Rattle.kx_bearing.specs.Bearing.{Reading, stands}
+use Rattle.kx_bearing.specs.Deeds.{deeds_of}
+use Rattle.kx_builder.specs.Lamps.{ResolvedIndicator, keymap_with}
 use Rattle.kx_builder.specs.Resolved.{Resolved}
+use Rattle.kx_choice.specs.Interpretations.{Interpretation}
 use Rattle.kx_codes.specs.Aliases.{aliases_of}
 use Rattle.kx_codes.specs.Codes.{Codes, name_of}
 use Rattle.kx_codes.specs.Pairs.{pairs_of}
+use Rattle.kx_compat.specs.Meaning.{interpretations_of}
 use Rattle.kx_include.specs.Expansion.{Body, body_of}
 use Rattle.kx_include.specs.Library.{Library}
+use Rattle.kx_lamps.specs.Lamps.{Lamp}
+use Rattle.kx_lamps.specs.Meaning.{Indicators, indicator_names, lamp_of}
 use Rattle.kx_levels.specs.Selecting.{RealSet}
+use Rattle.kx_mapped.specs.Mapping.{Mapping, modmap_of}
 use Rattle.kx_masks.specs.Declarations.{declared_mask, virtual_names}
 use Rattle.kx_masks.specs.Sets.{has, real_of}
 use Rattle.kx_merge.specs.Bodies.{offers_of}
 use Rattle.kx_merge.specs.Offers.{Offer, value_of, width_of}
+use Rattle.kx_modmaps.specs.Entries.{same_target}
+use Rattle.kx_modmaps.specs.Maps.{keysyms_given, map_offers_of}
+use Rattle.kx_modmaps.specs.declared.record.Cell.{Cell as MapCell}
+use Rattle.kx_modmaps.specs.declared.record.Cell.TheVariants.{Present}
+use Rattle.kx_modmaps.specs.declared.target.Target.{Target}
+use Rattle.kx_modmaps.specs.declared.target.Target.TheVariants.{Key as KeyTarget}
+use Rattle.kx_mods.specs.declared.mods.Mods.{Mods}
 use Rattle.kx_parse.specs.declared.tree.Kind.TheVariants.{Compat, Keycodes, Symbols, Types}
-use Rattle.kx_resolve.specs.Deeds.{deeds_of}
-use Rattle.kx_resolve.specs.Keys.{Keyed, no_mods, resolved_of}
+use Rattle.kx_resolve.specs.Keys.{Keyed, resolved_of}
+use Rattle.kx_resolve.specs.Lit.{indicators_of}
 use Rattle.kx_resolve.specs.Shown.{keymap_meant}
 use Rattle.kx_symbols.specs.Keys.{key_moves, key_rules}
 use Rattle.kx_symbols.specs.declared.cells.Cell.{Cell}
@@ -34,13 +49,9 @@ modifier_bodies_of library = body_of library Types ∷ body_of library Compat �
 abbrev pub modifiers_of : Library → List (List ℕ)
 modifiers_of library = virtual_names (modifier_bodies_of library)
 
--- as yet no key bears a virtual modifier: each stands for its declared mask
-abbrev pub stands_of : Library → ℕ → RealSet
-stands_of library number real = has (declared_mask (modifiers_of library) (modifier_bodies_of library) number) real
-
--- the real modifiers that a set of modifiers stands for
-abbrev pub real_in : Library → ℕ → RealSet
-real_in library = real_of (stands_of library)
+-- the masks that are declared for them
+abbrev pub declared_masks_of : Library → ℕ → RealSet
+declared_masks_of library number = has (declared_mask (modifiers_of library) (modifier_bodies_of library) number)
 
 -- ---- Types, codes and keys
 
@@ -62,18 +73,74 @@ key_offers codes names modifiers body = offers_of nat_eq (key_rules codes names 
 abbrev pub key_given : Codes → List Entry → List (List ℕ) → Body → ℕ → KeyGiven
 key_given codes names modifiers body code = given_by (value_of nat_eq (key_offers codes names modifiers body) code) (width_of nat_eq (key_offers codes names modifiers body) code)
 
--- as yet no key has a modifier map
-abbrev pub keyed_by : (ℕ → RealSet) → (ℕ → Option (List ℕ)) → (ℕ → KeyGiven) → Keyed
-keyed_by real name key = record { name = name; key = key; modmap = λ code. no_mods; deeds = λ code. deeds_of real no_mods (key code) }
+-- what is read to find what keys are mapped to: keys, types, and what modifier maps offer, by precedence
+abbrev pub mapping_by : (ℕ → Option (List ℕ)) → (ℕ → KeyGiven) → (List ℕ → Option Definition) → List (Offer Target MapCell ℕ) → Mapping
+mapping_by name key declared offers = record {
+  name = name;
+  key = key;
+  declared = declared;
+  key_maps = λ code real. is_some (value_of same_target offers (KeyTarget code) (Present real));
+  keysym_maps = keysyms_given offers;
+}
 
-abbrev pub keyed_in : List Entry → Library → Keyed
-keyed_in names library = keyed_by (real_in library) (name_of (codes_in library)) (key_given (codes_in library) names (modifiers_of library) (body_of library Symbols))
+-- `names` are the names of keysyms
+module _ (names : List Entry) (library : Library) where
+  abbrev pub key_in : ℕ → KeyGiven
+  key_in = key_given (codes_in library) names (modifiers_of library) (body_of library Symbols)
+
+  -- ---- Modifier maps
+
+  abbrev pub mapping_in : Mapping
+  mapping_in = mapping_by (name_of (codes_in library)) key_in (declared_in library) (map_offers_of (codes_in library) names (modifiers_of library) (body_of library Symbols))
+
+  abbrev pub modmap_in : ℕ → Mods
+  modmap_in = modmap_of mapping_in
+
+  -- ---- Interpretations, and what virtual modifiers stand for
+
+  abbrev pub interpretations_in : List Interpretation
+  interpretations_in = interpretations_of names (modifiers_of library) (body_of library Compat)
+
+  abbrev pub reading_in : Reading
+  reading_in = record {
+    name = name_of (codes_in library);
+    key = key_in;
+    modmap = modmap_in;
+    declared = declared_in library;
+    interpretations = interpretations_in;
+    masks = declared_masks_of library;
+  }
+
+  -- the real modifiers that a set of modifiers stands for
+  abbrev pub real_in : ℕ → RealSet
+  real_in = real_of (stands reading_in)
+
+  abbrev pub keyed_in : Keyed
+  keyed_in = record {
+    name = name_of (codes_in library);
+    key = key_in;
+    modmap = modmap_in;
+    deeds = λ code. deeds_of real_in interpretations_in (modmap_in code) (key_in code);
+  }
+
+-- ---- Indicators
+
+-- what lights each of some indicators, of which the first has this number
+abbrev pub lamps_from : (ℕ → Lamp) → ℕ → List (List ℕ) → List Lamp
+lamps_from lamp number [] = []
+lamps_from lamp number (name ∷ names) = lamp number ∷ lamps_from lamp (suc number) names
+
+abbrev pub indicators_by : List (List ℕ) → Body → Indicators
+indicators_by modifiers body = record { names = indicator_names body; lamps = lamps_from (lamp_of modifiers body) 0 (indicator_names body) }
+
+abbrev pub indicators_in : List Entry → Library → List ResolvedIndicator
+indicators_in names library = indicators_of (real_in names library) (indicators_by (modifiers_of library) (body_of library Compat))
 
 -- ---- All together
 
--- what tables hold
+-- what tables hold of types and keys
 abbrev pub resolved_in : List Entry → Library → Resolved
-resolved_in names library = resolved_of (real_in library) (declared_in library) (keyed_in names library)
+resolved_in names library = resolved_of (real_in names library) (declared_in library) (keyed_in names library)
 
 abbrev pub keymap_in : List Entry → Library → Keymap
-keymap_in names library = keymap_meant (real_in library) (declared_in library) (keyed_in names library)
+keymap_in names library = keymap_with (keymap_meant (real_in names library) (declared_in library) (keyed_in names library)) (indicators_in names library)

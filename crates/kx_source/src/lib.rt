@@ -2,5 +2,7 @@
 #![tactic(auto)]
 
 mod compiling;
+mod keys;
+mod parts;
 
 pub use compiling::tables;

@@ -1,9 +1,8 @@
 -- The faults of the statements of a symbols section: those of key statements and of defaults for keys and actions, and
 -- statements and fields that such a section doesn't have. Declarations of virtual modifiers, modifier maps and names of
 -- groups are judged elsewhere.
-use Rattle.std.specs.Prelude.{ℕ, ◌&&◌, not, nat_lt, Bool, List, [], ◌∷◌, ◌++◌, length, Option, None, Some, is_some, if◌then◌else◌, codes}
+use Rattle.std.specs.Prelude.{ℕ, nat_lt, List, [], ◌∷◌, ◌++◌, length, Option, None, Some, if◌then◌else◌}
 use Rattle.std.specs.List.{flat_map}
-use Rattle.std.specs.Str.{str_eq_ignore_ascii_case}
 use Rattle.kx_actions.specs.Arguments.{action_faults}
 use Rattle.kx_actions.specs.Defaults.{default_faults as action_default_faults}
 use Rattle.kx_basics.specs.declared.limits.TheConstants.{GREATEST_KEYSYM, MOST_KEYSYMS}
@@ -24,7 +23,6 @@ use Rattle.kx_parse.specs.declared.tree.KeyField.TheVariants as fields
 use Rattle.kx_parse.specs.declared.tree.List.{List as Listed}
 use Rattle.kx_parse.specs.declared.tree.Part.{Part}
 use Rattle.kx_parse.specs.declared.tree.Part.TheVariants as parts
-use Rattle.kx_parse.specs.declared.tree.Place.{Place}
 use Rattle.kx_parse.specs.declared.tree.Setting.{Setting}
 use Rattle.kx_parse.specs.declared.tree.Setting.TheVariants.{Off, On, To}
 use Rattle.kx_parse.specs.declared.tree.Statement.{Statement as Said}
@@ -36,7 +34,7 @@ use Rattle.kx_parse.specs.Sections.{word_span}
 use Rattle.kx_codes.specs.CodeFaults.{name_faults}
 use Rattle.kx_include.specs.IncludeFaults.{at}
 use Rattle.kx_settings.specs.KeyFields.{default_faults as key_default_faults, setting_faults}
-use Rattle.kx_settings.specs.Words.{is_key_word}
+use Rattle.kx_settings.specs.Words.{is_group_name, is_key_word}
 use Rattle.kx_symbols.specs.declared.kinds.ListKind.{ListKind}
 use Rattle.kx_symbols.specs.declared.kinds.ListKind.TheVariants.{Symbols, Actions}
 use Rattle.kx_symbols.specs.Actions.{calls_in}
@@ -120,17 +118,17 @@ module _ (file : ℕ) where
   fields_faults known whole s [] = []
   fields_faults known whole s (f ∷ fs) = field_faults file known.modifiers whole s f ++ fields_faults known whole (field_lists known s f) fs
 
-  -- a field of the section is a default, for keys or for an action, or none that it has; as yet names of groups aren't read
+  -- a field of the section that names no group is a default, for keys or for an action, or none that it has
   abbrev pub default_faults : List (List ℕ) → Field → List Fault
   default_faults modifiers field = if is_key_word field.place.word.bytes then key_default_faults file modifiers field else action_default_faults file modifiers field
 
   abbrev pub section_field_faults : List (List ℕ) → Field → List Fault
-  section_field_faults modifiers field = default_faults modifiers field
+  section_field_faults modifiers field = if is_group_name field.place then [] else default_faults modifiers field
 
-  -- of a statement that is about no key; `word` is the word that names it; as yet modifier maps aren't read
+  -- of a statement that is about no key; `word` is the word that names it
   abbrev pub other_faults : List (List ℕ) → Span → Said → List Fault
   other_faults modifiers word (said.VirtualModifiers declarations) = []
-  other_faults modifiers word (said.ModifierMap modifier entries) = UnknownField (at file word) ∷ []
+  other_faults modifiers word (said.ModifierMap modifier entries) = []
   other_faults modifiers word (said.Field field) = section_field_faults modifiers field
   other_faults modifiers word _ = UnknownField (at file word) ∷ []
 

@@ -7,7 +7,7 @@ use kx_actions::ActionDefaults;
 use kx_lex::{At, Fault, Span};
 use kx_masks::ModNames;
 use kx_parse::{Field, Statement};
-use kx_settings::{check_default, is_key_word};
+use kx_settings::{check_default, is_group_name, is_key_word};
 
 /// Checks a field as a default for actions.
 fn check_action_default(modifiers: &ModNames, file: u32, field: &Field) -> Result<(), Fault>
@@ -25,7 +25,9 @@ fn check_field(modifiers: &ModNames, file: u32, field: &Field) -> Result<(), Fau
     ensures faultless { OnOk result (section_field_faults file modifiers.now.names field.now ≡ []) }
     ensures fault { IfErr result (λ e. Contains (section_field_faults file modifiers.now.names field.now) e) }
 {
-    if is_key_word(field.place.word.bytes.as_slice()) {
+    if is_group_name(&field.place) {
+        Ok(())
+    } else if is_key_word(field.place.word.bytes.as_slice()) {
         check_default(modifiers, file, field)
     } else {
         check_action_default(modifiers, file, field)
@@ -44,7 +46,7 @@ pub(crate) fn check_other(
 {
     match statement {
         Statement::VirtualModifiers(_) => Ok(()),
-        Statement::ModifierMap { .. } => Err(Fault::UnknownField(At { file, span: word })),
+        Statement::ModifierMap { .. } => Ok(()),
         Statement::Field(field) => check_field(modifiers, file, field.get()),
         Statement::Keycode { .. } => Err(Fault::UnknownField(At { file, span: word })),
         Statement::Alias { .. } => Err(Fault::UnknownField(At { file, span: word })),

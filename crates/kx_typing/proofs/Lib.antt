@@ -1,2 +1,3 @@
+pub mod Acting
 mod Back
 pub mod Counting

@@ -5,6 +5,7 @@ use Rattle.std.specs.Option.{option_map_or, option_or}
 use Rattle.std.specs.Str.{bytes_eq}
 use Rattle.ks_core.specs.Keysym.{is_keypad, is_lower, is_upper}
 use Rattle.kx_basics.specs.declared.limits.TheConstants.{MOST_NAME_BYTES}
+use Rattle.kx_masks.specs.Sets.{any_below}
 use Rattle.kx_typing.specs.Given.{KeyGiven}
 use Rattle.kx_types.specs.KeyTypes.{Definition}
 
@@ -25,6 +26,14 @@ group_count key = groups_within key 32
 -- a group without levels takes the type and the content of the first
 abbrev pub content_group : KeyGiven → ℕ → ℕ
 content_group key group = if has_level key group then group else 0
+
+-- the keysyms of a level of a group, both counted from 0; none where none are given
+abbrev pub level_keysyms : KeyGiven → ℕ → ℕ → List ℕ
+level_keysyms key group level = unwrap_or (key.keysyms group level) []
+
+-- whether a level of a group has an action, however far behind the levels of the group's type
+unfoldable pub has_action : KeyGiven → Bool
+has_action key = any_below (group_count key) (λ group. any_below (key.width group) (λ level. is_some (key.action group level)))
 
 -- ---- The type that is wanted
 
@@ -91,6 +100,10 @@ module _ (declared : List ℕ → Option Definition) where
 
   abbrev pub group_type_name : KeyGiven → ℕ → List ℕ
   group_type_name key group = type_name (wanted_type key (content_group key group))
+
+  -- how many levels a group has: what is behind them is lost
+  abbrev pub group_levels : KeyGiven → ℕ → ℕ
+  group_levels key group = (type_definition (group_type_name key group)).levels
 
   -- ONE_LEVEL is taken in place of another type; where it is wanted itself, it isn't
   abbrev pub is_fallback : Option (List ℕ) → Bool

@@ -1,12 +1,13 @@
 //! The key type of a group.
-ghost use Rattle.std.specs.Prelude.{◌≡◌, ◌≤◌, ℕ, IsTrue};
+ghost use Rattle.std.specs.Prelude.{◌≡◌, ◌≤◌, ℕ, IsTrue, is_some};
+ghost use Rattle.kx_masks.specs.Sets.{any_below};
 ghost use Rattle.std.specs.Option.{option_map};
 ghost use Rattle.kx_basics.specs.declared.limits.TheConstants.{MOST_GROUPS, MOST_LEVELS};
 ghost use Rattle.kx_typing.specs.Given.{given};
-ghost use Rattle.kx_typing.specs.GroupTypes.{automatic, content_group, falls_back, first_keysym, four_levels, group_count, group_type_name, groups_within, has_keypad, has_letters, is_fallback, is_type, type_definition, type_name, two_levels, wanted_type};
+ghost use Rattle.kx_typing.specs.GroupTypes.{automatic, content_group, falls_back, first_keysym, four_levels, group_count, group_levels, group_type_name, groups_within, has_action, has_keypad, has_letters, is_fallback, is_type, type_definition, type_name, two_levels, wanted_type};
 ghost use Rattle.kx_types.specs.Types.{type_named};
 
-use crate::given::{group_type, key_type, keysyms_at};
+use crate::given::{action_at, group_type, key_type, keysyms_at};
 use ks_core::Keysym;
 use kx_basics::MOST_NAME_BYTES;
 use kx_symbols::KeyRecord;
@@ -136,6 +137,38 @@ pub fn content_group(key: &KeyRecord, group: usize) -> usize
     ensures { result ≡ content_group (given key.now) group }
 {
     if key.width(group) > 0 { group } else { 0 }
+}
+
+/// Whether a level of a group has an action.
+#[tactic(auto, using(crate::proofs::Acting::any_none, crate::proofs::Acting::any_next))]
+fn group_has_action(key: &KeyRecord, group: usize) -> bool
+    ensures { result ≡ any_below ((given key.now).width group) (λ level. is_some ((given key.now).action group level)) }
+{
+    let mut found = false;
+    'levels: for level in 0..key.width(group) {
+        found = found || action_at(key, group, level).is_some();
+    }
+    found
+}
+
+/// Whether a level of a group of a key has an action, however far behind the levels of the group's type.
+#[tactic(auto, using(crate::proofs::Acting::any_none, crate::proofs::Acting::any_next, crate::proofs::Acting::acts_is))]
+pub fn has_action(key: &KeyRecord) -> bool
+    ensures { result ≡ has_action (given key.now) }
+{
+    let mut found = false;
+    'groups: for group in 0..group_count(key) {
+        found = found || group_has_action(key, group);
+    }
+    found
+}
+
+/// How many levels a group of a key has: what is behind them is lost.
+pub fn group_levels(types: &Types, key: &KeyRecord, group: usize) -> usize
+    ensures value { result ≡ group_levels (type_named types.now) (given key.now) group }
+    ensures few { result ≤ MOST_LEVELS }
+{
+    levels_of(types, group_type_name(types, key, group))
 }
 
 /// The name of the type that a group has.

@@ -213,11 +213,9 @@ fn actions_by_precedence(rt: HostRuntime) -> Result<(), Fail> {
 fn statements_of_a_section(rt: HostRuntime) -> Result<(), Fail> {
     let rows: [(&[u8], &str); 15] = [
         (b"virtual_modifiers V;", ""),
-        (
-            b"modifier_map Shift { <A> };",
-            "F14 UnknownField at 0:53-65",
-        ),
-        (b"name[1]=\"x\";", "F14 UnknownField at 0:53-57"),
+        // Modifier maps and names of groups are judged by those who read them.
+        (b"modifier_map Nope { <A> };", ""),
+        (b"name[1]=1;", ""),
         (b"setMods.modifiers=Shift;", ""),
         (b"setMods.group=1;", "F14 UnknownField at 0:61-66"),
         (b"setMods.modifiers=Nope;", "F12 UnknownModifier at 0:71-75"),

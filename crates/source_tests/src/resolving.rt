@@ -1,14 +1,8 @@
 use ks_core::{NameTable, Notes};
-use kx_codes::codes;
-use kx_include::{Bodies, Files, Library};
+use kx_include::Files;
 use kx_lex::Fault;
-use kx_masks::ModNames;
-use kx_resolve::resolve;
 use kx_source::tables;
-use kx_symbols::symbols;
-use kx_tables::{Owned, Parts, Rows, Tables};
-use kx_types::types;
-use std::alloc::Global;
+use kx_tables::{Owned, Rows, Tables};
 use std::process::Abort;
 use std::test::Fail;
 
@@ -59,52 +53,32 @@ fn groups_of_one_level(rt: HostRuntime) -> Result<(), Fail> {
     Ok(())
 }
 
-fn resolved_of(alloc: Global, bodies: &Bodies) -> Result<(Parts, Notes), Fault> {
-    let codes = codes(alloc, &bodies.keycodes)?;
-    let modifiers = ModNames::of(alloc, bodies)?;
-    let types = types(alloc, &bodies.types, &modifiers)?;
-    let (keys, _) = symbols(
-        alloc,
-        &bodies.symbols,
-        &codes,
-        &NameTable::builtin(),
-        &modifiers,
-    )?;
-    let stands = modifiers.declared_masks();
-    resolve(alloc, &codes, stands, &types, &keys)
-}
-
-fn resolved_in(alloc: Global, text: &[u8]) -> Result<(Parts, Notes), Fault> {
-    let files = Files::new(alloc);
-    let library = Library::of_source(alloc, text, &files)?;
-    let bodies = library.expand(alloc)?;
-    resolved_of(alloc, &bodies)
-}
-
-#[test]
-fn resolves_codes_and_keys(rt: HostRuntime) -> Result<(), Fail> {
-    let text =
-        b"xkb_keymap { xkb_keycodes { <A>=38; alias <C>=<A>; }; xkb_symbols { key <C> {[7]}; }; };";
-    let (parts, notes) = resolved_in(rt.alloc(), text)?;
-    assert_eq!(rt; notes, Notes::new());
-    assert_eq!(rt; parts.keysyms.as_slice(), [0x37].as_slice());
-    Ok(())
-}
-
 #[test]
 fn refusals_name_their_place(rt: HostRuntime) -> Result<(), Fail> {
-    let rows: [(&[u8], &str); 5] = [
+    let rows: [(&[u8], &str); 8] = [
         (
             b"xkb_keymap { xkb_types { type \"T\" { modifiers=Foo; }; }; };",
             "F12 UnknownModifier at 0:46-49",
         ),
         (
-            b"xkb_keymap { xkb_symbols { modifier_map Shift { <A> }; }; };",
-            "F14 UnknownField at 0:27-39",
+            b"xkb_keymap { xkb_symbols { modifier_map Shft { <A> }; }; };",
+            "F12 UnknownModifier at 0:40-44",
         ),
         (
-            b"xkb_keymap { xkb_compat { }; xkb_compat { group 1 = 1; }; };",
-            "F14 UnknownField at 0:42-47",
+            b"xkb_keymap { xkb_symbols { name[33] = \"x\"; }; };",
+            "F16 GroupRange at 0:32-34",
+        ),
+        (
+            b"xkb_keymap { xkb_compat { interpret a { more; }; }; };",
+            "F14 UnknownField at 0:40-44",
+        ),
+        (
+            b"xkb_keymap { xkb_compat { }; xkb_compat { indicator \"x\" { mods = V; }; }; };",
+            "F12 UnknownModifier at 0:65-66",
+        ),
+        (
+            b"xkb_keymap { xkb_compat { key <A> { }; }; };",
+            "F14 UnknownField at 0:26-29",
         ),
         (
             b"xkb_keymap { xkb_keycodes { <A>=4096; }; };",

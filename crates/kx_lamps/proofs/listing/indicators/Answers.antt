@@ -16,6 +16,13 @@ returns-in_err-shown-clause-fault c =
     let faults = lamps_faults c.args.names.now.names (expanded_body c.args.expansion.now) in
     passed c.from_residual-in_err-shown.result (Memory ∷ faults) c.in_err-shown.field-0.0 c.from_residual-in_err-shown.ensures.1 (memory_beside Memory faults c.in_err-shown.field-0.0 c.in_err-shown.ensures.err)
 
+pub of-requires-clause-names : goal.of-requires-clause-names
+of-requires-clause-names c =
+    let body = expanded_body c.args.expansion.now in
+    let lamps = c.in_ok-lamps.lamps in
+    let named = c.in_ok-lamps.ensures.names ∙ ap (λ ks. names_behind lamp_names ks (statements_of body)) c.new.ensures in
+    names_fine lamps c.args.names.now.names body lamps named c.in_ok-lamps.ensures.few c.in_ok-merged.ensures.faultless
+
 pub returns-clause-fine : goal.returns-clause-fine
 returns-clause-fine c =
     let body = expanded_body c.args.expansion.now in

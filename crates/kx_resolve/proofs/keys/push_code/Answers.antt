@@ -1,16 +1,20 @@
 use Rattle.std.proofs.Common.{None, Some, [], arith, sym, subst}
 use Rattle.std.proofs.lemmas.List.Elements.{All-nil}
-use Rattle.kx_codes.specs.Codes.{name_of}
+use Rattle.kx_bearing.specs.Deeds.{deeds_of}
 use Rattle.kx_builder.specs.Small.{GroupIsSmall, IsSmall}
+use Rattle.kx_codes.specs.Codes.{name_of}
+use Rattle.kx_mapped.specs.Modmaps.{modmap_at}
 use Rattle.kx_masks.specs.Sets.{real_of}
 use Rattle.kx_masks.specs.Standing.{stands_for}
+use Rattle.kx_mods.specs.declared.mods.Mods.{Mods}
 use Rattle.kx_resolve.proofs.Growing.{small_with_key}
-use Rattle.kx_resolve.proofs.Names.{bounds_of}
+use Rattle.kx_resolve.proofs.Names.{bare_of, bounds_of, pushed_of}
 use Rattle.kx_resolve.proofs.Steps.{none_count}
-use Rattle.kx_resolve.specs.Keys.{no_mods}
+use Rattle.kx_resolve.specs.Bounds.{KeepsBounds}
 use Rattle.kx_symbols.specs.Keys.{key_at}
 use Rattle.kx_tables.specs.declared.rows.Range.TheVariants.{Wrap}
 use Rattle.kx_types.specs.Types.{type_named}
+use Rattle.kx_typing.specs.Given.{given_in}
 use Rattle.kx_resolve.proofs.keys.push_code.Goals as goal
 
 pub push_key-requires-clause-short : goal.push_key-requires-clause-short
@@ -19,16 +23,26 @@ push_key-requires-clause-short c = c.in-Some-Some.ensures.fine.short
 pub push_bare_key-requires-clause-short : goal.push_bare_key-requires-clause-short
 push_bare_key-requires-clause-short c = c.in-Some-None.ensures.fine.short
 
+pub returns-in_ok-push_key-in-Some-Some-clause-pushed : goal.returns-in_ok-push_key-in-Some-Some-clause-pushed
+returns-in_ok-push_key-in-Some-Some-clause-pushed c =
+    pushed_of (type_named c.args.read.types.now) c.args.used.now (real_of (stands_for c.args.read.stands.now)) c.args.read.interpretations.now c.args.builder.now _ c.args.code (name_of c.args.read.codes.now c.args.code) (key_at c.args.read.keys.now c.args.code) (Some c.in-Some-Some.key.now) c.in-Some-Some.name.now (modmap_at c.args.read.modmaps.now c.args.code) c.key_mods-modmap.result c.in-Some-Some.ensures.value c.in-Some-Some.ensures' c.key_mods-modmap.ensures.value c.in_ok-push_key-in-Some-Some.ensures.pushed
+
+pub returns-in_ok-push_bare_key-in-Some-None-clause-pushed : goal.returns-in_ok-push_bare_key-in-Some-None-clause-pushed
+returns-in_ok-push_bare_key-in-Some-None-clause-pushed c =
+    bare_of (type_named c.args.read.types.now) c.args.used.now (real_of (stands_for c.args.read.stands.now)) c.args.read.interpretations.now c.args.builder.now _ c.args.code (name_of c.args.read.codes.now c.args.code) (key_at c.args.read.keys.now c.args.code) c.in-Some-None.name.now (modmap_at c.args.read.modmaps.now c.args.code) c.key_mods-modmap.result c.in-Some-None.ensures.value c.in-Some-None.ensures' c.key_mods-modmap.ensures.value c.in_ok-push_bare_key-in-Some-None.ensures.pushed
+
 pub returns-in_ok-push_key-in-Some-Some-clause-bounds : goal.returns-in_ok-push_key-in-Some-Some-clause-bounds
-returns-in_ok-push_key-in-Some-Some-clause-bounds c =
-    bounds_of (type_named c.args.types.now) (real_of (stands_for c.args.stands.now)) (name_of c.args.codes.now c.args.code) (key_at c.args.keys.now c.args.code) (Some c.in-Some-Some.key.now) c.in-Some-Some.name.now c.in-Some-Some.ensures.value c.in-Some-Some.ensures' c.in-Some-Some.ensures.fine c.in_ok-push_key-in-Some-Some.ensures.range c.in_ok-push_key-in-Some-Some.ensures.fine
+returns-in_ok-push_key-in-Some-Some-clause-bounds c = λ name is.
+    subst (λ (modmap : Mods). KeepsBounds (type_named c.args.read.types.now) name modmap (deeds_of (real_of (stands_for c.args.read.stands.now)) c.args.read.interpretations.now modmap (given_in (key_at c.args.read.keys.now c.args.code))) (given_in (key_at c.args.read.keys.now c.args.code))) c.key_mods-modmap.ensures.value
+    (bounds_of (type_named c.args.read.types.now) (real_of (stands_for c.args.read.stands.now)) c.args.read.interpretations.now c.key_mods-modmap.result c.key_mods-modmap.ensures.fits (name_of c.args.read.codes.now c.args.code) (key_at c.args.read.keys.now c.args.code) (Some c.in-Some-Some.key.now) c.in-Some-Some.name.now c.in-Some-Some.ensures.value c.in-Some-Some.ensures' c.in-Some-Some.ensures.fine c.in_ok-push_key-in-Some-Some.ensures.range c.in_ok-push_key-in-Some-Some.ensures.fine name is)
 
 pub returns-in_ok-push_bare_key-in-Some-None-clause-bounds : goal.returns-in_ok-push_bare_key-in-Some-None-clause-bounds
-returns-in_ok-push_bare_key-in-Some-None-clause-bounds c =
-    bounds_of (type_named c.args.types.now) (real_of (stands_for c.args.stands.now)) (name_of c.args.codes.now c.args.code) (key_at c.args.keys.now c.args.code) None c.in-Some-None.name.now c.in-Some-None.ensures.value c.in-Some-None.ensures' c.in-Some-None.ensures.fine tt (λ group less. absurd (omega (arith, less, none_count)))
+returns-in_ok-push_bare_key-in-Some-None-clause-bounds c = λ name is.
+    subst (λ (modmap : Mods). KeepsBounds (type_named c.args.read.types.now) name modmap (deeds_of (real_of (stands_for c.args.read.stands.now)) c.args.read.interpretations.now modmap (given_in (key_at c.args.read.keys.now c.args.code))) (given_in (key_at c.args.read.keys.now c.args.code))) c.key_mods-modmap.ensures.value
+    (bounds_of (type_named c.args.read.types.now) (real_of (stands_for c.args.read.stands.now)) c.args.read.interpretations.now c.key_mods-modmap.result c.key_mods-modmap.ensures.fits (name_of c.args.read.codes.now c.args.code) (key_at c.args.read.keys.now c.args.code) None c.in-Some-None.name.now c.in-Some-None.ensures.value c.in-Some-None.ensures' c.in-Some-None.ensures.fine tt (λ group less. absurd (omega (arith, less, none_count))) name is)
 
 pub returns-in_ok-push_bare_key-in-Some-None-clause-small : goal.returns-in_ok-push_bare_key-in-Some-None-clause-small
 returns-in_ok-push_bare_key-in-Some-None-clause-small c =
     subst IsSmall (sym c.in_ok-push_bare_key-in-Some-None.ensures.pushed)
-    (small_with_key c.args.builder.now (record { code = c.args.code; name = c.in-Some-None.name.now; modmap = no_mods; range = Wrap; groups = [] }) c.requires.small c.requires.few
+    (small_with_key c.args.builder.now (record { code = c.args.code; name = c.in-Some-None.name.now; modmap = c.key_mods-modmap.result; range = Wrap; groups = [] }) c.requires.small c.requires.few
     (record { short_name = c.in-Some-None.ensures.fine.short; few_groups = omega arith; small_groups = All-nil GroupIsSmall }))

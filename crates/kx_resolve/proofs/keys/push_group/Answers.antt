@@ -9,7 +9,7 @@ use Rattle.kx_masks.specs.Standing.{stands_for}
 use Rattle.kx_resolve.proofs.Growing.{group_then_cells, groups_grow, new_cells, small_with_group}
 use Rattle.kx_resolve.specs.Bounds.{last_cells}
 use Rattle.kx_typing.specs.Given.{given}
-use Rattle.kx_resolve.specs.Deeds.{deeds_of}
+use Rattle.kx_bearing.specs.Deeds.{deeds_of}
 use Rattle.kx_resolve.specs.Keys.{cells_of, type_place}
 use Rattle.kx_types.specs.Types.{type_named}
 use Rattle.kx_typing.specs.GroupTypes.{type_definition}
@@ -37,7 +37,7 @@ push_levels-requires-clause-bare c =
 pub returns-clause-pushed : goal.returns-clause-pushed
 returns-clause-pushed c =
     let key = given c.args.key.key.now in
-    let deeds = deeds_of (real_of (stands_for c.args.key.stands.now)) c.args.key.modmap (given c.args.key.key.now) in
+    let deeds = deeds_of (real_of (stands_for c.args.key.stands.now)) c.args.key.interpretations.now c.args.key.modmap (given c.args.key.key.now) in
     let declared = type_named c.args.types.now in
     let used = c.args.used.now in
     let place = c.type_place.ensures ∙ ap (type_place used) c.group_type_name-name.ensures in

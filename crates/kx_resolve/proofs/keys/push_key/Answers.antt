@@ -12,7 +12,7 @@ use Rattle.kx_resolve.proofs.Steps.{groups_next, groups_none}
 use Rattle.kx_resolve.specs.Bounds.{CellsAreFine, GroupsAreFine, levels_of_group}
 use Rattle.kx_typing.specs.Given.{given}
 use Rattle.kx_typing.specs.GroupTypes.{content_group, group_count}
-use Rattle.kx_resolve.specs.Deeds.{deeds_of}
+use Rattle.kx_bearing.specs.Deeds.{deeds_of}
 use Rattle.kx_resolve.specs.Keys.{group_of, groups_of, key_of}
 use Rattle.kx_types.specs.Types.{type_named}
 use Rattle.kx_resolve.proofs.keys.push_key.Goals as goal
@@ -22,7 +22,7 @@ groups-init c =
     let declared = type_named c.args.types.now in
     let used = c.args.used.now in
     let key = given c.args.key.key.now in
-    let deeds = deeds_of (real_of (stands_for c.args.key.stands.now)) c.args.key.modmap (given c.args.key.key.now) in
+    let deeds = deeds_of (real_of (stands_for c.args.key.stands.now)) c.args.key.interpretations.now c.args.key.modmap (given c.args.key.key.now) in
     let bare : ResolvedKey = record (key_of declared used deeds key c.args.code c.args.name.now c.args.key.modmap) { groups = [] } in
     let bare_pushed : c.push_bare_key.new.builder ≡ with_key c.args.builder.now bare = c.in_ok-push_bare_key.ensures.pushed ∙ ap (λ r. with_key c.args.builder.now (record bare { range = r })) c.range.ensures.value in
     let count : length c.push_bare_key.new.builder.keys ≡ length (c.args.builder.now.keys ++ bare ∷ []) = ap (λ (r : Resolved). length r.keys) bare_pushed in (
@@ -38,7 +38,7 @@ groups-preserved c =
     let declared = type_named c.args.types.now in
     let used = c.args.used.now in
     let key = given c.args.key.key.now in
-    let deeds = deeds_of (real_of (stands_for c.args.key.stands.now)) c.args.key.modmap (given c.args.key.key.now) in
+    let deeds = deeds_of (real_of (stands_for c.args.key.stands.now)) c.args.key.interpretations.now c.args.key.modmap (given c.args.key.key.now) in
     let group = c.groups.group in
     let g = group_of declared used deeds key group in
     let bare : ResolvedKey = record (key_of declared used deeds key c.args.code c.args.name.now c.args.key.modmap) { groups = [] } in
@@ -53,9 +53,9 @@ groups-preserved c =
     )
   where
     FineAt : ℕ → Type 0
-    FineAt group = CellsAreFine (deeds_of (real_of (stands_for c.args.key.stands.now)) c.args.key.modmap (given c.args.key.key.now)) (given c.args.key.key.now) (content_group (given c.args.key.key.now) group) (levels_of_group (type_named c.args.types.now) (given c.args.key.key.now) group)
+    FineAt group = CellsAreFine (deeds_of (real_of (stands_for c.args.key.stands.now)) c.args.key.interpretations.now c.args.key.modmap (given c.args.key.key.now)) (given c.args.key.key.now) (content_group (given c.args.key.key.now) group) (levels_of_group (type_named c.args.types.now) (given c.args.key.key.now) group)
 
-    fine : (group : ℕ) → GroupsAreFine (type_named c.args.types.now) (deeds_of (real_of (stands_for c.args.key.stands.now)) c.args.key.modmap (given c.args.key.key.now)) (given c.args.key.key.now) group → FineAt group → GroupsAreFine (type_named c.args.types.now) (deeds_of (real_of (stands_for c.args.key.stands.now)) c.args.key.modmap (given c.args.key.key.now)) (given c.args.key.key.now) (group + 1)
+    fine : (group : ℕ) → GroupsAreFine (type_named c.args.types.now) (deeds_of (real_of (stands_for c.args.key.stands.now)) c.args.key.interpretations.now c.args.key.modmap (given c.args.key.key.now)) (given c.args.key.key.now) group → FineAt group → GroupsAreFine (type_named c.args.types.now) (deeds_of (real_of (stands_for c.args.key.stands.now)) c.args.key.interpretations.now c.args.key.modmap (given c.args.key.key.now)) (given c.args.key.key.now) (group + 1)
     fine group before here = λ h less.
         let upto : h ≤ group = omega (arith, less) in
         elim (eq-or-lt_of_le upto) [
@@ -77,7 +77,7 @@ returns-clause-pushed c =
     let declared = type_named c.args.types.now in
     let used = c.args.used.now in
     let key = given c.args.key.key.now in
-    let deeds = deeds_of (real_of (stands_for c.args.key.stands.now)) c.args.key.modmap (given c.args.key.key.now) in
+    let deeds = deeds_of (real_of (stands_for c.args.key.stands.now)) c.args.key.interpretations.now c.args.key.modmap (given c.args.key.key.now) in
     let all : c.groups.group ≡ group_count key = omega (arith, c.groups-test.false, c.groups.auto.group-end, c.group_count-group-end.ensures.value) in
     let bare : ResolvedKey = record (key_of declared used deeds key c.args.code c.args.name.now c.args.key.modmap) { groups = [] } in
     c.groups.invariant.0

@@ -1,5 +1,6 @@
 use Rattle.std.proofs.Common.{◌≡◌, ◌++◌, length, sym, subst, ap, ◌∙◌, arith}
 use Rattle.kx_builder.specs.Resolved.{Resolved}
+use Rattle.kx_mapped.specs.Modmaps.{modmap_at}
 use Rattle.kx_masks.specs.Sets.{real_of}
 use Rattle.kx_masks.specs.Standing.{stands_for}
 use Rattle.kx_resolve.proofs.Steps.{below_next, below_none}
@@ -11,16 +12,16 @@ use Rattle.kx_resolve.proofs.keys.push_keys.Goals as goal
 
 pub codes-init : goal.codes-init
 codes-init c =
-    let keyed : Keyed = keyed_of (real_of (stands_for c.args.stands.now)) c.args.codes.now c.args.keys.now in (
-      (λ i. record c.args.builder.now { keys = (c.requires.keyless ∙ sym (below_none (type_named c.args.types.now) c.args.used.now keyed)) i }),
+    let keyed : Keyed = keyed_of (real_of (stands_for c.args.read.stands.now)) c.args.read.codes.now c.args.read.keys.now (modmap_at c.args.read.modmaps.now) c.args.read.interpretations.now in (
+      (λ i. record c.args.builder.now { keys = (c.requires.keyless ∙ sym (below_none (type_named c.args.read.types.now) c.args.used.now keyed)) i }),
       c.requires.small,
       λ code less of_key is. absurd (omega (arith, less)),
     )
 
 pub codes-preserved : goal.codes-preserved
 codes-preserved c =
-    let declared = type_named c.args.types.now in
-    let keyed : Keyed = keyed_of (real_of (stands_for c.args.stands.now)) c.args.codes.now c.args.keys.now in
+    let declared = type_named c.args.read.types.now in
+    let keyed : Keyed = keyed_of (real_of (stands_for c.args.read.stands.now)) c.args.read.codes.now c.args.read.keys.now (modmap_at c.args.read.modmaps.now) c.args.read.interpretations.now in
     let used = c.args.used.now in
     let n = c.codes.code in (
       c.in_ok-push_code.ensures.pushed
@@ -35,16 +36,16 @@ push_code-requires-clause-small c = c.codes.invariant.1
 
 pub push_code-requires-clause-few : goal.push_code-requires-clause-few
 push_code-requires-clause-few c =
-    let keyed : Keyed = keyed_of (real_of (stands_for c.args.stands.now)) c.args.codes.now c.args.keys.now in
-    let count : length c.codes.builder.keys ≡ length (keys_below (type_named c.args.types.now) c.args.used.now keyed c.codes.code) = ap (λ (r : Resolved). length r.keys) c.codes.invariant.0 in
-    omega (arith, c.codes-test.true, count, below_few (type_named c.args.types.now) c.args.used.now keyed c.codes.code)
+    let keyed : Keyed = keyed_of (real_of (stands_for c.args.read.stands.now)) c.args.read.codes.now c.args.read.keys.now (modmap_at c.args.read.modmaps.now) c.args.read.interpretations.now in
+    let count : length c.codes.builder.keys ≡ length (keys_below (type_named c.args.read.types.now) c.args.used.now keyed c.codes.code) = ap (λ (r : Resolved). length r.keys) c.codes.invariant.0 in
+    omega (arith, c.codes-test.true, count, below_few (type_named c.args.read.types.now) c.args.used.now keyed c.codes.code)
 
 pub returns-clause-pushed : goal.returns-clause-pushed
 returns-clause-pushed c =
     let all : c.codes.code ≡ 4096 = omega (arith, c.codes-test.false, c.codes.auto.code-end) in
-    c.codes.invariant.0 ∙ (λ i. record c.args.builder.now { keys = keys_below (type_named c.args.types.now) c.args.used.now (keyed_of (real_of (stands_for c.args.stands.now)) c.args.codes.now c.args.keys.now) (all i) })
+    c.codes.invariant.0 ∙ (λ i. record c.args.builder.now { keys = keys_below (type_named c.args.read.types.now) c.args.used.now (keyed_of (real_of (stands_for c.args.read.stands.now)) c.args.read.codes.now c.args.read.keys.now (modmap_at c.args.read.modmaps.now) c.args.read.interpretations.now) (all i) })
 
 pub returns-clause-bounds : goal.returns-clause-bounds
 returns-clause-bounds c =
     let all : c.codes.code ≡ 4096 = omega (arith, c.codes-test.false, c.codes.auto.code-end) in
-    subst (BoundsBelow (type_named c.args.types.now) (keyed_of (real_of (stands_for c.args.stands.now)) c.args.codes.now c.args.keys.now)) all c.codes.invariant.2
+    subst (BoundsBelow (type_named c.args.read.types.now) (keyed_of (real_of (stands_for c.args.read.stands.now)) c.args.read.codes.now c.args.read.keys.now (modmap_at c.args.read.modmaps.now) c.args.read.interpretations.now)) all c.codes.invariant.2

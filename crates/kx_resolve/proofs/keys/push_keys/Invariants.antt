@@ -1,4 +1,5 @@
 use Rattle.std.proofs.Common.{◌≡◌}
+use Rattle.kx_mapped.specs.Modmaps.{modmap_at}
 use Rattle.kx_masks.specs.Sets.{real_of}
 use Rattle.kx_masks.specs.Standing.{stands_for}
 use Rattle.kx_resolve.specs.Bounds.{BoundsBelow}
@@ -9,6 +10,6 @@ use Rattle.kx_resolve.proofs.keys.push_keys.Given as goal
 
 abbrev pub invariant-codes : goal.invariant-codes
 invariant-codes l =
-    (l.builder ≡ record l.fn.builder { keys = keys_below (type_named l.types) l.used (keyed_of (real_of (stands_for l.stands)) l.codes l.keys) l.code })
+    (l.builder ≡ record l.fn.builder { keys = keys_below (type_named l.read.types.now) l.used (keyed_of (real_of (stands_for l.read.stands.now)) l.read.codes.now l.read.keys.now (modmap_at l.read.modmaps.now) l.read.interpretations.now) l.code })
     × IsSmall l.builder
-    × BoundsBelow (type_named l.types) (keyed_of (real_of (stands_for l.stands)) l.codes l.keys) l.code
+    × BoundsBelow (type_named l.read.types.now) (keyed_of (real_of (stands_for l.read.stands.now)) l.read.codes.now l.read.keys.now (modmap_at l.read.modmaps.now) l.read.interpretations.now) l.code

@@ -11,13 +11,13 @@ use Rattle.kx_resolve.proofs.Growing.{cells_grow, groups_count, small_with_cell}
 use Rattle.kx_resolve.proofs.Steps.{cells_next, cells_none}
 use Rattle.kx_resolve.specs.Bounds.{CellsAreFine, last_cells}
 use Rattle.kx_typing.specs.Given.{given}
-use Rattle.kx_resolve.specs.Deeds.{deeds_of}
+use Rattle.kx_bearing.specs.Deeds.{deeds_of}
 use Rattle.kx_resolve.specs.Keys.{cell_of, cells_of}
 use Rattle.kx_resolve.proofs.keys.push_levels.Goals as goal
 
 pub levels-init : goal.levels-init
 levels-init c = (
-  ap (λ ds. fold with_cell c.args.builder.now ds) (sym (cells_none (given c.args.key.key.now) (deeds_of (real_of (stands_for c.args.key.stands.now)) c.args.key.modmap (given c.args.key.key.now)) c.args.group)),
+  ap (λ ds. fold with_cell c.args.builder.now ds) (sym (cells_none (given c.args.key.key.now) (deeds_of (real_of (stands_for c.args.key.stands.now)) c.args.key.interpretations.now c.args.key.modmap (given c.args.key.key.now)) c.args.group)),
   c.requires.small,
   c.requires.some,
   ap length c.requires.bare,
@@ -27,7 +27,7 @@ levels-init c = (
 pub levels-preserved : goal.levels-preserved
 levels-preserved c =
     let key = given c.args.key.key.now in
-    let deeds = deeds_of (real_of (stands_for c.args.key.stands.now)) c.args.key.modmap (given c.args.key.key.now) in
+    let deeds = deeds_of (real_of (stands_for c.args.key.stands.now)) c.args.key.interpretations.now c.args.key.modmap (given c.args.key.key.now) in
     let group = c.args.group in
     let level = c.levels.level in
     let d = cell_of deeds key group level in
@@ -44,11 +44,11 @@ levels-preserved c =
       fine level c.levels.invariant.4 c.in_ok-push_level.ensures.fine,
     )
   where
-    fine : (level : ℕ) → CellsAreFine (deeds_of (real_of (stands_for c.args.key.stands.now)) c.args.key.modmap (given c.args.key.key.now)) (given c.args.key.key.now) c.args.group level → CellIsFine (cell_of (deeds_of (real_of (stands_for c.args.key.stands.now)) c.args.key.modmap (given c.args.key.key.now)) (given c.args.key.key.now) c.args.group level) → CellsAreFine (deeds_of (real_of (stands_for c.args.key.stands.now)) c.args.key.modmap (given c.args.key.key.now)) (given c.args.key.key.now) c.args.group (level + 1)
+    fine : (level : ℕ) → CellsAreFine (deeds_of (real_of (stands_for c.args.key.stands.now)) c.args.key.interpretations.now c.args.key.modmap (given c.args.key.key.now)) (given c.args.key.key.now) c.args.group level → CellIsFine (cell_of (deeds_of (real_of (stands_for c.args.key.stands.now)) c.args.key.interpretations.now c.args.key.modmap (given c.args.key.key.now)) (given c.args.key.key.now) c.args.group level) → CellsAreFine (deeds_of (real_of (stands_for c.args.key.stands.now)) c.args.key.interpretations.now c.args.key.modmap (given c.args.key.key.now)) (given c.args.key.key.now) c.args.group (level + 1)
     fine level before here = λ l less.
         let upto : l ≤ level = omega (arith, less) in
         elim (eq-or-lt_of_le upto) [
-          | inl same ↦ subst (λ n. CellIsFine (cell_of (deeds_of (real_of (stands_for c.args.key.stands.now)) c.args.key.modmap (given c.args.key.key.now)) (given c.args.key.key.now) c.args.group n)) (sym same) here
+          | inl same ↦ subst (λ n. CellIsFine (cell_of (deeds_of (real_of (stands_for c.args.key.stands.now)) c.args.key.interpretations.now c.args.key.modmap (given c.args.key.key.now)) (given c.args.key.key.now) c.args.group n)) (sym same) here
           | inr earlier ↦ before l earlier
         ]
 

@@ -1,0 +1,4 @@
+mod Borne
+mod Brought
+pub mod Meant
+mod Names

@@ -1,0 +1,4 @@
+pub mod Bearing
+pub mod Deeds
+pub mod Read
+pub mod Bearers

@@ -1,0 +1,5 @@
+mod Masks
+mod Visiting
+mod Order
+mod Steps
+mod Walking

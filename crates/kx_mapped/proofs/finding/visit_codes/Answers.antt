@@ -1,0 +1,25 @@
+use Rattle.std.proofs.Common.{◌≡◌, arith, nat_eq, subst}
+use Rattle.indexmap.specs.IndexMap.{get}
+use Rattle.kx_mapped.proofs.Visiting.{visits_none}
+use Rattle.kx_mapped.proofs.Steps.{below_none}
+use Rattle.kx_mapped.proofs.Walking.{visits_code}
+use Rattle.kx_mapped.specs.Finding.{Visits}
+use Rattle.kx_mapped.specs.Mapping.{places_below}
+use Rattle.kx_mapped.specs.Read.{mapping_of}
+use Rattle.kx_mapped.proofs.finding.visit_codes.Goals as goal
+
+pub codes-init : goal.codes-init
+codes-init c = λ maps.
+    let m = mapping_of c.args.codes.now c.args.types.now c.args.keys.now maps in
+    visits_none (get nat_eq c.args.firsts.now) (λ k. places_below k m 0) (λ k. below_none k m)
+
+pub codes-preserved : goal.codes-preserved
+codes-preserved c = λ maps.
+    let m = mapping_of c.args.codes.now c.args.types.now c.args.keys.now maps in
+    visits_code (get nat_eq c.args.firsts.now) (get nat_eq c.codes.firsts) (get nat_eq c.visit_code.new.firsts) m c.codes.code (c.codes.invariant maps) c.visit_code.ensures
+
+pub returns : goal.returns
+returns c = λ maps.
+    let m = mapping_of c.args.codes.now c.args.types.now c.args.keys.now maps in
+    let all : c.codes.code ≡ 4096 = omega (arith, c.codes-test.false, c.codes.auto.code-end) in
+    subst (λ n. Visits (λ k. places_below k m n) (get nat_eq c.args.firsts.now) (get nat_eq c.codes.firsts)) all (c.codes.invariant maps)

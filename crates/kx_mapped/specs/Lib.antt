@@ -1,0 +1,4 @@
+pub mod Finding
+pub mod Mapping
+pub mod Modmaps
+pub mod Read

@@ -1,0 +1,81 @@
+-- The real modifiers that keys are mapped to, by the modifier maps of keys and of keysyms (X Keyboard Extension, the modifier
+-- map).
+use Rattle.std.specs.Prelude.{ℕ, zero, suc, ◌==◌, ◌&&◌, ◌||◌, nat_eq, nat_lt, Bool, false, List, [], ◌∷◌, ◌++◌, fold, Option, None, Some, if◌then◌else◌}
+use Rattle.std.specs.List.{list_any}
+use Rattle.std.specs.Set.{is_member}
+use Rattle.kx_levels.specs.Rows.{mods_of}
+use Rattle.kx_levels.specs.Selecting.{RealSet}
+use Rattle.kx_masks.specs.Sets.{has}
+use Rattle.kx_mods.specs.declared.mods.Mods.{Mods}
+use Rattle.kx_types.specs.KeyTypes.{Definition}
+use Rattle.kx_typing.specs.Given.{KeyGiven}
+use Rattle.kx_typing.specs.GroupTypes.{content_group, group_count, group_levels, level_keysyms}
+use Rattle.kx_mapped.specs.declared.places.Place.{Place}
+
+-- what is read of a keymap: the names and keys of codes, the types by name, and what modifier maps give the keys of codes and,
+-- each with a mask, keysyms
+pub record Mapping : Type 0 where
+  pub name : ℕ → Option (List ℕ)
+  pub key : ℕ → KeyGiven
+  pub declared : List ℕ → Option Definition
+  pub key_maps : ℕ → RealSet
+  pub keysym_maps : List (ℕ × ℕ)
+
+-- ---- The first of places
+
+-- a lesser group comes first, in one group a lesser level, at one level a lesser keycode
+abbrev pub is_before : Place → Place → Bool
+is_before one other =
+    nat_lt one.group other.group
+    || one.group == other.group && (nat_lt one.level other.level || one.level == other.level && nat_lt one.code other.code)
+
+abbrev pub earlier : Option Place → Place → Option Place
+earlier None place = Some place
+earlier (Some first) place = Some (if is_before place first then place else first)
+
+abbrev pub first_of : List Place → Option Place
+first_of places = fold earlier None places
+
+-- ---- Where a keysym stands, alone or with others
+
+module _ (keysym : ℕ) where
+  abbrev pub place_at : KeyGiven → ℕ → ℕ → ℕ → List Place
+  place_at key code group level = if is_member nat_eq (level_keysyms key (content_group key group) level) keysym then record { group = group; level = level; code = code } ∷ [] else []
+
+  -- on the levels of a group below a number
+  unfoldable pub level_places : KeyGiven → ℕ → ℕ → ℕ → List Place
+  level_places key code group zero = []
+  level_places key code group (suc level) = level_places key code group level ++ place_at key code group level
+
+  module _ (declared : List ℕ → Option Definition) where
+    -- on the groups of a key below a number: keysyms behind the levels of a group aren't kept
+    unfoldable pub group_places : KeyGiven → ℕ → ℕ → List Place
+    group_places key code zero = []
+    group_places key code (suc group) = group_places key code group ++ level_places key code group (group_levels declared key group)
+
+    abbrev pub key_places : ℕ → Option (List ℕ) → KeyGiven → List Place
+    key_places code None key = []
+    key_places code (Some name) key = group_places key code (group_count key)
+
+  module _ (m : Mapping) where
+    -- on the keys of the codes below a number
+    unfoldable pub places_below : ℕ → List Place
+    places_below zero = []
+    places_below (suc code) = places_below code ++ key_places m.declared code (m.name code) (m.key code)
+
+    -- codes are at most 4,095
+    unfoldable pub first_place : Option Place
+    first_place = first_of (places_below 4096)
+
+-- ---- What a key is mapped to
+
+abbrev pub is_at : ℕ → Option Place → Bool
+is_at code None = false
+is_at code (Some place) = place.code == code
+
+-- what modifier maps give a key by its name, and what they give the keysyms of which it has the first place
+abbrev pub mapped : Mapping → ℕ → RealSet
+mapped m code real = m.key_maps code real || list_any (λ e. is_at code (first_place e.0 m) && has e.1 real) m.keysym_maps
+
+abbrev pub modmap_of : Mapping → ℕ → Mods
+modmap_of m code = mods_of (mapped m code)

@@ -1,0 +1,36 @@
+-- What was built is whole and fine, and its keymap is the one that is meant.
+use Rattle.std.proofs.Common.{ℕ, ◌≡◌, ◌≤◌, All, List, Option, length, sym, subst}
+use Rattle.kx_builder.specs.Agreement.{ShowsSame}
+use Rattle.kx_builder.specs.Fine.{IsFine}
+use Rattle.kx_builder.specs.Lamps.{ResolvedIndicator, keymap_with}
+use Rattle.kx_builder.specs.Resolved.{Resolved, keymap_of_resolved}
+use Rattle.kx_builder.specs.Whole.{IsWhole}
+use Rattle.kx_levels.specs.Selecting.{RealSet}
+use Rattle.kx_resolve.proofs.Agree.{keymaps_agree}
+use Rattle.kx_resolve.proofs.Fine.{resolved_fine, resolved_whole}
+use Rattle.kx_resolve.proofs.Lamps.{same_with}
+use Rattle.kx_resolve.proofs.Whole.{each_holds, same_trans}
+use Rattle.kx_resolve.specs.Bounds.{BoundsBelow, OneCode, TypeHolds}
+use Rattle.kx_resolve.specs.Keys.{Keyed, resolved_of, types_used}
+use Rattle.kx_resolve.specs.Shown.{keymap_meant}
+use Rattle.kx_tables.specs.Keymap.{Keymap}
+use Rattle.kx_types.specs.KeyTypes.{Definition}
+
+module _ (real : ℕ → RealSet) (declared : List ℕ → Option Definition) (keyed : Keyed) (used : List (List ℕ)) (same : used ≡ types_used declared keyed.name keyed.key) (few : length used ≤ 4097) (hold : All (TypeHolds real declared) used) (bounds : BoundsBelow declared keyed 4096) (built : Resolved) (is : built ≡ resolved_of real declared keyed) where
+  all_few : length (types_used declared keyed.name keyed.key) ≤ 4097
+  all_few = subst (λ (u : List (List ℕ)). length u ≤ 4097) same few
+
+  all_hold : All (TypeHolds real declared) (types_used declared keyed.name keyed.key)
+  all_hold = subst (All (TypeHolds real declared)) same hold
+
+  pub built_whole : IsWhole built
+  built_whole = subst IsWhole (sym is) (resolved_whole real declared keyed all_few all_hold bounds)
+
+  pub built_fine : OneCode keyed.name → IsFine built
+  built_fine one = subst IsFine (sym is) (resolved_fine real declared keyed all_few all_hold bounds one)
+
+  pub built_agrees : (made : Keymap) (ds : List ResolvedIndicator) → ShowsSame made (keymap_with (keymap_of_resolved built) ds) → ShowsSame made (keymap_with (keymap_meant real declared keyed) ds)
+  built_agrees made ds shows =
+      same_trans made (keymap_with (keymap_of_resolved (resolved_of real declared keyed)) ds) (keymap_with (keymap_meant real declared keyed) ds)
+      (subst (λ r. ShowsSame made (keymap_with (keymap_of_resolved r) ds)) is shows)
+      (same_with (keymap_of_resolved (resolved_of real declared keyed)) (keymap_meant real declared keyed) ds (keymaps_agree real declared keyed (each_holds real declared used keyed same hold)))

@@ -1,0 +1,28 @@
+-- What lights the indicators of a keymap, over sets of real modifiers.
+use Rattle.std.specs.Prelude.{ℕ, List, map}
+use Rattle.std.specs.List.{zip}
+use Rattle.kx_builder.specs.Lamps.{ResolvedIndicator}
+use Rattle.kx_lamps.specs.Lamps.{Lamp}
+use Rattle.kx_lamps.specs.Meaning.{Indicators}
+use Rattle.kx_levels.specs.Rows.{mods_of}
+use Rattle.kx_levels.specs.Selecting.{RealSet}
+use Rattle.kx_tables.specs.declared.rows.States.{States}
+
+-- the states whose bits are those of a number
+abbrev pub states_of : ℕ → States
+states_of bits = record { 0 = bits }
+
+-- `real` is what a set of modifiers stands for
+module _ (real : ℕ → RealSet) where
+  abbrev pub indicator_lit : List ℕ → Lamp → ResolvedIndicator
+  indicator_lit name lamp = record {
+    name = name;
+    mods = mods_of (real lamp.modifiers);
+    mod_states = states_of lamp.mod_states;
+    group_states = states_of lamp.group_states;
+    groups = lamp.groups;
+  }
+
+  -- by number
+  abbrev pub indicators_of : Indicators → List ResolvedIndicator
+  indicators_of is = map (λ (i : List ℕ × Lamp). indicator_lit i.0 i.1) (zip is.names is.lamps)

@@ -1,0 +1,153 @@
+//! Indicators and the names of groups, as tables take them.
+ghost use Rattle.std.specs.Prelude.{◌≡◌, ◌≤◌, ◌<◌, ◌∷◌, ◌++◌, ◌^◌, [], ℕ, All, IfErr, IfOk, List, OnOk, Some, length, map, slice_get};
+ghost use Rattle.kx_basics.specs.declared.limits.TheConstants.{MOST_NAME_BYTES};
+ghost use Rattle.kx_builder.specs.Agreement.{ShowsSame};
+ghost use Rattle.kx_builder.specs.Fine.{IsFine};
+ghost use Rattle.kx_builder.specs.Lamps.{GroupNameIsFine, IndicatorIsFine, LampsAreFine, indicator_of, keymap_with, with_lamps};
+ghost use Rattle.kx_builder.specs.Placed.{content_of_resolved};
+ghost use Rattle.kx_builder.specs.Resolved.{keymap_of_resolved};
+ghost use Rattle.kx_builder.specs.Small.{IsSmall};
+ghost use Rattle.kx_builder.specs.Whole.{IsWhole};
+ghost use Rattle.kx_groups.specs.Names.{AreCut};
+ghost use Rattle.kx_lamps.specs.Bounds.{AreFine};
+ghost use Rattle.kx_lamps.specs.Lamps.{Lamp as LampValue};
+ghost use Rattle.kx_levels.specs.Rows.{mods_of};
+ghost use Rattle.kx_lex.specs.declared.fault.Fault.TheVariants.{Memory};
+ghost use Rattle.kx_masks.specs.Sets.{real_of};
+ghost use Rattle.kx_masks.specs.Standing.{stands_for};
+ghost use Rattle.kx_mods.specs.Mods.{mask};
+ghost use Rattle.kx_resolve.specs.Lit.{indicator_lit, indicators_of};
+ghost use Rattle.kx_tables.specs.Keymap.{keymap_of};
+ghost use Rattle.kx_tables.specs.Parts.{content_of};
+ghost use Rattle.kx_tables.specs.Sound.{Sound};
+
+use crate::keys::refused;
+use kx_builder::{Builder, Indicator};
+use kx_groups::GroupNames;
+use kx_lamps::{Indicators, Lamp};
+use kx_lex::Fault;
+use kx_masks::{NameSet, real_of as stood_for};
+use kx_mods::Mods;
+use kx_tables::Parts;
+use std::alloc::Global;
+
+/// The real modifiers that a set stands for.
+fn real_mods(set: NameSet, stands: &[Mods]) -> Mods
+    ensures value { result ≡ mods_of (real_of (stands_for stands.now) set) }
+    ensures fits { mask result < 2 ^ 8 }
+{
+    stood_for(set, stands)
+}
+
+/// An indicator of a name.
+fn indicator<'n>(name: &'n [u8], lamp: &Lamp, stands: &[Mods]) -> Indicator<'n>
+    requires { length name.now ≤ MOST_NAME_BYTES }
+    ensures lit { indicator_of result ≡ indicator_lit (real_of (stands_for stands.now)) name.now lamp.now }
+    ensures fine { IndicatorIsFine (indicator_of result) }
+{
+    Indicator {
+        name,
+        mods: real_mods(lamp.modifiers(), stands),
+        mod_states: lamp.mod_states(),
+        group_states: lamp.group_states(),
+        groups: lamp.groups(),
+    }
+}
+
+/// Takes up the indicator of a number behind others.
+fn push_indicator<'a>(
+    lit: &mut Vec<Indicator<'a>>,
+    indicators: &'a Indicators,
+    stands: &[Mods],
+    number: usize,
+) -> Result<(), Fault>
+    requires { All (λ name. length name ≤ MOST_NAME_BYTES) indicators.now.names }
+    ensures lit { OnOk result ((name : List ℕ) (lamp : LampValue) → slice_get indicators.now.names number ≡ Some name → slice_get indicators.now.lamps number ≡ Some lamp → map indicator_of lit.new.items ≡ map indicator_of lit.old.items ++ indicator_lit (real_of (stands_for stands.now)) name lamp ∷ []) }
+    ensures fine { OnOk result (All IndicatorIsFine (map indicator_of lit.old.items) → All IndicatorIsFine (map indicator_of lit.new.items)) }
+    ensures err { IfErr result (λ e. e ≡ Memory) }
+{
+    match (indicators.name(number), indicators.lamp(number)) {
+        (Some(name), Some(lamp)) => {
+            lit.push(indicator(name, lamp, stands))?;
+            Ok(())
+        }
+        (Some(_), None) => Ok(()),
+        (None, _) => Ok(()),
+    }
+}
+
+/// The indicators of a keymap, in the order of their numbers.
+fn indicators_lit<'a>(
+    alloc: Global,
+    indicators: &'a Indicators,
+    stands: &[Mods],
+) -> Result<Vec<Indicator<'a>>, Fault>
+    ensures lit { IfOk result (λ lit. map indicator_of lit.items ≡ indicators_of (real_of (stands_for stands.now)) indicators.now) }
+    ensures fine { IfOk result (λ lit. All IndicatorIsFine (map indicator_of lit.items)) }
+    ensures numbered { AreFine indicators.now }
+    ensures err { IfErr result (λ e. e ≡ Memory) }
+{
+    let mut lit = Vec::new(alloc);
+    'indicators: for number in 0..indicators.len() {
+        push_indicator(&mut lit, indicators, stands, number)?;
+    }
+    Ok(lit)
+}
+
+/// Takes up the name of a group behind others.
+fn push_name<'a>(names: &mut Vec<&'a [u8]>, name: &'a [u8]) -> Result<(), Fault>
+    requires { length name.now ≤ MOST_NAME_BYTES }
+    ensures pushed { OnOk result (map (λ g. g.now) names.new.items ≡ map (λ g. g.now) names.old.items ++ name.now ∷ []) }
+    ensures fine { GroupNameIsFine name.now }
+    ensures err { IfErr result (λ e. e ≡ Memory) }
+{
+    names.push(name)?;
+    Ok(())
+}
+
+/// The names of groups, in their order.
+fn names_in_order<'a>(alloc: Global, group_names: &'a GroupNames) -> Result<Vec<&'a [u8]>, Fault>
+    ensures names { IfOk result (λ names. map (λ g. g.now) names.items ≡ group_names.now) }
+    ensures fine { IfOk result (λ names. All GroupNameIsFine (map (λ g. g.now) names.items)) }
+    ensures cut { AreCut group_names.now }
+    ensures err { IfErr result (λ e. e ≡ Memory) }
+{
+    let mut names = Vec::new(alloc);
+    'groups: for group in 0..group_names.len() {
+        push_name(&mut names, group_names.name(group))?;
+    }
+    Ok(names)
+}
+
+/// The tables of what is built, with these indicators and names of groups.
+#[tactic(auto, using(crate::proofs::Lamps::lamps_refused))]
+fn with_these(builder: Builder, lit: &[Indicator<'_>], names: &[&[u8]]) -> Result<Parts, Fault>
+    requires small { IsSmall builder }
+    requires fine { LampsAreFine (map indicator_of lit.now) (map (λ g. g.now) names.now) }
+    ensures content { IfOk result (λ parts. content_of parts ≡ with_lamps (content_of_resolved builder) (map indicator_of lit.now) (map (λ g. g.now) names.now)) }
+    ensures agrees { IsWhole builder → IfOk result (λ parts. ShowsSame (keymap_of (content_of parts)) (keymap_with (keymap_of_resolved builder) (map indicator_of lit.now))) }
+    ensures sound { IsFine builder → IfOk result (λ parts. Sound (content_of parts)) }
+    ensures err { IfErr result (λ e. e ≡ Memory) }
+{
+    builder.with_lamps(lit, names).map_err(refused)
+}
+
+/// The tables of what is built, with a keymap's indicators and the names of its groups.
+pub(crate) fn with_lamps(
+    alloc: Global,
+    builder: Builder,
+    indicators: &Indicators,
+    group_names: &GroupNames,
+    stands: &[Mods],
+) -> Result<Parts, Fault>
+    requires small { IsSmall builder }
+    ensures content { IfOk result (λ parts. content_of parts ≡ with_lamps (content_of_resolved builder) (indicators_of (real_of (stands_for stands.now)) indicators.now) group_names.now) }
+    ensures agrees { IsWhole builder → IfOk result (λ parts. ShowsSame (keymap_of (content_of parts)) (keymap_with (keymap_of_resolved builder) (indicators_of (real_of (stands_for stands.now)) indicators.now))) }
+    ensures sound { IsFine builder → IfOk result (λ parts. Sound (content_of parts)) }
+    ensures err { IfErr result (λ e. e ≡ Memory) }
+{
+    let lit = indicators_lit(alloc, indicators, stands)?;
+    let names = names_in_order(alloc, group_names)?;
+    let parts = with_these(builder, lit.as_slice(), names.as_slice())?;
+    Ok(parts)
+}

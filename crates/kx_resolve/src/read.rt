@@ -1,0 +1,30 @@
+//! What is read of a keymap.
+use kx_choice::Interpretations;
+use kx_codes::Codes;
+use kx_groups::GroupNames;
+use kx_lamps::Indicators;
+use kx_mapped::KeyMods;
+use kx_mods::Mods;
+use kx_symbols::Keys;
+use kx_types::Types;
+
+/// What is read of a keymap's sections.
+#[derive(Clone, Copy)]
+pub struct Read<'a> {
+    /// The keycodes and their names.
+    pub codes: &'a Codes,
+    /// What each virtual modifier stands for, by its number.
+    pub stands: &'a [Mods],
+    /// The key types by name.
+    pub types: &'a Types,
+    /// What statements give keys, by their codes.
+    pub keys: &'a Keys,
+    /// The real modifiers that keys are mapped to.
+    pub modmaps: &'a KeyMods,
+    /// What is said of keys by their keysyms and modifiers.
+    pub interpretations: &'a Interpretations,
+    /// What lights indicators, by their numbers.
+    pub indicators: &'a Indicators,
+    /// The names of groups.
+    pub group_names: &'a GroupNames,
+}

@@ -1,0 +1,60 @@
+-- Tables that are made of a source's bodies are those that the source means.
+use Rattle.std.proofs.Common.{ℕ, ◌≡◌, List, [], Result, Ok, Err, IfOk, OnOk, subst, ◌∙◌}
+use Rattle.ks_core.specs.Entry.{Entry}
+use Rattle.kx_builder.specs.Lamps.{keymap_with, with_lamps}
+use Rattle.kx_builder.specs.Placed.{content_of_resolved}
+use Rattle.kx_codes.specs.Codes.{Codes, CodesShow}
+use Rattle.kx_groups.specs.Names.{AreGroupNames}
+use Rattle.kx_include.specs.Bodies.{AreBodies}
+use Rattle.kx_include.specs.Expansion.{body_of}
+use Rattle.kx_include.specs.IncludeFaults.{IsWhole}
+use Rattle.kx_include.specs.Library.{Library}
+use Rattle.kx_include.specs.Shared.{expanded_body}
+use Rattle.kx_include.specs.Source.{Handed, IsRead}
+use Rattle.kx_include.specs.declared.expansion.Bodies.{Bodies}
+use Rattle.kx_lex.specs.declared.fault.Fault.{Fault}
+use Rattle.kx_masks.specs.Declarations.{AreModNames, ModNames, modifier_bodies}
+use Rattle.kx_masks.specs.Sets.{real_of}
+use Rattle.kx_masks.specs.Standing.{stands_for}
+use Rattle.kx_parse.specs.declared.tree.Kind.TheVariants.{Keycodes, Symbols}
+use Rattle.kx_resolve.specs.Keys.{keyed_of}
+use Rattle.kx_resolve.specs.Lit.{indicators_of}
+use Rattle.kx_resolve.specs.Shown.{keymap_meant}
+use Rattle.kx_source.proofs.Joining.{keymap_same, lit_same, resolved_same}
+use Rattle.kx_source.proofs.Keymaps.{one_keymap}
+use Rattle.kx_source.specs.Made.{IsMade}
+use Rattle.kx_source.specs.Meaning.{keymap_in}
+use Rattle.kx_source.specs.Source.{HoldsAll, Means, statement_faults}
+use Rattle.kx_tables.specs.Content.{Content}
+use Rattle.kx_tables.specs.Keymap.{keymap_of}
+use Rattle.kx_types.specs.Types.{NamedTypes, TypesShow, type_named}
+
+module _ (library : Library) (bodies : Bodies) (are : AreBodies library bodies) (m : ModNames) (shows : AreModNames m (modifier_bodies bodies)) (types : NamedTypes) (types_show : TypesShow types m.names (expanded_body bodies.types)) (c : Codes) (codes_show : CodesShow c (body_of library Keycodes)) (names : List Entry) (content : Content) (made : IsMade names m (expanded_body bodies.compat) (expanded_body bodies.symbols) c types content) where
+  pub made_holds : HoldsAll names library content
+  made_holds =
+      let i = made.interpreted in
+      let lit = i.lit in
+      record {
+        groups = lit.groups;
+        groups_are = subst (AreGroupNames lit.groups) are.symbols lit.groups_are;
+        content_is =
+            lit.holds
+            ∙ (λ j. with_lamps
+            (content_of_resolved (resolved_same library bodies are m shows types types_show c codes_show names made.keys made.keys_show made.modmaps made.mapped i.interpretations i.interpreted i.found i.stand j))
+            (lit_same library bodies are m shows types types_show c codes_show names made.keys made.keys_show made.modmaps made.mapped i.interpretations i.interpreted i.found i.stand lit.lamps lit.lamps_are j)
+            lit.groups);
+      }
+
+  pub made_keymap : keymap_of content ≡ keymap_in names library
+  made_keymap =
+      let i = made.interpreted in
+      let lit = i.lit in
+      one_keymap (keymap_of content) (keymap_with (keymap_meant (real_of (stands_for i.found)) (type_named types) (keyed_of (real_of (stands_for i.found)) c made.keys made.modmaps i.interpretations)) (indicators_of (real_of (stands_for i.found)) lit.lamps)) lit.agrees
+      ∙ keymap_same library bodies are m shows types types_show c codes_show names made.keys made.keys_show made.modmaps made.mapped i.interpretations i.interpreted i.found i.stand lit.lamps lit.lamps_are
+
+-- what holds of tables that are answered is what their source means
+pub means_of : {N : Type 0} (source : List ℕ) (files : Handed) (names : List Entry) (library : Library) → IsRead source files library → (r : Result (Content × N) Fault)
+    → OnOk r (IsWhole library) → OnOk r (statement_faults names library ≡ []) → IfOk r (λ made. HoldsAll names library made.0) → IfOk r (λ made. keymap_of made.0 ≡ keymap_in names library)
+    → IfOk r (λ made. Means source files names made.0)
+means_of source files names library read (Ok made) whole faultless holds keymap = record { library = library; read = read; whole = whole; faultless = faultless; holds = holds; keymap = keymap }
+means_of source files names library read (Err e) whole faultless holds keymap = tt

@@ -1,0 +1,57 @@
+-- That tables are made of what is read of a source's bodies, step by step.
+use Rattle.std.specs.Prelude.{ℕ, ◌≡◌, ◌<◌, List}
+use Rattle.ks_core.specs.Entry.{Entry}
+use Rattle.kx_bearing.specs.Bearing.{stands}
+use Rattle.kx_bearing.specs.Read.{reading_of}
+use Rattle.kx_builder.specs.Agreement.{ShowsSame}
+use Rattle.kx_builder.specs.Lamps.{keymap_with, with_lamps}
+use Rattle.kx_builder.specs.Placed.{content_of_resolved}
+use Rattle.kx_choice.specs.Interpretations.{Interpretation}
+use Rattle.kx_codes.specs.Codes.{Codes, name_of}
+use Rattle.kx_compat.specs.Meaning.{interpretations_of}
+use Rattle.kx_groups.specs.Names.{AreGroupNames}
+use Rattle.kx_include.specs.Expansion.{Body}
+use Rattle.kx_lamps.specs.Meaning.{AreIndicators, Indicators}
+use Rattle.kx_levels.specs.Selecting.{RealSet}
+use Rattle.kx_mapped.specs.Mapping.{modmap_of}
+use Rattle.kx_masks.specs.Declarations.{ModNames}
+use Rattle.kx_masks.specs.Sets.{real_of}
+use Rattle.kx_masks.specs.Standing.{stands_for}
+use Rattle.kx_modmaps.specs.Maps.{map_offers_of}
+use Rattle.kx_mods.specs.declared.mods.Mods.{Mods}
+use Rattle.kx_resolve.specs.Keys.{Keyed, keyed_of, resolved_of}
+use Rattle.kx_resolve.specs.Lit.{indicators_of}
+use Rattle.kx_resolve.specs.Shown.{keymap_meant}
+use Rattle.kx_source.specs.Meaning.{mapping_by}
+use Rattle.kx_symbols.specs.Keys.{KeyContent, KeysShow, key_at}
+use Rattle.kx_tables.specs.Content.{Content}
+use Rattle.kx_tables.specs.Keymap.{keymap_of}
+use Rattle.kx_types.specs.Types.{NamedTypes, type_named}
+use Rattle.kx_typing.specs.Given.{given_in}
+
+-- of types and keys, with the indicators and the names of groups that bodies have; `real` is what a set of modifiers stands for,
+-- `modifiers` are the virtual ones
+pub record IsLit (modifiers : List (List ℕ)) (compat symbols : Body) (real : ℕ → RealSet) (types : NamedTypes) (keyed : Keyed) (content : Content) : Type 0 where
+  pub groups : List (List ℕ)
+  pub groups_are : AreGroupNames groups symbols
+  pub lamps : Indicators
+  pub lamps_are : AreIndicators lamps modifiers compat
+  pub holds : content ≡ with_lamps (content_of_resolved (resolved_of real (type_named types) keyed)) (indicators_of real lamps) groups
+  pub agrees : ShowsSame (keymap_of content) (keymap_with (keymap_meant real (type_named types) keyed) (indicators_of real lamps))
+
+-- of types and keys, which are mapped to these modifiers, with the interpretations that a compat body has
+pub record IsInterpreted (names : List Entry) (m : ModNames) (compat symbols : Body) (c : Codes) (types : NamedTypes) (keys : List (ℕ × KeyContent)) (modmaps : ℕ → Mods) (content : Content) : Type 0 where
+  pub interpretations : List Interpretation
+  pub interpreted : interpretations ≡ interpretations_of names m.names compat
+  -- what virtual modifiers stand for
+  pub found : List Mods
+  pub stand : (number real : ℕ) → number < 24 → stands_for found number real ≡ stands (reading_of c types keys modmaps interpretations m.masks) number real
+  pub lit : IsLit m.names compat symbols (real_of (stands_for found)) types (keyed_of (real_of (stands_for found)) c keys modmaps interpretations) content
+
+-- of types, with the keys and the modifier maps that a symbols body has
+pub record IsMade (names : List Entry) (m : ModNames) (compat symbols : Body) (c : Codes) (types : NamedTypes) (content : Content) : Type 0 where
+  pub keys : List (ℕ × KeyContent)
+  pub keys_show : KeysShow keys c names m.names symbols
+  pub modmaps : ℕ → Mods
+  pub mapped : (code : ℕ) → modmaps code ≡ modmap_of (mapping_by (name_of c) (λ k. given_in (key_at keys k)) (type_named types) (map_offers_of c names m.names symbols)) code
+  pub interpreted : IsInterpreted names m compat symbols c types keys modmaps content

@@ -1,0 +1,57 @@
+//! The keys of a source, with what they are mapped to.
+ghost use Rattle.std.specs.Prelude.{◌≡◌, ◌∷◌, ◌++◌, [], ℕ, Contains, IfErr, IfOk, OnOk};
+ghost use Rattle.kx_codes.specs.Codes.{name_of};
+ghost use Rattle.kx_include.specs.Shared.{expanded_body};
+ghost use Rattle.kx_lex.specs.declared.fault.Fault.TheVariants.{Memory};
+ghost use Rattle.kx_mapped.specs.Mapping.{modmap_of};
+ghost use Rattle.kx_mapped.specs.Modmaps.{modmap_at};
+ghost use Rattle.kx_modmaps.specs.Maps.{map_offers_of};
+ghost use Rattle.kx_source.specs.Meaning.{mapping_by};
+ghost use Rattle.kx_source.specs.Source.{keys_faults, maps_faults};
+ghost use Rattle.kx_symbols.specs.Keys.{KeysShow, key_at};
+ghost use Rattle.kx_types.specs.Types.{type_named};
+ghost use Rattle.kx_typing.specs.Given.{given_in};
+
+use ks_core::{NameTable, Notes};
+use kx_codes::Codes;
+use kx_include::Expansion;
+use kx_lex::Fault;
+use kx_mapped::KeyMods;
+use kx_masks::ModNames;
+use kx_modmaps::modifier_maps;
+use kx_symbols::{Keys, symbols};
+use kx_types::Types;
+use std::alloc::Global;
+
+/// Keys, what they are mapped to, and what was passed over.
+#[derive(Drop)]
+pub(crate) struct MappedKeys {
+    pub keys: Keys,
+    pub modmaps: KeyMods,
+    pub notes: Notes,
+}
+
+/// The keys of symbols, and what they are mapped to.
+pub(crate) fn read_keys(
+    alloc: Global,
+    expansion: &Expansion,
+    codes: &Codes,
+    names: &NameTable,
+    modifiers: &ModNames,
+    types: &Types,
+) -> Result<MappedKeys, Fault>
+    ensures keys { IfOk result (λ found. KeysShow found.keys codes.now names.now modifiers.now.names (expanded_body expansion.now)) }
+    ensures mapped { IfOk result (λ found. (code : ℕ) → modmap_at found.modmaps code ≡ modmap_of (mapping_by (name_of codes.now) (λ c. given_in (key_at found.keys c)) (type_named types.now) (map_offers_of codes.now names.now modifiers.now.names (expanded_body expansion.now))) code) }
+    ensures faultless_keys { OnOk result (keys_faults codes.now names.now modifiers.now.names (expanded_body expansion.now) ≡ []) }
+    ensures faultless_maps { OnOk result (maps_faults codes.now names.now modifiers.now.names (expanded_body expansion.now) ≡ []) }
+    ensures fault { IfErr result (λ e. Contains (Memory ∷ (keys_faults codes.now names.now modifiers.now.names (expanded_body expansion.now) ++ maps_faults codes.now names.now modifiers.now.names (expanded_body expansion.now))) e) }
+{
+    let (keys, unknown) = symbols(alloc, expansion, codes, names, modifiers)?;
+    let (maps, unmapped) = modifier_maps(alloc, expansion, codes, names, modifiers)?;
+    let modmaps = KeyMods::of(alloc, codes, types, &keys, maps)?;
+    Ok(MappedKeys {
+        keys,
+        modmaps,
+        notes: unknown.saturating_add(unmapped),
+    })
+}

@@ -1,0 +1,132 @@
+//! The tables of what is read of a source's bodies.
+ghost use Rattle.std.specs.Prelude.{◌≡◌, ◌∷◌, ◌++◌, [], Contains, IfErr, IfOk, OnOk};
+ghost use Rattle.kx_codes.specs.Codes.{name_of};
+ghost use Rattle.kx_compat.specs.Meaning.{compat_faults};
+ghost use Rattle.kx_include.specs.Shared.{expanded_body};
+ghost use Rattle.kx_lamps.specs.Meaning.{lamps_faults};
+ghost use Rattle.kx_lex.specs.declared.fault.Fault.TheVariants.{Memory};
+ghost use Rattle.kx_mapped.specs.Modmaps.{modmap_at};
+ghost use Rattle.kx_masks.specs.Sets.{real_of};
+ghost use Rattle.kx_masks.specs.Standing.{stands_for};
+ghost use Rattle.kx_resolve.specs.Bounds.{OneCode};
+ghost use Rattle.kx_resolve.specs.Keys.{keyed_of};
+ghost use Rattle.kx_source.specs.Made.{IsInterpreted, IsLit, IsMade};
+ghost use Rattle.kx_source.specs.Source.{keys_faults, maps_faults, names_faults};
+ghost use Rattle.kx_tables.specs.Parts.{content_of};
+ghost use Rattle.kx_tables.specs.Sound.{Sound};
+
+use crate::keys::{MappedKeys, read_keys};
+use ks_core::{NameTable, Notes};
+use kx_bearing::standings;
+use kx_choice::Interpretations;
+use kx_codes::Codes;
+use kx_compat::interpretations;
+use kx_groups::group_names;
+use kx_include::Bodies;
+use kx_lamps::indicators;
+use kx_lex::Fault;
+use kx_masks::ModNames;
+use kx_mods::Mods;
+use kx_resolve::{Read, resolve};
+use kx_tables::Parts;
+use kx_types::Types;
+use std::alloc::Global;
+
+/// The tables of keys and types, with the indicators and the names of groups, and what was passed over. `stands` is what
+/// each virtual modifier stands for, by its number.
+fn lit_parts(
+    alloc: Global,
+    bodies: &Bodies,
+    modifiers: &ModNames,
+    codes: &Codes,
+    types: &Types,
+    mapped: &MappedKeys,
+    interpretations: &Interpretations,
+    stands: &[Mods],
+) -> Result<(Parts, Notes), Fault>
+    ensures lit { IfOk result (λ made. IsLit modifiers.now.names (expanded_body bodies.now.compat) (expanded_body bodies.now.symbols) (real_of (stands_for stands.now)) types.now (keyed_of (real_of (stands_for stands.now)) codes.now mapped.now.keys (modmap_at mapped.now.modmaps) interpretations.now) (content_of made.0)) }
+    ensures sound { OneCode (name_of codes.now) → IfOk result (λ made. Sound (content_of made.0)) }
+    ensures faultless_names { OnOk result (names_faults (expanded_body bodies.now.symbols) ≡ []) }
+    ensures faultless_lamps { OnOk result (lamps_faults modifiers.now.names (expanded_body bodies.now.compat) ≡ []) }
+    ensures fault { IfErr result (λ e. Contains (Memory ∷ (names_faults (expanded_body bodies.now.symbols) ++ lamps_faults modifiers.now.names (expanded_body bodies.now.compat))) e) }
+{
+    let groups = group_names(alloc, &bodies.symbols)?;
+    let indicators = indicators(alloc, &bodies.compat, modifiers)?;
+    let read = Read {
+        codes,
+        stands,
+        types,
+        keys: &mapped.keys,
+        modmaps: &mapped.modmaps,
+        interpretations,
+        indicators: &indicators,
+        group_names: &groups,
+    };
+    let made = resolve(alloc, read)?;
+    Ok(made)
+}
+
+/// The tables of keys and types, with what the keymap says besides, and what was passed over in it.
+fn interpreted_parts(
+    alloc: Global,
+    bodies: &Bodies,
+    names: &NameTable,
+    modifiers: &ModNames,
+    codes: &Codes,
+    types: &Types,
+    mapped: &MappedKeys,
+) -> Result<(Parts, Notes), Fault>
+    ensures interpreted { IfOk result (λ made. IsInterpreted names.now modifiers.now (expanded_body bodies.now.compat) (expanded_body bodies.now.symbols) codes.now types.now mapped.now.keys (modmap_at mapped.now.modmaps) (content_of made.0)) }
+    ensures sound { OneCode (name_of codes.now) → IfOk result (λ made. Sound (content_of made.0)) }
+    ensures faultless_compat { OnOk result (compat_faults names.now modifiers.now.names (expanded_body bodies.now.compat) ≡ []) }
+    ensures faultless_names { OnOk result (names_faults (expanded_body bodies.now.symbols) ≡ []) }
+    ensures faultless_lamps { OnOk result (lamps_faults modifiers.now.names (expanded_body bodies.now.compat) ≡ []) }
+    ensures fault { IfErr result (λ e. Contains (Memory ∷ (compat_faults names.now modifiers.now.names (expanded_body bodies.now.compat) ++ (names_faults (expanded_body bodies.now.symbols) ++ lamps_faults modifiers.now.names (expanded_body bodies.now.compat)))) e) }
+{
+    let (interpretations, passed) = interpretations(alloc, &bodies.compat, modifiers, names)?;
+    let declared = modifiers.declared_masks();
+    let (keys, modmaps) = (&mapped.keys, &mapped.modmaps);
+    let stands = standings(
+        alloc,
+        codes,
+        types,
+        keys,
+        modmaps,
+        &interpretations,
+        declared,
+    )?;
+    let (parts, lost) = lit_parts(
+        alloc,
+        bodies,
+        modifiers,
+        codes,
+        types,
+        mapped,
+        &interpretations,
+        stands.as_slice(),
+    )?;
+    Ok((parts, passed.saturating_add(lost)))
+}
+
+/// The tables of bodies whose codes and types are read, and what was passed over.
+pub(crate) fn parts_of(
+    alloc: Global,
+    bodies: &Bodies,
+    names: &NameTable,
+    modifiers: &ModNames,
+    codes: &Codes,
+    types: &Types,
+) -> Result<(Parts, Notes), Fault>
+    ensures made { IfOk result (λ made. IsMade names.now modifiers.now (expanded_body bodies.now.compat) (expanded_body bodies.now.symbols) codes.now types.now (content_of made.0)) }
+    ensures sound { OneCode (name_of codes.now) → IfOk result (λ made. Sound (content_of made.0)) }
+    ensures faultless_keys { OnOk result (keys_faults codes.now names.now modifiers.now.names (expanded_body bodies.now.symbols) ≡ []) }
+    ensures faultless_maps { OnOk result (maps_faults codes.now names.now modifiers.now.names (expanded_body bodies.now.symbols) ≡ []) }
+    ensures faultless_compat { OnOk result (compat_faults names.now modifiers.now.names (expanded_body bodies.now.compat) ≡ []) }
+    ensures faultless_names { OnOk result (names_faults (expanded_body bodies.now.symbols) ≡ []) }
+    ensures faultless_lamps { OnOk result (lamps_faults modifiers.now.names (expanded_body bodies.now.compat) ≡ []) }
+    ensures fault { IfErr result (λ e. Contains (Memory ∷ ((keys_faults codes.now names.now modifiers.now.names (expanded_body bodies.now.symbols) ++ maps_faults codes.now names.now modifiers.now.names (expanded_body bodies.now.symbols)) ++ (compat_faults names.now modifiers.now.names (expanded_body bodies.now.compat) ++ (names_faults (expanded_body bodies.now.symbols) ++ lamps_faults modifiers.now.names (expanded_body bodies.now.compat))))) e) }
+{
+    let mapped = read_keys(alloc, &bodies.symbols, codes, names, modifiers, types)?;
+    let (parts, lost) = interpreted_parts(alloc, bodies, names, modifiers, codes, types, &mapped)?;
+    Ok((parts, mapped.notes.saturating_add(lost)))
+}

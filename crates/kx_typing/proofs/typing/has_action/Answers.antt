@@ -1,0 +1,13 @@
+use Rattle.std.proofs.Common.{◌≡◌, ℕ, Bool, is_some, ap, ◌∙◌, arith}
+use Rattle.kx_masks.specs.Sets.{any_below}
+use Rattle.kx_typing.specs.Given.{given}
+use Rattle.kx_typing.specs.GroupTypes.{group_count}
+use Rattle.kx_typing.proofs.Acting.{acts_is}
+use Rattle.kx_typing.proofs.typing.has_action.Goals as goal
+
+pub returns : goal.returns
+returns c =
+    let key = given c.args.key.now in
+    let test : ℕ → Bool = λ group. any_below (key.width group) (λ level. is_some (key.action group level)) in
+    let all : c.groups.group ≡ group_count key = omega (arith, c.groups-test.false, c.groups.auto.group-end, c.group_count-group-end.ensures.value) in
+    c.groups.invariant ∙ ap (λ n. any_below n test) all ∙ acts_is key
