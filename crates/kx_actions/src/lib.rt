@@ -9,8 +9,6 @@ mod groups;
 mod kinds;
 mod meaning;
 mod settings;
-#[cfg(test)]
-mod tests;
 mod values;
 
 pub use action::{ActionGroup, ActionMods, Affect, KeyAction};

@@ -4,8 +4,6 @@
 mod fields;
 mod names;
 mod record;
-#[cfg(test)]
-mod tests;
 mod text;
 
 pub use names::{GroupNames, group_names};

@@ -230,7 +230,7 @@ ungarbled bytes_of of size xs start s rest read again i bad =
     ]
 
 no_garbled : (c : Content) (e : Edition) (s : List ℕ) → Sound c → Told c e s → (part : Part) (i : ℕ) → RecordGarbled s part i → ⊥
-no_garbled c e s sound told parts.Header i bad = bad (ap (λ (h : Header). h.groups) told.header ∙ sym (ap (λ (d : Content). greatest_groups d.keys) told.content))
+no_garbled c e s sound told parts.Header i bad = bad.1 (ap (λ (h : Header). h.groups) told.header ∙ sym (ap (λ (d : Content). greatest_groups d.keys) told.content))
 no_garbled c e s sound told parts.KeyType i bad = ungarbled type_bytes type_of 16 c.types (header_size e) s _ told.whole.types (type_rereads c sound) i (subst (λ (h : Header). Garbled type_bytes type_of 16 h.types (header_size h.edition) s i) told.header bad)
 no_garbled c e s sound told parts.Entry i bad = ungarbled entry_bytes entry_of 4 c.entries (entries_start (header_for e c)) s _ told.whole.entries (λ j x at. (refl, entry_again x)) i (subst (λ (h : Header). Garbled entry_bytes entry_of 4 h.entries (entries_start h) s i) told.header bad)
 no_garbled c e s sound told parts.Key i bad = ungarbled key_bytes key_of 16 c.keys (keys_start (header_for e c)) s _ told.whole.keys (key_rereads c sound) i (subst (λ (h : Header). Garbled key_bytes key_of 16 h.keys (keys_start h) s i) told.header bad)

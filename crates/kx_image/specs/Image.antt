@@ -76,7 +76,7 @@ pub record Garbled {X : Type 0} (bytes_of : X → List ℕ) (of : List ℕ → X
   pub garbled : Tells bytes_of of (record_at s start size i) → ⊥
 
 abbrev pub RecordGarbled : List ℕ → Part → ℕ → Type 0
-RecordGarbled s parts.Header i = (header_of s).groups ≡ greatest_groups (content_in s).keys → ⊥
+RecordGarbled s parts.Header i = (i ≡ 0) × ((header_of s).groups ≡ greatest_groups (content_in s).keys → ⊥)
 RecordGarbled s parts.KeyType i = Garbled type_bytes type_of 16 (header_of s).types (header_size (header_of s).edition) s i
 RecordGarbled s parts.Entry i = Garbled entry_bytes entry_of 4 (header_of s).entries (entries_start (header_of s)) s i
 RecordGarbled s parts.Key i = Garbled key_bytes key_of 16 (header_of s).keys (keys_start (header_of s)) s i

@@ -2,7 +2,5 @@
 #![tactic(auto)]
 
 mod rows;
-#[cfg(test)]
-mod tests;
 
 pub use rows::TypeRows;

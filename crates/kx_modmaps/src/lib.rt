@@ -5,7 +5,5 @@ mod entries;
 mod maps;
 mod record;
 mod target;
-#[cfg(test)]
-mod tests;
 
 pub use maps::{KeysymEntry, ModifierMaps, modifier_maps};

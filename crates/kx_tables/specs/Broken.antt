@@ -23,8 +23,9 @@ pub record EntryBreaks (c : Content) (i : ℕ) : Type 0 where
   pub entry_is : slice_get c.entries i ≡ Some entry
   pub breaks : EntryHolds c key_type i entry → ⊥
 
+-- a row that breaks a rule; the header is the one row of its kind
 abbrev pub Breaks : Content → Part → ℕ → Type 0
-Breaks c Header i = CountsHold c → ⊥
+Breaks c Header i = (i ≡ 0) × (CountsHold c → ⊥)
 Breaks c KeyType i = RowBreaks c.types (TypeHolds c) i
 Breaks c Entry i = EntryBreaks c i
 Breaks c Key i = RowBreaks c.keys (KeyHolds c) i

@@ -10,7 +10,7 @@ row_breaks : {X : Type 0} (xs : List X) (P : ℕ → X → Type 0) (i : ℕ) →
 row_breaks xs P i broken each = broken.2 (each i broken.0 broken.1)
 
 pub breaks_unsound : (c : Content) (part : Part) (i : ℕ) → Breaks c part i → Sound c → ⊥
-breaks_unsound c Header i broken sound = broken sound.counts
+breaks_unsound c Header i broken sound = broken.1 sound.counts
 breaks_unsound c KeyType i broken sound = row_breaks c.types _ i broken sound.types
 breaks_unsound c Entry i broken sound = broken.breaks (sound.entries broken.owner broken.key_type broken.owner_is i broken.entry broken.from broken.below broken.entry_is)
 breaks_unsound c Key i broken sound = row_breaks c.keys _ i broken sound.keys

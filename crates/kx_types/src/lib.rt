@@ -11,8 +11,6 @@ mod limits;
 mod name;
 mod saying;
 mod table;
-#[cfg(test)]
-mod tests;
 
 pub use declared::types;
 pub use definition::KeyType;

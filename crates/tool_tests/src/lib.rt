@@ -2,11 +2,25 @@
 #![tactic(auto)]
 
 #[cfg(test)]
+mod answers;
+#[cfg(test)]
 mod faults;
+#[cfg(test)]
+mod images;
 #[cfg(test)]
 mod lamps;
 #[cfg(test)]
+mod limits;
+#[cfg(test)]
+mod many;
+#[cfg(test)]
+mod nesting;
+#[cfg(test)]
 mod places;
+#[cfg(test)]
+mod refused;
+#[cfg(test)]
+mod samples;
 #[cfg(test)]
 mod sessions;
 #[cfg(test)]

@@ -11,6 +11,15 @@ pub fn add(alloc: Global, files: &mut Files, name: &[u8], bytes: &[u8]) -> Resul
     files.insert(name, bytes)
 }
 
+/// The files with these names and texts.
+pub fn files_of(alloc: Global, given: &[(&str, &str)]) -> Result<Files, Fault> {
+    let mut files = Files::new(alloc);
+    for (name, text) in given {
+        add(alloc, &mut files, name.as_bytes(), text.as_bytes())?;
+    }
+    Ok(files)
+}
+
 /// The image of a source, items between two texts.
 pub fn image_of(
     alloc: Global,

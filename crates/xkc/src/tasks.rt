@@ -7,6 +7,7 @@ use crate::writing::write_whole;
 use ks_core::{Lent, NameTable, Notes};
 use kx_image::{UpgradeFault, View, upgrade};
 use kx_lex::Fault;
+use kx_print::print;
 use kx_tool::{Files, ReplayFault, SessionFault, compile, dump, replay, session};
 use std::rt::Files as FileSystem;
 use std::{fs, io};
@@ -160,6 +161,22 @@ fn answer_image<'a>(
     }
 }
 
+fn print_image<'a>(
+    rt: &(impl FileSystem + Print + AllocGlobal),
+    image: &'a str,
+) -> Result<(), Failure<'a>> {
+    let bytes = read(rt, image)?;
+    let view = match View::open(bytes.as_slice()) {
+        Ok(view) => view,
+        Err(fault) => return Err(Failure::Image(fault)),
+    };
+    let mut out = Lent::new(io::writer(rt));
+    match print(&view, &mut out) {
+        Ok(()) => Ok(()),
+        Err(_) => Err(Failure::Replay(ReplayFault::Write)),
+    }
+}
+
 fn dump_image<'a>(
     rt: &(impl FileSystem + Print + AllocGlobal),
     image: &'a str,
@@ -207,6 +224,7 @@ pub fn run<'a>(
             files,
         } => compile_to(rt, names, source, image, files.as_slice()),
         Task::Replay { names, image } => answer_image(rt, names, image),
+        Task::Print { image } => print_image(rt, image),
         Task::Dump { image } => dump_image(rt, image),
         Task::Upgrade { image, newer } => upgrade_image(rt, image, newer),
     }

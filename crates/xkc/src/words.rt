@@ -46,6 +46,10 @@ pub enum Task<'a> {
         names: Option<&'a str>,
         image: &'a str,
     },
+    /// Print the keymap text that tells all of an image.
+    Print {
+        image: &'a str,
+    },
     /// Print an image's bytes.
     Dump {
         image: &'a str,
@@ -101,6 +105,12 @@ fn replay_command<'a>(alloc: Global) -> Result<Command<'a>, AllocError> {
         .arg(path(alloc, "IMAGE", "The keymap's image"))
 }
 
+fn print_command<'a>(alloc: Global) -> Result<Command<'a>, AllocError> {
+    Command::new(alloc, "print")
+        .about("Prints an image as a keymap's source, which compiles to the same image")
+        .arg(path(alloc, "IMAGE", "The keymap's image"))
+}
+
 fn dump_command<'a>(alloc: Global) -> Result<Command<'a>, AllocError> {
     Command::new(alloc, "dump")
         .about("Prints an image's bytes in hexadecimal, 32 a line")
@@ -123,6 +133,7 @@ fn command<'a>(alloc: Global) -> Result<Command<'a>, AllocError> {
         .subcommand(try_command(alloc)?)?
         .subcommand(compile_command(alloc)?)?
         .subcommand(replay_command(alloc)?)?
+        .subcommand(print_command(alloc)?)?
         .subcommand(dump_command(alloc)?)?
         .subcommand(upgrade_command(alloc)?)
 }
@@ -213,6 +224,9 @@ fn task_of<'a>(alloc: Global, word: &str, matches: &ArgMatches<'a>) -> Result<Ta
         "compile" => compile_of(alloc, matches),
         "replay" => Ok(Task::Replay {
             names: matches.get_str("names"),
+            image: required(matches, "IMAGE"),
+        }),
+        "print" => Ok(Task::Print {
             image: required(matches, "IMAGE"),
         }),
         "dump" => Ok(Task::Dump {

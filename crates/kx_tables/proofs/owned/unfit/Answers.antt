@@ -1,3 +1,4 @@
+use Rattle.std.specs.Prelude.{refl}
 use Rattle.std.proofs.Common.{arith}
 use Rattle.kx_tables.specs.Parts.{content_of}
 use Rattle.kx_tables.specs.Sound.{IndicatorHolds, GroupNameHolds}
@@ -18,4 +19,4 @@ pub loop-index-preserved : goal.loop-index-preserved
 loop-index-preserved c = each_more c.args.parts.now.keys.items _ c.loop-index.index c.index.result.now (row_read c.args.parts.now.keys.items c.loop-index.index c.index.result.now (omega arith) c.index.ensures) c.loop-index.invariant c.if-index-gt-MOST_GROUPS.false
 
 pub returns : goal.returns
-returns c = counts_unfit (content_of c.args.parts.now) c.requires (omega arith) (omega arith) (λ i k lt at. c.loop-index.invariant i k (omega arith) at)
+returns c = (refl, counts_unfit (content_of c.args.parts.now) c.requires (omega arith) (omega arith) (λ i k lt at. c.loop-index.invariant i k (omega arith) at))

@@ -1,0 +1,151 @@
+//! As many keys and types as there can be.
+use crate::limits::repeated;
+use ks_core::NameTable;
+use kx_tool::{Files, compile};
+use std::alloc::{AllocError, Global};
+use std::test::Fail;
+
+/// How many keys and types there are.
+const COUNT: u32 = 4096;
+
+/// The bytes of the names of all keys, and of all types.
+const NAME_BYTES: u32 = 19_370;
+
+/// A keymap of keys, each of a type of its own.
+fn source(alloc: Global) -> Result<String, AllocError> {
+    let keycodes = repeated(alloc, "xkb_keycodes { ", "<K#>=#; ", COUNT, "}; ")?;
+    let types = repeated(
+        alloc,
+        "xkb_types { ",
+        "type \"T#\" { modifiers=Shift; }; ",
+        COUNT,
+        "}; ",
+    )?;
+    let symbols = repeated(
+        alloc,
+        "xkb_symbols { ",
+        "key <K#> { type=\"T#\", [a] }; ",
+        COUNT,
+        "}; ",
+    )?;
+    [
+        "xkb_keymap { ",
+        keycodes.as_str(),
+        types.as_str(),
+        symbols.as_str(),
+        "};",
+    ]
+    .concat(alloc)
+}
+
+/// Puts numbers, each with its width in bytes, little end first.
+fn put(bytes: &mut Vec<u8>, numbers: &[(u32, usize)]) -> Result<(), AllocError> {
+    for (number, width) in numbers {
+        for byte in number.to_le_bytes().iter().take(*width) {
+            bytes.push(*byte)?;
+        }
+    }
+    Ok(())
+}
+
+/// The length of a name of a letter and this number.
+fn name_length(number: u32) -> u32 {
+    match number {
+        0..=9 => 2,
+        10..=99 => 3,
+        100..=999 => 4,
+        _ => 5,
+    }
+}
+
+fn put_types(bytes: &mut Vec<u8>) -> Result<(), AllocError> {
+    let mut first = 0u32;
+    for number in 0..COUNT {
+        let length = name_length(number);
+        // Shift, one level, no entries.
+        put(
+            bytes,
+            &[
+                (1, 1),
+                (1, 1),
+                (0, 2),
+                (length, 2),
+                (0, 2),
+                (0, 4),
+                (first, 4),
+            ],
+        )?;
+        first = first.saturating_add(length);
+    }
+    Ok(())
+}
+
+fn put_keys(bytes: &mut Vec<u8>) -> Result<(), AllocError> {
+    let mut first = NAME_BYTES;
+    for number in 0..COUNT {
+        let length = name_length(number);
+        // No modifiers, wrapped groups, of which there is one.
+        put(
+            bytes,
+            &[
+                (number, 2),
+                (0, 3),
+                (1, 1),
+                (length, 2),
+                (first, 4),
+                (number, 4),
+            ],
+        )?;
+        first = first.saturating_add(length);
+    }
+    Ok(())
+}
+
+fn put_levels(bytes: &mut Vec<u8>) -> Result<(), AllocError> {
+    for number in 0..COUNT {
+        put(bytes, &[(number, 2), (0, 2), (number, 4)])?;
+    }
+    for number in 0..COUNT {
+        put(bytes, &[(1, 4), (0, 4), (number, 4)])?;
+    }
+    for _ in 0..COUNT {
+        put(bytes, &[(0x61, 4)])?;
+    }
+    Ok(())
+}
+
+fn put_names(alloc: Global, bytes: &mut Vec<u8>) -> Result<(), AllocError> {
+    for piece in ["T#", "K#"] {
+        let names = repeated(alloc, "", piece, COUNT, "")?;
+        bytes.extend_from_slice(names.as_bytes())?;
+    }
+    Ok(())
+}
+
+#[test]
+fn each_key_and_type_has_its_record(rt: HostRuntime) -> Result<(), Fail> {
+    let mut wanted = Vec::from_slice(rt.alloc(), b"KXI\n\x02\0\x01\0")?;
+    let all_names = NAME_BYTES.saturating_add(NAME_BYTES);
+    put(
+        &mut wanted,
+        &[
+            (COUNT, 2),
+            (COUNT, 2),
+            (0, 4),
+            (COUNT, 4),
+            (COUNT, 4),
+            (all_names, 4),
+            (0, 4),
+        ],
+    )?;
+    put_types(&mut wanted)?;
+    put_keys(&mut wanted)?;
+    put_levels(&mut wanted)?;
+    put_names(rt.alloc(), &mut wanted)?;
+    let source = source(rt.alloc())?;
+    let files = Files::new(rt.alloc());
+    let (image, _) = compile(rt.alloc(), source.as_bytes(), &files, &NameTable::builtin())?;
+    assert_eq!(rt; image.len(), 268_148);
+    assert!(rt; image.as_slice() == wanted.as_slice());
+    Ok(())
+}
