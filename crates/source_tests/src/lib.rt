@@ -1,14 +1,8 @@
-//! Tests of what statements mean: records by precedence, keycodes, keys and the tables of whole sources.
+//! Tests of what statements mean: records by precedence, keycodes, virtual modifiers and the tables of whole sources.
 #![tactic(auto)]
 
 #[cfg(test)]
-mod acting;
-#[cfg(test)]
 mod coding;
-#[cfg(test)]
-mod describing;
-#[cfg(test)]
-mod keying;
 #[cfg(test)]
 mod masking;
 #[cfg(test)]

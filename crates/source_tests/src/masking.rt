@@ -3,6 +3,7 @@ use kx_lex::{Fault, Span, lex};
 use kx_masks::{MOST_VIRTUAL_MODIFIERS, ModNames, NameSet, real_mask, real_of};
 use kx_mods::Mods;
 use kx_parse::{Expression, Item, Setting, Statement, Value, parse};
+use std::alloc::Global;
 use std::process::Abort;
 use std::test::Fail;
 
@@ -38,15 +39,22 @@ fn files(rt: &impl AllocGlobal) -> Result<Files, Fault> {
     Ok(files)
 }
 
+fn library_in<'f>(alloc: Global, text: &[u8], files: &'f Files) -> Result<Library<'f>, Fault> {
+    let tokens = lex(alloc, text)?;
+    let tree = parse(alloc, text, tokens.as_slice())?;
+    Library::read(alloc, tree, Span { start: 0, stop: 0 }, files)
+}
+
+fn names_of_library(alloc: Global, library: &Library) -> Result<ModNames, Fault> {
+    let bodies = library.expand(alloc)?;
+    ModNames::of(alloc, &bodies)
+}
+
 /// The virtual modifiers of a keymap.
 fn names_in(rt: &impl AllocGlobal, text: &[u8]) -> Result<ModNames, Fault> {
     let files = files(rt)?;
-    let tokens = lex(rt.alloc(), text)?;
-    let tree = parse(rt.alloc(), text, tokens.as_slice())?;
-    let whole = Span { start: 0, stop: 0 };
-    let library = Library::read(rt.alloc(), tree, whole, &files)?;
-    let bodies = library.expand(rt.alloc())?;
-    ModNames::of(rt.alloc(), &bodies)
+    let library = library_in(rt.alloc(), text, &files)?;
+    names_of_library(rt.alloc(), &library)
 }
 
 /// A virtual modifier with its declared mask, as `A=1`, and a blank behind it.

@@ -1,13 +1,9 @@
-use crate::sources::{enclosed, files_of};
-use ks_core::{NameTable, Notes};
+use crate::keys::keys_over;
+use ks_core::Notes;
 use kx_actions::KeyAction;
-use kx_codes::codes;
-use kx_include::{Bodies, Library};
 use kx_lex::Fault;
-use kx_masks::ModNames;
-use kx_symbols::{KeyRecord, Keys, symbols};
+use kx_symbols::{KeyRecord, Keys};
 use kx_tables::GroupChange;
-use std::alloc::Global;
 use std::process::Abort;
 use std::test::Fail;
 
@@ -16,31 +12,11 @@ const LOCKS: &[u8] =
 
 const SETS: &[u8] = b"xkb_symbols \"x\" { setGroup.clearLocks; key <A> { [SetGroup()] }; };";
 
-fn keys_in(alloc: Global, bodies: &Bodies) -> Result<(Keys, Notes), Fault> {
-    let codes = codes(alloc, &bodies.keycodes)?;
-    let modifiers = ModNames::of(alloc, bodies)?;
-    symbols(
-        alloc,
-        &bodies.symbols,
-        &codes,
-        &NameTable::builtin(),
-        &modifiers,
-    )
-}
-
-fn keys_of_library(alloc: Global, library: &Library) -> Result<(Keys, Notes), Fault> {
-    let bodies = library.expand(alloc)?;
-    keys_in(alloc, &bodies)
-}
-
 /// The keys of these symbols items, which begin at byte 53, where A has the code 38, and what is noted.
 fn keys_of(rt: &impl AllocGlobal, items: &[u8]) -> Result<(Keys, Notes), Fault> {
     let front = b"xkb_keymap { xkb_keycodes { <A>=38; }; xkb_symbols { ";
-    let text = enclosed(rt.alloc(), front, items, b" }; };")?;
     let given = [(b"locks".as_slice(), LOCKS), (b"sets".as_slice(), SETS)];
-    let files = files_of(rt.alloc(), given.as_slice())?;
-    let library = Library::of_source(rt.alloc(), text.as_slice(), &files)?;
-    keys_of_library(rt.alloc(), &library)
+    keys_over(rt, front, items, given.as_slice())
 }
 
 /// A word for an action: of one that locks a group that group, counted from 0 or from the one that is locked; of one that

@@ -1,11 +1,7 @@
-use crate::sources::{enclosed, files_of};
-use ks_core::{NameTable, Notes};
-use kx_codes::codes;
-use kx_include::{Bodies, Library};
+use crate::keys::keys_over;
+use ks_core::Notes;
 use kx_lex::Fault;
-use kx_masks::ModNames;
-use kx_symbols::{Keys, symbols};
-use std::alloc::Global;
+use kx_symbols::Keys;
 use std::process::Abort;
 use std::test::Fail;
 
@@ -13,31 +9,11 @@ const US: &[u8] = b"default xkb_symbols \"basic\" { key <A> { [ a ] }; };";
 
 const RU: &[u8] = b"xkb_symbols \"x\" { key <A> { [ U0444 ], [ 7 ] }; };";
 
-fn keys_in(alloc: Global, bodies: &Bodies) -> Result<(Keys, Notes), Fault> {
-    let codes = codes(alloc, &bodies.keycodes)?;
-    let modifiers = ModNames::of(alloc, bodies)?;
-    symbols(
-        alloc,
-        &bodies.symbols,
-        &codes,
-        &NameTable::builtin(),
-        &modifiers,
-    )
-}
-
-fn keys_of_library(alloc: Global, library: &Library) -> Result<(Keys, Notes), Fault> {
-    let bodies = library.expand(alloc)?;
-    keys_in(alloc, &bodies)
-}
-
 /// The keys of these symbols items, which begin at byte 61, where A has the code 38 and B 39, and what is noted.
 fn keys_of(rt: &impl AllocGlobal, items: &[u8]) -> Result<(Keys, Notes), Fault> {
     let front = b"xkb_keymap { xkb_keycodes { <A>=38; <B>=39; }; xkb_symbols { ";
-    let text = enclosed(rt.alloc(), front, items, b" }; };")?;
     let given = [(b"us".as_slice(), US), (b"ru".as_slice(), RU)];
-    let files = files_of(rt.alloc(), given.as_slice())?;
-    let library = Library::of_source(rt.alloc(), text.as_slice(), &files)?;
-    keys_of_library(rt.alloc(), &library)
+    keys_over(rt, front, items, given.as_slice())
 }
 
 /// The keysyms of A, level by level and group by group: levels are parted by blanks, groups by `/`, and the keysyms of a

@@ -1,43 +1,19 @@
-use crate::sources::{enclosed, files_of};
-use ks_core::NameTable;
-use kx_codes::codes;
-use kx_include::{Bodies, Library};
+use crate::keys::keys_over;
 use kx_lex::Fault;
-use kx_masks::{ModNames, NameSet};
-use kx_symbols::{KeyRecord, Keys, symbols};
-use std::alloc::Global;
+use kx_masks::NameSet;
+use kx_symbols::{KeyRecord, Keys};
 use std::process::Abort;
 use std::test::Fail;
 
 const TYPED: &[u8] =
     b"xkb_symbols \"basic\" { key.type = \"K\"; key <A> { type[1]=\"ONE\", type[2]=\"TWO\", groupsClamp, [a] }; };";
 
-fn keys_in(alloc: Global, bodies: &Bodies) -> Result<Keys, Fault> {
-    let codes = codes(alloc, &bodies.keycodes)?;
-    let modifiers = ModNames::of(alloc, bodies)?;
-    let (keys, _notes) = symbols(
-        alloc,
-        &bodies.symbols,
-        &codes,
-        &NameTable::builtin(),
-        &modifiers,
-    )?;
-    Ok(keys)
-}
-
-fn keys_of_library(alloc: Global, library: &Library) -> Result<Keys, Fault> {
-    let bodies = library.expand(alloc)?;
-    keys_in(alloc, &bodies)
-}
-
 /// The keys of these symbols items, which begin at byte 77, where A has the code 38 and V and W are virtual modifiers.
 fn keys_of(rt: &impl AllocGlobal, items: &[u8]) -> Result<Keys, Fault> {
     let front = b"xkb_keymap { xkb_keycodes { <A>=38; }; xkb_symbols { virtual_modifiers V, W; ";
-    let text = enclosed(rt.alloc(), front, items, b" }; };")?;
     let given = [(b"typed".as_slice(), TYPED)];
-    let files = files_of(rt.alloc(), given.as_slice())?;
-    let library = Library::of_source(rt.alloc(), text.as_slice(), &files)?;
-    keys_of_library(rt.alloc(), &library)
+    let (keys, _notes) = keys_over(rt, front, items, given.as_slice())?;
+    Ok(keys)
 }
 
 /// Adds a name behind a word, where there is one.
