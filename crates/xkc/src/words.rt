@@ -107,7 +107,7 @@ fn replay_command<'a>(alloc: Global) -> Result<Command<'a>, AllocError> {
 
 fn print_command<'a>(alloc: Global) -> Result<Command<'a>, AllocError> {
     Command::new(alloc, "print")
-        .about("Prints an image as a keymap's source, which compiles to the same image")
+        .about("Prints all that an image tells as the source of a keymap")
         .arg(path(alloc, "IMAGE", "The keymap's image"))
 }
 
