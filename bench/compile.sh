@@ -1,7 +1,8 @@
 #!/bin/sh
-# Prints the time in which a keymap of nearly 1 MiB and 4,096 keys, whose keysyms' names are built in, is compiled by
-# `xkc compile`, the lowest of 20 runs of the whole program, and beside it libxkbcommon's where Debian's package
-# libxkbcommon-dev is installed.
+# Compiles keymaps with `xkc compile`, the whole program, and with libxkbcommon where Debian's package libxkbcommon-dev is
+# installed: one of nearly 1 MiB and 4,096 keys, whose keysyms' names are built in; that of a desktop with three layouts,
+# where `xkbcli` (libxkbcommon-tools) is installed; and a small one. Prints of both programs the median time of 21 runs
+# that are taken in turn, the instructions where valgrind is installed, and the most memory where /usr/bin/time is.
 set -eu
 . "$(dirname "$0")/program.sh"
 awk 'BEGIN {
@@ -11,28 +12,81 @@ awk 'BEGIN {
     for (code = 0; code <= 4095; code++)
         printf "key <K%d> { [ adiaeresis, Adiaeresis, threequarters, registered ], [ guillemotleft, guillemotright, dead_acute, questiondown ], [ ISO_Level3_Shift, Scroll_Lock, exclamdown ], [ onehalf, plusminus, paragraph, periodcentered, sterling ] };\n", code
     print "};\n};"
-}' > "$work/source"
+}' > "$work/large"
+cat > "$work/small" <<'END'
+xkb_keymap {
+xkb_keycodes { <AE01>=10; <AC01>=38; <LFSH>=50; <RTSH>=62; <GRP>=64; <CAPS>=66; <LAT>=94; <LVL3>=108; };
+xkb_types { virtual_modifiers LevelThree;
+type "ONE_LEVEL" { modifiers=none; };
+type "TWO_LEVEL" { modifiers=Shift; map[Shift]=Level2; };
+type "ALPHABETIC" { modifiers=Shift+Lock; map[Shift]=Level2; map[Lock]=Level2; };
+type "FOUR_LEVEL" { modifiers=Shift+LevelThree; map[Shift]=Level2; map[LevelThree]=Level3;
+map[Shift+LevelThree]=Level4; }; };
+xkb_compat {
+interpret ISO_Level2_Latch+Exactly(Shift) { useModMapMods=level1;
+action=LatchMods(modifiers=Shift,clearLocks,latchToLock); };
+interpret ISO_Level3_Shift+Any { useModMapMods=level1; virtualModifier=LevelThree;
+action=SetMods(modifiers=LevelThree,clearLocks); };
+interpret ISO_Next_Group { useModMapMods=level1; action=LockGroup(group=+1); };
+interpret Caps_Lock+AnyOfOrNone(all) { action=LockMods(modifiers=Lock); };
+interpret Any+Exactly(Lock) { action=LockMods(modifiers=Lock); };
+interpret Any+AnyOf(all) { action=SetMods(modifiers=modMapMods,clearLocks); }; };
+xkb_symbols {
+key <AE01> {[1,exclam,onesuperior,exclamdown]}; key <AC01> {[a,A]};
+key <LFSH> {[Shift_L]}; key <RTSH> {[Shift_R]}; key <GRP> {[ISO_Next_Group]};
+key <CAPS> {[Caps_Lock]}; key <LAT> {[ISO_Level2_Latch]}; key <LVL3> {[ISO_Level3_Shift]};
+modifier_map Shift { <LFSH>, <RTSH>, <LAT> };
+modifier_map Lock { <CAPS> };
+modifier_map Mod5 { <LVL3> }; };
+};
+END
+inputs=large
+if command -v xkbcli > /dev/null; then
+    xkbcli compile-keymap --layout us,ru,de > "$work/desktop"
+    inputs="$inputs desktop"
+fi
+inputs="$inputs small"
 
-# The lowest time of 20 runs of a command, in microseconds.
-lowest() {
-    least=1000000000
-    for turn in 1 2 3 4 5 6 7 8 9 10 11 12 13 14 15 16 17 18 19 20; do
-        start=$(date +%s%N)
-        "$@" > /dev/null
-        stop=$(date +%s%N)
-        time=$(((stop - start) / 1000))
-        [ "$time" -ge "$least" ] || least=$time
-    done
-    echo "$least"
-}
-
-echo "$(wc -c < "$work/source") bytes, 4,096 keys"
-ours=$(lowest "$program" compile "$work/source" "$work/image")
-echo "xkc compile: $ours microseconds"
+libxkbcommon=
 if pkg-config --exists xkbcommon 2>/dev/null; then
-    cc -O2 -o "$work/libxkbcommon" "$top/bench/compile/libxkbcommon.c" $(pkg-config --cflags --libs xkbcommon)
-    theirs=$(lowest "$work/libxkbcommon" "$work/source")
-    echo "libxkbcommon: $theirs microseconds, $((theirs * 10 / ours)) tenths"
+    libxkbcommon=$work/libxkbcommon
+    cc -O2 -o "$libxkbcommon" "$top/bench/compile/libxkbcommon.c" $(pkg-config --cflags --libs xkbcommon)
 else
     echo 'libxkbcommon-dev is not installed'
 fi
+
+# once FILE COMMAND...: adds the time of one run to the file, in microseconds
+once() {
+    times=$1
+    shift
+    start=$(date +%s%N)
+    "$@" > /dev/null
+    stop=$(date +%s%N)
+    echo $(((stop - start) / 1000)) >> "$times"
+}
+
+# told NAME TIMES COMMAND...: prints the median of the times, and the instructions and the memory of one more run
+told() {
+    name=$1 times=$2
+    shift 2
+    line="$name: $(sort -n "$times" | sed -n 11p) microseconds"
+    if command -v valgrind > /dev/null; then
+        count=$(valgrind --tool=callgrind --callgrind-out-file=/dev/null "$@" 2>&1 > /dev/null | sed -n 's/.*Collected : //p')
+        line="$line, $count instructions"
+    fi
+    if [ -x /usr/bin/time ]; then
+        line="$line, $(/usr/bin/time -f '%M KB' "$@" 2>&1 > /dev/null | tail -1)"
+    fi
+    echo "$line"
+}
+
+for input in $inputs; do
+    echo "$input, $(wc -c < "$work/$input") bytes"
+    rm -f "$work/ours" "$work/theirs"
+    for turn in $(seq 21); do
+        once "$work/ours" "$program" compile "$work/$input" "$work/image"
+        [ -z "$libxkbcommon" ] || once "$work/theirs" "$libxkbcommon" "$work/$input"
+    done
+    told '    xkc compile' "$work/ours" "$program" compile "$work/$input" "$work/image"
+    [ -z "$libxkbcommon" ] || told '    libxkbcommon' "$work/theirs" "$libxkbcommon" "$work/$input"
+done

@@ -1,7 +1,11 @@
 -- What holds of each built-in name, by computing.
-use Rattle.std.proofs.Common.{◌≡◌, ℕ, ◌≤◌, Bool, true, false, not, ◌&&◌, ◌||◌, nat_le, List, length, Option, None, Some, is_some, refl, sym, ap, subst, ◌∙◌}
-use Rattle.std.proofs.lemmas.Bool.{and_parts, leb-true}
+use Rattle.std.proofs.Common.{◌≡◌, ℕ, ◌<◌, ◌≤◌, Bool, true, false, not, ◌&&◌, ◌||◌, nat_le, nat_lt, List, get_or, length, Option, None, Some, is_some, refl, sym, ap, subst, ◌∙◌}
+use Rattle.std.proofs.lemmas.Bool.{and_parts, leb-true, ltb-true}
+use Rattle.std.proofs.lemmas.List.Sums.{AllPass-from_list_all}
+use Rattle.std.proofs.lemmas.Str.Ascii.{IsAscii-from_all}
+use Rattle.std.specs.Char.{is_ascii}
 use Rattle.std.specs.List.{list_all}
+use Rattle.std.specs.Str.{IsAscii}
 use Rattle.ks_core.specs.BuiltIn.{built_in, built_in_runs, numbered, entries_of_run}
 use Rattle.ks_core.specs.Entry.{Entry, keysym_in, name_in}
 use Rattle.ks_core.specs.Name.{is_word, is_hex, is_u_form, is_hex_form, is_decimal}
@@ -57,3 +61,27 @@ all_written_back = refl
 pub built_in-written_back : (name : List ℕ) (keysym : ℕ) → keysym_in built_in name ≡ Some keysym → is_written_back keysym ≡ true
 built_in-written_back name keysym found =
     let e = keysym_in-entry (λ e. is_written_back e.1) built_in name keysym all_written_back found in subst (λ k. is_written_back k ≡ true) e.3 e.1
+
+-- a built-in name is of 1 to 20 bytes, all ASCII
+abbrev is_short_ascii : Entry → Bool
+is_short_ascii e = nat_lt 0 (length e.0) && (nat_le (length e.0) 20 && list_all is_ascii e.0)
+
+all_short_ascii : list_all is_short_ascii built_in ≡ true
+unfolding built_in built_in_runs numbered entries_of_run
+all_short_ascii = refl
+
+pub record ShortAscii (name : List ℕ) : Type 0 where
+  pub some : 0 < length name
+  pub short : length name ≤ 20
+  pub ascii : IsAscii name
+
+pub built_in-short_ascii : (name : List ℕ) (keysym : ℕ) → keysym_in built_in name ≡ Some keysym → ShortAscii name
+built_in-short_ascii name keysym found =
+    let e = keysym_in-entry is_short_ascii built_in name keysym all_short_ascii found in
+    let one = and_parts (nat_lt 0 (length e.0.0)) _ e.1 in
+    let two = and_parts (nat_le (length e.0.0) 20) (list_all is_ascii e.0.0) one.1 in
+    subst ShortAscii e.2 (record {
+      some = ltb-true 0 (length e.0.0) one.0;
+      short = leb-true (length e.0.0) 20 two.0;
+      ascii = IsAscii-from_all e.0.0 (λ k d within. ltb-true (get_or e.0.0 k d) 128 (AllPass-from_list_all is_ascii e.0.0 two.1 k d within));
+    })

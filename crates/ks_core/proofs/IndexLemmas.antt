@@ -1,5 +1,5 @@
 -- Tests that compute, by which a list of rows is shown to be an index of the built-in names.
-use Rattle.std.proofs.Common.{◌≡◌, ℕ, zero, suc, Bool, true, false, not, ◌&&◌, ◌==◌, List, [], ◌∷◌, get_or, Option, None, Some, Err, refl, sym, ap, ◌∙◌, add-one, inl, inr, zero-le, eqb-true, cond, arith, find}
+use Rattle.std.proofs.Common.{◌≡◌, ℕ, zero, suc, Bool, true, false, not, ◌&&◌, ◌==◌, List, [], ◌∷◌, get_or, Option, None, Some, Err, length, slice_index_or, refl, sym, ap, subst, ◌∙◌, add-one, inl, inr, zero-le, eqb-true, cond, arith, find}
 use Rattle.std.proofs.lemmas.Bool.{cases_lt, and_parts}
 use Rattle.std.proofs.lemmas.Cmp.{tied_itself}
 use Rattle.std.proofs.lemmas.List.Folds.{Any-from_list_any}
@@ -7,7 +7,6 @@ use Rattle.std.proofs.lemmas.List.Sorted.{searchable_from_sorted}
 use Rattle.std.proofs.lemmas.List.Sums.{AllPass-from_list_all}
 use Rattle.std.proofs.lemmas.Slice.Eq.{bytes_eq-Decides}
 use Rattle.std.specs.Cmp.{IsTotalOrder}
-use Rattle.std.specs.Cmp.Lexicographic.{slice_cmp}
 use Rattle.std.specs.List.{list_all, list_any, Any}
 use Rattle.std.specs.List.Sorted.{IsSortedBy, IsBinarySearchResult}
 use Rattle.std.specs.Option.{option_map}
@@ -17,7 +16,8 @@ use Rattle.std.specs.declared.cmp.Ordering.TheVariants.{Equal}
 use Rattle.std.specs.Str.{bytes_eq}
 use Rattle.ks_core.specs.Entry.{Entry, keysym_in, name_in}
 use Rattle.ks_core.specs.BuiltIn.{built_in}
-use Rattle.ks_core.specs.Index.{Row, IsNameIndex, IsKeysymIndex}
+use Rattle.ks_core.specs.HashIndex.{IsHashIndex, no_row, slot_of}
+use Rattle.ks_core.specs.Index.{Row, IsKeysymIndex}
 
 -- no row is less than the one before it
 unfoldable pub rises : {X : Type 0} → (X → X → Bool) → List X → Bool
@@ -94,24 +94,23 @@ unfolding is_name
 is_name-true None n h = cc
 is_name-true (Some m) n h = ap Some (same_bytes m n h)
 
--- rows by name
-abbrev pub name_less : Row → Row → Bool
-name_less a b = is_lt (slice_cmp nat_cmp a.0.now b.0.now)
+-- rows by hash
+abbrev pub row_right : Row → Bool
+row_right row = is_keysym (keysym_in built_in row.0.now) row.1
 
-abbrev pub name_right : Row → Bool
-name_right row = is_keysym (keysym_in built_in row.0.now) row.1
+abbrev pub has_slot : List ℕ → List Row → Entry → Bool
+has_slot shifts rows e = bytes_eq (slice_index_or rows (slot_of shifts e.0) no_row).0.now e.0
 
-abbrev pub has_name : List Row → Entry → Bool
-has_name rows e = list_any (λ row. bytes_eq row.0.now e.0) rows
-
-pub name_index : (rows : List Row) → rises name_less rows ≡ true → list_all name_right rows ≡ true → list_all (has_name rows) built_in ≡ true → IsNameIndex rows
-name_index rows rise right whole =
+pub hash_index : (shifts : List ℕ) (rows : List Row) → length shifts ≡ 128 → length rows ≡ 512 → list_all row_right rows ≡ true → list_all (has_slot shifts rows) built_in ≡ true → IsHashIndex shifts rows
+hash_index shifts rows shifted slotted right whole =
     record {
-      rising = sorted-rises name_less rows rise;
-      right = λ k d within. is_keysym-true _ _ (AllPass-from_list_all name_right rows right k d within);
+      shifted = shifted;
+      slotted = slotted;
+      right = λ k d within. is_keysym-true _ _ (AllPass-from_list_all row_right rows right k d within);
       whole = λ name keysym found.
-          let e = keysym_in-entry (has_name rows) built_in name keysym whole found in
-          let row = Any-from_list_any (λ (row : Row). bytes_eq row.0.now e.0.0) rows e.1 in (row.0, row.1, row.2, row.3, same_bytes row.1.0.now e.0.0 row.4 ∙ e.2);
+          let e = keysym_in-entry (has_slot shifts rows) built_in name keysym whole found in
+          let here = same_bytes (slice_index_or rows (slot_of shifts e.0.0) no_row).0.now e.0.0 e.1 in
+          subst (λ (n : List ℕ). (slice_index_or rows (slot_of shifts n) no_row).0.now ≡ n) e.2 here;
     }
 
 -- rows by keysym

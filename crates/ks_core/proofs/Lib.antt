@@ -9,4 +9,6 @@ pub mod SplitLemmas
 pub mod ReadLemmas
 pub mod NumberLemmas
 pub mod BuiltInLemmas
+pub mod EndsLemmas
 pub mod NamedLemmas
+pub mod TextLemmas

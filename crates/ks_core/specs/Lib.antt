@@ -7,6 +7,7 @@ pub mod Keysym
 pub mod Entry
 pub mod BuiltIn
 pub mod Index
+pub mod HashIndex
 pub mod Name
 pub mod Names
 pub mod Lines

@@ -117,7 +117,7 @@ impl Given {
     fn known(&self, name: &str) -> Option<u32>
         ensures { result ≡ known_keysym self.now name.now }
     {
-        match builtin::keysym_of(name) {
+        match builtin::keysym_of(name.as_bytes()) {
             Some(keysym) => Some(keysym),
             None => self.keysym_of(name),
         }

@@ -2,6 +2,7 @@
 ghost use Rattle.std.specs.Prelude.{◌≡◌, ◌<◌, ◌≤◌, ◌⊎◌, true, false, Some, [], ◌∷◌, length, IfOk, IfErr, IfSome, OnOk};
 ghost use Rattle.std.specs.List.{list_all};
 ghost use Rattle.std.specs.Option.{option_map, option_or};
+ghost use Rattle.std.specs.Str.{IsAscii};
 ghost use Rattle.ks_core.specs.BuiltIn.{built_in};
 ghost use Rattle.ks_core.specs.Entry.{keysym_in, name_in};
 ghost use Rattle.ks_core.specs.Lines.{lines_of, given_by, is_sound, AreFaultless, IsFirstFault};
@@ -59,6 +60,18 @@ impl NameTable {
         Ok(NameTable { given: Some(given) })
     }
 
+    /// The keysym with that built-in name, given as bytes. Bytes that are one are ASCII.
+    pub fn built_in(name: &[u8]) -> Option<Keysym>
+        ensures value { option_map (λ keysym. keysym.0) result ≡ keysym_in built_in name.now }
+        ensures within { IfSome result (λ keysym. is_written_back keysym.0 ≡ true) }
+        ensures ascii { IfSome result (λ keysym. IsAscii name.now) }
+    {
+        match builtin::keysym_of(name) {
+            Some(keysym) => Some(Keysym(keysym)),
+            None => None,
+        }
+    }
+
     /// The keysym with that name: a built-in name, a name that a line gave, `U` and the number of a
     /// character, or `0x` and the number of a keysym.
     #[tactic(auto, unfolding(crate::specs::Names::keysym_named))]
@@ -66,7 +79,7 @@ impl NameTable {
         ensures value { option_map (λ keysym. keysym.0) result ≡ keysym_named self.now name.now }
         ensures within { IfSome result (λ keysym. is_written_back keysym.0 ≡ true) }
     {
-        if let Some(keysym) = builtin::keysym_of(name) {
+        if let Some(keysym) = builtin::keysym_of(name.as_bytes()) {
             return Some(Keysym(keysym));
         }
         if let Some(keysym) = self.given_keysym(name) {

@@ -4,3 +4,5 @@ mod Rounds
 mod Takes
 mod KeyNames
 pub mod Keywords
+mod Words
+pub mod Pieces

@@ -1,9 +1,11 @@
 pub mod Bytes
+pub mod Starts
 pub mod Pieces
 pub mod Reading
 pub mod Strings
 pub mod Kept
 pub mod Keywords
+pub mod KeywordLengths
 pub mod Kinds
 pub mod Stops
 pub mod Reasons

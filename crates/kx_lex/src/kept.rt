@@ -101,6 +101,7 @@ impl Bytes {
     ///
     /// # Errors
     /// Where a growth is refused.
+    #[inline(always)]
     pub fn front(alloc: Global, bytes: &[u8], len: usize) -> Result<Bytes, AllocError>
         ensures { IfOk result (λ kept. kept ≡ take len bytes.now) }
     {
@@ -111,6 +112,7 @@ impl Bytes {
     }
 
     /// The first `len` of these bytes.
+    #[inline(always)]
     fn short(bytes: &[u8; MOST_SHORT_BYTES], len: usize) -> Bytes
         requires { len ≤ 22 }
         ensures { result ≡ take len bytes.now }

@@ -1,6 +1,7 @@
 //! The words that the grammar quotes.
-ghost use Rattle.std.specs.Prelude.{◌≡◌, ◌==◌};
+ghost use Rattle.std.specs.Prelude.{◌≡◌, ◌==◌, false};
 ghost use Rattle.std.specs.Str.{str_eq_ignore_ascii_case};
+ghost use Rattle.kx_lex.specs.KeywordLengths.{AreLengths};
 ghost use Rattle.kx_lex.specs.Keywords.{IsByLength, keyword_of, keyword_number, of_length, rows_of, spelled_in};
 
 /// A word that the grammar quotes; it may be written in capital letters or small.
@@ -149,10 +150,63 @@ fn spelled_in(word: &[u8], rows: &[Row]) -> Option<Keyword>
     None
 }
 
+/// The lengths of the keywords that begin with a letter, a bit each; letters go by their low five
+/// bits, which capital and small ones share.
+#[rattlefmt::skip]
+static LENGTHS: [u32; 32] = [
+    0,
+    1 << 5 | 1 << 7 | 1 << 9 | 1 << 15 | 1 << 17, // a
+    0,
+    0,
+    1 << 7, // d
+    0,
+    1 << 13, // f
+    1 << 5, // g
+    1 << 6, // h
+    1 << 7 | 1 << 9, // i
+    0,
+    1 << 3 | 1 << 11, // k
+    0,
+    1 << 12 | 1 << 13, // m
+    0,
+    1 << 8, // o
+    1 << 7, // p
+    0,
+    1 << 7, // r
+    0,
+    1 << 4, // t
+    0,
+    1 << 7 | 1 << 17, // v
+    0,
+    1 << 9 | 1 << 10 | 1 << 11 | 1 << 12 | 1 << 14 | 1 << 17 | 1 << 21, // x
+    0, 0, 0, 0, 0, 0, 0,
+];
+
+fn lengths() -> &'static [u32]
+    ensures { AreLengths result.now }
+{
+    &LENGTHS
+}
+
+/// Whether a keyword may have so many bytes and this one first. This alone rules most other words out.
+fn may_spell(word: &[u8]) -> bool
+    ensures { result ≡ false → keyword_of word.now ≡ None }
+{
+    let Some(first) = word.first() else {
+        return false;
+    };
+    let lengths = lengths()[usize::from(*first % 32)];
+    word.len() < by_length().len() && lengths >> word.len() & 1 == 1
+}
+
 /// The keyword that a word spells, in capital letters or small.
 #[tactic(auto, using(crate::proofs::Keywords::spelled_of_length))]
 pub(crate) fn keyword_of(word: &[u8]) -> Option<Keyword>
     ensures { result ≡ keyword_of word.now }
 {
-    spelled_in(word, of_length(word.len()))
+    if may_spell(word) {
+        spelled_in(word, of_length(word.len()))
+    } else {
+        None
+    }
 }

@@ -8,6 +8,7 @@ pub mod keyword;
 pub mod name;
 pub mod repeated;
 pub mod scan;
+mod start;
 pub mod string;
 pub mod token;
 pub mod tokens;

@@ -134,6 +134,7 @@ pub fn read_listed<'a, R: Repeated>(
 }
 
 /// Whether a token stands at the front that is not the mark of this byte.
+#[inline(always)]
 pub fn is_before_mark(byte: u8, tokens: &[Token]) -> bool
     ensures { result ≡ before_mark byte tokens.now }
 {

@@ -2,9 +2,9 @@
 ghost use Rattle.std.specs.Prelude.{◌≡◌, ◌≢◌, ℕ, true, All, List, IsTrue, ◌+◌, ◌<◌, ◌≤◌, ◌^◌, ◌⊎◌, slice_index, false, length, IfOk, IfErr, OnOk, drop};
 ghost use Rattle.std.specs.List.{list_all, prefix_len};
 ghost use Rattle.kx_basics.specs.KeyNames.{is_key_byte};
-ghost use Rattle.kx_lex.specs.Bytes.{is_word_start, is_word_byte, is_mark, is_blank, is_not_line_feed};
+ghost use Rattle.kx_lex.specs.Bytes.{is_word_byte, is_blank, is_not_line_feed};
 ghost use Rattle.kx_lex.specs.Kinds.{inner_of, is_key_name};
-ghost use Rattle.kx_lex.specs.Pieces.{begins_comment, extent, extent_len, piece_len, string_piece, key_name_piece, number_piece, begins_hex, piece, word_piece};
+ghost use Rattle.kx_lex.specs.Pieces.{extent, extent_len, piece_len, string_piece, key_name_piece, number_piece, begins_hex, piece, word_piece};
 ghost use Rattle.kx_lex.specs.Reading.{IsReading, StopsWith, mark_len, whole_of, place_of};
 ghost use Rattle.std.specs.Char.{is_ascii_digit, is_ascii_hexdigit};
 ghost use Rattle.kx_lex.specs.declared.fault.Fault.TheVariants.{Memory, TooLong};
@@ -14,6 +14,7 @@ ghost use Rattle.kx_lex.specs.declared.fault.Fault.{Fault as FaultValue};
 
 use crate::fault::{At, Fault};
 use crate::keyword::keyword_of;
+use crate::start::{Start, is_blank, is_word_byte, start_of};
 use crate::token::{Span, Token, TokenKind};
 use kx_basics::is_key_byte;
 use std::alloc::Global;
@@ -41,52 +42,37 @@ pub enum Piece {
     OpenKeyName(usize),
 }
 
-fn is_word_start(byte: u8) -> bool
-    ensures { result ≡ is_word_start byte }
-{
-    byte.is_ascii_alphabetic() || byte == b'_'
-}
-
-fn is_word_byte(byte: u8) -> bool
-    ensures { result ≡ is_word_byte byte }
-{
-    byte.is_ascii_alphanumeric() || byte == b'_'
-}
-
-fn is_blank(byte: u8) -> bool
-    ensures { result ≡ is_blank byte }
-{
-    byte == b' ' || (9 <= byte && byte <= 13)
-}
-
-fn is_mark(byte: u8) -> bool
-    ensures { result ≡ is_mark byte }
-{
-    matches!(
-        byte,
-        b'{' | b'}'
-            | b'['
-            | b']'
-            | b'('
-            | b')'
-            | b';'
-            | b','
-            | b'.'
-            | b'='
-            | b'+'
-            | b'-'
-            | b'*'
-            | b'/'
-            | b'!'
-            | b'~'
-    )
-}
-
-fn word_len(bytes: &[u8]) -> usize
+fn short_word_len(bytes: &[u8]) -> usize
     ensures exact { result ≡ prefix_len is_word_byte bytes.now }
     ensures within { result ≤ length bytes.now }
 {
     bytes.iter().take_while(|b| is_word_byte(**b)).count()
+}
+
+/// Four bytes a turn, since most bytes of a text stand in words.
+fn word_len(bytes: &[u8]) -> usize
+    ensures exact { result ≡ prefix_len is_word_byte bytes.now }
+    ensures within { result ≤ length bytes.now }
+{
+    let mut len = 0;
+    let mut rest = bytes;
+    'fours: while let [first, second, third, fourth, left @ ..] = rest {
+        if !is_word_byte(*first) {
+            return len;
+        }
+        if !is_word_byte(*second) {
+            return len + 1;
+        }
+        if !is_word_byte(*third) {
+            return len + 2;
+        }
+        if !is_word_byte(*fourth) {
+            return len + 3;
+        }
+        len += 4;
+        rest = left;
+    }
+    len + short_word_len(rest)
 }
 
 fn blank_len(bytes: &[u8]) -> usize
@@ -162,12 +148,6 @@ fn byte_at(bytes: &[u8], i: usize) -> u8
     bytes.get(i).copied().unwrap_or(0)
 }
 
-fn begins_comment(bytes: &[u8]) -> bool
-    ensures { result ≡ begins_comment bytes.now }
-{
-    byte_at(bytes, 0) == b'#' || (byte_at(bytes, 0) == b'/' && byte_at(bytes, 1) == b'/')
-}
-
 /// Whether a number begins as `0x` or `0X` and a hexadecimal digit.
 pub fn begins_hex(bytes: &[u8]) -> bool
     ensures { result ≡ begins_hex bytes.now }
@@ -204,6 +184,15 @@ fn after(bytes: &[u8], n: usize) -> &[u8]
     bytes.get(n..).unwrap_or(&[])
 }
 
+/// The same where so many bytes stand there, which costs no test.
+#[inline(always)]
+fn past(bytes: &[u8], n: usize) -> &[u8]
+    requires { n ≤ length bytes.now }
+    ensures { result.now ≡ drop n bytes.now }
+{
+    &bytes[n..]
+}
+
 #[tactic(auto, unfolding(crate::specs::Pieces::key_name_piece))]
 fn key_name_piece(bytes: &[u8]) -> Piece
     requires { length bytes.now < 1048576 }
@@ -222,6 +211,7 @@ fn key_name_piece(bytes: &[u8]) -> Piece
 fn string_piece(bytes: &[u8]) -> Piece
     requires { length bytes.now < 1048576 }
     ensures exact { result ≡ string_piece (extent false bytes.now) }
+    ensures some { 0 < piece_len result }
     ensures within { piece_len result ≤ length bytes.now + 1 }
 {
     match text_extent(bytes) {
@@ -230,16 +220,16 @@ fn string_piece(bytes: &[u8]) -> Piece
     }
 }
 
-/// The word at the front.
-fn word_piece(bytes: &[u8]) -> Piece
-    ensures { result ≡ word_piece (prefix_len is_word_byte bytes.now) bytes.now }
+/// So many bytes as a word.
+fn word_of(bytes: &[u8], len: usize) -> Piece
+    requires { len ≤ length bytes.now }
+    ensures { result ≡ word_piece len bytes.now }
 {
-    let len = word_len(bytes);
-    let keyword = keyword_of(bytes.get(..len).unwrap_or(bytes));
+    let keyword = keyword_of(&bytes[..len]);
     Piece::Lexeme(TokenKind::Word(keyword), len)
 }
 
-#[tactic(auto, unfolding(crate::specs::Pieces::piece))]
+#[tactic(auto, using(crate::proofs::Pieces::pieces))]
 fn piece_at(bytes: &[u8]) -> Piece
     requires { length bytes.now ≤ 1048576 }
     ensures exact { result ≡ piece bytes.now }
@@ -249,23 +239,16 @@ fn piece_at(bytes: &[u8]) -> Piece
     let Some((first, rest)) = bytes.split_first() else {
         return Piece::End;
     };
-    let first = *first;
-    if is_blank(first) {
-        Piece::Gap(blank_len(bytes))
-    } else if begins_comment(bytes) {
-        Piece::Gap(line_len(bytes))
-    } else if is_word_start(first) {
-        word_piece(bytes)
-    } else if first.is_ascii_digit() {
-        number_piece(bytes)
-    } else if first == b'"' {
-        string_piece(rest)
-    } else if first == b'<' {
-        key_name_piece(rest)
-    } else if is_mark(first) {
-        Piece::Lexeme(TokenKind::Mark(first), 1)
-    } else {
-        Piece::BadByte
+    match start_of(*first) {
+        Start::Word => word_of(bytes, 1 + word_len(rest)),
+        Start::Digit => number_piece(bytes),
+        Start::Blank => Piece::Gap(1 + blank_len(rest)),
+        Start::Hash => Piece::Gap(1 + line_len(rest)),
+        Start::Slash if byte_at(rest, 0) == b'/' => Piece::Gap(1 + line_len(rest)),
+        Start::Slash | Start::Mark => Piece::Lexeme(TokenKind::Mark(*first), 1),
+        Start::Quote => string_piece(rest),
+        Start::Angle => key_name_piece(rest),
+        Start::Nothing => Piece::BadByte,
     }
 }
 
@@ -310,6 +293,7 @@ fn whole(text: &[u8]) -> At
 /// # Errors
 /// `TooLong` for a text of more than [`MOST_TEXT_BYTES`]; `BadByte`, `OpenString` or `OpenKeyName`
 /// where the reading stops, in file 0; `Memory` where a growth is refused.
+#[inline(never)]
 pub fn lex(alloc: Global, text: &[u8]) -> Result<Vec<Token>, Fault>
     ensures long { 1048576 < length text.now → result ≡ Err (TooLong (whole_of text.now)) }
     ensures read { IfOk result (λ tokens. IsReading text.now tokens.items) }
@@ -327,13 +311,15 @@ pub fn lex(alloc: Global, text: &[u8]) -> Result<Vec<Token>, Fault>
         match piece_at(rest) {
             Piece::End => return Ok(tokens),
             Piece::Gap(len) => {
-                rest = after(rest, len);
+                rest = past(rest, len);
                 offset += len as u32;
             }
             Piece::Lexeme(kind, len) => {
                 let span = place(offset, len).span;
-                tokens.push(Token { kind, span })?;
-                rest = after(rest, len);
+                // Room comes first, so that the token is written straight into its place.
+                tokens.reserve(1)?;
+                tokens.push_reserved(Token { kind, span });
+                rest = past(rest, len);
                 offset += len as u32;
             }
             Piece::BadByte => return Err(Fault::BadByte(place(offset, 1))),

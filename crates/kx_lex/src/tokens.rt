@@ -48,6 +48,7 @@ fn inner_of<'t>(text: &'t [u8], token: &Token) -> &'t [u8]
 }
 
 /// Whether the token is a word.
+#[inline(always)]
 pub fn is_word(token: &Token) -> bool
     ensures { result ≡ is_word token.now }
 {
@@ -55,18 +56,21 @@ pub fn is_word(token: &Token) -> bool
 }
 
 /// Whether the token is a whole number.
+#[inline(always)]
 pub fn is_number(token: &Token) -> bool
     ensures { result ≡ is_number token.now }
 {
     matches!(token.kind, TokenKind::Number)
 }
 
+#[inline(always)]
 fn is_key_name(token: &Token) -> bool
     ensures { result ≡ is_key_name token.now }
 {
     matches!(token.kind, TokenKind::KeyName)
 }
 
+#[inline(always)]
 fn is_text(token: &Token) -> bool
     ensures { result ≡ is_text token.now }
 {
@@ -74,6 +78,7 @@ fn is_text(token: &Token) -> bool
 }
 
 /// Whether the token is the mark of this byte.
+#[inline(always)]
 pub fn is_mark(byte: u8, token: &Token) -> bool
     ensures { result ≡ is_mark byte token.now }
 {
@@ -84,6 +89,7 @@ pub fn is_mark(byte: u8, token: &Token) -> bool
 }
 
 /// Whether the token is this keyword.
+#[inline(always)]
 #[tactic(auto, unfolding(crate::specs::Kinds::is_keyword))]
 pub fn is_keyword(keyword: Keyword, token: &Token) -> bool
     ensures { result ≡ is_keyword keyword token.now }
@@ -114,6 +120,7 @@ pub fn syntax(text: &[u8], tokens: &[Token]) -> Fault
 ///
 /// # Errors
 /// [`Fault::Syntax`] where another token or none stands.
+#[inline(always)]
 #[tactic(auto, unfolding(crate::specs::Tokens::mark))]
 pub fn read_mark<'a>(text: &[u8], byte: u8, tokens: &'a [Token]) -> Reading<'a, Token>
     ensures { Gives result ((mark text.now byte).read tokens.now) }
@@ -128,6 +135,7 @@ pub fn read_mark<'a>(text: &[u8], byte: u8, tokens: &'a [Token]) -> Reading<'a, 
 ///
 /// # Errors
 /// [`Fault::Syntax`] where another token or none stands.
+#[inline(always)]
 #[tactic(auto, unfolding(crate::specs::Tokens::keyword))]
 pub fn read_keyword<'a>(text: &[u8], wanted: Keyword, tokens: &'a [Token]) -> Reading<'a, Token>
     ensures { Gives result ((keyword text.now wanted).read tokens.now) }
@@ -139,6 +147,7 @@ pub fn read_keyword<'a>(text: &[u8], wanted: Keyword, tokens: &'a [Token]) -> Re
 }
 
 /// The bytes of a text from `start` to `stop`.
+#[inline(always)]
 fn bytes_between(alloc: Global, text: &[u8], start: usize, stop: usize) -> Result<Bytes, AllocError>
     ensures { IfOk result (λ bytes. bytes ≡ slice_range text.now start stop) }
 {
@@ -146,6 +155,7 @@ fn bytes_between(alloc: Global, text: &[u8], start: usize, stop: usize) -> Resul
     Bytes::front(alloc, front, stop.saturating_sub(start))
 }
 
+#[inline(always)]
 fn word_of(alloc: Global, text: &[u8], token: &Token) -> Result<Name, AllocError>
     ensures { IfOk result (λ name. name ≡ record { bytes = slice_of text.now token.now; span = token.now.span }) }
 {
@@ -175,6 +185,7 @@ fn key_name_of(alloc: Global, text: &[u8], token: &Token) -> Result<KeyName, Fau
 ///
 /// # Errors
 /// [`Fault::Syntax`] where another token or none stands, and [`Fault::Memory`] where a growth is refused.
+#[inline(always)]
 #[tactic(auto, unfolding(crate::specs::Tokens::word))]
 pub fn read_word<'a>(alloc: Global, text: &[u8], tokens: &'a [Token]) -> Reading<'a, Name>
     ensures { Gives result ((word text.now).read tokens.now) }
@@ -271,6 +282,7 @@ pub fn read_number<'a>(text: &[u8], tokens: &'a [Token]) -> Reading<'a, Number>
 }
 
 /// Whether the first token is the mark of this byte.
+#[inline(always)]
 pub fn front_is_mark(byte: u8, tokens: &[Token]) -> bool
     ensures { result ≡ front (is_mark byte) tokens.now }
 {
@@ -281,6 +293,7 @@ pub fn front_is_mark(byte: u8, tokens: &[Token]) -> bool
 }
 
 /// Whether the first token is this keyword.
+#[inline(always)]
 pub fn front_is_keyword(wanted: Keyword, tokens: &[Token]) -> bool
     ensures { result ≡ front (is_keyword wanted) tokens.now }
 {
@@ -291,6 +304,7 @@ pub fn front_is_keyword(wanted: Keyword, tokens: &[Token]) -> bool
 }
 
 /// Where the first token stands; without one, no bytes from 0.
+#[inline(always)]
 pub fn front_span(tokens: &[Token]) -> Span
     ensures { result ≡ front_span tokens.now }
 {
@@ -312,6 +326,7 @@ pub fn span_between(tokens: &[Token], rest: &[Token]) -> Span
 }
 
 /// The tokens behind the first; without one, none.
+#[inline(always)]
 pub fn behind_front(tokens: &[Token]) -> &[Token]
     ensures { result.now ≡ drop 1 tokens.now }
 {
@@ -319,6 +334,7 @@ pub fn behind_front(tokens: &[Token]) -> &[Token]
 }
 
 /// Whether the first token is a word.
+#[inline(always)]
 pub fn front_is_word(tokens: &[Token]) -> bool
     ensures { result ≡ front is_word tokens.now }
 {
@@ -329,6 +345,7 @@ pub fn front_is_word(tokens: &[Token]) -> bool
 }
 
 /// Whether the first token is a whole number.
+#[inline(always)]
 pub fn front_is_number(tokens: &[Token]) -> bool
     ensures { result ≡ front is_number tokens.now }
 {
@@ -339,6 +356,7 @@ pub fn front_is_number(tokens: &[Token]) -> bool
 }
 
 /// Whether the first token is text between quotes.
+#[inline(always)]
 pub fn front_is_text(tokens: &[Token]) -> bool
     ensures { result ≡ front is_text tokens.now }
 {
@@ -349,6 +367,7 @@ pub fn front_is_text(tokens: &[Token]) -> bool
 }
 
 /// Whether the first token is a key's name.
+#[inline(always)]
 pub fn front_is_key_name(tokens: &[Token]) -> bool
     ensures { result ≡ front is_key_name tokens.now }
 {

@@ -103,7 +103,7 @@ pub enum Part {
 #[derive(Debug, Drop)]
 pub enum Element {
     Symbol(Symbol),
-    Call(Call),
+    Call(Apart<Call>),
     Braces(Braces),
 }
 

@@ -360,7 +360,7 @@ fn read_element<'a>(alloc: Global, text: &[u8], tokens: &'a [Token]) -> Reading<
     }
     if begins_call(tokens) {
         let (call, rest) = read_call(alloc, text, tokens)?;
-        return Ok((Element::Call(call), rest));
+        return Ok((Element::Call(Apart::of(alloc, call)?), rest));
     }
     let (symbol, rest) = read_symbol(alloc, text, tokens)?;
     Ok((Element::Symbol(symbol), rest))

@@ -158,7 +158,7 @@ fn element_action(
 {
     match element {
         Element::Symbol(symbol) => Err(symbol_fault(file, symbol)),
-        Element::Call(call) => call_action(known, file, call, notes),
+        Element::Call(call) => call_action(known, file, call.get(), notes),
         Element::Braces(braces) => braces_action(known, file, braces, notes),
     }
 }

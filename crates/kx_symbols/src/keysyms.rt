@@ -102,11 +102,15 @@ fn word_keysym(names: &NameTable, word: &[u8], notes: &mut Notes) -> Option<u32>
     keysym.filter(|number| *number != 0)
 }
 
-#[tactic(auto, using(crate::proofs::Texts::of_text))]
+/// The keysym of a word that is text. A built-in name is ASCII, so that most words need no other look.
+#[tactic(auto, using(crate::proofs::Texts::of_text, ks_core::proofs::TextLemmas::built_in_text))]
 fn keysym_of_text(names: &NameTable, word: &[u8]) -> Option<u32>
     ensures value { result ≡ keysym_of_text names.now word.now }
     ensures within { IfSome result (λ keysym. is_written_back keysym ≡ true) }
 {
+    if let Some(keysym) = NameTable::built_in(word) {
+        return Some(keysym.0);
+    }
     match str::from_utf8(word) {
         Ok(text) => match names.by_name(text) {
             Some(keysym) => Some(keysym.0),
@@ -221,7 +225,7 @@ fn element_level(
                 Ok(Some(keysyms))
             }
         },
-        Element::Call(call) => Err(Fault::BadValue(reading.at(call.span))),
+        Element::Call(call) => Err(Fault::BadValue(reading.at(call.get().span))),
         Element::Braces(braces) => {
             let keysyms = braces_keysyms(names, reading, braces.parts.as_slice(), notes)?;
             Ok(keysyms.given())

@@ -7,11 +7,11 @@ pub returns-in-End-clause-read : goal.returns-in-End-clause-read
 returns-in-End-clause-read c = SoFar-ended c.pieces.invariant (sym c.in-End.ensures.exact)
 
 pub pieces-preserved-in-Gap : goal.pieces-preserved-in-Gap
-pieces-preserved-in-Gap c = rw c.after-rest-in-Gap.ensures (SoFar-skipped c.pieces.invariant c.in-Gap.len (omega (arith, c.in-Gap.ensures.within)) (sym c.in-Gap.ensures.exact))
+pieces-preserved-in-Gap c = rw c.past-rest.ensures (SoFar-skipped c.pieces.invariant c.in-Gap.len (omega (arith, c.in-Gap.ensures.within)) (sym c.in-Gap.ensures.exact))
 
 pub pieces-preserved : goal.pieces-preserved
 pieces-preserved c =
-    rw (c.after-rest-in-Lexeme.ensures, c.in_ok-push-in-Lexeme.ensures.items, c.place.ensures)
+    rw (c.past-rest-in-Lexeme.ensures, c.push_reserved.ensures.items, c.in_ok-reserve-in-Lexeme.ensures.items, c.place.ensures)
     (SoFar-taken c.pieces.invariant c.in-Lexeme.kind c.in-Lexeme.len (omega (arith, c.in-Lexeme.ensures.within)) (sym c.in-Lexeme.ensures.exact))
 
 pub returns-in-BadByte-clause-stopped : goal.returns-in-BadByte-clause-stopped
