@@ -1,3 +1,4 @@
 mod Firsts
+mod Kept
 mod Parting
 pub mod Same

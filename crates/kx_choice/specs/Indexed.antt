@@ -1,7 +1,9 @@
 -- How interpretations are found by keysym.
-use Rattle.std.specs.Prelude.{◌≡◌, ℕ, nat_eq, Bool, true, false, List, [], filter}
+use Rattle.std.specs.Prelude.{◌≡◌, ℕ, nat_eq, Bool, true, false, List, [], filter, map, Option}
+use Rattle.std.specs.List.{range_with_len}
 use Rattle.std.specs.Option.{option_map_or}
 use Rattle.indexmap.specs.IndexMap.{IndexMap, get}
+use Rattle.kx_choice.specs.Choosing.{allows, least}
 use Rattle.kx_choice.specs.Interpretations.{Interpretation}
 use Rattle.kx_choice.specs.declared.trigger.WantedKeysym.{WantedKeysym}
 use Rattle.kx_choice.specs.declared.trigger.WantedKeysym.TheVariants.{Any, Named}
@@ -28,3 +30,7 @@ module _ {V S : Type 0} (items : V → List Interpretation) (named : IndexMap �
   pub record IsIndexed (any all : List Interpretation) : Type 0 where
     pub named_are : (keysym : ℕ) → bucket_in keysym ≡ filter (is_named keysym) all
     pub any_are : any ≡ filter is_for_any all
+
+-- for each modifier map, a mask, the one that is chosen of interpretations that are all for the keysym
+abbrev pub AreChoices : List Interpretation → Bool → List (Option Interpretation) → Type 0
+AreChoices is first choices = choices ≡ map (λ modmap. least (filter (allows first modmap) is)) (range_with_len 0 256)

@@ -7,7 +7,7 @@ ghost use Rattle.kx_choice.specs.Choosing.{chosen};
 ghost use Rattle.kx_choice.specs.Indexed.{IsIndexed, bucket_in};
 ghost use Rattle.kx_choice.specs.Interpretations.{Interpretation as InterpretationValue};
 
-use crate::choice::least_allowed;
+use crate::bucket::Bucket;
 use crate::interpretation::Interpretation;
 use crate::trigger::WantedKeysym;
 use indexmap::IndexMap;
@@ -21,9 +21,9 @@ use std::marker::Model;
 pub struct Interpretations {
     all: Vec<Interpretation>,
     /// Those of a keysym, by its number.
-    named: IndexMap<u32, Vec<Interpretation>>,
+    named: IndexMap<u32, Bucket>,
     /// Those of any keysym.
-    any: Vec<Interpretation>,
+    any: Bucket,
 }
 
 impl Model for Interpretations {
@@ -35,15 +35,16 @@ impl Model for Interpretations {
 
     ghost view = { λ t. t.all.items };
 
-    ghost invariant = { λ t. IsIndexed (λ v. v.items) t.named t.any.items t.all.items };
+    ghost invariant = { λ t. IsIndexed (λ b. b) t.named t.any t.all.items };
 }
 
 impl Interpretations {
-    ghost use Rattle.std.specs.Prelude.{◌≡◌, IfErr, IfOk};
+    ghost use Rattle.std.specs.Prelude.{◌≡◌, filter, IfErr, IfOk};
     ghost use Rattle.kx_lex.specs.declared.fault.Fault.TheVariants.{Memory};
     ghost use Rattle.kx_mods.specs.Mods.{mask};
     ghost use Rattle.std.specs.Option.{option_map};
-    ghost use Rattle.kx_choice.specs.Choosing.{IsFirstOrNone, chosen, matches};
+    ghost use Rattle.kx_choice.specs.Choosing.{IsFirstOrNone, allows, chosen, least, matches};
+    ghost use Rattle.kx_choice.specs.Indexed.{is_named};
 
     /// These interpretations.
     pub fn of(alloc: Global, all: Vec<Interpretation>) -> Result<Interpretations, Fault>
@@ -51,10 +52,12 @@ impl Interpretations {
         ensures err { IfErr result (λ e. e ≡ Memory) }
     {
         let mut named = IndexMap::new(alloc);
-        let mut any = Vec::new(alloc);
+        let mut any = Bucket::new(alloc);
         'all: for interpretation in &all {
             add_indexed(alloc, &mut named, &mut any, *interpretation)?;
         }
+        any.keep_choices(alloc)?;
+        keep_choices(alloc, &mut named)?;
         Ok(Interpretations { all, named, any })
     }
 
@@ -72,38 +75,64 @@ impl Interpretations {
         ensures value { option_map (λ i. i.now) result ≡ chosen self.now keysym first_level (mask modmap) }
         ensures first { IsFirstOrNone (matches first_level (mask modmap) keysym) self.now (option_map (λ i. i.now) result) }
     {
-        match least_allowed(bucket_in(&self.named, keysym), first_level, modmap) {
+        match self.choose_named(keysym, first_level, modmap) {
             Some(interpretation) => Some(interpretation),
-            None => least_allowed(self.any.as_slice(), first_level, modmap),
+            None => self.any.choose(first_level, modmap),
+        }
+    }
+
+    /// The same of those of a named keysym alone.
+    fn choose_named(&self, keysym: u32, first_level: bool, modmap: Mods) -> Option<&Interpretation>
+        ensures { option_map (λ i. i.now) result ≡ least (filter (allows first_level (mask modmap)) (filter (is_named keysym) self.now)) }
+    {
+        match self.named.get(&keysym) {
+            Some(bucket) => bucket.choose(first_level, modmap),
+            None => None,
         }
     }
 }
 
-/// The interpretations of a keysym.
-fn bucket_in(named: &IndexMap<u32, Vec<Interpretation>>, keysym: u32) -> &[Interpretation]
-    ensures { result.now ≡ bucket_in (λ v. v.items) named.now keysym }
+/// Keeps what is chosen of the interpretations of the keysym at a place, where they are many.
+fn keep_choices_at(
+    alloc: Global,
+    named: &mut IndexMap<u32, Bucket>,
+    place: usize,
+) -> Result<(), Fault>
+    ensures same { named.new ≡ named.old }
+    ensures err { IfErr result (λ e. e ≡ Memory) }
 {
-    match named.get(&keysym) {
-        Some(bucket) => bucket.as_slice(),
-        None => &[],
+    match named.get_index_mut(place) {
+        Some(bucket) => bucket.keep_choices(alloc),
+        None => Ok(()),
     }
+}
+
+/// The same of each keysym.
+fn keep_choices(alloc: Global, named: &mut IndexMap<u32, Bucket>) -> Result<(), Fault>
+    ensures same { named.new ≡ named.old }
+    ensures err { IfErr result (λ e. e ≡ Memory) }
+{
+    'buckets: for place in 0..named.len() {
+        keep_choices_at(alloc, named, place)?;
+    }
+    Ok(())
 }
 
 /// Adds an interpretation behind others of its keysym.
 fn add_named(
     alloc: Global,
-    named: &mut IndexMap<u32, Vec<Interpretation>>,
+    named: &mut IndexMap<u32, Bucket>,
     keysym: u32,
     interpretation: Interpretation,
 ) -> Result<(), Fault>
-    ensures added { OnOk result ((k : ℕ) → bucket_in (λ v. v.items) named.new k ≡ bucket_in (λ v. v.items) named.old k ++ (if nat_eq keysym k then interpretation ∷ [] else [])) }
+    ensures added { OnOk result ((k : ℕ) → bucket_in (λ b. b) named.new k ≡ bucket_in (λ b. b) named.old k ++ (if nat_eq keysym k then interpretation ∷ [] else [])) }
     ensures err { IfErr result (λ e. e ≡ Memory) }
 {
     if let Some(bucket) = named.get_mut(&keysym) {
         bucket.push(interpretation)?;
         return Ok(());
     }
-    let mut bucket = Vec::new(alloc);
+    let mut bucket = Bucket::new(alloc);
     bucket.push(interpretation)?;
     named.insert(keysym, bucket)?;
     Ok(())
@@ -112,11 +141,11 @@ fn add_named(
 /// Adds an interpretation behind others.
 fn add_indexed(
     alloc: Global,
-    named: &mut IndexMap<u32, Vec<Interpretation>>,
-    any: &mut Vec<Interpretation>,
+    named: &mut IndexMap<u32, Bucket>,
+    any: &mut Bucket,
     interpretation: Interpretation,
 ) -> Result<(), Fault>
-    ensures added { (all : List InterpretationValue) → IsIndexed (λ v. v.items) named.old any.old.items all → OnOk result (IsIndexed (λ v. v.items) named.new any.new.items (all ++ interpretation ∷ [])) }
+    ensures added { (all : List InterpretationValue) → IsIndexed (λ b. b) named.old any.old all → OnOk result (IsIndexed (λ b. b) named.new any.new (all ++ interpretation ∷ [])) }
     ensures err { IfErr result (λ e. e ≡ Memory) }
 {
     match interpretation.trigger().keysym {

@@ -2,6 +2,7 @@
 #![tactic(auto)]
 
 mod action;
+mod bucket;
 mod choice;
 mod index;
 mod interpretation;

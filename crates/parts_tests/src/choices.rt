@@ -1,6 +1,7 @@
 use crate::interpretations::{ITEMS, action_word, interpretations_of};
 use kx_choice::Interpretations;
 use kx_mods::Mods;
+use std::alloc::Global;
 use std::test::Fail;
 
 const ANY_AND_NAMED: &[u8] =
@@ -24,28 +25,61 @@ fn chosen(found: &Interpretations, keysym: u32, first_level: bool, modmap: u8) -
     }
 }
 
+/// Items, a keysym, whether at the first level, the modifiers of a key, and the action that is chosen.
+type Row = (&'static [u8], u32, bool, u8, &'static str);
+
+const ROWS: [Row; 14] = [
+    (ANY_AND_NAMED, 0x61, FIRST, 1, "latch"),
+    (ANY_AND_NAMED, 0x61, FIRST, 0, "lock"),
+    (ANY_AND_NAMED, 0x62, FIRST, 1, "set"),
+    (ANY_AND_NAMED, 0x62, FIRST, 0, "none"),
+    (CONDITIONS, 0x61, FIRST, 0, "no"),
+    (CONDITIONS, 0x61, FIRST, 3, "setgroup"),
+    (CONDITIONS, 0x61, BEHIND, 3, "lockgroup"),
+    (CONDITIONS, 0x61, FIRST, 5, "lockgroup"),
+    (CONDITIONS, 0x61, FIRST, 4, "lock"),
+    (CONDITIONS, 0x61, FIRST, 2, "latch"),
+    (CONDITIONS, 0x61, FIRST, 10, "latch"),
+    (FIRST_LEVELS, 0x61, FIRST, 1, "set"),
+    (FIRST_LEVELS, 0x61, BEHIND, 1, "lock"),
+    (FIRST_LEVELS, 0x61, FIRST, 2, "none"),
+];
+
+/// Forty interpretations of `a` and forty of any keysym, for keys that Mod5 and others are mapped to.
+fn crowd(alloc: Global) -> Result<String, Fail> {
+    let mut items = String::new(alloc);
+    for mask in 129..169 {
+        let action = "{ action=Terminate(); };";
+        items.push_str(format!(in alloc; "interpret a+AllOf({mask}) {action}")?.as_str())?;
+        items.push_str(format!(in alloc; "interpret Any+AllOf({mask}) {action}")?.as_str())?;
+    }
+    Ok(items)
+}
+
 #[test]
 fn named_keysyms_then_conditions_then_places_decide(rt: HostRuntime) -> Result<(), Fail> {
-    let rows: [(&[u8], u32, bool, u8, &str); 14] = [
-        (ANY_AND_NAMED, 0x61, FIRST, 1, "latch"),
-        (ANY_AND_NAMED, 0x61, FIRST, 0, "lock"),
-        (ANY_AND_NAMED, 0x62, FIRST, 1, "set"),
-        (ANY_AND_NAMED, 0x62, FIRST, 0, "none"),
-        (CONDITIONS, 0x61, FIRST, 0, "no"),
-        (CONDITIONS, 0x61, FIRST, 3, "setgroup"),
-        (CONDITIONS, 0x61, BEHIND, 3, "lockgroup"),
-        (CONDITIONS, 0x61, FIRST, 5, "lockgroup"),
-        (CONDITIONS, 0x61, FIRST, 4, "lock"),
-        (CONDITIONS, 0x61, FIRST, 2, "latch"),
-        (CONDITIONS, 0x61, FIRST, 10, "latch"),
-        (FIRST_LEVELS, 0x61, FIRST, 1, "set"),
-        (FIRST_LEVELS, 0x61, BEHIND, 1, "lock"),
-        (FIRST_LEVELS, 0x61, FIRST, 2, "none"),
-    ];
-    for (items, keysym, first_level, modmap, wanted) in rows {
+    for (items, keysym, first_level, modmap, wanted) in ROWS {
         let (found, _notes) = interpretations_of(rt.alloc(), ITEMS, items)?;
         let action = chosen(&found, keysym, first_level, modmap);
         assert_eq!(rt; action, wanted, "{:?}", items);
+    }
+    Ok(())
+}
+
+#[test]
+fn among_many_the_same_are_chosen(rt: HostRuntime) -> Result<(), Fail> {
+    let crowd = crowd(rt.alloc())?;
+    for (items, keysym, first_level, modmap, wanted) in ROWS {
+        let mut all = Vec::from_slice(rt.alloc(), crowd.as_bytes())?;
+        all.extend_from_slice(items)?;
+        let (found, _notes) = interpretations_of(rt.alloc(), ITEMS, all.as_slice())?;
+        assert_eq!(rt;
+            chosen(&found, keysym, first_level, modmap),
+            wanted,
+            "{:?}",
+            items
+        );
+        assert_eq!(rt; chosen(&found, keysym, FIRST, 129), "other");
     }
     Ok(())
 }

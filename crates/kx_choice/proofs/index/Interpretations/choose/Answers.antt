@@ -1,4 +1,4 @@
-use Rattle.std.proofs.Common.{ap, filter, subst, sym, ◌∙◌}
+use Rattle.std.proofs.Common.{ap, filter, refl, subst, sym, ◌∙◌}
 use Rattle.std.specs.Option.{option_map}
 use Rattle.kx_mods.specs.Mods.{mask}
 use Rattle.kx_choice.specs.Indexed.{is_for_any, is_named}
@@ -9,14 +9,14 @@ use Rattle.kx_choice.proofs.index.Interpretations.choose.Goals as goal
 
 pub returns-in-Some-clause-value : goal.returns-in-Some-clause-value
 returns-in-Some-clause-value c =
-    let named = c.bucket_in.ensures ∙ c.self.invariant.named_are c.args.keysym ∙ ap (filter (is_named c.args.keysym)) c.self.view_is in
-    chosen_named c.args.first_level (mask c.args.modmap) c.args.keysym c.args.self.now c.bucket_in.result.now named (option_map (λ i. i.now) c.least_allowed.result) c.in-Some.interpretation.now (ap (option_map (λ i. i.now)) c.in-Some.is) c.least_allowed.ensures
+    let named = filter (is_named c.args.keysym) c.args.self.now in
+    chosen_named c.args.first_level (mask c.args.modmap) c.args.keysym c.args.self.now named refl (option_map (λ i. i.now) c.choose_named.result) c.in-Some.interpretation.now (ap (option_map (λ i. i.now)) c.in-Some.is) c.choose_named.ensures
 
 pub returns-in-None-clause-value : goal.returns-in-None-clause-value
 returns-in-None-clause-value c =
-    let named = c.bucket_in.ensures ∙ c.self.invariant.named_are c.args.keysym ∙ ap (filter (is_named c.args.keysym)) c.self.view_is in
-    let any = c.as_slice.ensures.value ∙ c.self.invariant.any_are ∙ ap (filter is_for_any) c.self.view_is in
-    chosen_any c.args.first_level (mask c.args.modmap) c.args.keysym c.args.self.now c.bucket_in.result.now named (option_map (λ i. i.now) c.least_allowed.result) (option_map (λ i. i.now) c.least_allowed-in-None.result) c.as_slice.result.now any (ap (option_map (λ i. i.now)) c.in-None.is) c.least_allowed.ensures c.least_allowed-in-None.ensures
+    let named = filter (is_named c.args.keysym) c.args.self.now in
+    let any = c.self.invariant.any_are ∙ ap (filter is_for_any) c.self.view_is in
+    chosen_any c.args.first_level (mask c.args.modmap) c.args.keysym c.args.self.now named refl (option_map (λ i. i.now) c.choose_named.result) (option_map (λ i. i.now) c.choose.result) _ any (ap (option_map (λ i. i.now)) c.in-None.is) c.choose_named.ensures c.choose.ensures
 
 pub returns-in-Some-clause-first : goal.returns-in-Some-clause-first
 returns-in-Some-clause-first c =
