@@ -14,7 +14,6 @@ ghost use Rattle.kx_typing.specs.GroupTypes.{has_action};
 ghost use Rattle.kx_types.specs.Types.{type_named};
 
 use crate::deeds::InterpretedKey;
-use kx_basics::CODES;
 use kx_choice::Interpretations;
 use kx_codes::Codes;
 use kx_lex::Fault;
@@ -110,7 +109,7 @@ fn bearers_of(
     ensures err { IfErr result (λ e. e ≡ Memory) }
 {
     let mut bearers = Vec::new(alloc);
-    'codes: for code in 0..CODES {
+    'codes: for code in 0..codes.end() {
         add_code(
             &mut bearers,
             codes,

@@ -1,6 +1,7 @@
 mod Alone
 mod Behind
 mod Distinct
+pub mod Ends
 mod Entries
 mod Matching
 mod Putting

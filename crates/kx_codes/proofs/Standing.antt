@@ -282,20 +282,25 @@ all_stand es u mode x g is ps qs dp s at =
     (λ c h. code_of_name (coded es) c name dv (names c ∙ name_of_code qs c name s.distinct_are h)) in
     order_stands ps (coded es) qs dv s.distinct_are codes names mode x dp (subst (λ vs. Stands x (all_taken mode ps vs)) (sym is) at)
 
+pub within_at : (vs : List Pair) (i : ℕ) (p : Pair) → slice_get vs i ≡ Some p → i < length vs
+within_at [] i p h = absurd (false≢true (ap is_some h))
+within_at (v ∷ vs) zero p h = omega arith
+within_at (v ∷ vs) (suc i) p h = omega (arith, within_at vs i p h)
+
+pub got_at : (vs : List Pair) (i : ℕ) (p : Pair) → slice_get vs i ≡ Some p → get_or vs i p ≡ p
+got_at [] i p h = refl
+got_at (v ∷ vs) zero p h = some_same v p h
+got_at (v ∷ vs) (suc i) p h = got_at vs i p h
+
+pub none_at : (es : List (ℕ × List ℕ)) (i : ℕ) → slice_get es i ≡ None → (p : Pair) → slice_get (coded es) i ≡ Some p → ⊥
+none_at [] i h p is = false≢true (ap is_some is)
+none_at (e ∷ es) zero h p is = false≢true (ap is_some (sym h))
+none_at (e ∷ es) (suc i) h p is = none_at es i h p is
+
 -- the steps of the loop over others
 pub next_taken : (mode : Mode) (x : Indexed) (ps vs : List Pair) (i : ℕ) (p : Pair) → slice_get vs i ≡ Some p → Stands x (taken mode (all_taken mode ps (take i vs)) p) → Stands x (all_taken mode ps (take (i + 1) vs))
 next_taken mode x ps vs i p is s =
-    subst (λ qs. Stands x qs) (sym (fold_more (taken mode) ps vs i p (within vs i p is) ∙ ap (taken mode (all_taken mode ps (take i vs))) (got vs i p is))) s
-  where
-    within : (vs : List Pair) (i : ℕ) (p : Pair) → slice_get vs i ≡ Some p → i < length vs
-    within [] i p h = absurd (false≢true (ap is_some h))
-    within (v ∷ vs) zero p h = omega arith
-    within (v ∷ vs) (suc i) p h = omega (arith, within vs i p h)
-
-    got : (vs : List Pair) (i : ℕ) (p : Pair) → slice_get vs i ≡ Some p → get_or vs i p ≡ p
-    got [] i p h = refl
-    got (v ∷ vs) zero p h = some_same v p h
-    got (v ∷ vs) (suc i) p h = got vs i p h
+    subst (λ qs. Stands x qs) (sym (fold_more (taken mode) ps vs i p (within_at vs i p is) ∙ ap (taken mode (all_taken mode ps (take i vs))) (got_at vs i p is))) s
 
 pub some_at : (vs : List Pair) (i : ℕ) → i < length vs → (p : Pair) × (slice_get vs i ≡ Some p)
 some_at [] i h = absurd (omega (arith, h))

@@ -1,6 +1,7 @@
 -- The keycodes of names and the names of keycodes.
-use Rattle.std.specs.Prelude.{◌≡◌, ℕ, List, map, Option}
+use Rattle.std.specs.Prelude.{◌≡◌, ◌≤◌, ◌<◌, ◌+◌, ℕ, List, map, Option, None, IsSome}
 use Rattle.std.specs.Option.{option_and_then, option_or}
+use Rattle.kx_basics.specs.declared.limits.TheConstants.{CODES}
 use Rattle.kx_include.specs.Expansion.{Body}
 use Rattle.kx_codes.specs.Aliases.{Alias, aliases_of, target_in}
 use Rattle.kx_codes.specs.Pairs.{Pair, pairs_of, code_in, name_in}
@@ -28,6 +29,12 @@ code_of c name = option_or (paired c name) (option_and_then (paired c) (target_i
 -- the name of a code's pair
 abbrev pub name_of : Codes → ℕ → Option (List ℕ)
 name_of c code = name_in c.by_code code
+
+-- where the codes with names end: behind the greatest, or at 0 where no code has a name
+pub record IsEnd (end : ℕ) (name : ℕ → Option (List ℕ)) : Type 0 where
+  pub within : end ≤ CODES
+  pub unnamed : (code : ℕ) → end ≤ code → code < CODES → name code ≡ None
+  pub greatest : (code : ℕ) → end ≡ code + 1 → IsSome (name code)
 
 -- what codes show of a keycodes body: of each name the code of its pair, of each code the name of its pair, and of each
 -- name its target as an alias

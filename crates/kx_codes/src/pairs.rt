@@ -1,14 +1,17 @@
-ghost use Rattle.std.specs.Prelude.{◌≡◌, ◌++◌, ◌∷◌, [], ◌≤◌, false, not, nat_eq, filter, slice_get, IfErr, IfSome, OnOk, List, Some};
+ghost use Rattle.std.specs.Prelude.{◌≡◌, ◌++◌, ◌∷◌, [], ◌≤◌, ◌<◌, ◌+◌, ℕ, false, not, nat_eq, filter, slice_get, IfErr, IfSome, IsSome, OnOk, List, Some};
 ghost use Rattle.std.specs.List.{list_any};
 ghost use Rattle.std.specs.Option.{option_map};
 ghost use Rattle.std.specs.Str.{bytes_eq};
 ghost use Rattle.kx_lex.specs.declared.fault.Fault.TheVariants.{Memory};
 ghost use Rattle.kx_codes.specs.Indexed.{Stands};
 ghost use Rattle.kx_basics.specs.KeyNames.{IsKeyName};
+ghost use Rattle.kx_basics.specs.declared.limits.TheConstants.{CODES};
+ghost use Rattle.kx_codes.specs.Codes.{IsEnd};
 ghost use Rattle.kx_codes.specs.Pairs.{Pair as PairValue, shares, taken, all_taken, code_in, name_in};
 
 use crate::name::PairName;
 use indexmap::IndexMap;
+use kx_basics::CODES;
 use kx_lex::Fault;
 use kx_parse::Mode;
 use std::alloc::Global;
@@ -54,6 +57,33 @@ impl Pairs {
             Some(name) => Some(name.as_slice()),
             None => None,
         }
+    }
+
+    /// One more than the keycode of the pair at a place, where it is a keycode, else 0.
+    fn end_at(&self, place: usize) -> u16
+        ensures within { result ≤ CODES }
+        ensures above { (p : PairValue) → slice_get self.now.by_code place ≡ Some p → p.code < CODES → p.code < result }
+        ensures named { (code : ℕ) → result ≡ code + 1 → IsSome (name_in self.now.by_code code) }
+    {
+        match self.names.get_index(place) {
+            None => 0,
+            Some((code, _)) if *code >= CODES => 0,
+            Some((code, _)) => *code + 1,
+        }
+    }
+
+    /// One more than the greatest keycode that has a name, or 0 where none has one.
+    pub(crate) fn end(&self) -> u16
+        ensures { IsEnd result (name_in self.now.by_code) }
+    {
+        let mut end = 0;
+        'places: for place in 0..self.names.len() {
+            let behind = self.end_at(place);
+            if end < behind {
+                end = behind;
+            }
+        }
+        end
     }
 
     /// Whether a pair has the name or the code.

@@ -1,7 +1,7 @@
 ghost use Rattle.std.specs.Prelude.{◌≡◌, ℕ, List, IfSome};
 ghost use Rattle.std.specs.Option.{option_map};
 ghost use Rattle.kx_codes.specs.Aliases.{target_in};
-ghost use Rattle.kx_codes.specs.Codes.{code_of, name_of, paired};
+ghost use Rattle.kx_codes.specs.Codes.{IsEnd, code_of, name_of, paired};
 ghost use Rattle.kx_basics.specs.KeyNames.{IsKeyName};
 ghost use Rattle.kx_codes.specs.Pairs.{code_in, name_in};
 
@@ -54,5 +54,12 @@ impl Codes {
         ensures fine { IfSome result (λ name. IsKeyName name.now) }
     {
         self.pairs.name_of(code)
+    }
+
+    /// One more than the greatest keycode that has a name, or 0 where none has one.
+    pub fn end(&self) -> u16
+        ensures { IsEnd result (name_of self.now) }
+    {
+        self.pairs.end()
     }
 }

@@ -1,5 +1,5 @@
 -- What one number more makes of the places of a keysym.
-use Rattle.std.proofs.Common.{ℕ, zero, suc, ◌+◌, ◌≡◌, List, [], ◌++◌, Option, None, Some, refl, subst, ap, ◌∙◌, arith}
+use Rattle.std.proofs.Common.{ℕ, zero, suc, ◌+◌, ◌≡◌, List, [], ◌++◌, append-nil, Option, None, Some, refl, subst, ap, ◌∙◌, arith}
 use Rattle.kx_typing.specs.Given.{KeyGiven, given_in}
 use Rattle.kx_typing.specs.GroupTypes.{group_count, group_levels, groups_within}
 use Rattle.kx_types.specs.KeyTypes.{Definition}
@@ -35,6 +35,10 @@ module _ (keysym : ℕ) where
     pub below_next : (n : ℕ) → places_below keysym m (n + 1) ≡ places_below keysym m n ++ key_places keysym m.declared n (m.name n) (m.key n)
     unfolding places_below
     below_next n = subst (λ k. places_below keysym m k ≡ places_below keysym m n ++ key_places keysym m.declared n (m.name n) (m.key n)) (one_more n) refl
+
+    -- a code without a name has none
+    pub unnamed_places : (n : ℕ) → m.name n ≡ None → places_below keysym m (n + 1) ≡ places_below keysym m n
+    unnamed_places n none = below_next n ∙ ap (λ o. places_below keysym m n ++ key_places keysym m.declared n o (m.key n)) none ∙ append-nil (places_below keysym m n)
 
     pub first_is : first_of (places_below keysym m 4096) ≡ first_place keysym m
     unfolding first_place

@@ -17,7 +17,6 @@ ghost use Rattle.kx_mapped.specs.Read.{mapping_of};
 
 use crate::places::Place;
 use indexmap::IndexMap;
-use kx_basics::CODES;
 use kx_codes::Codes;
 use kx_lex::Fault;
 use kx_modmaps::ModifierMaps;
@@ -82,7 +81,7 @@ fn visit_code(firsts: &mut FirstPlaces, codes: &Codes, types: &Types, keys: &Key
 fn visit_codes(firsts: &mut FirstPlaces, codes: &Codes, types: &Types, keys: &Keys)
     ensures { (maps : Maps) → Visits (λ k. places_below k (mapping_of codes.now types.now keys.now maps) CODES) (get nat_eq firsts.old) (get nat_eq firsts.new) }
 {
-    'codes: for code in 0..CODES {
+    'codes: for code in 0..codes.end() {
         visit_code(firsts, codes, types, keys, code);
     }
 }

@@ -1,6 +1,7 @@
 mod Agree
 mod Ending
 mod Fine
+mod Gathering
 mod Growing
 mod Lamps
 mod Names

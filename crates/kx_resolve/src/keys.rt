@@ -22,7 +22,6 @@ ghost use Rattle.kx_types.specs.Types.{type_named};
 
 use crate::read::Read;
 use ks_core::{Note, Notes};
-use kx_basics::CODES;
 use kx_bearing::deed;
 use kx_builder::{BuildFault, Builder};
 use kx_choice::Interpretations;
@@ -298,7 +297,7 @@ pub(crate) fn push_keys(
     ensures small { OnOk result (IsSmall builder.new) }
     ensures err { IfErr result (λ e. e ≡ Memory) }
 {
-    'codes: for code in 0..CODES {
+    'codes: for code in 0..read.codes.end() {
         push_code(builder, read, used, code, notes)?;
     }
     Ok(())

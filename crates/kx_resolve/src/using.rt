@@ -19,7 +19,6 @@ ghost use Rattle.kx_types.specs.Types.{type_named};
 ghost use Rattle.kx_types.specs.declared.limits.TheConstants.{MOST_TYPES};
 
 use crate::keys::refused;
-use kx_basics::CODES;
 use kx_builder::Builder;
 use kx_codes::Codes;
 use kx_levels::TypeRows;
@@ -73,7 +72,7 @@ pub(crate) fn types_used(
     ensures err { IfErr result (λ e. e ≡ Memory) }
 {
     let mut used = Names::new(alloc);
-    'codes: for code in 0..CODES {
+    'codes: for code in 0..codes.end() {
         use_code(alloc, codes, types, keys, code, &mut used)?;
     }
     prove!(used.len() <= types.len() + 1);

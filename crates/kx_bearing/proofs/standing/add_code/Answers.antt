@@ -1,4 +1,4 @@
-use Rattle.std.proofs.Common.{ℕ, [], ap, sym}
+use Rattle.std.proofs.Common.{[], ap, sym}
 use Rattle.kx_bearing.proofs.Borne.{absent_brings}
 use Rattle.kx_bearing.proofs.Names.{or_false}
 use Rattle.kx_bearing.specs.Bearers.{is_brought}

@@ -1,7 +1,10 @@
-use Rattle.std.proofs.Common.{◌≡◌, ◌||◌, ℕ, [], Bool, ap, sym, ◌∙◌, arith}
+use Rattle.std.proofs.Common.{◌≡◌, ◌||◌, [], ap, sym, ◌∙◌, arith}
+use Rattle.kx_bearing.proofs.Borne.{unnamed_brings}
 use Rattle.kx_bearing.specs.Bearers.{is_brought}
 use Rattle.kx_bearing.specs.Bearing.{Reading, brings}
 use Rattle.kx_bearing.specs.Read.{reading_of}
+use Rattle.kx_codes.proofs.Ends.{all_gathered}
+use Rattle.kx_codes.specs.Codes.{name_of}
 use Rattle.kx_mapped.specs.Modmaps.{modmap_at}
 use Rattle.kx_masks.specs.Sets.{any_below}
 use Rattle.kx_typing.proofs.Acting.{any_next, any_none}
@@ -21,5 +24,5 @@ codes-preserved c = λ number real.
 pub returns-clause-all : goal.returns-clause-all
 returns-clause-all c = λ number real.
     let r : Reading = reading_of c.args.codes.now c.args.types.now c.args.keys.now (modmap_at c.args.modmaps.now) c.args.interpretations.now [] in
-    let all : c.codes.code ≡ 4096 = omega (arith, c.codes-test.false, c.codes.auto.code-end) in
-    c.codes.invariant number real ∙ ap (λ n. any_below n (brings r number real)) all
+    let all : c.codes.code ≡ c.end-code-end.result = omega (arith, c.codes-test.false, c.codes.auto.code-end) in
+    c.codes.invariant number real ∙ ap (λ n. any_below n (brings r number real)) all ∙ sym (all_gathered (λ n. any_below n (brings r number real)) c.end-code-end.result (name_of c.args.codes.now) c.end-code-end.ensures (unnamed_brings r number real))

@@ -1,4 +1,4 @@
-use Rattle.std.proofs.Common.{◌≡◌, ◌||◌, ◌≤◌, ◌+◌, ◌++◌, ◌∷◌, [], ℕ, Bool, take, length, ap, sym, ◌∙◌, arith}
+use Rattle.std.proofs.Common.{◌≡◌, ◌||◌, ◌≤◌, ◌+◌, ◌++◌, ◌∷◌, [], take, length, ap, sym, ◌∙◌}
 use Rattle.std.proofs.lemmas.List.{take_all, take_more}
 use Rattle.kx_bearing.specs.Bearers.{is_brought}
 use Rattle.kx_bearing.proofs.Brought.{brought_none, brought_push}

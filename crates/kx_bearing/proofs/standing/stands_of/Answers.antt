@@ -1,10 +1,9 @@
-use Rattle.std.proofs.Common.{◌≡◌, ◌||◌, ◌<◌, ◌+◌, ◌++◌, ◌∷◌, [], ℕ, Bool, length, ap, sym, subst, ◌∙◌, arith}
+use Rattle.std.proofs.Common.{◌≡◌, ◌||◌, ◌+◌, ◌∷◌, [], ℕ, Bool, length, ap, ◌∙◌, arith}
 use Rattle.std.proofs.lemmas.List.{length-append}
 use Rattle.kx_bearing.specs.Bearers.{is_brought}
 use Rattle.kx_bearing.proofs.Brought.{stands_push}
 use Rattle.kx_masks.specs.Sets.{has}
 use Rattle.kx_masks.specs.Standing.{stands_for}
-use Rattle.kx_mods.specs.declared.mods.Mods.{Mods}
 use Rattle.kx_bearing.proofs.standing.stands_of.Goals as goal
 
 pub numbers-init : goal.numbers-init

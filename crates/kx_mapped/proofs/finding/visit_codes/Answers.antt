@@ -1,7 +1,10 @@
-use Rattle.std.proofs.Common.{◌≡◌, arith, nat_eq, subst}
+use Rattle.std.proofs.Common.{◌≡◌, ap, arith, nat_eq, subst, sym, ◌∙◌}
+use Rattle.std.proofs.Math.Path.{fun_ext}
 use Rattle.indexmap.specs.IndexMap.{get}
 use Rattle.kx_mapped.proofs.Visiting.{visits_none}
-use Rattle.kx_mapped.proofs.Steps.{below_none}
+use Rattle.kx_codes.proofs.Ends.{all_gathered}
+use Rattle.kx_codes.specs.Codes.{name_of}
+use Rattle.kx_mapped.proofs.Steps.{below_none, unnamed_places}
 use Rattle.kx_mapped.proofs.Walking.{visits_code}
 use Rattle.kx_mapped.specs.Finding.{Visits}
 use Rattle.kx_mapped.specs.Mapping.{places_below}
@@ -21,5 +24,6 @@ codes-preserved c = λ maps.
 pub returns : goal.returns
 returns c = λ maps.
     let m = mapping_of c.args.codes.now c.args.types.now c.args.keys.now maps in
-    let all : c.codes.code ≡ 4096 = omega (arith, c.codes-test.false, c.codes.auto.code-end) in
-    subst (λ n. Visits (λ k. places_below k m n) (get nat_eq c.args.firsts.now) (get nat_eq c.codes.firsts)) all (c.codes.invariant maps)
+    let all : c.codes.code ≡ c.end-code-end.result = omega (arith, c.codes-test.false, c.codes.auto.code-end) in
+    let same = fun_ext (λ k. ap (places_below k m) all ∙ sym (all_gathered (places_below k m) c.end-code-end.result (name_of c.args.codes.now) c.end-code-end.ensures (unnamed_places k m))) in
+    subst (λ places. Visits places (get nat_eq c.args.firsts.now) (get nat_eq c.codes.firsts)) same (c.codes.invariant maps)

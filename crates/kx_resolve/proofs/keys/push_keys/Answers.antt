@@ -3,6 +3,7 @@ use Rattle.kx_builder.specs.Resolved.{Resolved}
 use Rattle.kx_mapped.specs.Modmaps.{modmap_at}
 use Rattle.kx_masks.specs.Sets.{real_of}
 use Rattle.kx_masks.specs.Standing.{stands_for}
+use Rattle.kx_resolve.proofs.Gathering.{bounds_whole, keys_whole}
 use Rattle.kx_resolve.proofs.Steps.{below_next, below_none}
 use Rattle.kx_resolve.proofs.Whole.{below_few, bounds_next}
 use Rattle.kx_resolve.specs.Bounds.{BoundsBelow}
@@ -38,14 +39,19 @@ pub push_code-requires-clause-few : goal.push_code-requires-clause-few
 push_code-requires-clause-few c =
     let keyed : Keyed = keyed_of (real_of (stands_for c.args.read.stands.now)) c.args.read.codes.now c.args.read.keys.now (modmap_at c.args.read.modmaps.now) c.args.read.interpretations.now in
     let count : length c.codes.builder.keys ≡ length (keys_below (type_named c.args.read.types.now) c.args.used.now keyed c.codes.code) = ap (λ (r : Resolved). length r.keys) c.codes.invariant.0 in
-    omega (arith, c.codes-test.true, count, below_few (type_named c.args.read.types.now) c.args.used.now keyed c.codes.code)
+    omega (arith, c.codes-test.true, c.end-code-end.ensures.within, count, below_few (type_named c.args.read.types.now) c.args.used.now keyed c.codes.code)
 
 pub returns-clause-pushed : goal.returns-clause-pushed
 returns-clause-pushed c =
-    let all : c.codes.code ≡ 4096 = omega (arith, c.codes-test.false, c.codes.auto.code-end) in
-    c.codes.invariant.0 ∙ (λ i. record c.args.builder.now { keys = keys_below (type_named c.args.read.types.now) c.args.used.now (keyed_of (real_of (stands_for c.args.read.stands.now)) c.args.read.codes.now c.args.read.keys.now (modmap_at c.args.read.modmaps.now) c.args.read.interpretations.now) (all i) })
+    let declared = type_named c.args.read.types.now in
+    let keyed : Keyed = keyed_of (real_of (stands_for c.args.read.stands.now)) c.args.read.codes.now c.args.read.keys.now (modmap_at c.args.read.modmaps.now) c.args.read.interpretations.now in
+    let all : c.codes.code ≡ c.end-code-end.result = omega (arith, c.codes-test.false, c.codes.auto.code-end) in
+    let whole = ap (keys_below declared c.args.used.now keyed) all ∙ sym (keys_whole declared c.args.used.now keyed c.end-code-end.result c.end-code-end.ensures) in
+    c.codes.invariant.0 ∙ (λ i. record c.args.builder.now { keys = whole i })
 
 pub returns-clause-bounds : goal.returns-clause-bounds
 returns-clause-bounds c =
-    let all : c.codes.code ≡ 4096 = omega (arith, c.codes-test.false, c.codes.auto.code-end) in
-    subst (BoundsBelow (type_named c.args.read.types.now) (keyed_of (real_of (stands_for c.args.read.stands.now)) c.args.read.codes.now c.args.read.keys.now (modmap_at c.args.read.modmaps.now) c.args.read.interpretations.now)) all c.codes.invariant.2
+    let declared = type_named c.args.read.types.now in
+    let keyed : Keyed = keyed_of (real_of (stands_for c.args.read.stands.now)) c.args.read.codes.now c.args.read.keys.now (modmap_at c.args.read.modmaps.now) c.args.read.interpretations.now in
+    let all : c.codes.code ≡ c.end-code-end.result = omega (arith, c.codes-test.false, c.codes.auto.code-end) in
+    bounds_whole declared keyed c.end-code-end.result c.end-code-end.ensures (subst (BoundsBelow declared keyed) all c.codes.invariant.2)
