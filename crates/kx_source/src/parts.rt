@@ -1,7 +1,8 @@
 //! The tables of what is read of a source's bodies.
-ghost use Rattle.std.specs.Prelude.{◌≡◌, ◌∷◌, ◌++◌, [], Contains, IfErr, IfOk, OnOk};
+ghost use Rattle.std.specs.Prelude.{◌≡◌, ◌∷◌, ◌++◌, [], Contains, IfErr, IfOk, List, OnOk};
+ghost use Rattle.ks_core.specs.Entry.{Entry};
 ghost use Rattle.kx_codes.specs.Codes.{name_of};
-ghost use Rattle.kx_compat.specs.Meaning.{compat_faults};
+ghost use Rattle.kx_compat.specs.Meaning.{compat_faults, interpretations_of};
 ghost use Rattle.kx_include.specs.Shared.{expanded_body};
 ghost use Rattle.kx_lamps.specs.Meaning.{lamps_faults};
 ghost use Rattle.kx_lex.specs.declared.fault.Fault.TheVariants.{Memory};
@@ -66,6 +67,48 @@ fn lit_parts(
     Ok(made)
 }
 
+/// The tables of keys and types, with what the keymap says besides by interpretations that are read, and what was passed
+/// over, these `passed` among it.
+fn standing_parts(
+    alloc: Global,
+    bodies: &Bodies,
+    modifiers: &ModNames,
+    codes: &Codes,
+    types: &Types,
+    mapped: &MappedKeys,
+    interpretations: &Interpretations,
+    passed: Notes,
+) -> Result<(Parts, Notes), Fault>
+    ensures interpreted { (names : List Entry) → interpretations.now ≡ interpretations_of names modifiers.now.names (expanded_body bodies.now.compat) → IfOk result (λ made. IsInterpreted names modifiers.now (expanded_body bodies.now.compat) (expanded_body bodies.now.symbols) codes.now types.now mapped.now.keys (modmap_at mapped.now.modmaps) (content_of made.0)) }
+    ensures sound { OneCode (name_of codes.now) → IfOk result (λ made. Sound (content_of made.0)) }
+    ensures faultless_names { OnOk result (names_faults (expanded_body bodies.now.symbols) ≡ []) }
+    ensures faultless_lamps { OnOk result (lamps_faults modifiers.now.names (expanded_body bodies.now.compat) ≡ []) }
+    ensures fault { IfErr result (λ e. Contains (Memory ∷ (names_faults (expanded_body bodies.now.symbols) ++ lamps_faults modifiers.now.names (expanded_body bodies.now.compat))) e) }
+{
+    let declared = modifiers.declared_masks();
+    let (keys, modmaps) = (&mapped.keys, &mapped.modmaps);
+    let stands = standings(
+        alloc,
+        codes,
+        types,
+        keys,
+        modmaps,
+        interpretations,
+        declared,
+    )?;
+    let (parts, lost) = lit_parts(
+        alloc,
+        bodies,
+        modifiers,
+        codes,
+        types,
+        mapped,
+        interpretations,
+        stands.as_slice(),
+    )?;
+    Ok((parts, passed.saturating_add(lost)))
+}
+
 /// The tables of keys and types, with what the keymap says besides, and what was passed over in it.
 fn interpreted_parts(
     alloc: Global,
@@ -84,18 +127,7 @@ fn interpreted_parts(
     ensures fault { IfErr result (λ e. Contains (Memory ∷ (compat_faults names.now modifiers.now.names (expanded_body bodies.now.compat) ++ (names_faults (expanded_body bodies.now.symbols) ++ lamps_faults modifiers.now.names (expanded_body bodies.now.compat)))) e) }
 {
     let (interpretations, passed) = interpretations(alloc, &bodies.compat, modifiers, names)?;
-    let declared = modifiers.declared_masks();
-    let (keys, modmaps) = (&mapped.keys, &mapped.modmaps);
-    let stands = standings(
-        alloc,
-        codes,
-        types,
-        keys,
-        modmaps,
-        &interpretations,
-        declared,
-    )?;
-    let (parts, lost) = lit_parts(
+    standing_parts(
         alloc,
         bodies,
         modifiers,
@@ -103,9 +135,8 @@ fn interpreted_parts(
         types,
         mapped,
         &interpretations,
-        stands.as_slice(),
-    )?;
-    Ok((parts, passed.saturating_add(lost)))
+        passed,
+    )
 }
 
 /// The tables of bodies whose codes and types are read, and what was passed over.
