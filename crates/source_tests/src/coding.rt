@@ -143,3 +143,17 @@ fn long_names_are_refused(rt: HostRuntime) -> Result<(), Fail> {
     }
     Ok(())
 }
+
+#[test]
+fn codes_end_behind_the_greatest_with_a_name(rt: HostRuntime) -> Result<(), Fail> {
+    let rows: [(&[u8], u16); 4] = [
+        (b"", 0),
+        (b"<A>=38; <B>=9;", 39),
+        (b"<A>=38; <B>=9; <A>=4;", 10),
+        (b"<A>=4095;", 4096),
+    ];
+    for (items, wanted) in rows {
+        assert_eq!(rt; codes_of(&rt, items)?.end(), wanted, "{:?}", items);
+    }
+    Ok(())
+}

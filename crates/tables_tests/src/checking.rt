@@ -1,6 +1,7 @@
 use kx_mods::Mods;
 use kx_tables::*;
 use std::alloc::{AllocError, Global};
+use std::process::Abort;
 use std::test::Fail;
 
 #[test]
@@ -60,9 +61,7 @@ fn one_key(alloc: Global, code: u16) -> Result<Parts, AllocError> {
     })
 }
 
-#[test]
-fn takes_sound_tables(rt: HostRuntime) -> Result<(), Fail> {
-    let tables = Owned::new(one_key(rt.alloc(), 38)?).ok().ok_or("unsound")?;
+fn shows_one_key(rt: &impl Abort, tables: &Owned) {
     assert_eq!(rt; tables.key_of(38), Some(0));
     assert_eq!(rt; tables.key_of(37), None);
     assert_eq!(rt; tables.greatest_groups(), 1);
@@ -71,6 +70,12 @@ fn takes_sound_tables(rt: HostRuntime) -> Result<(), Fail> {
     assert!(rt; tables.key_name(0) == b"A".as_slice());
     assert!(rt; tables.type_name(0) == b"ONE_LEVEL".as_slice());
     assert_eq!(rt; tables.keysym(0), 0x61);
+}
+
+#[test]
+fn takes_sound_tables(rt: HostRuntime) -> Result<(), Fail> {
+    let tables = Owned::new(one_key(rt.alloc(), 38)?).ok().ok_or("unsound")?;
+    shows_one_key(&rt, &tables);
     Ok(())
 }
 
@@ -101,6 +106,11 @@ fn with_indicators(alloc: Global, count: u32) -> Result<Parts, AllocError> {
     Ok(parts)
 }
 
+/// What tables with so many indicators are refused for.
+fn refused_for(alloc: Global, count: u32) -> Result<Option<Broken>, Fail> {
+    Ok(Owned::new(with_indicators(alloc, count)?).err())
+}
+
 #[test]
 fn names_the_indicator_past_the_last_place(rt: HostRuntime) -> Result<(), Fail> {
     let indicator_32 = Broken {
@@ -108,7 +118,7 @@ fn names_the_indicator_past_the_last_place(rt: HostRuntime) -> Result<(), Fail> 
         index: 32,
     };
     for count in [33, 65_536] {
-        let refused = Owned::new(with_indicators(rt.alloc(), count)?).err();
+        let refused = refused_for(rt.alloc(), count)?;
         assert_eq!(rt; refused, Some(indicator_32), "{count}");
     }
     Ok(())

@@ -16,8 +16,17 @@ use sample::{
     A_LOWER, A_UPPER, Built, SHIFT_L, desktop, desktop_with_two_groups,
     desktop_without_third_level, ranges,
 };
+use std::process::Abort;
 use std::test::Fail;
 use steps::plays;
+
+fn desktop_tables(rt: &HostRuntime) -> Result<Owned, Fail> {
+    desktop(rt.alloc())?.finish()
+}
+
+fn on_a_desktop(rt: &HostRuntime) -> Result<Player<Owned>, Fail> {
+    Ok(Player::start(rt.alloc(), desktop_tables(rt)?)?)
+}
 
 /// Plays each run from the opening state of the desktop keymap.
 #[test]
@@ -34,16 +43,13 @@ fn answers_on_a_desktop(rt: HostRuntime) -> Result<(), Fail> {
         &THIRD_LEVEL,
     ];
     for run in runs {
-        let mut player = Player::start(rt.alloc(), desktop(rt.alloc())?.finish()?)?;
+        let mut player = on_a_desktop(&rt)?;
         plays(&rt, &mut player, run);
     }
     Ok(())
 }
 
-/// Far more keys are let go than are held, so the entries that they left are dropped while Shift is down.
-#[test]
-fn holds_shift_through_many_taps(rt: HostRuntime) -> Result<(), Fail> {
-    let mut player = Player::start(rt.alloc(), desktop(rt.alloc())?.finish()?)?;
+fn taps_under_shift(rt: &impl Abort, player: &mut Player<Owned>) {
     let _ = player.event(50, Direction::Down);
     for _ in 0..200 {
         let reply = player.event(38, Direction::Down);
@@ -53,6 +59,13 @@ fn holds_shift_through_many_taps(rt: HostRuntime) -> Result<(), Fail> {
     assert_eq!(rt; player.event(50, Direction::Up).state.base, Mods::NONE);
     let reply = player.event(38, Direction::Down);
     assert_eq!(rt; reply.syms.as_slice(), [A_LOWER].as_slice());
+}
+
+/// Far more keys are let go than are held, so the entries that they left are dropped while Shift is down.
+#[test]
+fn holds_shift_through_many_taps(rt: HostRuntime) -> Result<(), Fail> {
+    let mut player = on_a_desktop(&rt)?;
+    taps_under_shift(&rt, &mut player);
     Ok(())
 }
 
@@ -101,9 +114,10 @@ fn knows_no_key_of_empty_tables(rt: HostRuntime) -> Result<(), Fail> {
     Ok(())
 }
 
-#[test]
-fn runs_a_list(rt: HostRuntime) -> Result<(), Fail> {
-    let mut player = Player::start(rt.alloc(), desktop(rt.alloc())?.finish()?)?;
+fn runs_two_presses(
+    rt: &(impl Abort + AllocGlobal),
+    player: &mut Player<Owned>,
+) -> Result<(), Fail> {
     let shift = Event {
         code: 50,
         direction: Direction::Down,
@@ -120,16 +134,14 @@ fn runs_a_list(rt: HostRuntime) -> Result<(), Fail> {
     Ok(())
 }
 
-/// A growth that is refused gives the error, and the player answers as if it had not been asked. What a refusal
-/// gives is seen by `rt try --test --fail-alloc N`: this test fails in the making of the tables alone, and ends well
-/// where `start` or `run` is refused.
 #[test]
-fn changes_nothing_where_memory_is_refused(rt: HostRuntime) -> Result<(), Fail> {
-    let tables = desktop(rt.alloc())?.finish()?;
-    let Ok(mut player) = Player::start(rt.alloc(), tables) else {
-        return Ok(());
-    };
-    plays(&rt, &mut player, &SHIFT_HELD[..3]);
+fn runs_a_list(rt: HostRuntime) -> Result<(), Fail> {
+    let mut player = on_a_desktop(&rt)?;
+    runs_two_presses(&rt, &mut player)
+}
+
+fn runs_or_changes_nothing(rt: &(impl Abort + AllocGlobal), player: &mut Player<Owned>) {
+    plays(rt, player, &SHIFT_HELD[..3]);
     let before = player.components();
     let lit = player.lit();
     let release = Event {
@@ -145,22 +157,30 @@ fn changes_nothing_where_memory_is_refused(rt: HostRuntime) -> Result<(), Fail> 
         Err(_) => {
             assert_eq!(rt; player.components(), before);
             assert_eq!(rt; player.lit(), lit);
-            plays(&rt, &mut player, &SHIFT_HELD[3..]);
+            plays(rt, player, &SHIFT_HELD[3..]);
         }
+    }
+}
+
+/// A growth that is refused gives the error, and the player answers as if it had not been asked. What a refusal
+/// gives is seen by `rt try --test --fail-alloc N`: this test fails in the making of the tables alone, and ends well
+/// where `start` or `run` is refused.
+#[test]
+fn changes_nothing_where_memory_is_refused(rt: HostRuntime) -> Result<(), Fail> {
+    if let Ok(mut player) = Player::start(rt.alloc(), desktop_tables(&rt)?) {
+        runs_or_changes_nothing(&rt, &mut player);
     }
     Ok(())
 }
 
-/// A follower and the player that it follows.
-fn pair(rt: &HostRuntime) -> Result<(Player<Owned>, Follower<Owned>), Fail> {
-    let player = Player::start(rt.alloc(), desktop(rt.alloc())?.finish()?)?;
-    Ok((player, Follower::start(desktop(rt.alloc())?.finish()?)))
+/// Whether a follower finds this keysym at the letter, and its type's modifiers consumed.
+fn finds(follower: &Follower<Owned>, keysym: u32) -> bool {
+    let look = follower.look(38);
+    look.known && look.syms.as_slice() == [keysym].as_slice() && look.consumed.mask() == BOTH
 }
 
-#[test]
-fn follows_a_player(rt: HostRuntime) -> Result<(), Fail> {
-    let (mut player, mut follower) = pair(&rt)?;
-    assert_eq!(rt; follower.look(38).syms.as_slice(), [A_LOWER].as_slice());
+fn follows(rt: &impl Abort, player: &mut Player<Owned>, follower: &mut Follower<Owned>) {
+    assert!(rt; finds(follower, A_LOWER));
     assert!(rt; !follower.look(39).known);
 
     let _ = player.event(94, Direction::Down);
@@ -171,27 +191,30 @@ fn follows_a_player(rt: HostRuntime) -> Result<(), Fail> {
             effective_group,
             ..latched
         });
-        let look = follower.look(38);
-        assert!(rt; look.known);
-        assert_eq!(rt; look.syms.as_slice(), [A_UPPER].as_slice());
-        assert_eq!(rt; look.consumed.mask(), BOTH);
+        assert!(rt; finds(follower, A_UPPER));
     }
 
     // the key that used the latch ended it
     let _ = player.event(38, Direction::Down);
     follower.set(player.components());
-    assert_eq!(rt; follower.look(38).syms.as_slice(), [A_LOWER].as_slice());
-    Ok(())
+    assert!(rt; finds(follower, A_LOWER));
 }
 
 #[test]
-fn lights_caps_lock(rt: HostRuntime) -> Result<(), Fail> {
+fn follows_a_player(rt: HostRuntime) -> Result<(), Fail> {
+    let mut player = on_a_desktop(&rt)?;
+    let mut follower = Follower::start(desktop_tables(&rt)?);
+    follows(&rt, &mut player, &mut follower);
+    Ok(())
+}
+
+fn desktop_with_a_lamp(rt: &HostRuntime) -> Result<Owned, Fail> {
     let mut built = desktop(rt.alloc())?;
     built.indicator(b'C', Mods::LOCK, States::LOCKED, 0)?;
-    let mut player = Player::start(rt.alloc(), built.finish()?)?;
-    let mut built = desktop(rt.alloc())?;
-    built.indicator(b'C', Mods::LOCK, States::LOCKED, 0)?;
-    let mut follower = Follower::start(built.finish()?);
+    built.finish()
+}
+
+fn lights(rt: &impl Abort, player: &mut Player<Owned>, follower: &mut Follower<Owned>) {
     for (direction, lit) in [
         (Direction::Down, 1),
         (Direction::Up, 1),
@@ -203,18 +226,29 @@ fn lights_caps_lock(rt: HostRuntime) -> Result<(), Fail> {
         follower.set(player.components());
         assert_eq!(rt; follower.lit(), lit);
     }
-    Ok(())
 }
 
 #[test]
-fn lights_groups(rt: HostRuntime) -> Result<(), Fail> {
+fn lights_caps_lock(rt: HostRuntime) -> Result<(), Fail> {
+    let mut player = Player::start(rt.alloc(), desktop_with_a_lamp(&rt)?)?;
+    let mut follower = Follower::start(desktop_with_a_lamp(&rt)?);
+    lights(&rt, &mut player, &mut follower);
+    Ok(())
+}
+
+fn ranges_with_lamps(rt: &HostRuntime) -> Result<Owned, Fail> {
     let third = Action::LockGroup {
         group: GroupChange::Absolute(2),
     };
     let mut built = ranges(rt.alloc(), third)?;
     built.indicator(b'N', Mods::NONE, States::LOCKED, 0)?;
     built.indicator(b'G', Mods::NONE, States::EFFECTIVE, 0xffff_fffe)?;
-    let mut player = Player::start(rt.alloc(), built.finish()?)?;
+    built.finish()
+}
+
+#[test]
+fn lights_groups(rt: HostRuntime) -> Result<(), Fail> {
+    let mut player = Player::start(rt.alloc(), ranges_with_lamps(&rt)?)?;
     assert_eq!(rt; player.event(20, Direction::Down).lit, 0);
     assert_eq!(rt; player.event(24, Direction::Down).lit, 2);
     Ok(())

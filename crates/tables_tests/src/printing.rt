@@ -187,6 +187,10 @@ fn owned(parts: Parts) -> Result<Owned, Fail> {
     Ok(Owned::new(parts).ok().ok_or("unsound")?)
 }
 
+fn sample_tables(alloc: Global) -> Result<Owned, Fail> {
+    owned(sample(alloc).ok().ok_or("refused")?.into_parts())
+}
+
 /// Whether this is the text of the tables.
 fn prints<T: Tables>(tables: &T, text: &str) -> bool {
     let mut room = [0; 2048];
@@ -201,8 +205,8 @@ fn prints_the_sample(rt: HostRuntime) -> Result<(), Fail> {
     Ok(())
 }
 
-#[test]
-fn prints_indicators_between_types_and_symbols(rt: HostRuntime) -> Result<(), Fail> {
+/// The sample's tables with one indicator.
+fn with_caps(alloc: Global) -> Result<Owned, Fail> {
     let caps = Indicator {
         name: b"Caps Lock",
         mods: Mods::LOCK,
@@ -210,12 +214,16 @@ fn prints_indicators_between_types_and_symbols(rt: HostRuntime) -> Result<(), Fa
         group_states: States::from_mask(8),
         groups: 0,
     };
-    let builder = sample(rt.alloc()).ok().ok_or("refused")?;
+    let builder = sample(alloc).ok().ok_or("refused")?;
     let parts = builder.with_lamps([caps].as_slice(), [].as_slice());
+    owned(parts.ok().ok_or("refused")?)
+}
+
+#[test]
+fn prints_indicators_between_types_and_symbols(rt: HostRuntime) -> Result<(), Fail> {
     let (front, back) = SAMPLE.split_once("xkb_symbols").ok_or("no symbols")?;
     let text = format!(in rt.alloc(); "{front}{CAPS_SECTION}xkb_symbols{back}")?;
-    let tables = owned(parts.ok().ok_or("refused")?)?;
-    assert!(rt; prints(&tables, text.as_str()));
+    assert!(rt; prints(&with_caps(rt.alloc())?, text.as_str()));
     Ok(())
 }
 
@@ -226,14 +234,23 @@ fn prints_each_kind_of_statement(rt: HostRuntime) -> Result<(), Fail> {
     Ok(())
 }
 
+/// Whether the image of these tables is printed as their full text.
+fn prints_its_image(tables: &Owned) -> bool {
+    let mut room = [0; 1024];
+    let mut image = MemOut::new(&mut room);
+    if write(tables, &mut image).is_err() {
+        return false;
+    }
+    match View::open(image.written()) {
+        Ok(view) => prints(&view, FULL),
+        Err(_) => false,
+    }
+}
+
 #[test]
 fn prints_an_image(rt: HostRuntime) -> Result<(), Fail> {
     let tables = owned(full(rt.alloc()).ok().ok_or("refused")?)?;
-    let mut room = [0; 1024];
-    let mut image = MemOut::new(&mut room);
-    assert!(rt; write(&tables, &mut image).is_ok());
-    let view = View::open(image.written()).ok().ok_or("no image")?;
-    assert!(rt; prints(&view, FULL));
+    assert!(rt; prints_its_image(&tables));
     Ok(())
 }
 
@@ -301,20 +318,26 @@ xkb_symbols {
     Ok(())
 }
 
-#[test]
-fn prints_to_slow_and_broken_writers(rt: HostRuntime) -> Result<(), Fail> {
-    let parts = sample(rt.alloc()).ok().ok_or("refused")?.into_parts();
-    let tables = owned(parts)?;
+/// Whether a writer that takes a byte at a time gets the sample's text.
+fn prints_slowly(tables: &Owned) -> bool {
     let mut room = [0; 2048];
     let mut slow = MemOut::new(&mut room).with_most(1);
-    assert!(rt; print(&tables, &mut slow).is_ok());
-    assert!(rt; slow.written() == SAMPLE.as_bytes());
+    print(tables, &mut slow).is_ok() && slow.written() == SAMPLE.as_bytes()
+}
+
+/// Whether printing fails with a writer that fails behind `n` bytes, and puts a beginning of the sample's text.
+fn prints_a_beginning(tables: &Owned, n: usize) -> bool {
+    let mut room = [0; 2048];
+    let mut broken = MemOut::new(&mut room).failing_after(n);
+    print(tables, &mut broken).is_err() && SAMPLE.as_bytes().starts_with(broken.written())
+}
+
+#[test]
+fn prints_to_slow_and_broken_writers(rt: HostRuntime) -> Result<(), Fail> {
+    let tables = sample_tables(rt.alloc())?;
+    assert!(rt; prints_slowly(&tables));
     for n in 0..SAMPLE.len() {
-        let mut room = [0; 2048];
-        let mut broken = MemOut::new(&mut room).failing_after(n);
-        assert!(rt; print(&tables, &mut broken).is_err(), "failing at {n}");
-        let got = broken.written();
-        assert!(rt; SAMPLE.as_bytes().starts_with(got), "failing at {n}");
+        assert!(rt; prints_a_beginning(&tables, n), "failing at {n}");
     }
     Ok(())
 }

@@ -253,21 +253,19 @@ fn parts_of_one_text_count_each(rt: HostRuntime) -> Result<(), Fail> {
     Ok(())
 }
 
-#[test]
-fn maps_by_name_and_without(rt: HostRuntime) -> Result<(), Fail> {
-    let text = b"xkb_keymap { };".as_slice();
-    let us =
-        b"xkb_symbols \"x\" {}; xkb_types {}; default xkb_symbols \"y\" {}; xkb_symbols \"x\" {};";
-    let given = [
-        (b"us".as_slice(), us.as_slice()),
-        (
-            b"symbols/us".as_slice(),
-            b"xkb_types {}; xkb_symbols \"z\" {};".as_slice(),
-        ),
-    ];
-    let files = handed(&rt, &given)?;
-    assert_eq!(rt; files.len(), 2);
-    let library = Library::of_source(rt.alloc(), text, &files)?;
+/// The map that the one part of an include names.
+fn place_named(
+    rt: &(impl Abort + AllocGlobal),
+    library: &Library,
+    kind: Kind,
+    name: &[u8],
+) -> Result<Option<Place>, Fail> {
+    let parts = include_parts(rt.alloc(), name)?.unwrap_or(Vec::new(rt.alloc()));
+    assert_eq!(rt; parts.len(), 1);
+    Ok(library.place_of(rt.alloc(), kind, &parts[0])?)
+}
+
+fn finds_maps(rt: &(impl Abort + AllocGlobal), library: &Library) -> Result<(), Fail> {
     let rows: [(Kind, &[u8], Option<Place>); 6] = [
         (
             Kind::Symbols,
@@ -298,21 +296,34 @@ fn maps_by_name_and_without(rt: HostRuntime) -> Result<(), Fail> {
         (Kind::Types, b"nope", None),
     ];
     for (kind, name, wanted) in rows {
-        let parts = include_parts(rt.alloc(), name)?.unwrap_or(Vec::new(rt.alloc()));
-        assert_eq!(rt; parts.len(), 1);
-        assert_eq!(rt; library.place_of(rt.alloc(), kind, &parts[0])?, wanted);
+        assert_eq!(rt; place_named(rt, library, kind, name)?, wanted);
     }
+    let first = Place {
+        file: 1,
+        section: 0,
+    };
     assert_eq!(rt; library.sections_in(1).len(), 4);
-    assert_eq!(rt;
-        library
-            .items_in(Place {
-                file: 1,
-                section: 0
-            })
-            .len(),
-        0
-    );
+    assert_eq!(rt; library.items_in(first).len(), 0);
     Ok(())
+}
+
+#[test]
+fn maps_by_name_and_without(rt: HostRuntime) -> Result<(), Fail> {
+    let us =
+        b"xkb_symbols \"x\" {}; xkb_types {}; default xkb_symbols \"y\" {}; xkb_symbols \"x\" {};";
+    let given = [
+        (b"us".as_slice(), us.as_slice()),
+        (
+            b"symbols/us".as_slice(),
+            b"xkb_types {}; xkb_symbols \"z\" {};".as_slice(),
+        ),
+    ];
+    let files = handed(&rt, &given)?;
+    assert_eq!(rt; files.len(), 2);
+    finds_maps(
+        &rt,
+        &Library::of_source(rt.alloc(), b"xkb_keymap { };", &files)?,
+    )
 }
 
 #[test]
