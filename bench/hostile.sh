@@ -43,6 +43,19 @@ run '60,000 aliases'
 awk 'BEGIN { print "xkb_keymap { xkb_keycodes { <A>=1; }; xkb_symbols { key <A> {"; for (g = 1; g <= 32; g++) { printf "%s[a", (g > 1 ? "," : ""); for (i = 1; i < 15600; i++) printf ",a"; print "]" } print "}; }; };" }' > "$work/source"
 run 'half a million levels'
 
+awk 'BEGIN {
+    print "xkb_keymap {\nxkb_keycodes {"
+    for (code = 0; code < 4096; code++) printf "<%x>=%d;", code, code
+    print "};\nxkb_types { type \"T\" { modifiers=none; level_name[64]=\"\"; }; };\nxkb_compat {"
+    for (mask = 1; mask < 256; mask++) printf "interpret Any+Exactly(%d){};interpret Any+AllOf(%d){};interpret Any+AnyOf(%d){};\n", mask, mask, mask
+    print "};\nxkb_symbols { key.type=\"T\";"
+    levels = "a"
+    for (i = 1; i < 64; i++) levels = levels ",a"
+    for (code = 0; code < 4096; code++) printf "key <%x> {[%s],symbols[32]=[a]};\n", code, levels
+    print "};\n};"
+}' > "$work/source"
+run '765 interpretations for any keysym, over eight million levels'
+
 awk 'BEGIN { print "xkb_keymap { xkb_keycodes { <A>=1; }; xkb_symbols { key <A> { ["; for (i = 0; i < 130000; i++) printf "%sq%d", (i ? "," : ""), i; print "] }; }; };" }' > "$work/source"
 run '130,000 unknown names of keysyms'
 
@@ -60,6 +73,10 @@ run 'a file of 80,000 pairs, included 4,000 times' a="$work/codes"
 run 'a file of 60,000 aliases, included 4,000 times' a="$work/aliases"
 including keycodes 'a b' 4000
 run 'the two in turn' a="$work/codes" b="$work/aliases"
+for step in 0 1; do
+    awk -v step="$step" 'BEGIN { print "default xkb_keycodes {"; for (i = 0; i < 4096; i++) printf "<%d>=%d;\n", i, (i + step) % 4096; print "};" }' > "$work/codes$step"
+done
+run 'two files of keycodes with each other'"'"'s names, in turn' a="$work/codes0" b="$work/codes1"
 including symbols a 4000
 run 'a file of 1 MB of keys, included 4,000 times' a="$work/keys"
 including symbols a+a+a+a 1000
