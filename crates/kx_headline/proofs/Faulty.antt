@@ -1,0 +1,36 @@
+-- A source with a fault means nothing.
+use Rattle.std.proofs.Common.{ℕ, [], ◌≡◌, inl, inr, ◌<◌, ◌≤◌, List, length, Contains, slice_get, Some, ap, subst, arith}
+use Rattle.std.proofs.lemmas.Option.{slice_get_within}
+use Rattle.ks_core.specs.Entry.{Entry}
+use Rattle.kx_headline.proofs.Texts.{Laws, library-one, read-has_tree}
+use Rattle.kx_include.specs.IncludeFaults.{IsWhole, HasFault as HasIncludeFault}
+use Rattle.kx_include.specs.Library.{Library}
+use Rattle.kx_include.specs.Source.{Handed}
+use Rattle.kx_lex.specs.declared.fault.Fault.{Fault}
+use Rattle.kx_source.specs.Source.{HasFault, HasFaultIn, Means, statement_faults}
+use Rattle.kx_tables.specs.Content.{Content}
+
+none_in : {xs : List Fault} {e : Fault} → xs ≡ [] → Contains xs e → ⊥
+none_in {xs} {e} none has =
+    let within : has.0 < length xs = has.1 in
+    let empty : length xs ≡ 0 = ap (λ (faults : List Fault). length faults) none in
+    omega arith
+
+none_past : {X : Type 0} (xs : List X) (n : ℕ) (x : X) → length xs ≤ n → slice_get xs n ≡ Some x → ⊥
+none_past xs n x past is = let within = slice_get_within xs n x is in omega arith
+
+module _ (names : List Entry) where
+  whole-no_fault : (library : Library) (e : Fault) → IsWhole library → HasIncludeFault library e → ⊥
+  whole-no_fault library e whole (inl has) = none_in whole.0 has
+  whole-no_fault library e whole (inr found) = none_past _ _ found.0 whole.1 found.1
+
+  faultless-no_fault : (library : Library) (e : Fault) → IsWhole library → statement_faults names library ≡ [] → HasFaultIn names library e → ⊥
+  faultless-no_fault library e whole faultless (inl has) = whole-no_fault library e whole has
+  faultless-no_fault library e whole faultless (inr has) = none_in faultless has
+
+  pub faulty-none : Laws → (source : List ℕ) (files : Handed) (e : Fault) (content : Content) → HasFault source files names e → Means source files names content → ⊥
+  faulty-none laws source files e content (inl no_tree) means = read-has_tree laws source files means.library e means.read no_tree
+  faulty-none laws source files e content (inr (inl many)) means = let few = means.read.few_files in let past = many.0 in omega arith
+  faulty-none laws source files e content (inr (inr inside)) means =
+      let same : inside.library ≡ means.library = library-one laws source files inside.library means.library inside.read means.read in
+      faultless-no_fault means.library e means.whole means.faultless (subst (λ library. HasFaultIn names library e) same inside.has)

@@ -1,0 +1,5 @@
+mod Texts
+mod Names
+mod Meanings
+mod Replies
+mod Faulty
