@@ -44,6 +44,18 @@ fn shown(rt: &(impl Abort + AllocGlobal), codes: &Codes) -> Result<String, Fail>
     Ok(format!(in rt.alloc(); "{a} {b} {c} {first} {second}")?)
 }
 
+/// Codes are shown so.
+fn assert_shown(
+    rt: &(impl Abort + AllocGlobal),
+    codes: &Codes,
+    items: &[u8],
+    wanted: &str,
+) -> Result<(), Fail> {
+    let text = shown(rt, codes)?;
+    assert_eq!(rt; text.as_str(), wanted, "{:?}", items);
+    Ok(())
+}
+
 #[test]
 fn pairs_and_aliases(rt: HostRuntime) -> Result<(), Fail> {
     let rows: [(&[u8], &str); 12] = [
@@ -71,7 +83,7 @@ fn pairs_and_aliases(rt: HostRuntime) -> Result<(), Fail> {
     ];
     for (items, wanted) in rows {
         let codes = codes_of(&rt, items)?;
-        assert_eq!(rt; shown(&rt, &codes)?.as_str(), wanted, "{:?}", items);
+        assert_shown(&rt, &codes, items, wanted)?;
     }
     Ok(())
 }
@@ -99,7 +111,7 @@ fn includes_bring_what_their_maps_leave(rt: HostRuntime) -> Result<(), Fail> {
     ];
     for (items, wanted) in rows {
         let codes = codes_over(&rt, items, given.as_slice())?;
-        assert_eq!(rt; shown(&rt, &codes)?.as_str(), wanted, "{:?}", items);
+        assert_shown(&rt, &codes, items, wanted)?;
     }
     match codes_over(&rt, b"<A>=38; include \"wrong\"", given.as_slice()) {
         Ok(_) => assert_eq!(rt; "", "refused"),
@@ -130,18 +142,31 @@ fn faults_name_their_place(rt: HostRuntime) -> Result<(), Fail> {
     Ok(())
 }
 
+/// The line of the fault of some items, or `ok`.
+fn verdict(rt: &(impl Abort + AllocGlobal), items: &[u8]) -> Result<String, Fail> {
+    match codes_of(rt, items) {
+        Ok(_) => Ok(String::from_str(rt.alloc(), "ok")?),
+        Err(fault) => Ok(format!(in rt.alloc(); "{fault}")?),
+    }
+}
+
+/// The same of a name of so many bytes.
+fn verdict_of_name(rt: &(impl Abort + AllocGlobal), count: usize) -> Result<String, Fail> {
+    let name = vec![in rt.alloc(); b'x'; count]?;
+    let items = [b"<".as_slice(), name.as_slice(), b">=38;"].concat(rt.alloc())?;
+    verdict(rt, items.as_slice())
+}
+
 #[test]
 fn long_names_are_refused(rt: HostRuntime) -> Result<(), Fail> {
     for (count, wanted) in [(255, "ok"), (256, "F13 TooMany at 0:28-290")] {
-        let name = vec![in rt.alloc(); b'x'; count]?;
-        let items = [b"<".as_slice(), name.as_slice(), b">=38;"].concat(rt.alloc())?;
-        let verdict = match codes_of(&rt, items.as_slice()) {
-            Ok(_) => String::from_str(rt.alloc(), "ok")?,
-            Err(fault) => format!(in rt.alloc(); "{fault}")?,
-        };
-        assert_eq!(rt; verdict.as_str(), wanted);
+        assert_eq!(rt; verdict_of_name(&rt, count)?.as_str(), wanted);
     }
     Ok(())
+}
+
+fn end_of(rt: &(impl Abort + AllocGlobal), items: &[u8]) -> Result<u16, Fault> {
+    Ok(codes_of(rt, items)?.end())
 }
 
 #[test]
@@ -153,7 +178,7 @@ fn codes_end_behind_the_greatest_with_a_name(rt: HostRuntime) -> Result<(), Fail
         (b"<A>=4095;", 4096),
     ];
     for (items, wanted) in rows {
-        assert_eq!(rt; codes_of(&rt, items)?.end(), wanted, "{:?}", items);
+        assert_eq!(rt; end_of(&rt, items)?, wanted, "{:?}", items);
     }
     Ok(())
 }

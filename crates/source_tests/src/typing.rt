@@ -5,6 +5,7 @@ use kx_mods::Mods;
 use kx_source::tables;
 use kx_tables::{Action, EntryRow, Owned, Range, Rows, Tables};
 use std::alloc::Global;
+use std::process::Abort;
 use std::test::Fail;
 
 /// The tables of a source without files, and what was passed over.
@@ -94,11 +95,7 @@ fn automatic_types(rt: HostRuntime) -> Result<(), Fail> {
     Ok(())
 }
 
-#[test]
-fn keys_have_types_ranges_and_actions(rt: HostRuntime) -> Result<(), Fail> {
-    let source =
-        b"xkb_keymap { xkb_keycodes { <A>=38; <B>=39; }; xkb_types { virtual_modifiers Alt=Mod1; type \"T\" { modifiers=Alt; map[Alt]=2; }; type \"ONE_LEVEL\" { modifiers=Shift; }; }; xkb_symbols { key <A> { type[1]=\"T\", groupsClamp, [a, b, c], actions[1]=[ SetMods(modifiers=Alt+Lock, clearLocks) ] }; key <B> { type=\"Nothing\", groupsRedirect=2, [a], [b] }; }; };";
-    let (tables, notes) = tables_in(rt.alloc(), source)?;
+fn assert_types_and_keys(rt: &impl Abort, tables: &Owned) {
     assert_eq!(rt; tables.counts().types, 2);
     assert_eq!(rt; tables.type_name(0), b"T".as_slice());
     assert_eq!(rt; tables.type_row(0).mods, Mods::MOD1);
@@ -107,6 +104,9 @@ fn keys_have_types_ranges_and_actions(rt: HostRuntime) -> Result<(), Fail> {
     assert_eq!(rt; tables.counts().keys, 2);
     assert_eq!(rt; tables.key_row(0).range, Range::Clamp);
     assert_eq!(rt; tables.key_row(1).range, Range::Redirect(1));
+}
+
+fn assert_actions(rt: &impl Abort, tables: &Owned) {
     assert_eq!(rt; tables.counts().cells, 4);
     let sets = Action::SetMods {
         mods: Mods::MOD1.with(Mods::LOCK),
@@ -114,6 +114,15 @@ fn keys_have_types_ranges_and_actions(rt: HostRuntime) -> Result<(), Fail> {
     };
     assert_eq!(rt; tables.cell_row(0).action, sets);
     assert_eq!(rt; tables.cell_row(1).action, Action::None);
+}
+
+#[test]
+fn keys_have_types_ranges_and_actions(rt: HostRuntime) -> Result<(), Fail> {
+    let source =
+        b"xkb_keymap { xkb_keycodes { <A>=38; <B>=39; }; xkb_types { virtual_modifiers Alt=Mod1; type \"T\" { modifiers=Alt; map[Alt]=2; }; type \"ONE_LEVEL\" { modifiers=Shift; }; }; xkb_symbols { key <A> { type[1]=\"T\", groupsClamp, [a, b, c], actions[1]=[ SetMods(modifiers=Alt+Lock, clearLocks) ] }; key <B> { type=\"Nothing\", groupsRedirect=2, [a], [b] }; }; };";
+    let (tables, notes) = tables_in(rt.alloc(), source)?;
+    assert_types_and_keys(&rt, &tables);
+    assert_actions(&rt, &tables);
     assert_eq!(rt; notes.types, 2);
     assert_eq!(rt; notes.levels, 1);
     Ok(())
