@@ -1,3 +1,6 @@
+pub mod Grown
+pub mod Room
+pub mod Validity
 pub mod Placing
 pub mod Pushing
 pub mod Seeing

@@ -9,11 +9,11 @@ use Rattle.kx_builder.proofs.Counting.{each_row, row_from, sum_before, sum_of_ro
 use Rattle.kx_builder.proofs.Placing.{get_before, part_between, rows_length, split_at}
 use Rattle.kx_builder.proofs.Sounding.{fine_is_small, fine_is_sound}
 use Rattle.kx_builder.specs.Agreement.{ShowsSame}
-use Rattle.kx_builder.specs.Fine.{IsFine}
-use Rattle.kx_builder.specs.Lamps.{GroupNameIsFine, IndicatorIsFine, LampsAreFine, LampsFit, ResolvedIndicator, group_name_row, indicator_row, keymap_with, lamp_of_indicator, names_of_groups, names_of_indicators, with_indicators, with_lamps}
+use Rattle.kx_builder.specs.Valid.{IsValid}
+use Rattle.kx_builder.specs.Lamps.{GroupNameIsValid, IndicatorIsValid, LampsAreValid, LampsFit, ResolvedIndicator, group_name_row, indicator_row, keymap_with, lamp_of_indicator, names_of_groups, names_of_indicators, with_indicators, with_lamps}
 use Rattle.kx_builder.specs.Placed.{content_of_resolved, rows_behind, rows_of}
 use Rattle.kx_builder.specs.Resolved.{Resolved, keymap_of_resolved}
-use Rattle.kx_builder.specs.Small.{flat_length, name_bytes, All_flat}
+use Rattle.kx_builder.proofs.Room.{flat_length, name_bytes, All_flat}
 use Rattle.kx_builder.specs.Whole.{IsWhole}
 use Rattle.kx_tables.specs.Content.{Content, group_names, indicator_name, indicator_names, key_name, key_names, part, type_name, type_names}
 use Rattle.kx_tables.specs.Keymap.{keymap_of, lamp_of}
@@ -52,7 +52,7 @@ all_any : {X : Type 0} (xs : List X) → All any xs
 unfolding any
 all_any xs = λ k d within. tt
 
-module _ (c : Content) (s : Sound c) (no_indicators : c.indicators ≡ []) (no_groups : c.group_names ≡ []) (few : length c.names ≤ 17755905) (ds : List ResolvedIndicator) (gs : List (List ℕ)) (fine : LampsAreFine ds gs) where
+module _ (c : Content) (s : Sound c) (no_indicators : c.indicators ≡ []) (no_groups : c.group_names ≡ []) (few : length c.names ≤ 17755905) (ds : List ResolvedIndicator) (gs : List (List ℕ)) (fine : LampsAreValid ds gs) where
   names_are : length c.names ≡ type_names c + key_names c
   names_are =
       let lamps : indicator_names c ≡ 0 = ap (λ (xs : List IndicatorRow). sum_by (λ (d : IndicatorRow). d.name_length) xs) no_indicators in
@@ -142,7 +142,7 @@ module _ (c : Content) (s : Sound c) (no_indicators : c.indicators ≡ []) (no_g
 
   indicator_holds : (i : ℕ) (d : ResolvedIndicator) → slice_get ds i ≡ Some d → IndicatorHolds (with_lamps c ds gs) i (indicator_row (length c.names) (take i ds) d)
   indicator_holds i d at =
-      let holds : IndicatorIsFine d = All_at IndicatorIsFine ds i d fine.each_indicator at in
+      let holds : IndicatorIsValid d = All_at IndicatorIsValid ds i d fine.each_indicator at in
       record {
         place = omega (arith, fine.few_indicators, slice_get_within ds i d at);
         mods = holds.mods;
@@ -159,7 +159,7 @@ module _ (c : Content) (s : Sound c) (no_indicators : c.indicators ≡ []) (no_g
 
   group_name_holds : (i : ℕ) (g : List ℕ) → slice_get gs i ≡ Some g → GroupNameHolds (with_lamps c ds gs) i (row (take i gs) g)
   group_name_holds i g at =
-      let holds : GroupNameIsFine g = All_at GroupNameIsFine gs i g fine.each_group at in
+      let holds : GroupNameIsValid g = All_at GroupNameIsValid gs i g fine.each_group at in
       record {
         place = omega (arith, fine.few_groups, slice_get_within gs i g at);
         name_length = holds.name_fits;
@@ -170,10 +170,10 @@ module _ (c : Content) (s : Sound c) (no_indicators : c.indicators ≡ []) (no_g
   -- ---- Names and counts
 
   indicator_bytes : All (λ b. b < 2 ^ 8) (names_of_indicators ds)
-  indicator_bytes = All_flat (λ (d : ResolvedIndicator). d.name) (λ b. b < 2 ^ 8) ds (All-weaker IndicatorIsFine (λ (d : ResolvedIndicator). All (λ b. b < 2 ^ 8) d.name) (λ d holds. holds.each_byte) ds fine.each_indicator)
+  indicator_bytes = All_flat (λ (d : ResolvedIndicator). d.name) (λ b. b < 2 ^ 8) ds (All-weaker IndicatorIsValid (λ (d : ResolvedIndicator). All (λ b. b < 2 ^ 8) d.name) (λ d holds. holds.each_byte) ds fine.each_indicator)
 
   group_bytes : All (λ b. b < 2 ^ 8) (names_of_groups gs)
-  group_bytes = All_flat (λ (g : List ℕ). g) (λ b. b < 2 ^ 8) gs (All-weaker GroupNameIsFine (λ (g : List ℕ). All (λ b. b < 2 ^ 8) g) (λ g holds. holds.each_byte) gs fine.each_group)
+  group_bytes = All_flat (λ (g : List ℕ). g) (λ b. b < 2 ^ 8) gs (All-weaker GroupNameIsValid (λ (g : List ℕ). All (λ b. b < 2 ^ 8) g) (λ g holds. holds.each_byte) gs fine.each_group)
 
   old_bytes : All (λ b. b < 2 ^ 8) c.names
   old_bytes = λ i d within. (s.names i (get_or c.names i d) (slice_get-get_or c.names i d within)).byte
@@ -187,10 +187,10 @@ module _ (c : Content) (s : Sound c) (no_indicators : c.indicators ≡ []) (no_g
   }
 
   few_more : length (names_of_indicators ds) ≤ 8160
-  few_more = omega (arith, fine.few_indicators, flat_length (λ (d : ResolvedIndicator). d.name) 255 ds (All-weaker IndicatorIsFine (λ (d : ResolvedIndicator). length d.name ≤ 255) (λ d holds. holds.name_fits) ds fine.each_indicator))
+  few_more = omega (arith, fine.few_indicators, flat_length (λ (d : ResolvedIndicator). d.name) 255 ds (All-weaker IndicatorIsValid (λ (d : ResolvedIndicator). length d.name ≤ 255) (λ d holds. holds.name_fits) ds fine.each_indicator))
 
   few_last : length (names_of_groups gs) ≤ 8160
-  few_last = omega (arith, fine.few_groups, flat_length (λ (g : List ℕ). g) 255 gs (All-weaker GroupNameIsFine (λ (g : List ℕ). length g ≤ 255) (λ g holds. holds.name_fits) gs fine.each_group))
+  few_last = omega (arith, fine.few_groups, flat_length (λ (g : List ℕ). g) 255 gs (All-weaker GroupNameIsValid (λ (g : List ℕ). length g ≤ 255) (λ g holds. holds.name_fits) gs fine.each_group))
 
   length_is : length (with_lamps c ds gs).names ≡ length c.names + length (names_of_indicators ds) + length (names_of_groups gs)
   length_is = omega (arith, length-append (c.names ++ names_of_indicators ds) (names_of_groups gs), length-append c.names (names_of_indicators ds))
@@ -224,26 +224,26 @@ module _ (c : Content) (s : Sound c) (no_indicators : c.indicators ≡ []) (no_g
     names = name_holds;
   }
 
-pub tables_sound_with : (c : Content) (r : Resolved) (ds : List ResolvedIndicator) (gs : List (List ℕ)) → c ≡ content_of_resolved r → IsFine r → LampsAreFine ds gs → Sound (with_lamps c ds gs)
+pub tables_sound_with : (c : Content) (r : Resolved) (ds : List ResolvedIndicator) (gs : List (List ℕ)) → c ≡ content_of_resolved r → IsValid r → LampsAreValid ds gs → Sound (with_lamps c ds gs)
 tables_sound_with c r ds gs held fine lamps =
     subst (λ d. Sound (with_lamps d ds gs)) (sym held) (lamps_sound (content_of_resolved r) (fine_is_sound r fine) refl refl (name_bytes r (fine_is_small r fine)) ds gs lamps)
 
 -- the names of what is fine fit
-pub lamps_fit : (r : Resolved) (ds : List ResolvedIndicator) (gs : List (List ℕ)) → IsFine r → LampsAreFine ds gs → LampsFit (content_of_resolved r) ds gs
+pub lamps_fit : (r : Resolved) (ds : List ResolvedIndicator) (gs : List (List ℕ)) → IsValid r → LampsAreValid ds gs → LampsFit (content_of_resolved r) ds gs
 lamps_fit r ds gs fine lamps =
     let few : length (content_of_resolved r).names ≤ 17755905 = name_bytes r (fine_is_small r fine) in (
       record {
-        lengths = All-weaker IndicatorIsFine (λ (d : ResolvedIndicator). length d.name < 2 ^ 16) (λ d holds. let h : length d.name ≤ 255 = holds.name_fits in omega (arith, h)) ds lamps.each_indicator;
+        lengths = All-weaker IndicatorIsValid (λ (d : ResolvedIndicator). length d.name < 2 ^ 16) (λ d holds. let h : length d.name ≤ 255 = holds.name_fits in omega (arith, h)) ds lamps.each_indicator;
         all = omega (arith, few, few_indicator_bytes);
       },
       record {
-        lengths = All-weaker GroupNameIsFine (λ (g : List ℕ). length g < 2 ^ 16) (λ g holds. let h : length g ≤ 255 = holds.name_fits in omega (arith, h)) gs lamps.each_group;
+        lengths = All-weaker GroupNameIsValid (λ (g : List ℕ). length g < 2 ^ 16) (λ g holds. let h : length g ≤ 255 = holds.name_fits in omega (arith, h)) gs lamps.each_group;
         all = omega (arith, few, few_indicator_bytes, few_group_bytes, length-append (content_of_resolved r).names (names_of_indicators ds));
       },
     )
   where
     few_indicator_bytes : length (names_of_indicators ds) ≤ 8160
-    few_indicator_bytes = omega (arith, lamps.few_indicators, flat_length (λ (d : ResolvedIndicator). d.name) 255 ds (All-weaker IndicatorIsFine (λ (d : ResolvedIndicator). length d.name ≤ 255) (λ d holds. holds.name_fits) ds lamps.each_indicator))
+    few_indicator_bytes = omega (arith, lamps.few_indicators, flat_length (λ (d : ResolvedIndicator). d.name) 255 ds (All-weaker IndicatorIsValid (λ (d : ResolvedIndicator). length d.name ≤ 255) (λ d holds. holds.name_fits) ds lamps.each_indicator))
 
     few_group_bytes : length (names_of_groups gs) ≤ 8160
-    few_group_bytes = omega (arith, lamps.few_groups, flat_length (λ (g : List ℕ). g) 255 gs (All-weaker GroupNameIsFine (λ (g : List ℕ). length g ≤ 255) (λ g holds. holds.name_fits) gs lamps.each_group))
+    few_group_bytes = omega (arith, lamps.few_groups, flat_length (λ (g : List ℕ). g) 255 gs (All-weaker GroupNameIsValid (λ (g : List ℕ). length g ≤ 255) (λ g holds. holds.name_fits) gs lamps.each_group))

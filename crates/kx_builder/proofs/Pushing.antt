@@ -5,7 +5,8 @@ use Rattle.kx_builder.proofs.Placing.{flat_push, rows_length, rows_push}
 use Rattle.kx_builder.proofs.Seeing.{seen_in, settled}
 use Rattle.kx_builder.specs.Added.{cell_added, group_added, key_added, last_count, next_cell, next_group, next_key, next_type, type_added, with_cell_row, with_group_row, with_key_row, with_more_groups, with_type_row}
 use Rattle.kx_builder.specs.Placed.{all_cells, all_entries, all_groups, all_keysyms, cell_row, content_of_resolved, group_row, key_row, names_of_keys, names_of_types, rows_behind, rows_of, type_row}
-use Rattle.kx_builder.specs.Pushes.{change_end, change_last, group_with_cell, key_with_cell, key_with_group, last_groups, with_cell, with_group, with_key, with_type}
+use Rattle.kx_builder.specs.Pushes.{change_last, group_with_cell, key_with_cell, key_with_group, last_groups, with_cell, with_group, with_key, with_type}
+use Rattle.kx_builder.proofs.Grown.{change_end}
 use Rattle.kx_builder.specs.Resolved.{Resolved, ResolvedCell, ResolvedGroup, ResolvedKey, ResolvedType}
 use Rattle.kx_builder.specs.Seen.{seen}
 use Rattle.kx_tables.specs.Content.{Content}

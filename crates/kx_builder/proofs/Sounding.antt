@@ -10,8 +10,9 @@ use Rattle.kx_builder.proofs.Agreeing.{All_at, get_within}
 use Rattle.kx_builder.proofs.Counting.{each_row, row_from, rows_take, sum_before, sum_of_rows}
 use Rattle.kx_builder.proofs.Placing.{element_at, get_behind, row_at, rows_length}
 use Rattle.kx_builder.proofs.Seeing.{key_name_at, type_name_at}
-use Rattle.kx_builder.specs.Fine.{CellIsFine, EntryIsFine, GroupIsFine, IsFine, KeyIsFine, Rising, TypeIsFine, types_met}
-use Rattle.kx_builder.specs.Small.{All_flat, CellIsSmall, GroupIsSmall, IsSmall, KeyIsSmall, TypeIsSmall, cell_count, few_entries, few_names, keysym_count}
+use Rattle.kx_builder.specs.Valid.{CellIsValid, EntryIsValid, GroupIsValid, IsValid, KeyIsValid, Rising, TypeIsValid, types_met}
+use Rattle.kx_builder.specs.WithinLimits.{CellIsWithinLimits, GroupIsWithinLimits, IsWithinLimits, KeyIsWithinLimits, TypeIsWithinLimits}
+use Rattle.kx_builder.proofs.Room.{All_flat, cell_count, few_entries, few_names, keysym_count}
 use Rattle.kx_builder.specs.Placed.{all_cells, all_entries, all_groups, all_keysyms, cell_row, content_of_resolved, group_row, key_row, names_of_keys, names_of_types, rows_behind, rows_of, type_row}
 use Rattle.kx_builder.specs.Resolved.{Resolved, ResolvedCell, ResolvedEntry, ResolvedGroup, ResolvedKey, ResolvedType}
 use Rattle.kx_tables.specs.Content.{Content, key_name, key_names, levels_of, type_name, type_names, types_used}
@@ -63,42 +64,42 @@ type_exists : (types : List ResolvedType) (g : ResolvedGroup) (o : Option Resolv
 type_exists types g None e has = absurd has
 type_exists types g (Some t) e has = slice_get_within types g.key_type t e
 
-cells_few : (types : List ResolvedType) (g : ResolvedGroup) (o : Option ResolvedType) → All TypeIsFine types → slice_get types g.key_type ≡ o → IsSomeAnd o (λ t. length g.cells ≡ t.levels) → length g.cells ≤ 64
+cells_few : (types : List ResolvedType) (g : ResolvedGroup) (o : Option ResolvedType) → All TypeIsValid types → slice_get types g.key_type ≡ o → IsSomeAnd o (λ t. length g.cells ≡ t.levels) → length g.cells ≤ 64
 cells_few types g None each e has = absurd has
-cells_few types g (Some t) each e has = let fine : TypeIsFine t = All_at TypeIsFine types g.key_type t each e in omega (arith, has, fine.levels)
+cells_few types g (Some t) each e has = let fine : TypeIsValid t = All_at TypeIsValid types g.key_type t each e in omega (arith, has, fine.levels)
 
-module _ (r : Resolved) (fine : IsFine r) where
-  groups_fine : All (GroupIsFine r.types) (all_groups r.keys)
-  groups_fine = All_flat (λ (k : ResolvedKey). k.groups) (GroupIsFine r.types) r.keys (All-weaker (KeyIsFine r.types) (λ (k : ResolvedKey). All (GroupIsFine r.types) k.groups) (λ k holds. holds.each_group) r.keys fine.each_key)
+module _ (r : Resolved) (fine : IsValid r) where
+  groups_fine : All (GroupIsValid r.types) (all_groups r.keys)
+  groups_fine = All_flat (λ (k : ResolvedKey). k.groups) (GroupIsValid r.types) r.keys (All-weaker (KeyIsValid r.types) (λ (k : ResolvedKey). All (GroupIsValid r.types) k.groups) (λ k holds. holds.each_group) r.keys fine.each_key)
 
-  cells_fine : All CellIsFine (all_cells (all_groups r.keys))
-  cells_fine = All_flat (λ (g : ResolvedGroup). g.cells) CellIsFine (all_groups r.keys) (All-weaker (GroupIsFine r.types) (λ (g : ResolvedGroup). All CellIsFine g.cells) (λ g holds. holds.each_cell) (all_groups r.keys) groups_fine)
+  cells_fine : All CellIsValid (all_cells (all_groups r.keys))
+  cells_fine = All_flat (λ (g : ResolvedGroup). g.cells) CellIsValid (all_groups r.keys) (All-weaker (GroupIsValid r.types) (λ (g : ResolvedGroup). All CellIsValid g.cells) (λ g holds. holds.each_cell) (all_groups r.keys) groups_fine)
 
   keysyms_fine : All IsKeysym (all_keysyms (all_cells (all_groups r.keys)))
-  keysyms_fine = All_flat (λ (d : ResolvedCell). d.syms) IsKeysym (all_cells (all_groups r.keys)) (All-weaker CellIsFine (λ (d : ResolvedCell). All IsKeysym d.syms) (λ d holds. holds.each_keysym) (all_cells (all_groups r.keys)) cells_fine)
+  keysyms_fine = All_flat (λ (d : ResolvedCell). d.syms) IsKeysym (all_cells (all_groups r.keys)) (All-weaker CellIsValid (λ (d : ResolvedCell). All IsKeysym d.syms) (λ d holds. holds.each_keysym) (all_cells (all_groups r.keys)) cells_fine)
 
   type_bytes : All (λ b. b < 2 ^ 8) (names_of_types r.types)
-  type_bytes = All_flat (λ (t : ResolvedType). t.name) (λ b. b < 2 ^ 8) r.types (All-weaker TypeIsFine (λ (t : ResolvedType). All (λ b. b < 2 ^ 8) t.name) (λ t holds. holds.each_byte) r.types fine.each_type)
+  type_bytes = All_flat (λ (t : ResolvedType). t.name) (λ b. b < 2 ^ 8) r.types (All-weaker TypeIsValid (λ (t : ResolvedType). All (λ b. b < 2 ^ 8) t.name) (λ t holds. holds.each_byte) r.types fine.each_type)
 
   key_bytes : All IsKeyByte (names_of_keys r.keys)
-  key_bytes = All_flat (λ (k : ResolvedKey). k.name) IsKeyByte r.keys (All-weaker (KeyIsFine r.types) (λ (k : ResolvedKey). All IsKeyByte k.name) (λ k holds. holds.each_byte) r.keys fine.each_key)
+  key_bytes = All_flat (λ (k : ResolvedKey). k.name) IsKeyByte r.keys (All-weaker (KeyIsValid r.types) (λ (k : ResolvedKey). All IsKeyByte k.name) (λ k holds. holds.each_byte) r.keys fine.each_key)
 
   -- ---- Counts
 
   keys_few : length r.keys ≤ 4096
-  keys_few = few_keys r.keys fine.codes_rise (All-weaker (KeyIsFine r.types) (λ (k : ResolvedKey). k.code ≤ 4095) (λ k holds. holds.code_fits) r.keys fine.each_key)
+  keys_few = few_keys r.keys fine.codes_rise (All-weaker (KeyIsValid r.types) (λ (k : ResolvedKey). k.code ≤ 4095) (λ k holds. holds.code_fits) r.keys fine.each_key)
 
-  pub fine_is_small : IsSmall r
+  pub fine_is_small : IsWithinLimits r
   fine_is_small = record {
     few_types = fine.types_fit;
-    small_types = All-weaker TypeIsFine TypeIsSmall (λ t holds. record { few_entries = holds.entries_fit; short_name = holds.name_fits }) r.types fine.each_type;
+    small_types = All-weaker TypeIsValid TypeIsWithinLimits (λ t holds. record { few_entries = holds.entries_fit; short_name = holds.name_fits }) r.types fine.each_type;
     few_keys = keys_few;
-    small_keys = All-weaker (KeyIsFine r.types) KeyIsSmall (λ k holds. record {
+    small_keys = All-weaker (KeyIsValid r.types) KeyIsWithinLimits (λ k holds. record {
       short_name = holds.name_fits;
       few_groups = holds.few;
-      small_groups = All-weaker (GroupIsFine r.types) GroupIsSmall (λ g group. record {
+      small_groups = All-weaker (GroupIsValid r.types) GroupIsWithinLimits (λ g group. record {
         few_cells = cells_few r.types g (slice_get r.types g.key_type) fine.each_type refl group.whole;
-        small_cells = All-weaker CellIsFine CellIsSmall (λ d cell. cell.few) g.cells group.each_cell;
+        small_cells = All-weaker CellIsValid CellIsWithinLimits (λ d cell. cell.few) g.cells group.each_cell;
       }) k.groups holds.each_group;
     }) r.keys fine.each_key;
   }
@@ -122,7 +123,7 @@ module _ (r : Resolved) (fine : IsFine r) where
   group_sum i = sum_before (key_row r.types) (λ (k : ResolvedKey). k.groups) (λ (k : KeyRow). k.groups) any (λ before k h. refl) r.keys i (all_any r.keys)
 
   cell_sum : (i : ℕ) → sum_by (levels_of (content_of_resolved r)) (take i (rows_of group_row (all_groups r.keys))) ≡ length (all_cells (take i (all_groups r.keys)))
-  cell_sum i = sum_before group_row (λ (g : ResolvedGroup). g.cells) (levels_of (content_of_resolved r)) (GroupIsFine r.types) (λ before g holds. levels_in r.types g (slice_get r.types g.key_type) refl holds.whole) (all_groups r.keys) i groups_fine
+  cell_sum i = sum_before group_row (λ (g : ResolvedGroup). g.cells) (levels_of (content_of_resolved r)) (GroupIsValid r.types) (λ before g holds. levels_in r.types g (slice_get r.types g.key_type) refl holds.whole) (all_groups r.keys) i groups_fine
 
   keysym_sum : (i : ℕ) → sum_by (λ (d : CellRow). d.keysyms) (take i (rows_of cell_row (all_cells (all_groups r.keys)))) ≡ length (all_keysyms (take i (all_cells (all_groups r.keys))))
   keysym_sum i = sum_before cell_row (λ (d : ResolvedCell). d.syms) (λ (d : CellRow). d.keysyms) any (λ before d h. refl) (all_cells (all_groups r.keys)) i (all_any (all_cells (all_groups r.keys)))
@@ -134,7 +135,7 @@ module _ (r : Resolved) (fine : IsFine r) where
     entries_fit = few_entries r fine_is_small;
     keys = omega (arith, keys_few, rows_length (key_row r.types) r.keys);
     groups = rows_length group_row (all_groups r.keys) ∙ sym (sum_of_rows (key_row r.types) (λ (k : ResolvedKey). k.groups) (λ (k : KeyRow). k.groups) any (λ before k h. refl) r.keys (all_any r.keys));
-    cells = rows_length cell_row (all_cells (all_groups r.keys)) ∙ sym (sum_of_rows group_row (λ (g : ResolvedGroup). g.cells) (levels_of (content_of_resolved r)) (GroupIsFine r.types) (λ before g holds. levels_in r.types g (slice_get r.types g.key_type) refl holds.whole) (all_groups r.keys) groups_fine);
+    cells = rows_length cell_row (all_cells (all_groups r.keys)) ∙ sym (sum_of_rows group_row (λ (g : ResolvedGroup). g.cells) (levels_of (content_of_resolved r)) (GroupIsValid r.types) (λ before g holds. levels_in r.types g (slice_get r.types g.key_type) refl holds.whole) (all_groups r.keys) groups_fine);
     cells_fit = cell_count r fine_is_small;
     keysyms = sym (sum_of_rows cell_row (λ (d : ResolvedCell). d.syms) (λ (d : CellRow). d.keysyms) any (λ before d h. refl) (all_cells (all_groups r.keys)) (all_any (all_cells (all_groups r.keys))));
     keysyms_fit = keysym_count r fine_is_small;
@@ -152,7 +153,7 @@ module _ (r : Resolved) (fine : IsFine r) where
 
   type_holds : (i : ℕ) (t : ResolvedType) → slice_get r.types i ≡ Some t → TypeHolds (content_of_resolved r) i (type_row (take i r.types) t)
   type_holds i t at =
-      let holds : TypeIsFine t = All_at TypeIsFine r.types i t fine.each_type at in
+      let holds : TypeIsValid t = All_at TypeIsValid r.types i t fine.each_type at in
       record {
         mods = holds.mods;
         some_level = holds.some_level;
@@ -176,8 +177,8 @@ module _ (r : Resolved) (fine : IsFine r) where
   entry_holds : (i : ℕ) (t : ResolvedType) (at : slice_get r.types i ≡ Some t) → EntriesHold (content_of_resolved r) i (type_row (take i r.types) t)
   entry_holds i t at = λ j e from below entry_at.
       let here : slice_get t.entries (j - length (all_entries (take i r.types))) ≡ Some e = entry_of i t j e at from below entry_at in
-      let of_type : TypeIsFine t = All_at TypeIsFine r.types i t fine.each_type at in
-      let holds : EntryIsFine t e = All_at (EntryIsFine t) t.entries (j - length (all_entries (take i r.types))) e of_type.each_entry here in
+      let of_type : TypeIsValid t = All_at TypeIsValid r.types i t fine.each_type at in
+      let holds : EntryIsValid t e = All_at (EntryIsValid t) t.entries (j - length (all_entries (take i r.types))) e of_type.each_entry here in
       record {
         mods = holds.mods;
         preserve = holds.preserve;
@@ -200,7 +201,7 @@ module _ (r : Resolved) (fine : IsFine r) where
 
   key_holds : (i : ℕ) (k : ResolvedKey) → slice_get r.keys i ≡ Some k → KeyHolds (content_of_resolved r) i (key_row r.types (take i r.keys) k)
   key_holds i k at =
-      let holds : KeyIsFine r.types k = All_at (KeyIsFine r.types) r.keys i k fine.each_key at in
+      let holds : KeyIsValid r.types k = All_at (KeyIsValid r.types) r.keys i k fine.each_key at in
       record {
         code = holds.code_fits;
         modmap = holds.mapped;
@@ -218,7 +219,7 @@ module _ (r : Resolved) (fine : IsFine r) where
 
   group_holds : (i : ℕ) (g : ResolvedGroup) → slice_get (all_groups r.keys) i ≡ Some g → GroupHolds (content_of_resolved r) i (group_row (take i (all_groups r.keys)) g)
   group_holds i g at =
-      let holds : GroupIsFine r.types g = All_at (GroupIsFine r.types) (all_groups r.keys) i g groups_fine at in
+      let holds : GroupIsValid r.types g = All_at (GroupIsValid r.types) (all_groups r.keys) i g groups_fine at in
       record {
         key_type = omega (arith, type_exists r.types g (slice_get r.types g.key_type) refl holds.whole, rows_length type_row r.types);
         first_use = omega (arith, fine.order.each_first i g at, met_before (all_groups r.keys) i);
@@ -227,7 +228,7 @@ module _ (r : Resolved) (fine : IsFine r) where
 
   cell_holds : (i : ℕ) (d : ResolvedCell) → slice_get (all_cells (all_groups r.keys)) i ≡ Some d → CellHolds (content_of_resolved r) i (cell_row (take i (all_cells (all_groups r.keys))) d)
   cell_holds i d at =
-      let holds : CellIsFine d = All_at CellIsFine (all_cells (all_groups r.keys)) i d cells_fine at in
+      let holds : CellIsValid d = All_at CellIsValid (all_cells (all_groups r.keys)) i d cells_fine at in
       record { keysyms = holds.few; action = holds.does; first_keysym = sym (keysym_sum i) }
 
   -- ---- Names
@@ -260,5 +261,5 @@ module _ (r : Resolved) (fine : IsFine r) where
   }
 
 -- the same of any tables that hold r
-pub tables_sound : (c : Content) (r : Resolved) → c ≡ content_of_resolved r → IsFine r → Sound c
+pub tables_sound : (c : Content) (r : Resolved) → c ≡ content_of_resolved r → IsValid r → Sound c
 tables_sound c r held fine = subst Sound (sym held) (fine_is_sound r fine)

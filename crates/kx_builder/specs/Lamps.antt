@@ -2,7 +2,7 @@
 use Rattle.std.specs.Prelude.{ℕ, ◌≡◌, ◌+◌, ◌<◌, ◌≤◌, ◌^◌, All, List, ◌++◌, Some, length, map, slice_get}
 use Rattle.std.specs.List.{flat_map}
 use Rattle.kx_basics.specs.declared.limits.TheConstants.{MOST_GROUPS, MOST_NAME_BYTES}
-use Rattle.kx_builder.specs.Fine.{Apart}
+use Rattle.kx_builder.specs.Valid.{Apart}
 use Rattle.kx_builder.specs.Placed.{rows_of}
 use Rattle.kx_builder.specs.declared.lamps.Indicator.{Indicator}
 use Rattle.kx_mods.specs.Mods.{mask}
@@ -73,7 +73,7 @@ LampsFit c ds gs = NamesFit c (λ (d : ResolvedIndicator). d.name) ds × NamesFi
 
 -- ---- Rules
 
-pub record IndicatorIsFine (d : ResolvedIndicator) : Type 0 where
+pub record IndicatorIsValid (d : ResolvedIndicator) : Type 0 where
   pub mods : mask d.mods < 2 ^ 8
   pub mod_states : state_bits d.mod_states ≤ 15
   pub group_states : state_bits d.group_states ≤ 15
@@ -81,15 +81,15 @@ pub record IndicatorIsFine (d : ResolvedIndicator) : Type 0 where
   pub name_fits : length d.name ≤ MOST_NAME_BYTES
   pub each_byte : All (λ b. b < 2 ^ 8) d.name
 
-pub record GroupNameIsFine (g : List ℕ) : Type 0 where
+pub record GroupNameIsValid (g : List ℕ) : Type 0 where
   pub name_fits : length g ≤ MOST_NAME_BYTES
   pub each_byte : All (λ b. b < 2 ^ 8) g
 
 -- at most 32 of each, indicators with names of their own, and the last group that is named has a name
-pub record LampsAreFine (ds : List ResolvedIndicator) (gs : List (List ℕ)) : Type 0 where
+pub record LampsAreValid (ds : List ResolvedIndicator) (gs : List (List ℕ)) : Type 0 where
   pub few_indicators : length ds ≤ 32
-  pub each_indicator : All IndicatorIsFine ds
+  pub each_indicator : All IndicatorIsValid ds
   pub indicators_apart : Apart (λ (d : ResolvedIndicator). d.name) ds
   pub few_groups : length gs ≤ MOST_GROUPS
-  pub each_group : All GroupNameIsFine gs
+  pub each_group : All GroupNameIsValid gs
   pub last : (i : ℕ) (g : List ℕ) → slice_get gs i ≡ Some g → i + 1 ≡ length gs → 0 < length g

@@ -5,9 +5,8 @@ pub mod Seen
 pub mod Added
 pub mod Faults
 pub mod Whole
-pub mod Fine
+pub mod Valid
 pub mod Agreement
-pub mod Small
-pub mod Many
+pub mod WithinLimits
 pub mod Lamps
 pub mod LampsAdded

@@ -2,8 +2,8 @@ ghost use Rattle.std.specs.Prelude.{◌≡◌, ◌<◌, [], OnOk, OnErr, IfErr, 
 ghost use Rattle.kx_builder.specs.Added.{TypeFits, KeyFits, GroupFits, CellFits};
 ghost use Rattle.kx_builder.specs.Agreement.{ShowsSame};
 ghost use Rattle.kx_builder.specs.Faults.{IsCause};
-ghost use Rattle.kx_builder.specs.Fine.{IsFine};
-ghost use Rattle.kx_builder.specs.Lamps.{LampsAreFine, LampsFit, indicator_of, keymap_with, with_lamps};
+ghost use Rattle.kx_builder.specs.Valid.{IsValid};
+ghost use Rattle.kx_builder.specs.Lamps.{LampsAreValid, LampsFit, indicator_of, keymap_with, with_lamps};
 ghost use Rattle.kx_builder.specs.Placed.{content_of_resolved};
 ghost use Rattle.kx_builder.specs.Pushes.{with_type, with_key, with_group, with_cell, last_groups};
 ghost use Rattle.kx_builder.specs.Resolved.{keymap_of_resolved, nothing_resolved};
@@ -119,7 +119,7 @@ impl Builder {
     pub fn into_parts(self) -> Parts
         ensures content { content_of result ≡ content_of_resolved self }
         ensures agrees { IsWhole self → ShowsSame (keymap_of (content_of result)) (keymap_of_resolved self) }
-        ensures sound { IsFine self → Sound (content_of result) }
+        ensures sound { IsValid self → Sound (content_of result) }
     {
         self.parts
     }
@@ -133,7 +133,7 @@ impl Builder {
     ) -> Result<Parts, BuildFault>
         ensures content { IfOk result (λ parts. content_of parts ≡ with_lamps (content_of_resolved self) (map indicator_of indicators.now) (map (λ g. g.now) group_names.now)) }
         ensures agrees { IsWhole self → IfOk result (λ parts. ShowsSame (keymap_of (content_of parts)) (keymap_with (keymap_of_resolved self) (map indicator_of indicators.now))) }
-        ensures sound { IsFine self → LampsAreFine (map indicator_of indicators.now) (map (λ g. g.now) group_names.now) → IfOk result (λ parts. Sound (content_of parts)) }
+        ensures sound { IsValid self → LampsAreValid (map indicator_of indicators.now) (map (λ g. g.now) group_names.now) → IfOk result (λ parts. Sound (content_of parts)) }
         ensures fault { IfErr result (λ e. IsCause e (LampsFit (content_of_resolved self) (map indicator_of indicators.now) (map (λ g. g.now) group_names.now)) ⊤) }
     {
         let mut parts = self.parts;

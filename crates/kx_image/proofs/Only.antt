@@ -8,7 +8,7 @@ use Rattle.std.proofs.lemmas.Bool.{le-ltb}
 use Rattle.std.proofs.lemmas.List.Sums.{sum_by-cons}
 use Rattle.std.proofs.lemmas.Nat.{from_le_bytes-to_le_bytes_2, from_le_bytes-to_le_bytes_4}
 use Rattle.std.proofs.lemmas.Option.{slice_get_within}
-use Rattle.kx_tables.specs.Bounds.{entries_within, groups_within, cells_within, keysyms_within, type_name_within, key_name_within, indicator_name_within, group_name_within}
+use Rattle.kx_tables.proofs.Bounds.{entries_within, groups_within, cells_within, keysyms_within, type_name_within, key_name_within, indicator_name_within, group_name_within}
 use Rattle.kx_tables.specs.Content.{Content, greatest_groups, part}
 use Rattle.kx_tables.specs.Sound.{Sound, KeyHolds}
 use Rattle.kx_tables.specs.declared.rows.KeyRow.{KeyRow}

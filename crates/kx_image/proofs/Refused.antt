@@ -6,10 +6,10 @@ use Rattle.std.specs.Option.{option_or}
 use Rattle.std.proofs.Math.Seq.{take-length}
 use Rattle.std.proofs.lemmas.Bool.{le-ltb}
 use Rattle.std.proofs.lemmas.Option.{slice_get_within, slice_get-get_or, slice_get_cases}
-use Rattle.kx_tables.specs.Bounds.{entries_within, groups_within, cells_within, keysyms_within, type_name_within, key_name_within, indicator_name_within, group_name_within, sum_up_to}
+use Rattle.kx_tables.proofs.Bounds.{entries_within, groups_within, cells_within, keysyms_within, type_name_within, key_name_within, indicator_name_within, group_name_within, sum_up_to}
 use Rattle.kx_tables.specs.Content.{Content, greatest_groups, part}
 use Rattle.kx_tables.specs.Fit.{CountsFit}
-use Rattle.kx_tables.specs.Fits.{sound_fits, groups_fit}
+use Rattle.kx_tables.proofs.Fits.{sound_fits, groups_fit}
 use Rattle.kx_basics.specs.Keysyms.{IsKeysym}
 use Rattle.kx_tables.specs.Sound.{Sound, TypeHolds, KeyHolds, GroupHolds, CellHolds, IndicatorHolds, GroupNameHolds}
 use Rattle.kx_tables.specs.Unsound.{breaks_unsound}

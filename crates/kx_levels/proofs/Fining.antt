@@ -10,7 +10,7 @@ use Rattle.std.proofs.lemmas.Map.Steps.{length-le_from_distinct_below}
 use Rattle.std.proofs.lemmas.Nat.{and_mod}
 use Rattle.std.proofs.lemmas.Option.{slice_get_past, slice_get-get_or}
 use Rattle.kx_basics.specs.declared.limits.TheConstants.{MOST_LEVELS, MOST_NAME_BYTES}
-use Rattle.kx_builder.specs.Fine.{Apart, EntryIsFine, TypeIsFine}
+use Rattle.kx_builder.specs.Valid.{Apart, EntryIsValid, TypeIsValid}
 use Rattle.kx_masks.specs.Sets.{any_below, has, has_virtual, meet, real_of, real_part}
 use Rattle.kx_masks.specs.declared.limits.TheConstants.{MOST_VIRTUAL_MODIFIERS}
 use Rattle.kx_mods.specs.Mods.{mask}
@@ -74,7 +74,7 @@ module _ (real : ℕ → RealSet) (wider : (a b r : ℕ) → real (meet a b) r �
   row_fits : (row : EntryRow) → ComesOf real t.entries row → mask row.mods < 2 ^ 8
   row_fits row comes = comes.2.mods_fit
 
-  row_fine : (name : List ℕ) (row : EntryRow) → ComesOf real t.entries row → EntryIsFine (resolved_type name t mods rows) row
+  row_fine : (name : List ℕ) (row : EntryRow) → ComesOf real t.entries row → EntryIsValid (resolved_type name t mods rows) row
   row_fine name row comes =
       let e = comes.0 in
       let law = All-contains (EntryIsLawful t) t.entries e lawful.each_entry comes.1 in
@@ -99,7 +99,7 @@ module _ (real : ℕ → RealSet) (wider : (a b r : ℕ) → real (meet a b) r �
         mods = fits;
         some_level = lawful.some_level;
         levels = lawful.few_levels;
-        each_entry = All-weaker (ComesOf real t.entries) (EntryIsFine (resolved_type name t mods rows)) (row_fine name) rows all.each;
+        each_entry = All-weaker (ComesOf real t.entries) (EntryIsValid (resolved_type name t mods rows)) (row_fine name) rows all.each;
         entries_apart = rows_apart rows all.apart;
         entries_fit = omega (arith, few, still);
         name_fits = short;

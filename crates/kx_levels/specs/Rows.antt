@@ -3,7 +3,7 @@ use Rattle.std.specs.Prelude.{◌≡◌, ℕ, zero, suc, ◌+◌, ◌<◌, ◌�
 use Rattle.std.specs.Int.RustNames.{bit_or}
 use Rattle.std.specs.List.{list_any}
 use Rattle.kx_basics.specs.declared.limits.TheConstants.{MOST_NAME_BYTES}
-use Rattle.kx_builder.specs.Fine.{TypeIsFine}
+use Rattle.kx_builder.specs.Valid.{TypeIsValid}
 use Rattle.kx_builder.specs.Resolved.{ResolvedType, consumed_mods, entry_chosen}
 use Rattle.kx_masks.specs.Sets.{has}
 use Rattle.kx_mods.specs.Mods.{mask}
@@ -51,4 +51,4 @@ pub record RowsShow (real : ℕ → RealSet) (t : Definition) (mods : Mods) (row
 
 -- with a name that a type may have they keep the rules of tables
 abbrev pub RowsAreFine : Definition → Mods → List EntryRow → Type 0
-RowsAreFine t mods rows = (name : List ℕ) → length name ≤ MOST_NAME_BYTES → All (λ b. b < 2 ^ 8) name → TypeIsFine (resolved_type name t mods rows)
+RowsAreFine t mods rows = (name : List ℕ) → length name ≤ MOST_NAME_BYTES → All (λ b. b < 2 ^ 8) name → TypeIsValid (resolved_type name t mods rows)

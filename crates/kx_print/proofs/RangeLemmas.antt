@@ -2,7 +2,7 @@
 use Rattle.std.proofs.Common.{◌≡◌, ℕ, ◌+◌, ◌<◌, ◌≤◌, List, [], ◌∷◌, ◌++◌, Some, codes, decimal, length, map, slice_get, refl, sym, ap, ◌∙◌, arith, append-nil}
 use Rattle.std.proofs.lemmas.List.{map-append}
 use Rattle.std.specs.List.{flat_map}
-use Rattle.kx_tables.specs.Bounds.{sum_up_to}
+use Rattle.kx_tables.proofs.Bounds.{sum_up_to}
 use Rattle.kx_tables.specs.Content.{Content, levels_of}
 use Rattle.kx_tables.specs.Sound.{GroupHolds, Sound}
 use Rattle.kx_tables.specs.declared.rows.GroupRow.{GroupRow}

@@ -10,7 +10,7 @@ use Rattle.std.proofs.lemmas.List.Folds.{find-append}
 use Rattle.std.proofs.lemmas.Nat.{and_le_l, and_le_r, and_mod}
 use Rattle.kx_builder.proofs.Agreeing.{group_below}
 use Rattle.kx_builder.specs.Agreement.{ShowsSame}
-use Rattle.kx_builder.specs.Fine.{EntryIsFine, TypeIsFine}
+use Rattle.kx_builder.specs.Valid.{EntryIsValid, TypeIsValid}
 use Rattle.kx_builder.specs.Resolved.{Resolved, ResolvedEntry, ResolvedKey, ResolvedType, consumed_mods, entry_chosen, key_coded, keymap_of_resolved, most_groups, shown_of_cell, shown_of_group, shown_of_key, shown_of_type}
 use Rattle.kx_levels.specs.Rows.{set_mask}
 use Rattle.kx_levels.specs.Selecting.{RealSet, consumed, level_selected}
@@ -48,13 +48,13 @@ cut_mods w m small =
     small_is : (n : ℕ) → n < 2 ^ 8 → n ≡ n % 2 ^ 8
     small_is n less = omega (arith, less)
 
-module _ (t : ResolvedType) (fine : TypeIsFine t) where
-  chosen_level : (o : Option ResolvedEntry) → IfSome o (EntryIsFine t) → level_of o < t.levels
+module _ (t : ResolvedType) (fine : TypeIsValid t) where
+  chosen_level : (o : Option ResolvedEntry) → IfSome o (EntryIsValid t) → level_of o < t.levels
   chosen_level None holds = omega (arith, fine.some_level)
   chosen_level (Some e) holds = omega (arith, holds.level.some_level, holds.level.level_within)
 
   pub level_within : (w : ℕ) → level_of (entry_chosen t w) < t.levels
-  level_within w = chosen_level (entry_chosen t w) (find_holds (EntryIsFine t) (λ e. mask e.mods == bit_and w (mask t.mods)) t.entries fine.each_entry)
+  level_within w = chosen_level (entry_chosen t w) (find_holds (EntryIsValid t) (λ e. mask e.mods == bit_and w (mask t.mods)) t.entries fine.each_entry)
 
   pub consumed_small : (o : Option ResolvedEntry) → consumed_mods t o < 2 ^ 8
   consumed_small None = fine.mods

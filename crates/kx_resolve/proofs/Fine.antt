@@ -12,7 +12,7 @@ use Rattle.std.proofs.lemmas.List.Folds.{list_any-append}
 use Rattle.std.proofs.lemmas.Map.Keys.{apart_from_distinct}
 use Rattle.std.proofs.lemmas.Option.{none-some, same_Some, slice_get-get_or, slice_get-map, slice_get_within}
 use Rattle.kx_builder.proofs.Agreeing.{All_at}
-use Rattle.kx_builder.specs.Fine.{Apart, CellIsFine, EntryIsFine, GroupIsFine, InOrderOfUse, IsFine, KeyIsFine, Rising, TypeIsFine}
+use Rattle.kx_builder.specs.Valid.{Apart, CellIsValid, EntryIsValid, GroupIsValid, InOrderOfUse, IsValid, KeyIsValid, Rising, TypeIsValid}
 use Rattle.kx_builder.specs.Placed.{all_groups}
 use Rattle.kx_builder.specs.Resolved.{ResolvedGroup, ResolvedKey, ResolvedType}
 use Rattle.kx_builder.specs.Whole.{GroupIsWhole, IsWhole, KeyIsWhole, LevelExists, TypeIsWhole}
@@ -86,10 +86,10 @@ module _ (deeds : Deeds) (key : KeyGiven) (group : ℕ) where
       upto : level ≤ n
       upto = omega (arith, less)
 
-  cells_fine : (n : ℕ) → CellsAreFine deeds key group n → All CellIsFine (cells_of deeds key group n)
+  cells_fine : (n : ℕ) → CellsAreFine deeds key group n → All CellIsValid (cells_of deeds key group n)
   unfolding cells_of
-  cells_fine zero fine = All-nil CellIsFine
-  cells_fine (suc n) fine = All-push CellIsFine (cells_of deeds key group n) (cell_of deeds key group n) (cells_fine n (λ level less. fine level (lt_trans less (lt-suc_self n)))) (fine n (lt-suc_self n))
+  cells_fine zero fine = All-nil CellIsValid
+  cells_fine (suc n) fine = All-push CellIsValid (cells_of deeds key group n) (cell_of deeds key group n) (cells_fine n (λ level less. fine level (lt_trans less (lt-suc_self n)))) (fine n (lt-suc_self n))
 
 module _ (declared : List ℕ → Option Definition) (used : List (List ℕ)) (deeds : Deeds) (key : KeyGiven) where
   pub groups_length : (n : ℕ) → length (groups_of declared used deeds key n) ≡ n
@@ -191,17 +191,17 @@ module _ (real : ℕ → RealSet) (declared : List ℕ → Option Definition) (k
       slice_get-map (type_of real declared) used (type_place used (group_type_name declared (key code) group))
       ∙ ap (option_map (type_of real declared)) (stands_at (group_type_name declared (key code) group) used (type_used code group of_key less is within))
 
-  group_fine : (code group : ℕ) (of_key : List ℕ) → code < 4096 → name code ≡ Some of_key → group < group_count (key code) → CellsAreFine (keyed.deeds code) (key code) (content_group (key code) group) (levels_of_group declared (key code) group) → GroupIsFine types (group_of declared used (keyed.deeds code) (key code) group)
+  group_fine : (code group : ℕ) (of_key : List ℕ) → code < 4096 → name code ≡ Some of_key → group < group_count (key code) → CellsAreFine (keyed.deeds code) (key code) (content_group (key code) group) (levels_of_group declared (key code) group) → GroupIsValid types (group_of declared used (keyed.deeds code) (key code) group)
   group_fine code group of_key less is within fine = record {
     whole = subst (λ o. IsSomeAnd o (λ (t : ResolvedType). length (group_of declared used (keyed.deeds code) (key code) group).cells ≡ t.levels)) (sym (type_at code group of_key less is within)) (cells_length (keyed.deeds code) (key code) (content_group (key code) group) (levels_of_group declared (key code) group));
     each_cell = cells_fine (keyed.deeds code) (key code) (content_group (key code) group) (levels_of_group declared (key code) group) fine;
   }
 
-  groups_fine : (code n : ℕ) (of_key : List ℕ) → code < 4096 → name code ≡ Some of_key → n ≤ group_count (key code) → GroupsAreFine declared (keyed.deeds code) (key code) n → All (GroupIsFine types) (groups_of declared used (keyed.deeds code) (key code) n)
+  groups_fine : (code n : ℕ) (of_key : List ℕ) → code < 4096 → name code ≡ Some of_key → n ≤ group_count (key code) → GroupsAreFine declared (keyed.deeds code) (key code) n → All (GroupIsValid types) (groups_of declared used (keyed.deeds code) (key code) n)
   unfolding groups_of
-  groups_fine code zero of_key less is within fine = All-nil (GroupIsFine types)
+  groups_fine code zero of_key less is within fine = All-nil (GroupIsValid types)
   groups_fine code (suc n) of_key less is within fine =
-      All-push (GroupIsFine types) (groups_of declared used (keyed.deeds code) (key code) n) (group_of declared used (keyed.deeds code) (key code) n)
+      All-push (GroupIsValid types) (groups_of declared used (keyed.deeds code) (key code) n) (group_of declared used (keyed.deeds code) (key code) n)
       (groups_fine code n of_key less is (omega (arith, within)) (λ group below. fine group (lt_trans below (lt-suc_self n))))
       (group_fine code n of_key less is (omega (arith, within)) (fine n (lt-suc_self n)))
 
@@ -240,11 +240,11 @@ module _ (real : ℕ → RealSet) (declared : List ℕ → Option Definition) (k
       let equal : y.code ≡ x.code = one y.code x.code x.name (earlier.named ∙ ap Some same) later.named in
       omega (arith, rise, equal)
 
-  key_fine : (n : ℕ) (o : Option (List ℕ)) → name n ≡ o → n < 4096 → ((of_key : List ℕ) → name n ≡ Some of_key → KeepsBounds declared of_key (keyed.modmap n) (keyed.deeds n) (key n)) → All (KeyIsFine types) (key_if_named declared used (keyed.deeds n) (key n) n o (keyed.modmap n))
-  key_fine n None is small bounds = All-nil (KeyIsFine types)
+  key_fine : (n : ℕ) (o : Option (List ℕ)) → name n ≡ o → n < 4096 → ((of_key : List ℕ) → name n ≡ Some of_key → KeepsBounds declared of_key (keyed.modmap n) (keyed.deeds n) (key n)) → All (KeyIsValid types) (key_if_named declared used (keyed.deeds n) (key n) n o (keyed.modmap n))
+  key_fine n None is small bounds = All-nil (KeyIsValid types)
   key_fine n (Some of_key) is small bounds =
       let keeps = bounds of_key is in
-      All-cons (KeyIsFine types) (key_of declared used (keyed.deeds n) (key n) n of_key (keyed.modmap n)) []
+      All-cons (KeyIsValid types) (key_of declared used (keyed.deeds n) (key n) n of_key (keyed.modmap n)) []
       (record {
         code_fits = omega (arith, small);
         mapped = keeps.mapped;
@@ -254,13 +254,13 @@ module _ (real : ℕ → RealSet) (declared : List ℕ → Option Definition) (k
         name_fits = keeps.short;
         each_byte = keeps.bytes;
       })
-      (All-nil (KeyIsFine types))
+      (All-nil (KeyIsValid types))
 
-  pub keys_fine : (n : ℕ) → n ≤ 4096 → BoundsBelow declared keyed n → All (KeyIsFine types) (keys_below declared used keyed n)
+  pub keys_fine : (n : ℕ) → n ≤ 4096 → BoundsBelow declared keyed n → All (KeyIsValid types) (keys_below declared used keyed n)
   unfolding keys_below
-  keys_fine zero small bounds = All-nil (KeyIsFine types)
+  keys_fine zero small bounds = All-nil (KeyIsValid types)
   keys_fine (suc n) small bounds =
-      All-append (KeyIsFine types) (keys_below declared used keyed n) (key_if_named declared used (keyed.deeds n) (key n) n (name n) (keyed.modmap n))
+      All-append (KeyIsValid types) (keys_below declared used keyed n) (key_if_named declared used (keyed.deeds n) (key n) n (name n) (keyed.modmap n))
       (keys_fine n (omega (arith, small)) (λ code less. bounds code (lt_trans less (lt-suc_self n))))
       (key_fine n (name n) refl (omega (arith, small)) (bounds n (lt-suc_self n)))
 
@@ -298,7 +298,7 @@ module _ (real : ℕ → RealSet) (declared : List ℕ → Option Definition) (k
       false≢true (sym (apart_from_distinct bytes_eq used j i [] (used_distinct declared name key) less later.0) ∙ (bytes_decides (get_or used j []) (get_or used i [])).1 equal)
 
   module _ (few : length used ≤ 4097) (hold : All (TypeHolds real declared) used) (bounds : BoundsBelow declared keyed 4096) where
-    pub resolved_fine : OneCode name → IsFine (resolved_of real declared keyed)
+    pub resolved_fine : OneCode name → IsValid (resolved_of real declared keyed)
     unfolding resolved_of
     resolved_fine one = record {
       each_type = types_fine real declared used hold;
@@ -313,6 +313,6 @@ module _ (real : ℕ → RealSet) (declared : List ℕ → Option Definition) (k
     pub resolved_whole : IsWhole (resolved_of real declared keyed)
     unfolding resolved_of
     resolved_whole = record {
-      each_type = All-weaker TypeIsFine TypeIsWhole (λ t holds. record { some_level = holds.some_level; level_of_each = All-weaker (EntryIsFine t) (LevelExists t.levels) (λ e entry. entry.level) t.entries holds.each_entry }) types (types_fine real declared used hold);
-      each_key = All-weaker (KeyIsFine types) (KeyIsWhole types) (λ k holds. All-weaker (GroupIsFine types) (GroupIsWhole types) (λ g group. group.whole) k.groups holds.each_group) (keys_below declared used keyed 4096) (keys_fine 4096 (omega arith) bounds);
+      each_type = All-weaker TypeIsValid TypeIsWhole (λ t holds. record { some_level = holds.some_level; level_of_each = All-weaker (EntryIsValid t) (LevelExists t.levels) (λ e entry. entry.level) t.entries holds.each_entry }) types (types_fine real declared used hold);
+      each_key = All-weaker (KeyIsValid types) (KeyIsWhole types) (λ k holds. All-weaker (GroupIsValid types) (GroupIsWhole types) (λ g group. group.whole) k.groups holds.each_group) (keys_below declared used keyed 4096) (keys_fine 4096 (omega arith) bounds);
     }

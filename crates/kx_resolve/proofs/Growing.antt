@@ -2,9 +2,10 @@
 use Rattle.std.proofs.Common.{suc, ◌≡◌, ◌<◌, ◌++◌, List, [], ◌∷◌, fold, length, refl, sym, ap, ◌∙◌, append_assoc, arith, All}
 use Rattle.std.proofs.lemmas.List.{append-nil, length-append}
 use Rattle.std.proofs.lemmas.List.Elements.{All-cons, All-head, All-nil, All-push, All-tail}
-use Rattle.kx_builder.specs.Pushes.{change_end, change_last, group_with_cell, key_then_group, key_with_cell, key_with_group, last_groups, with_cell, with_group, with_key}
+use Rattle.kx_builder.specs.Pushes.{change_last, group_with_cell, key_with_cell, key_with_group, last_groups, with_cell, with_group, with_key}
+use Rattle.kx_builder.proofs.Grown.{change_end, key_then_group}
 use Rattle.kx_builder.specs.Resolved.{Resolved, ResolvedCell, ResolvedGroup, ResolvedKey}
-use Rattle.kx_builder.specs.Small.{CellIsSmall, GroupIsSmall, IsSmall, KeyIsSmall}
+use Rattle.kx_builder.specs.WithinLimits.{CellIsWithinLimits, GroupIsWithinLimits, IsWithinLimits, KeyIsWithinLimits}
 use Rattle.kx_resolve.specs.Bounds.{last_cells, last_cells_of}
 
 -- ---- A change of the last
@@ -85,31 +86,31 @@ new_cells g ks some = ap last_cells_of (groups_grow g ks some) ∙ bare_last (la
 
 -- ---- What is small stays small
 
-small_cells : (d : ResolvedCell) (gs : List ResolvedGroup) → CellIsSmall d → length (last_cells_of gs) < 64 → All GroupIsSmall gs → All GroupIsSmall (change_last (group_with_cell d) gs)
+small_cells : (d : ResolvedCell) (gs : List ResolvedGroup) → CellIsWithinLimits d → length (last_cells_of gs) < 64 → All GroupIsWithinLimits gs → All GroupIsWithinLimits (change_last (group_with_cell d) gs)
 small_cells d [] small few all = all
 small_cells d (g ∷ []) small few all =
-    let one = All-head GroupIsSmall g [] all in
-    All-cons GroupIsSmall (group_with_cell d g) [] (record { few_cells = omega (arith, few, length-append g.cells (d ∷ [])); small_cells = All-push CellIsSmall g.cells d one.small_cells small }) (All-nil GroupIsSmall)
+    let one = All-head GroupIsWithinLimits g [] all in
+    All-cons GroupIsWithinLimits (group_with_cell d g) [] (record { few_cells = omega (arith, few, length-append g.cells (d ∷ [])); small_cells = All-push CellIsWithinLimits g.cells d one.small_cells small }) (All-nil GroupIsWithinLimits)
 small_cells d (g ∷ h ∷ gs) small few all =
-    All-cons GroupIsSmall g (change_last (group_with_cell d) (h ∷ gs)) (All-head GroupIsSmall g (h ∷ gs) all) (small_cells d (h ∷ gs) small few (All-tail GroupIsSmall g (h ∷ gs) all))
+    All-cons GroupIsWithinLimits g (change_last (group_with_cell d) (h ∷ gs)) (All-head GroupIsWithinLimits g (h ∷ gs) all) (small_cells d (h ∷ gs) small few (All-tail GroupIsWithinLimits g (h ∷ gs) all))
 
-small_keys_cell : (d : ResolvedCell) (ks : List ResolvedKey) → CellIsSmall d → length (last_cells ks) < 64 → All KeyIsSmall ks → All KeyIsSmall (change_last (key_with_cell d) ks)
+small_keys_cell : (d : ResolvedCell) (ks : List ResolvedKey) → CellIsWithinLimits d → length (last_cells ks) < 64 → All KeyIsWithinLimits ks → All KeyIsWithinLimits (change_last (key_with_cell d) ks)
 small_keys_cell d [] small few all = all
 small_keys_cell d (k ∷ []) small few all =
-    let one = All-head KeyIsSmall k [] all in
-    All-cons KeyIsSmall (key_with_cell d k) [] (record { short_name = one.short_name; few_groups = omega (arith, one.few_groups, change_length (group_with_cell d) k.groups); small_groups = small_cells d k.groups small few one.small_groups }) (All-nil KeyIsSmall)
+    let one = All-head KeyIsWithinLimits k [] all in
+    All-cons KeyIsWithinLimits (key_with_cell d k) [] (record { short_name = one.short_name; few_groups = omega (arith, one.few_groups, change_length (group_with_cell d) k.groups); small_groups = small_cells d k.groups small few one.small_groups }) (All-nil KeyIsWithinLimits)
 small_keys_cell d (k ∷ l ∷ ks) small few all =
-    All-cons KeyIsSmall k (change_last (key_with_cell d) (l ∷ ks)) (All-head KeyIsSmall k (l ∷ ks) all) (small_keys_cell d (l ∷ ks) small few (All-tail KeyIsSmall k (l ∷ ks) all))
+    All-cons KeyIsWithinLimits k (change_last (key_with_cell d) (l ∷ ks)) (All-head KeyIsWithinLimits k (l ∷ ks) all) (small_keys_cell d (l ∷ ks) small few (All-tail KeyIsWithinLimits k (l ∷ ks) all))
 
-small_keys_group : (g : ResolvedGroup) (ks : List ResolvedKey) → GroupIsSmall g → length (last_groups ks) < 32 → All KeyIsSmall ks → All KeyIsSmall (change_last (key_with_group g) ks)
+small_keys_group : (g : ResolvedGroup) (ks : List ResolvedKey) → GroupIsWithinLimits g → length (last_groups ks) < 32 → All KeyIsWithinLimits ks → All KeyIsWithinLimits (change_last (key_with_group g) ks)
 small_keys_group g [] small few all = all
 small_keys_group g (k ∷ []) small few all =
-    let one = All-head KeyIsSmall k [] all in
-    All-cons KeyIsSmall (key_with_group g k) [] (record { short_name = one.short_name; few_groups = omega (arith, few, length-append k.groups (g ∷ [])); small_groups = All-push GroupIsSmall k.groups g one.small_groups small }) (All-nil KeyIsSmall)
+    let one = All-head KeyIsWithinLimits k [] all in
+    All-cons KeyIsWithinLimits (key_with_group g k) [] (record { short_name = one.short_name; few_groups = omega (arith, few, length-append k.groups (g ∷ [])); small_groups = All-push GroupIsWithinLimits k.groups g one.small_groups small }) (All-nil KeyIsWithinLimits)
 small_keys_group g (k ∷ l ∷ ks) small few all =
-    All-cons KeyIsSmall k (change_last (key_with_group g) (l ∷ ks)) (All-head KeyIsSmall k (l ∷ ks) all) (small_keys_group g (l ∷ ks) small few (All-tail KeyIsSmall k (l ∷ ks) all))
+    All-cons KeyIsWithinLimits k (change_last (key_with_group g) (l ∷ ks)) (All-head KeyIsWithinLimits k (l ∷ ks) all) (small_keys_group g (l ∷ ks) small few (All-tail KeyIsWithinLimits k (l ∷ ks) all))
 
-pub small_with_cell : (r : Resolved) (d : ResolvedCell) → IsSmall r → CellIsSmall d → length (last_cells r.keys) < 64 → IsSmall (with_cell r d)
+pub small_with_cell : (r : Resolved) (d : ResolvedCell) → IsWithinLimits r → CellIsWithinLimits d → length (last_cells r.keys) < 64 → IsWithinLimits (with_cell r d)
 small_with_cell r d small cell few = record {
   few_types = small.few_types;
   small_types = small.small_types;
@@ -117,7 +118,7 @@ small_with_cell r d small cell few = record {
   small_keys = small_keys_cell d r.keys cell few small.small_keys;
 }
 
-pub small_with_group : (r : Resolved) (g : ResolvedGroup) → IsSmall r → GroupIsSmall g → length (last_groups r.keys) < 32 → IsSmall (with_group r g)
+pub small_with_group : (r : Resolved) (g : ResolvedGroup) → IsWithinLimits r → GroupIsWithinLimits g → length (last_groups r.keys) < 32 → IsWithinLimits (with_group r g)
 small_with_group r g small group few = record {
   few_types = small.few_types;
   small_types = small.small_types;
@@ -125,12 +126,12 @@ small_with_group r g small group few = record {
   small_keys = small_keys_group g r.keys group few small.small_keys;
 }
 
-pub small_with_key : (r : Resolved) (k : ResolvedKey) → IsSmall r → length r.keys < 4096 → KeyIsSmall k → IsSmall (with_key r k)
+pub small_with_key : (r : Resolved) (k : ResolvedKey) → IsWithinLimits r → length r.keys < 4096 → KeyIsWithinLimits k → IsWithinLimits (with_key r k)
 small_with_key r k small few key_small = record {
   few_types = small.few_types;
   small_types = small.small_types;
   few_keys = omega (arith, few, length-append r.keys (k ∷ []));
-  small_keys = All-push KeyIsSmall r.keys k small.small_keys key_small;
+  small_keys = All-push KeyIsWithinLimits r.keys k small.small_keys key_small;
 }
 
 pub bare_groups : (ks : List ResolvedKey) (k : ResolvedKey) → last_groups (ks ++ k ∷ []) ≡ k.groups

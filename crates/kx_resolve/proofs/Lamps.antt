@@ -13,11 +13,12 @@ use Rattle.std.proofs.lemmas.Option.{none-some, same_Some, slice_get-get_or, sli
 use Rattle.std.proofs.lemmas.Slice.Zip.{length-zip}
 use Rattle.kx_builder.specs.Agreement.{ShowsSame}
 use Rattle.kx_builder.specs.Faults.{IsCause, only_memory}
-use Rattle.kx_builder.specs.Fine.{Apart}
-use Rattle.kx_builder.specs.Lamps.{GroupNameIsFine, IndicatorIsFine, LampsAreFine, LampsFit, ResolvedIndicator, indicator_of, keymap_with, names_of_groups, names_of_indicators}
+use Rattle.kx_builder.specs.Valid.{Apart}
+use Rattle.kx_builder.specs.Lamps.{GroupNameIsValid, IndicatorIsValid, LampsAreValid, LampsFit, ResolvedIndicator, indicator_of, keymap_with, names_of_groups, names_of_indicators}
 use Rattle.kx_builder.specs.Placed.{content_of_resolved}
 use Rattle.kx_builder.specs.Resolved.{Resolved}
-use Rattle.kx_builder.specs.Small.{IsSmall, flat_length, name_bytes}
+use Rattle.kx_builder.specs.WithinLimits.{IsWithinLimits}
+use Rattle.kx_builder.proofs.Room.{flat_length, name_bytes}
 use Rattle.kx_builder.specs.declared.fault.BuildFault.{BuildFault}
 use Rattle.kx_builder.specs.declared.fault.BuildFault.TheVariants as builds
 use Rattle.kx_builder.specs.declared.lamps.Indicator.{Indicator}
@@ -104,7 +105,7 @@ last_named gs ends i [] at e =
     absurd (none-some [] (sym (ap (λ xs. slice_get xs i) none) ∙ at))
 last_named gs ends i (b ∷ bs) at e = omega arith
 
-pub lamps_fine : (real : ℕ → RealSet) (is : Indicators) (ds : List ResolvedIndicator) (names gs : List (List ℕ)) → AreFine is → ds ≡ indicators_of real is → All IndicatorIsFine ds → AreCut names → gs ≡ names → All GroupNameIsFine gs → LampsAreFine ds gs
+pub lamps_fine : (real : ℕ → RealSet) (is : Indicators) (ds : List ResolvedIndicator) (names gs : List (List ℕ)) → AreFine is → ds ≡ indicators_of real is → All IndicatorIsValid ds → AreCut names → gs ≡ names → All GroupNameIsValid gs → LampsAreValid ds gs
 lamps_fine real is ds names gs fine lit each cut are named = record {
   few_indicators = omega (arith, ap length lit, lit_length real is fine, fine.names.few);
   each_indicator = each;
@@ -116,26 +117,26 @@ lamps_fine real is ds names gs fine lit each cut are named = record {
 
 -- ---- They fit
 
-lamps_fit : (r : Resolved) (ds : List ResolvedIndicator) (gs : List (List ℕ)) → IsSmall r → LampsAreFine ds gs → LampsFit (content_of_resolved r) ds gs
+lamps_fit : (r : Resolved) (ds : List ResolvedIndicator) (gs : List (List ℕ)) → IsWithinLimits r → LampsAreValid ds gs → LampsFit (content_of_resolved r) ds gs
 lamps_fit r ds gs small lamps =
     let few : length (content_of_resolved r).names ≤ 17755905 = name_bytes r small in (
       record {
-        lengths = All-weaker IndicatorIsFine (λ (d : ResolvedIndicator). length d.name < 2 ^ 16) (λ d holds. let h : length d.name ≤ 255 = holds.name_fits in omega (arith, h)) ds lamps.each_indicator;
+        lengths = All-weaker IndicatorIsValid (λ (d : ResolvedIndicator). length d.name < 2 ^ 16) (λ d holds. let h : length d.name ≤ 255 = holds.name_fits in omega (arith, h)) ds lamps.each_indicator;
         all = omega (arith, few, few_indicator_bytes);
       },
       record {
-        lengths = All-weaker GroupNameIsFine (λ (g : List ℕ). length g < 2 ^ 16) (λ g holds. let h : length g ≤ 255 = holds.name_fits in omega (arith, h)) gs lamps.each_group;
+        lengths = All-weaker GroupNameIsValid (λ (g : List ℕ). length g < 2 ^ 16) (λ g holds. let h : length g ≤ 255 = holds.name_fits in omega (arith, h)) gs lamps.each_group;
         all = omega (arith, few, few_indicator_bytes, few_group_bytes, length-append (content_of_resolved r).names (names_of_indicators ds));
       },
     )
   where
     few_indicator_bytes : length (names_of_indicators ds) ≤ 8160
-    few_indicator_bytes = omega (arith, lamps.few_indicators, flat_length (λ (d : ResolvedIndicator). d.name) 255 ds (All-weaker IndicatorIsFine (λ (d : ResolvedIndicator). length d.name ≤ 255) (λ d holds. holds.name_fits) ds lamps.each_indicator))
+    few_indicator_bytes = omega (arith, lamps.few_indicators, flat_length (λ (d : ResolvedIndicator). d.name) 255 ds (All-weaker IndicatorIsValid (λ (d : ResolvedIndicator). length d.name ≤ 255) (λ d holds. holds.name_fits) ds lamps.each_indicator))
 
     few_group_bytes : length (names_of_groups gs) ≤ 8160
-    few_group_bytes = omega (arith, lamps.few_groups, flat_length (λ (g : List ℕ). g) 255 gs (All-weaker GroupNameIsFine (λ (g : List ℕ). length g ≤ 255) (λ g holds. holds.name_fits) gs lamps.each_group))
+    few_group_bytes = omega (arith, lamps.few_groups, flat_length (λ (g : List ℕ). g) 255 gs (All-weaker GroupNameIsValid (λ (g : List ℕ). length g ≤ 255) (λ g holds. holds.name_fits) gs lamps.each_group))
 
-pub lamps_refused : (r : Resolved) (ds : List ResolvedIndicator) (gs : List (List ℕ)) (e : BuildFault) → IsSmall r → LampsAreFine ds gs → IsCause e (LampsFit (content_of_resolved r) ds gs) ⊤ → e ≡ builds.Memory
+pub lamps_refused : (r : Resolved) (ds : List ResolvedIndicator) (gs : List (List ℕ)) (e : BuildFault) → IsWithinLimits r → LampsAreValid ds gs → IsCause e (LampsFit (content_of_resolved r) ds gs) ⊤ → e ≡ builds.Memory
 lamps_refused r ds gs e small fine cause = only_memory e (LampsFit (content_of_resolved r) ds gs) ⊤ cause (lamps_fit r ds gs small fine) tt
 
 -- ---- Lamps beside keymaps

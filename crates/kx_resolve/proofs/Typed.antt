@@ -9,8 +9,8 @@ use Rattle.std.proofs.lemmas.Bool.{false≢true, leb-true}
 use Rattle.std.proofs.lemmas.List.{length-map}
 use Rattle.std.proofs.lemmas.List.Elements.{All-append, All-cons, All-head, All-nil, All-push, All-tail}
 use Rattle.std.proofs.lemmas.Map.Made.{length-le_from_is_member}
-use Rattle.kx_builder.specs.Fine.{TypeIsFine}
-use Rattle.kx_builder.specs.Small.{IsSmall, KeyIsSmall, TypeIsSmall}
+use Rattle.kx_builder.specs.Valid.{TypeIsValid}
+use Rattle.kx_builder.specs.WithinLimits.{IsWithinLimits, KeyIsWithinLimits, TypeIsWithinLimits}
 use Rattle.kx_levels.specs.Selecting.{RealSet}
 use Rattle.kx_masks.specs.Counted.{with_names}
 use Rattle.kx_merge.specs.Offers.{with_name}
@@ -111,18 +111,18 @@ used_few types name key =
 -- ---- Types that hold are small
 
 module _ (real : ℕ → RealSet) (declared : List ℕ → Option Definition) where
-  type_small : (name : List ℕ) → TypeHolds real declared name → TypeIsSmall (type_of real declared name)
+  type_small : (name : List ℕ) → TypeHolds real declared name → TypeIsWithinLimits (type_of real declared name)
   type_small name holds = record { few_entries = holds.fine.entries_fit; short_name = holds.fine.name_fits }
 
-  types_small : (names : List (List ℕ)) → All (TypeHolds real declared) names → All TypeIsSmall (map (type_of real declared) names)
-  types_small [] all = All-nil TypeIsSmall
-  types_small (name ∷ names) all = All-cons TypeIsSmall (type_of real declared name) (map (type_of real declared) names) (type_small name (All-head (TypeHolds real declared) name names all)) (types_small names (All-tail (TypeHolds real declared) name names all))
+  types_small : (names : List (List ℕ)) → All (TypeHolds real declared) names → All TypeIsWithinLimits (map (type_of real declared) names)
+  types_small [] all = All-nil TypeIsWithinLimits
+  types_small (name ∷ names) all = All-cons TypeIsWithinLimits (type_of real declared name) (map (type_of real declared) names) (type_small name (All-head (TypeHolds real declared) name names all)) (types_small names (All-tail (TypeHolds real declared) name names all))
 
-  pub tree_small : (names : List (List ℕ)) → length names ≤ 4097 → All (TypeHolds real declared) names → IsSmall (record { types = map (type_of real declared) names; keys = [] })
-  tree_small names few all = record { few_types = omega (arith, few, length-map names (type_of real declared)); small_types = types_small names all; few_keys = omega arith; small_keys = All-nil KeyIsSmall }
+  pub tree_small : (names : List (List ℕ)) → length names ≤ 4097 → All (TypeHolds real declared) names → IsWithinLimits (record { types = map (type_of real declared) names; keys = [] })
+  tree_small names few all = record { few_types = omega (arith, few, length-map names (type_of real declared)); small_types = types_small names all; few_keys = omega arith; small_keys = All-nil KeyIsWithinLimits }
 
-  pub types_fine : (names : List (List ℕ)) → All (TypeHolds real declared) names → All TypeIsFine (map (type_of real declared) names)
-  types_fine [] all = All-nil TypeIsFine
+  pub types_fine : (names : List (List ℕ)) → All (TypeHolds real declared) names → All TypeIsValid (map (type_of real declared) names)
+  types_fine [] all = All-nil TypeIsValid
   types_fine (name ∷ names) all =
       let one = All-head (TypeHolds real declared) name names all in
-      All-cons TypeIsFine (type_of real declared name) (map (type_of real declared) names) one.fine (types_fine names (All-tail (TypeHolds real declared) name names all))
+      All-cons TypeIsValid (type_of real declared name) (map (type_of real declared) names) one.fine (types_fine names (All-tail (TypeHolds real declared) name names all))

@@ -9,7 +9,7 @@ use Rattle.kx_mods.specs.declared.mods.Mods.{Mods}
 use Rattle.kx_bearing.specs.Deeds.{Deeds}
 use Rattle.kx_resolve.specs.Keys.{Keyed, cell_of, type_of}
 use Rattle.kx_tables.specs.Sound.{RangeHolds}
-use Rattle.kx_builder.specs.Fine.{CellIsFine, TypeIsFine}
+use Rattle.kx_builder.specs.Valid.{CellIsValid, TypeIsValid}
 use Rattle.kx_builder.specs.Pushes.{last_groups}
 use Rattle.kx_builder.specs.Resolved.{ResolvedCell, ResolvedGroup, ResolvedKey}
 use Rattle.kx_levels.specs.Rows.{RowsShow}
@@ -20,7 +20,7 @@ use Rattle.kx_basics.specs.declared.limits.TheConstants.{MOST_NAME_BYTES}
 
 -- the cells of a group's levels below a number
 abbrev pub CellsAreFine : Deeds → KeyGiven → ℕ → ℕ → Type 0
-CellsAreFine deeds key group n = (level : ℕ) → level < n → CellIsFine (cell_of deeds key group level)
+CellsAreFine deeds key group n = (level : ℕ) → level < n → CellIsValid (cell_of deeds key group level)
 
 module _ (declared : List ℕ → Option Definition) where
   abbrev pub levels_of_group : KeyGiven → ℕ → ℕ
@@ -51,7 +51,7 @@ module _ (real : ℕ → RealSet) (declared : List ℕ → Option Definition) wh
   -- its rows show what it gives, and keep the rules of tables
   pub record TypeHolds (name : List ℕ) : Type 0 where
     pub shows : RowsShow real (type_definition declared name) (type_of real declared name).mods (type_of real declared name).entries
-    pub fine : TypeIsFine (type_of real declared name)
+    pub fine : TypeIsValid (type_of real declared name)
 
 -- it is one of those declared, or ONE_LEVEL
 abbrev pub IsOneOf : List (List ℕ) → List ℕ → Type 0

@@ -1,9 +1,9 @@
 //! Keys, pushed group by group and level by level.
 ghost use Rattle.std.specs.Prelude.{◌≡◌, ◌≤◌, ◌<◌, ◌++◌, ◌^◌, ℕ, IfErr, OnOk, List, [], Some, fold, length};
 ghost use Rattle.kx_basics.specs.declared.limits.TheConstants.{CODES, MOST_GROUPS, MOST_LEVELS, MOST_NAME_BYTES};
-ghost use Rattle.kx_builder.specs.Fine.{CellIsFine};
+ghost use Rattle.kx_builder.specs.Valid.{CellIsValid};
 ghost use Rattle.kx_builder.specs.Pushes.{last_groups, with_cell, with_group, with_key};
-ghost use Rattle.kx_builder.specs.Small.{IsSmall};
+ghost use Rattle.kx_builder.specs.WithinLimits.{IsWithinLimits};
 ghost use Rattle.kx_builder.specs.declared.fault.BuildFault.TheVariants as builds;
 ghost use Rattle.kx_codes.specs.Codes.{name_of};
 ghost use Rattle.kx_lex.specs.declared.fault.Fault.TheVariants.{Memory};
@@ -88,11 +88,11 @@ fn push_level(
     group: usize,
     level: usize,
 ) -> Result<(), Fault>
-    requires small { IsSmall builder.old }
+    requires small { IsWithinLimits builder.old }
     requires some { 0 < length (last_groups builder.old.keys) }
     requires own { key.own ≡ has_action (given key.key.now) }
     ensures pushed { OnOk result (builder.new ≡ with_cell builder.old (cell_of (deeds_of (real_of (stands_for key.entry.stands.now)) key.entry.interpretations.now key.entry.modmap (given key.entry.key.now)) (given key.entry.key.now) group level)) }
-    ensures fine { CellIsFine (cell_of (deeds_of (real_of (stands_for key.entry.stands.now)) key.entry.interpretations.now key.entry.modmap (given key.entry.key.now)) (given key.entry.key.now) group level) }
+    ensures fine { CellIsValid (cell_of (deeds_of (real_of (stands_for key.entry.stands.now)) key.entry.interpretations.now key.entry.modmap (given key.entry.key.now)) (given key.entry.key.now) group level) }
     ensures err { IfErr result (λ e. e ≡ Memory) }
 {
     builder
@@ -108,14 +108,14 @@ fn push_levels(
     group: usize,
     levels: usize,
 ) -> Result<(), Fault>
-    requires small { IsSmall builder.old }
+    requires small { IsWithinLimits builder.old }
     requires some { 0 < length (last_groups builder.old.keys) }
     requires bare { last_cells builder.old.keys ≡ [] }
     requires few { levels ≤ MOST_LEVELS }
     requires own { key.own ≡ has_action (given key.key.now) }
     ensures pushed { OnOk result (builder.new ≡ fold with_cell builder.old (cells_of (deeds_of (real_of (stands_for key.entry.stands.now)) key.entry.interpretations.now key.entry.modmap (given key.entry.key.now)) (given key.entry.key.now) group levels)) }
     ensures fine { OnOk result (CellsAreFine (deeds_of (real_of (stands_for key.entry.stands.now)) key.entry.interpretations.now key.entry.modmap (given key.entry.key.now)) (given key.entry.key.now) group levels) }
-    ensures small { OnOk result (IsSmall builder.new) }
+    ensures small { OnOk result (IsWithinLimits builder.new) }
     ensures err { IfErr result (λ e. e ≡ Memory) }
 {
     'levels: for level in 0..levels {
@@ -127,7 +127,7 @@ fn push_levels(
 /// Pushes a group without its levels.
 #[tactic(auto, using(crate::proofs::Small::group_refused))]
 fn push_bare_group(builder: &mut Builder, key_type: u16) -> Result<(), Fault>
-    requires small { IsSmall builder.old }
+    requires small { IsWithinLimits builder.old }
     requires some { 0 < length builder.old.keys }
     requires few { length (last_groups builder.old.keys) < MOST_GROUPS }
     ensures pushed { OnOk result (builder.new ≡ with_group builder.old (record { key_type = key_type; cells = [] })) }
@@ -155,14 +155,14 @@ fn push_group(
     key: KeyMeaning,
     group: usize,
 ) -> Result<(), Fault>
-    requires small { IsSmall builder.old }
+    requires small { IsWithinLimits builder.old }
     requires some { 0 < length builder.old.keys }
     requires few { length (last_groups builder.old.keys) < MOST_GROUPS }
     requires places { length used.now < 2 ^ 16 }
     requires own { key.own ≡ has_action (given key.key.now) }
     ensures pushed { OnOk result (builder.new ≡ with_group builder.old (group_of (type_named types.now) used.now (deeds_of (real_of (stands_for key.entry.stands.now)) key.entry.interpretations.now key.entry.modmap (given key.entry.key.now)) (given key.entry.key.now) group)) }
     ensures fine { OnOk result (CellsAreFine (deeds_of (real_of (stands_for key.entry.stands.now)) key.entry.interpretations.now key.entry.modmap (given key.entry.key.now)) (given key.entry.key.now) (content_group (given key.entry.key.now) group) (levels_of_group (type_named types.now) (given key.entry.key.now) group)) }
-    ensures small { OnOk result (IsSmall builder.new) }
+    ensures small { OnOk result (IsWithinLimits builder.new) }
     ensures err { IfErr result (λ e. e ≡ Memory) }
 {
     let name = group_type_name(types, key.key, group);
@@ -185,7 +185,7 @@ fn push_bare_key(
     modmap: Mods,
     range: Range,
 ) -> Result<(), Fault>
-    requires small { IsSmall builder.old }
+    requires small { IsWithinLimits builder.old }
     requires short { length name.now ≤ MOST_NAME_BYTES }
     ensures pushed { OnOk result (builder.new ≡ with_key builder.old (record { code = code; name = name.now; modmap = modmap; range = range; groups = [] })) }
     ensures err { IfErr result (λ e. e ≡ Memory) }
@@ -217,7 +217,7 @@ fn push_key(
     key: KeyMeaning,
     notes: &mut Notes,
 ) -> Result<(), Fault>
-    requires small { IsSmall builder.old }
+    requires small { IsWithinLimits builder.old }
     requires few { length builder.old.keys < CODES }
     requires short { length name.now ≤ MOST_NAME_BYTES }
     requires places { length used.now < 2 ^ 16 }
@@ -225,7 +225,7 @@ fn push_key(
     ensures pushed { OnOk result (builder.new ≡ with_key builder.old (key_of (type_named types.now) used.now (deeds_of (real_of (stands_for key.entry.stands.now)) key.entry.interpretations.now key.entry.modmap (given key.entry.key.now)) (given key.entry.key.now) code name.now key.entry.modmap)) }
     ensures fine { OnOk result (GroupsAreFine (type_named types.now) (deeds_of (real_of (stands_for key.entry.stands.now)) key.entry.interpretations.now key.entry.modmap (given key.entry.key.now)) (given key.entry.key.now) (group_count (given key.entry.key.now))) }
     ensures range { RangeHolds (given key.entry.key.now).range }
-    ensures small { OnOk result (IsSmall builder.new) }
+    ensures small { OnOk result (IsWithinLimits builder.new) }
     ensures err { IfErr result (λ e. e ≡ Memory) }
 {
     push_bare_key(builder, code, name, key.modmap, range(key.key))?;
@@ -253,12 +253,12 @@ fn push_code(
     code: u16,
     notes: &mut Notes,
 ) -> Result<(), Fault>
-    requires small { IsSmall builder.old }
+    requires small { IsWithinLimits builder.old }
     requires few { length builder.old.keys < CODES }
     requires places { length used.now < 2 ^ 16 }
     ensures pushed { OnOk result (builder.new ≡ record builder.old { keys = builder.old.keys ++ key_if_named (type_named read.entry.types.now) used.now (deeds_of (real_of (stands_for read.entry.stands.now)) read.entry.interpretations.now (modmap_at read.entry.modmaps.now code) (given_in (key_at read.entry.keys.now code))) (given_in (key_at read.entry.keys.now code)) code (name_of read.entry.codes.now code) (modmap_at read.entry.modmaps.now code) }) }
     ensures bounds { OnOk result ((name : List ℕ) → name_of read.entry.codes.now code ≡ Some name → KeepsBounds (type_named read.entry.types.now) name (modmap_at read.entry.modmaps.now code) (deeds_of (real_of (stands_for read.entry.stands.now)) read.entry.interpretations.now (modmap_at read.entry.modmaps.now code) (given_in (key_at read.entry.keys.now code))) (given_in (key_at read.entry.keys.now code))) }
-    ensures small { OnOk result (IsSmall builder.new) }
+    ensures small { OnOk result (IsWithinLimits builder.new) }
     ensures err { IfErr result (λ e. e ≡ Memory) }
 {
     let modmap = key_mods(read.modmaps, code);
@@ -289,12 +289,12 @@ pub(crate) fn push_keys(
     used: &Names,
     notes: &mut Notes,
 ) -> Result<(), Fault>
-    requires small { IsSmall builder.old }
+    requires small { IsWithinLimits builder.old }
     requires keyless { builder.old.keys ≡ [] }
     requires places { length used.now < 2 ^ 16 }
     ensures pushed { OnOk result (builder.new ≡ record builder.old { keys = keys_below (type_named read.entry.types.now) used.now (keyed_of (real_of (stands_for read.entry.stands.now)) read.entry.codes.now read.entry.keys.now (modmap_at read.entry.modmaps.now) read.entry.interpretations.now) CODES }) }
     ensures bounds { OnOk result (BoundsBelow (type_named read.entry.types.now) (keyed_of (real_of (stands_for read.entry.stands.now)) read.entry.codes.now read.entry.keys.now (modmap_at read.entry.modmaps.now) read.entry.interpretations.now) CODES) }
-    ensures small { OnOk result (IsSmall builder.new) }
+    ensures small { OnOk result (IsWithinLimits builder.new) }
     ensures err { IfErr result (λ e. e ≡ Memory) }
 {
     'codes: for code in 0..read.codes.end() {

@@ -2,11 +2,11 @@
 ghost use Rattle.std.specs.Prelude.{◌≡◌, ◌≤◌, ◌<◌, ◌∷◌, ◌++◌, ◌^◌, [], ℕ, All, IfErr, IfOk, List, OnOk, Some, length, map, slice_get};
 ghost use Rattle.kx_basics.specs.declared.limits.TheConstants.{MOST_NAME_BYTES};
 ghost use Rattle.kx_builder.specs.Agreement.{ShowsSame};
-ghost use Rattle.kx_builder.specs.Fine.{IsFine};
-ghost use Rattle.kx_builder.specs.Lamps.{GroupNameIsFine, IndicatorIsFine, LampsAreFine, indicator_of, keymap_with, with_lamps};
+ghost use Rattle.kx_builder.specs.Valid.{IsValid};
+ghost use Rattle.kx_builder.specs.Lamps.{GroupNameIsValid, IndicatorIsValid, LampsAreValid, indicator_of, keymap_with, with_lamps};
 ghost use Rattle.kx_builder.specs.Placed.{content_of_resolved};
 ghost use Rattle.kx_builder.specs.Resolved.{keymap_of_resolved};
-ghost use Rattle.kx_builder.specs.Small.{IsSmall};
+ghost use Rattle.kx_builder.specs.WithinLimits.{IsWithinLimits};
 ghost use Rattle.kx_builder.specs.Whole.{IsWhole};
 ghost use Rattle.kx_groups.specs.Names.{AreCut};
 ghost use Rattle.kx_lamps.specs.Bounds.{AreFine};
@@ -43,7 +43,7 @@ fn real_mods(set: NameSet, stands: &[Mods]) -> Mods
 fn indicator<'n>(name: &'n [u8], lamp: &Lamp, stands: &[Mods]) -> Indicator<'n>
     requires { length name.now ≤ MOST_NAME_BYTES }
     ensures lit { indicator_of result ≡ indicator_lit (real_of (stands_for stands.now)) name.now lamp.now }
-    ensures fine { IndicatorIsFine (indicator_of result) }
+    ensures fine { IndicatorIsValid (indicator_of result) }
 {
     Indicator {
         name,
@@ -63,7 +63,7 @@ fn push_indicator<'a>(
 ) -> Result<(), Fault>
     requires { All (λ name. length name ≤ MOST_NAME_BYTES) indicators.now.names }
     ensures lit { OnOk result ((name : List ℕ) (lamp : LampValue) → slice_get indicators.now.names number ≡ Some name → slice_get indicators.now.lamps number ≡ Some lamp → map indicator_of lit.new.items ≡ map indicator_of lit.old.items ++ indicator_lit (real_of (stands_for stands.now)) name lamp ∷ []) }
-    ensures fine { OnOk result (All IndicatorIsFine (map indicator_of lit.old.items) → All IndicatorIsFine (map indicator_of lit.new.items)) }
+    ensures fine { OnOk result (All IndicatorIsValid (map indicator_of lit.old.items) → All IndicatorIsValid (map indicator_of lit.new.items)) }
     ensures err { IfErr result (λ e. e ≡ Memory) }
 {
     match (indicators.name(number), indicators.lamp(number)) {
@@ -83,7 +83,7 @@ fn indicators_lit<'a>(
     stands: &[Mods],
 ) -> Result<Vec<Indicator<'a>>, Fault>
     ensures lit { IfOk result (λ lit. map indicator_of lit.items ≡ indicators_of (real_of (stands_for stands.now)) indicators.now) }
-    ensures fine { IfOk result (λ lit. All IndicatorIsFine (map indicator_of lit.items)) }
+    ensures fine { IfOk result (λ lit. All IndicatorIsValid (map indicator_of lit.items)) }
     ensures numbered { AreFine indicators.now }
     ensures err { IfErr result (λ e. e ≡ Memory) }
 {
@@ -98,7 +98,7 @@ fn indicators_lit<'a>(
 fn push_name<'a>(names: &mut Vec<&'a [u8]>, name: &'a [u8]) -> Result<(), Fault>
     requires { length name.now ≤ MOST_NAME_BYTES }
     ensures pushed { OnOk result (map (λ g. g.now) names.new.items ≡ map (λ g. g.now) names.old.items ++ name.now ∷ []) }
-    ensures fine { GroupNameIsFine name.now }
+    ensures fine { GroupNameIsValid name.now }
     ensures err { IfErr result (λ e. e ≡ Memory) }
 {
     names.push(name)?;
@@ -108,7 +108,7 @@ fn push_name<'a>(names: &mut Vec<&'a [u8]>, name: &'a [u8]) -> Result<(), Fault>
 /// The names of groups, in their order.
 fn names_in_order<'a>(alloc: Global, group_names: &'a GroupNames) -> Result<Vec<&'a [u8]>, Fault>
     ensures names { IfOk result (λ names. map (λ g. g.now) names.items ≡ group_names.now) }
-    ensures fine { IfOk result (λ names. All GroupNameIsFine (map (λ g. g.now) names.items)) }
+    ensures fine { IfOk result (λ names. All GroupNameIsValid (map (λ g. g.now) names.items)) }
     ensures cut { AreCut group_names.now }
     ensures err { IfErr result (λ e. e ≡ Memory) }
 {
@@ -122,11 +122,11 @@ fn names_in_order<'a>(alloc: Global, group_names: &'a GroupNames) -> Result<Vec<
 /// The tables of what is built, with these indicators and names of groups.
 #[tactic(auto, using(crate::proofs::Lamps::lamps_refused))]
 fn with_these(builder: Builder, lit: &[Indicator<'_>], names: &[&[u8]]) -> Result<Parts, Fault>
-    requires small { IsSmall builder }
-    requires fine { LampsAreFine (map indicator_of lit.now) (map (λ g. g.now) names.now) }
+    requires small { IsWithinLimits builder }
+    requires fine { LampsAreValid (map indicator_of lit.now) (map (λ g. g.now) names.now) }
     ensures content { IfOk result (λ parts. content_of parts ≡ with_lamps (content_of_resolved builder) (map indicator_of lit.now) (map (λ g. g.now) names.now)) }
     ensures agrees { IsWhole builder → IfOk result (λ parts. ShowsSame (keymap_of (content_of parts)) (keymap_with (keymap_of_resolved builder) (map indicator_of lit.now))) }
-    ensures sound { IsFine builder → IfOk result (λ parts. Sound (content_of parts)) }
+    ensures sound { IsValid builder → IfOk result (λ parts. Sound (content_of parts)) }
     ensures err { IfErr result (λ e. e ≡ Memory) }
 {
     builder.with_lamps(lit, names).map_err(refused)
@@ -140,10 +140,10 @@ pub(crate) fn with_lamps(
     group_names: &GroupNames,
     stands: &[Mods],
 ) -> Result<Parts, Fault>
-    requires small { IsSmall builder }
+    requires small { IsWithinLimits builder }
     ensures content { IfOk result (λ parts. content_of parts ≡ with_lamps (content_of_resolved builder) (indicators_of (real_of (stands_for stands.now)) indicators.now) group_names.now) }
     ensures agrees { IsWhole builder → IfOk result (λ parts. ShowsSame (keymap_of (content_of parts)) (keymap_with (keymap_of_resolved builder) (indicators_of (real_of (stands_for stands.now)) indicators.now))) }
-    ensures sound { IsFine builder → IfOk result (λ parts. Sound (content_of parts)) }
+    ensures sound { IsValid builder → IfOk result (λ parts. Sound (content_of parts)) }
     ensures err { IfErr result (λ e. e ≡ Memory) }
 {
     let lit = indicators_lit(alloc, indicators, stands)?;

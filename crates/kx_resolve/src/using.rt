@@ -1,9 +1,9 @@
 //! The key types that keys use.
 ghost use Rattle.std.specs.Prelude.{◌≡◌, ◌≤◌, ◌<◌, ◌+◌, ℕ, All, IfErr, IfOk, OnOk, List, [], Some, length, map, slice_get};
 ghost use Rattle.kx_basics.specs.declared.limits.TheConstants.{MOST_NAME_BYTES};
-ghost use Rattle.kx_builder.specs.Fine.{TypeIsFine};
+ghost use Rattle.kx_builder.specs.Valid.{TypeIsValid};
 ghost use Rattle.kx_builder.specs.Pushes.{with_type};
-ghost use Rattle.kx_builder.specs.Small.{IsSmall};
+ghost use Rattle.kx_builder.specs.WithinLimits.{IsWithinLimits};
 ghost use Rattle.kx_codes.specs.Codes.{name_of};
 ghost use Rattle.kx_levels.specs.Rows.{RowsShow, entry_rows, mods_of};
 ghost use Rattle.kx_lex.specs.declared.fault.Fault.TheVariants.{Memory};
@@ -88,12 +88,12 @@ fn push_with(
     key_type: &KeyType,
     stands: &[Mods],
 ) -> Result<(), Fault>
-    requires small { IsSmall builder.old }
+    requires small { IsWithinLimits builder.old }
     requires keyless { builder.old.keys ≡ [] }
     requires short { length name.now ≤ MOST_NAME_BYTES }
     ensures pushed { OnOk result (builder.new ≡ with_type builder.old (type_with (real_of (stands_for stands.now)) name.now key_type.now)) }
     ensures shows { OnOk result (RowsShow (real_of (stands_for stands.now)) key_type.now (mods_of (real_of (stands_for stands.now) key_type.now.modifiers)) (entry_rows (real_of (stands_for stands.now)) key_type.now.entries)) }
-    ensures fine { OnOk result (TypeIsFine (type_with (real_of (stands_for stands.now)) name.now key_type.now)) }
+    ensures fine { OnOk result (TypeIsValid (type_with (real_of (stands_for stands.now)) name.now key_type.now)) }
     ensures err { IfErr result (λ e. e ≡ Memory) }
 {
     let rows = TypeRows::of(alloc, key_type, stands)?;
@@ -110,7 +110,7 @@ fn push_type(
     stands: &[Mods],
     name: &[u8],
 ) -> Result<(), Fault>
-    requires small { IsSmall builder.old }
+    requires small { IsWithinLimits builder.old }
     requires keyless { builder.old.keys ≡ [] }
     requires short { length name.now ≤ MOST_NAME_BYTES }
     ensures pushed { OnOk result (builder.new ≡ with_type builder.old (type_of (real_of (stands_for stands.now)) (type_named types.now) name.now)) }
@@ -132,7 +132,7 @@ fn push_numbered(
     used: &Names,
     number: usize,
 ) -> Result<(), Fault>
-    requires small { IsSmall builder.old }
+    requires small { IsWithinLimits builder.old }
     requires keyless { builder.old.keys ≡ [] }
     requires short { All (λ name. length name ≤ MOST_NAME_BYTES) used.now }
     ensures pushed { OnOk result ((name : List ℕ) → slice_get used.now number ≡ Some name → builder.new ≡ with_type builder.old (type_of (real_of (stands_for stands.now)) (type_named types.now) name)) }
@@ -156,7 +156,7 @@ pub(crate) fn with_types(
     requires short { All (λ name. length name ≤ MOST_NAME_BYTES) used.now }
     ensures types { IfOk result (λ builder. builder ≡ record { types = map (type_of (real_of (stands_for stands.now)) (type_named types.now)) used.now; keys = [] }) }
     ensures hold { OnOk result (All (TypeHolds (real_of (stands_for stands.now)) (type_named types.now)) used.now) }
-    ensures small { IfOk result (λ builder. IsSmall builder) }
+    ensures small { IfOk result (λ builder. IsWithinLimits builder) }
     ensures err { IfErr result (λ e. e ≡ Memory) }
 {
     let mut builder = Builder::new(alloc);

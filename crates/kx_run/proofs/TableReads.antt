@@ -6,7 +6,7 @@ use Rattle.std.proofs.lemmas.List.Sums.{sum_by-cons}
 use Rattle.kx_tables.specs.declared.rows.EntryRow.{EntryRow}
 use Rattle.std.proofs.lemmas.Int.{ints}
 use Rattle.std.proofs.lemmas.Bool.{eqb-true}
-use Rattle.kx_tables.specs.Bounds.{groups_within}
+use Rattle.kx_tables.proofs.Bounds.{groups_within}
 use Rattle.kx_tables.specs.Content.{Content, part, greatest_groups}
 use Rattle.kx_tables.specs.Keymap.{key_with, level_of, keymap_of}
 use Rattle.kx_tables.specs.Sound.{Sound, KeyHolds, ActionHolds, GroupChangeHolds, EntryHolds}

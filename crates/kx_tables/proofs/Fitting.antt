@@ -4,7 +4,7 @@ use Rattle.std.proofs.lemmas.Option.{slice_get_cases, slice_get-get_or}
 use Rattle.kx_tables.specs.Broken.{Breaks, RowBreaks}
 use Rattle.kx_tables.specs.Content.{Content}
 use Rattle.kx_tables.specs.Fit.{CountsFit}
-use Rattle.kx_tables.specs.Fits.{few_fit}
+use Rattle.kx_tables.proofs.Fits.{few_fit}
 use Rattle.kx_tables.specs.SoFar.{EachBelow}
 use Rattle.kx_tables.specs.Unsound.{breaks_unsound}
 use Rattle.kx_tables.specs.Sound.{CountsHold, Sound}

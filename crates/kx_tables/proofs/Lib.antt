@@ -1,3 +1,5 @@
+pub mod Bounds
+pub mod Fits
 pub mod Entering
 pub mod Finding
 pub mod Growing

@@ -2,7 +2,7 @@
 use Rattle.std.proofs.Common.{ℕ, List, ◌≡◌, ◌+◌, ◌<◌, length, take, sum_by, arith, ap, ◌∙◌}
 use Rattle.std.proofs.Math.Seq.{take-length}
 use Rattle.std.proofs.lemmas.Option.{slice_get_within}
-use Rattle.kx_tables.specs.Bounds.{sum_up_to}
+use Rattle.kx_tables.proofs.Bounds.{sum_up_to}
 use Rattle.kx_tables.specs.Content.{Content, levels_of, types_used, type_names, key_names, indicator_names, type_name, key_name, indicator_name}
 use Rattle.kx_tables.specs.Fit.{CountsFit}
 use Rattle.kx_tables.specs.SoFar.{EachBelow, TypesAre, TypeNumbers, KeysAre, GroupsAre, CellsAre, IndicatorsAre, GroupNamesAre, NamesAreNew, EntriesLie}

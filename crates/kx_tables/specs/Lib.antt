@@ -1,8 +1,6 @@
-pub mod Bounds
 pub mod Broken
 pub mod Content
 pub mod Fit
-pub mod Fits
 pub mod Keymap
 pub mod Names
 pub mod Parts

@@ -1,6 +1,6 @@
 use Rattle.std.proofs.Common.{◌++◌, ◌+◌, ◌∙◌, codes, map, take, ap, arith, refl}
 use Rattle.std.proofs.lemmas.List.{map-append}
-use Rattle.kx_tables.specs.Fits.{sound_fits}
+use Rattle.kx_tables.proofs.Fits.{sound_fits}
 use Rattle.kx_print.specs.Phrases.{joined, numbered}
 use Rattle.kx_print.specs.Printed.{group_fields, groups_of, on_new_line}
 use Rattle.kx_print.proofs.RangeLemmas.{levels_within}

@@ -1,5 +1,5 @@
 use Rattle.ks_core.proofs.PressLemmas.{tells_more}
-use Rattle.kx_tables.specs.Bounds.{groups_within}
+use Rattle.kx_tables.proofs.Bounds.{groups_within}
 use Rattle.kx_print.specs.Printed.{key_block}
 use Rattle.kx_print.proofs.keys.tell_each_key.Goals as goal
 

@@ -1,5 +1,5 @@
 use Rattle.std.proofs.Common.{codes}
-use Rattle.kx_tables.specs.Bounds.{keysyms_within}
+use Rattle.kx_tables.proofs.Bounds.{keysyms_within}
 use Rattle.kx_print.specs.Printed.{cell_symbols}
 use Rattle.kx_tables.specs.Content.{part}
 use Rattle.kx_print.proofs.Listing.{listed_row}

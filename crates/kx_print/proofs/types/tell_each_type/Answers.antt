@@ -1,5 +1,5 @@
 use Rattle.ks_core.proofs.PressLemmas.{tells_more}
-use Rattle.kx_tables.specs.Bounds.{entries_within}
+use Rattle.kx_tables.proofs.Bounds.{entries_within}
 use Rattle.kx_print.specs.Printed.{type_block}
 use Rattle.kx_print.proofs.types.tell_each_type.Goals as goal
 

@@ -1,7 +1,7 @@
 use Rattle.std.proofs.Common.{None, Some, [], arith, sym, subst}
 use Rattle.std.proofs.lemmas.List.Elements.{All-nil}
 use Rattle.kx_bearing.specs.Deeds.{deeds_of}
-use Rattle.kx_builder.specs.Small.{GroupIsSmall, IsSmall}
+use Rattle.kx_builder.specs.WithinLimits.{GroupIsWithinLimits, IsWithinLimits}
 use Rattle.kx_codes.specs.Codes.{name_of}
 use Rattle.kx_mapped.specs.Modmaps.{modmap_at}
 use Rattle.kx_masks.specs.Sets.{real_of}
@@ -43,6 +43,6 @@ returns-in_ok-push_bare_key-in-Some-None-clause-bounds c = λ name is.
 
 pub returns-in_ok-push_bare_key-in-Some-None-clause-small : goal.returns-in_ok-push_bare_key-in-Some-None-clause-small
 returns-in_ok-push_bare_key-in-Some-None-clause-small c =
-    subst IsSmall (sym c.in_ok-push_bare_key-in-Some-None.ensures.pushed)
+    subst IsWithinLimits (sym c.in_ok-push_bare_key-in-Some-None.ensures.pushed)
     (small_with_key c.args.builder.now (record { code = c.args.code; name = c.in-Some-None.name.now; modmap = c.key_mods-modmap.result; range = Wrap; groups = [] }) c.requires.small c.requires.few
-    (record { short_name = c.in-Some-None.ensures.fine.short; few_groups = omega arith; small_groups = All-nil GroupIsSmall }))
+    (record { short_name = c.in-Some-None.ensures.fine.short; few_groups = omega arith; small_groups = All-nil GroupIsWithinLimits }))

@@ -3,7 +3,7 @@ use Rattle.std.proofs.lemmas.List.{length-append}
 use Rattle.std.proofs.lemmas.List.Elements.{All-nil}
 use Rattle.kx_builder.specs.Pushes.{last_groups, with_cell, with_group}
 use Rattle.kx_builder.specs.Resolved.{Resolved, ResolvedGroup}
-use Rattle.kx_builder.specs.Small.{CellIsSmall, GroupIsSmall, IsSmall}
+use Rattle.kx_builder.specs.WithinLimits.{CellIsWithinLimits, GroupIsWithinLimits, IsWithinLimits}
 use Rattle.kx_masks.specs.Sets.{real_of}
 use Rattle.kx_masks.specs.Standing.{stands_for}
 use Rattle.kx_resolve.proofs.Growing.{group_then_cells, groups_grow, new_cells, small_with_group}
@@ -18,12 +18,12 @@ use Rattle.kx_resolve.proofs.keys.push_group.Goals as goal
 abbrev bare : ℕ → ResolvedGroup
 bare place = record { key_type = place; cells = [] }
 
-bare_small : (place : ℕ) → GroupIsSmall (bare place)
-bare_small place = record { few_cells = omega arith; small_cells = All-nil CellIsSmall }
+bare_small : (place : ℕ) → GroupIsWithinLimits (bare place)
+bare_small place = record { few_cells = omega arith; small_cells = All-nil CellIsWithinLimits }
 
 pub push_levels-requires-clause-small : goal.push_levels-requires-clause-small
 push_levels-requires-clause-small c =
-    subst IsSmall (sym c.in_ok-push_bare_group.ensures.pushed) (small_with_group c.args.builder.now (bare c.type_place.result) c.requires.small (bare_small c.type_place.result) c.requires.few)
+    subst IsWithinLimits (sym c.in_ok-push_bare_group.ensures.pushed) (small_with_group c.args.builder.now (bare c.type_place.result) c.requires.small (bare_small c.type_place.result) c.requires.few)
 
 pub push_levels-requires-clause-some : goal.push_levels-requires-clause-some
 push_levels-requires-clause-some c =

@@ -4,7 +4,7 @@ use Rattle.std.proofs.lemmas.List.Elements.{All-nil}
 use Rattle.std.proofs.lemmas.List.Sums.{fold-append}
 use Rattle.kx_builder.specs.Pushes.{key_with_group, last_groups, with_group, with_key}
 use Rattle.kx_builder.specs.Resolved.{Resolved, ResolvedKey}
-use Rattle.kx_builder.specs.Small.{GroupIsSmall, IsSmall}
+use Rattle.kx_builder.specs.WithinLimits.{GroupIsWithinLimits, IsWithinLimits}
 use Rattle.kx_masks.specs.Sets.{real_of}
 use Rattle.kx_masks.specs.Standing.{stands_for}
 use Rattle.kx_resolve.proofs.Growing.{bare_groups, change_length, groups_grow, key_then_groups, small_with_key}
@@ -27,7 +27,7 @@ groups-init c =
     let bare_pushed : c.push_bare_key.new.builder ≡ with_key c.args.builder.now bare = c.in_ok-push_bare_key.ensures.pushed ∙ ap (λ r. with_key c.args.builder.now (record bare { range = r })) c.range.ensures.value in
     let count : length c.push_bare_key.new.builder.keys ≡ length (c.args.builder.now.keys ++ bare ∷ []) = ap (λ (r : Resolved). length r.keys) bare_pushed in (
       bare_pushed ∙ ap (fold with_group (with_key c.args.builder.now bare)) (sym (groups_none key declared used deeds)),
-      subst IsSmall (sym bare_pushed) (small_with_key c.args.builder.now bare c.requires.small c.requires.few (record { short_name = c.requires.short; few_groups = omega arith; small_groups = All-nil GroupIsSmall })),
+      subst IsWithinLimits (sym bare_pushed) (small_with_key c.args.builder.now bare c.requires.small c.requires.few (record { short_name = c.requires.short; few_groups = omega arith; small_groups = All-nil GroupIsWithinLimits })),
       omega (arith, count, length-append c.args.builder.now.keys (bare ∷ [])),
       ap (λ (r : Resolved). length (last_groups r.keys)) bare_pushed ∙ ap length (bare_groups c.args.builder.now.keys bare),
       λ group less. absurd (omega (arith, less)),

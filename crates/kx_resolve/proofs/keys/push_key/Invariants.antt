@@ -1,6 +1,6 @@
 use Rattle.std.proofs.Common.{◌≡◌, ◌<◌, [], fold, length}
 use Rattle.kx_builder.specs.Pushes.{last_groups, with_group, with_key}
-use Rattle.kx_builder.specs.Small.{IsSmall}
+use Rattle.kx_builder.specs.WithinLimits.{IsWithinLimits}
 use Rattle.kx_masks.specs.Sets.{real_of}
 use Rattle.kx_masks.specs.Standing.{stands_for}
 use Rattle.kx_resolve.specs.Bounds.{GroupsAreFine}
@@ -13,7 +13,7 @@ use Rattle.kx_resolve.proofs.keys.push_key.Given as goal
 abbrev pub invariant-groups : goal.invariant-groups
 invariant-groups l =
     (l.builder ≡ fold with_group (with_key l.fn.builder (record (key_of (type_named l.types) l.used (deeds_of (real_of (stands_for l.key.stands.now)) l.key.interpretations.now l.key.modmap (given l.key.key.now)) (given l.key.key.now) l.code l.name l.key.modmap) { groups = [] })) (groups_of (type_named l.types) l.used (deeds_of (real_of (stands_for l.key.stands.now)) l.key.interpretations.now l.key.modmap (given l.key.key.now)) (given l.key.key.now) l.group))
-    × IsSmall l.builder
+    × IsWithinLimits l.builder
     × (0 < length l.builder.keys)
     × (length (last_groups l.builder.keys) ≡ l.group)
     × GroupsAreFine (type_named l.types) (deeds_of (real_of (stands_for l.key.stands.now)) l.key.interpretations.now l.key.modmap (given l.key.key.now)) (given l.key.key.now) l.group

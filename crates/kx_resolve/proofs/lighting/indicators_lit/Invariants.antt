@@ -1,5 +1,5 @@
 use Rattle.std.proofs.Common.{◌≡◌, All, map, take}
-use Rattle.kx_builder.specs.Lamps.{IndicatorIsFine, indicator_of}
+use Rattle.kx_builder.specs.Lamps.{IndicatorIsValid, indicator_of}
 use Rattle.kx_masks.specs.Sets.{real_of}
 use Rattle.kx_masks.specs.Standing.{stands_for}
 use Rattle.kx_resolve.specs.Lit.{indicators_of}
@@ -8,4 +8,4 @@ use Rattle.kx_resolve.proofs.lighting.indicators_lit.Given as goal
 abbrev pub invariant-indicators : goal.invariant-indicators
 invariant-indicators l =
     (map indicator_of l.lit.items ≡ take l.number (indicators_of (real_of (stands_for l.stands)) l.indicators))
-    × All IndicatorIsFine (map indicator_of l.lit.items)
+    × All IndicatorIsValid (map indicator_of l.lit.items)

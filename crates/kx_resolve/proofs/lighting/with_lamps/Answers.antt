@@ -1,5 +1,5 @@
 use Rattle.std.proofs.Common.{ℕ, All, Bor, List, ap, map, subst, sym, ◌∙◌}
-use Rattle.kx_builder.specs.Lamps.{GroupNameIsFine, IndicatorIsFine, indicator_of}
+use Rattle.kx_builder.specs.Lamps.{GroupNameIsValid, IndicatorIsValid, indicator_of}
 use Rattle.kx_masks.specs.Sets.{real_of}
 use Rattle.kx_masks.specs.Standing.{stands_for}
 use Rattle.kx_resolve.proofs.Lamps.{lamps_fine}
@@ -12,7 +12,7 @@ with_these-requires-clause-fine c =
     let named = ap texts c.as_slice-2.ensures.value in
     lamps_fine (real_of (stands_for c.args.stands.now)) c.args.indicators.now (map indicator_of c.as_slice.result.now) c.args.group_names.now (texts c.as_slice-2.result.now) c.in_ok-lit.ensures.numbered
     (lit ∙ c.in_ok-lit.ensures.lit)
-    (subst (All IndicatorIsFine) (sym lit) c.in_ok-lit.ensures.fine)
+    (subst (All IndicatorIsValid) (sym lit) c.in_ok-lit.ensures.fine)
     c.in_ok-names.ensures.cut
     (named ∙ c.in_ok-names.ensures.names)
-    (subst (All GroupNameIsFine) (sym named) c.in_ok-names.ensures.fine)
+    (subst (All GroupNameIsValid) (sym named) c.in_ok-names.ensures.fine)

@@ -4,7 +4,7 @@ use Rattle.std.proofs.lemmas.List.Elements.{All-nil, All-push}
 use Rattle.std.proofs.lemmas.Option.{slice_get-get_or}
 use Rattle.kx_builder.specs.Pushes.{with_type}
 use Rattle.kx_builder.specs.Resolved.{Resolved}
-use Rattle.kx_builder.specs.Small.{IsSmall}
+use Rattle.kx_builder.specs.WithinLimits.{IsWithinLimits}
 use Rattle.kx_masks.specs.Sets.{real_of}
 use Rattle.kx_masks.specs.Standing.{stands_for}
 use Rattle.kx_resolve.proofs.Typed.{tree_small}
@@ -39,7 +39,7 @@ pub push_numbered-requires-clause-small : goal.push_numbered-requires-clause-sma
 push_numbered-requires-clause-small c =
     let real = real_of (stands_for c.args.stands.now) in
     let declared = type_named c.args.types.now in
-    subst IsSmall (sym c.names.invariant.0) (tree_small real declared (take c.names.number c.args.used.now) (taken_few c.names.number c.args.used.now c.requires.few) c.names.invariant.1)
+    subst IsWithinLimits (sym c.names.invariant.0) (tree_small real declared (take c.names.number c.args.used.now) (taken_few c.names.number c.args.used.now c.requires.few) c.names.invariant.1)
 
 pub push_numbered-requires-clause-keyless : goal.push_numbered-requires-clause-keyless
 push_numbered-requires-clause-keyless c = ap (λ (r : Resolved). r.keys) c.names.invariant.0
@@ -62,4 +62,4 @@ pub returns-clause-small : goal.returns-clause-small
 returns-clause-small c =
     let real = real_of (stands_for c.args.stands.now) in
     let declared = type_named c.args.types.now in
-    subst IsSmall (sym c.names.invariant.0) (tree_small real declared (take c.names.number c.args.used.now) (taken_few c.names.number c.args.used.now c.requires.few) c.names.invariant.1)
+    subst IsWithinLimits (sym c.names.invariant.0) (tree_small real declared (take c.names.number c.args.used.now) (taken_few c.names.number c.args.used.now c.requires.few) c.names.invariant.1)

@@ -1,5 +1,5 @@
 use Rattle.std.proofs.Common.{arith}
-use Rattle.kx_tables.specs.Bounds.{keysyms_within}
+use Rattle.kx_tables.proofs.Bounds.{keysyms_within}
 use Rattle.kx_tables.specs.Sound.{CellHolds}
 use Rattle.kx_run.proofs.TableReads.{action_size-holds, level_within}
 use Rattle.kx_run.proofs.lookup.level_found.Goals as goal

@@ -1,5 +1,5 @@
 use Rattle.std.proofs.Common.{arith}
-use Rattle.kx_tables.specs.Bounds.{cells_within}
+use Rattle.kx_tables.proofs.Bounds.{cells_within}
 use Rattle.kx_tables.specs.Sound.{TypeHolds}
 use Rattle.kx_run.proofs.TableReads.{few_groups}
 use Rattle.kx_run.proofs.lookup.look_up_chosen.Goals as goal

@@ -1,4 +1,4 @@
-use Rattle.kx_tables.specs.Bounds.{entries_within, cells_within}
+use Rattle.kx_tables.proofs.Bounds.{entries_within, cells_within}
 use Rattle.kx_tables.specs.Sound.{TypeHolds}
 use Rattle.kx_run.proofs.TableReads.{names_levels}
 use Rattle.kx_run.proofs.lookup.look_up_group.Goals as goal

@@ -1,4 +1,4 @@
-use Rattle.kx_tables.specs.Bounds.{key_name_within}
+use Rattle.kx_tables.proofs.Bounds.{key_name_within}
 use Rattle.kx_image.proofs.view.View.key_name.Goals as goal
 
 pub name-requires : goal.name-requires

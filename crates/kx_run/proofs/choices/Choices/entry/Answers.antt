@@ -1,7 +1,7 @@
 use Rattle.std.proofs.Common.{◌≡◌, ℕ, ◌∙◌, List, Some, slice_get, ap, arith, get_or, length, set, subst, sym}
 use Rattle.std.proofs.lemmas.Option.{slice_get_within}
 use Rattle.kx_mods.specs.Mods.{mask}
-use Rattle.kx_tables.specs.Bounds.{entries_within}
+use Rattle.kx_tables.proofs.Bounds.{entries_within}
 use Rattle.kx_tables.specs.Content.{Content}
 use Rattle.kx_tables.specs.Keymap.{entry_for}
 use Rattle.kx_tables.specs.declared.rows.TypeRow.{TypeRow}

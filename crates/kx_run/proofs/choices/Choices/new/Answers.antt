@@ -1,6 +1,6 @@
 use Rattle.std.proofs.Common.{◌≡◌, ◌+◌, ◌∙◌, ap, arith, get_or, length, length-append, subst, sym}
 use Rattle.std.proofs.lemmas.Option.{slice_get_within}
-use Rattle.kx_tables.specs.Bounds.{entries_within}
+use Rattle.kx_tables.proofs.Bounds.{entries_within}
 use Rattle.kx_tables.specs.declared.tables.Counts.{Counts}
 use Rattle.kx_run.proofs.TableReads.{names_levels}
 use Rattle.kx_run.proofs.TypeChoices.{choice_push}

@@ -1,4 +1,4 @@
-use Rattle.kx_tables.specs.Fits.{sound_fits}
+use Rattle.kx_tables.proofs.Fits.{sound_fits}
 use Rattle.kx_tables.specs.Parts.{content_of}
 use Rattle.kx_tables.proofs.owned.Owned.from_sound.Goals as goal
 

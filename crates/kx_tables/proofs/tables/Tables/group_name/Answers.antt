@@ -1,4 +1,4 @@
-use Rattle.kx_tables.specs.Bounds.{group_name_within}
+use Rattle.kx_tables.proofs.Bounds.{group_name_within}
 use Rattle.kx_tables.proofs.tables.Tables.group_name.Goals as goal
 
 pub name_at-requires : goal.name_at-requires

@@ -1,4 +1,4 @@
-use Rattle.kx_tables.specs.Bounds.{key_name_within}
+use Rattle.kx_tables.proofs.Bounds.{key_name_within}
 use Rattle.kx_tables.proofs.tables.Tables.key_name.Goals as goal
 
 pub name_at-requires : goal.name_at-requires

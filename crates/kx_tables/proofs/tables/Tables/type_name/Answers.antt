@@ -1,4 +1,4 @@
-use Rattle.kx_tables.specs.Bounds.{type_name_within}
+use Rattle.kx_tables.proofs.Bounds.{type_name_within}
 use Rattle.kx_tables.proofs.tables.Tables.type_name.Goals as goal
 
 pub name_at-requires : goal.name_at-requires

@@ -1,12 +1,11 @@
--- What is resolved is fine: its numbers are within their bounds, names and codes tell things apart, and types stand in
+-- What is resolved is valid: its numbers are within their bounds, names and codes tell things apart, and types stand in
 -- the order in which groups use them first.
 use Rattle.std.specs.Prelude.{ℕ, ◌≡◌, ◌≢◌, ◌+◌, ◌<◌, ◌≤◌, ◌^◌, All, List, [], ◌∷◌, Some, length, max, slice_get, take}
-use Rattle.std.proofs.lemmas.List.Elements.{All-weaker}
 use Rattle.std.specs.Int.RustNames.{bit_and}
 use Rattle.kx_basics.specs.declared.limits.TheConstants.{GREATEST_CODE, MOST_GROUPS, MOST_KEYSYMS, MOST_NAME_BYTES, MOST_LEVELS}
 use Rattle.kx_builder.specs.Placed.{all_groups}
 use Rattle.kx_builder.specs.Resolved.{Resolved, ResolvedCell, ResolvedEntry, ResolvedGroup, ResolvedKey, ResolvedType}
-use Rattle.kx_builder.specs.Whole.{GroupIsWhole, IsWhole, KeyIsWhole, LevelExists, TypeIsWhole}
+use Rattle.kx_builder.specs.Whole.{GroupIsWhole, LevelExists}
 use Rattle.kx_mods.specs.Mods.{mask}
 use Rattle.kx_basics.specs.KeyNames.{IsKeyByte}
 use Rattle.kx_basics.specs.Keysyms.{IsKeysym}
@@ -24,38 +23,38 @@ Apart {X} f xs = (i j : ℕ) (x y : X) → j < i → slice_get xs i ≡ Some x �
 abbrev pub Rising : {X : Type 0} → (X → ℕ) → List X → Type 0
 Rising {X} f xs = (i j : ℕ) (x y : X) → j < i → slice_get xs i ≡ Some x → slice_get xs j ≡ Some y → f y < f x
 
-pub record EntryIsFine (t : ResolvedType) (e : ResolvedEntry) : Type 0 where
+pub record EntryIsValid (t : ResolvedType) (e : ResolvedEntry) : Type 0 where
   pub level : LevelExists t.levels e
   pub mods : mask e.mods < 2 ^ 8
   pub preserve : mask e.preserve < 2 ^ 8
   pub mods_within : MaskWithin (mask e.mods) (mask t.mods)
   pub preserve_within : MaskWithin (mask e.preserve) (mask e.mods)
 
-pub record TypeIsFine (t : ResolvedType) : Type 0 where
+pub record TypeIsValid (t : ResolvedType) : Type 0 where
   pub mods : mask t.mods < 2 ^ 8
   pub some_level : 1 ≤ t.levels
   pub levels : t.levels ≤ MOST_LEVELS
-  pub each_entry : All (EntryIsFine t) t.entries
+  pub each_entry : All (EntryIsValid t) t.entries
   pub entries_apart : Apart (λ (e : ResolvedEntry). mask e.mods) t.entries
   pub entries_fit : length t.entries < 2 ^ 16
   pub name_fits : length t.name ≤ MOST_NAME_BYTES
   pub each_byte : All (λ b. b < 2 ^ 8) t.name
 
-pub record CellIsFine (d : ResolvedCell) : Type 0 where
+pub record CellIsValid (d : ResolvedCell) : Type 0 where
   pub few : length d.syms ≤ MOST_KEYSYMS
   pub each_keysym : All IsKeysym d.syms
   pub does : ActionHolds d.action
 
-pub record GroupIsFine (types : List ResolvedType) (g : ResolvedGroup) : Type 0 where
+pub record GroupIsValid (types : List ResolvedType) (g : ResolvedGroup) : Type 0 where
   pub whole : GroupIsWhole types g
-  pub each_cell : All CellIsFine g.cells
+  pub each_cell : All CellIsValid g.cells
 
-pub record KeyIsFine (types : List ResolvedType) (k : ResolvedKey) : Type 0 where
+pub record KeyIsValid (types : List ResolvedType) (k : ResolvedKey) : Type 0 where
   pub code_fits : k.code ≤ GREATEST_CODE
   pub mapped : mask k.modmap < 2 ^ 8
   pub range_holds : RangeHolds k.range
   pub few : length k.groups ≤ MOST_GROUPS
-  pub each_group : All (GroupIsFine types) k.groups
+  pub each_group : All (GroupIsValid types) k.groups
   pub name_fits : length k.name ≤ MOST_NAME_BYTES
   pub each_byte : All IsKeyByte k.name
 
@@ -69,21 +68,11 @@ pub record InOrderOfUse (types : ℕ) (gs : List ResolvedGroup) : Type 0 where
   pub each_first : (i : ℕ) (g : ResolvedGroup) → slice_get gs i ≡ Some g → g.key_type ≤ types_met (take i gs)
   pub all_used : types ≤ types_met gs
 
-pub record IsFine (r : Resolved) : Type 0 where
-  pub each_type : All TypeIsFine r.types
+pub record IsValid (r : Resolved) : Type 0 where
+  pub each_type : All TypeIsValid r.types
   pub types_fit : length r.types < 2 ^ 16
   pub types_apart : Apart (λ (t : ResolvedType). t.name) r.types
   pub order : InOrderOfUse (length r.types) (all_groups r.keys)
-  pub each_key : All (KeyIsFine r.types) r.keys
+  pub each_key : All (KeyIsValid r.types) r.keys
   pub codes_rise : Rising (λ (k : ResolvedKey). k.code) r.keys
   pub keys_apart : Apart (λ (k : ResolvedKey). k.name) r.keys
-
--- what is fine is whole
-pub fine_is_whole : (r : Resolved) → IsFine r → IsWhole r
-fine_is_whole r fine = record {
-  each_type = All-weaker TypeIsFine TypeIsWhole (λ t holds. record {
-    some_level = holds.some_level;
-    level_of_each = All-weaker (EntryIsFine t) (LevelExists t.levels) (λ e entry. entry.level) t.entries holds.each_entry;
-  }) r.types fine.each_type;
-  each_key = All-weaker (KeyIsFine r.types) (KeyIsWhole r.types) (λ k holds. All-weaker (GroupIsFine r.types) (GroupIsWhole r.types) (λ g group. group.whole) k.groups holds.each_group) r.keys fine.each_key;
-}
