@@ -6,3 +6,9 @@ mod KeyNames
 pub mod Keywords
 mod Words
 pub mod Pieces
+pub mod Laws
+pub mod Reasons
+pub mod Others
+pub mod Lawful
+pub mod TokenLaws
+pub mod Shorter

@@ -1,5 +1,5 @@
 -- The kinds of bytes in keymap text, as the text format v1 of libxkbcommon has them. Letters are ASCII letters.
-use Rattle.std.specs.Prelude.{ℕ, ◌≡◌, All, List, Bool, true, ◌==◌, nat_le, ◌&&◌, ◌||◌, not, codes}
+use Rattle.std.specs.Prelude.{ℕ, All, List, Bool, ◌==◌, nat_le, ◌&&◌, ◌||◌, not, codes}
 use Rattle.std.specs.Char.{is_ascii_alphabetic, is_ascii_alphanumeric}
 use Rattle.std.specs.List.{list_any}
 use Rattle.kx_basics.specs.KeyNames.{IsKeyByte}

@@ -1,5 +1,5 @@
 -- The words that the grammar quotes, as the text format v1 of libxkbcommon has them.
-use Rattle.std.specs.Prelude.{◌≡◌, ℕ, List, [], ◌∷◌, ◌==◌, ◌<◌, Bool, Option, None, Some, codes, filter, get_or, length, map, if◌then◌else◌}
+use Rattle.std.specs.Prelude.{◌≡◌, ℕ, List, [], ◌∷◌, ◌==◌, ◌<◌, Option, None, Some, codes, filter, get_or, length, map, if◌then◌else◌}
 use Rattle.std.specs.Borrow.{Bor}
 use Rattle.std.specs.Str.{str_eq_ignore_ascii_case}
 use Rattle.kx_lex.specs.declared.keyword.Keyword.{Keyword}

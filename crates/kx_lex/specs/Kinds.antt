@@ -1,5 +1,5 @@
 -- Tokens by their kind and their bytes in the text.
-use Rattle.std.specs.Prelude.{ℕ, Bool, true, false, List, [], ◌∷◌, ◌+◌, ◌-◌, ◌*◌, ◌==◌, drop, if◌then◌else◌, slice_range, Option, None, Some}
+use Rattle.std.specs.Prelude.{ℕ, Bool, true, false, List, [], ◌∷◌, ◌+◌, ◌-◌, ◌==◌, not, drop, if◌then◌else◌, slice_range, Some}
 use Rattle.std.specs.Str.Parse.{digits_value}
 use Rattle.kx_lex.specs.Keywords.{keyword_number}
 use Rattle.kx_lex.specs.Pieces.{begins_hex}
@@ -67,6 +67,10 @@ front test (t ∷ ts) = test t
 -- the second token does
 abbrev pub second : (Token → Bool) → List Token → Bool
 second test ts = front test (drop 1 ts)
+
+-- the first token isn't this mark
+abbrev pub before_mark : ℕ → List Token → Bool
+before_mark byte ts = front (λ t. not (is_mark byte t)) ts
 
 -- hexadecimal behind 0x, else decimal
 unfoldable pub number_value : List ℕ → ℕ

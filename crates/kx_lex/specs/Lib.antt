@@ -8,12 +8,9 @@ pub mod Keywords
 pub mod KeywordLengths
 pub mod Kinds
 pub mod Stops
-pub mod Reasons
-pub mod Laws
+pub mod Parsing
 pub mod Production
 pub mod Spelling
-pub mod Others
 pub mod Tokens
 pub mod Gives
-pub mod Shrinks
 pub mod Lists

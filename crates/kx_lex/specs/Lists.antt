@@ -1,10 +1,9 @@
 -- What is read of lists, by what is read of one.
 use Rattle.std.specs.Prelude.{ℕ, suc, List, [], ◌∷◌, length, ◌++◌, Ok, Err}
 use Rattle.kx_lex.specs.declared.token.Token.{Token}
-use Rattle.kx_lex.specs.Laws.{Read, done, then_read, which, many_read}
-use Rattle.kx_lex.specs.Kinds.{front, is_mark}
+use Rattle.kx_lex.specs.Parsing.{Read, done, then_read, which, many_read}
+use Rattle.kx_lex.specs.Kinds.{front, is_mark, before_mark}
 use Rattle.kx_lex.specs.Tokens.{mark, comma}
-use Rattle.kx_lex.specs.Others.{before_mark}
 
 -- values behind others
 abbrev pub put_before : {A : Type 0} → List A → Read (List A) → Read (List A)

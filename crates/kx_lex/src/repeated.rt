@@ -1,14 +1,11 @@
 //! Values that stand in a row.
-ghost use Rattle.std.specs.Prelude.{◌≡◌, ◌<◌, ℕ, List, Bool, length, suc, []};
+ghost use Rattle.std.specs.Prelude.{◌≡◌, ◌<◌, ℕ, List, Bool, length, suc, [], IfOk};
 ghost use Rattle.kx_lex.specs.declared.token.Token.{Token as TokenValue};
 ghost use Rattle.kx_lex.specs.Gives.{Gives};
-ghost use Rattle.kx_lex.specs.Laws.{Read, done, many_read, then_read, prepend, which};
-ghost use Rattle.kx_lex.specs.Production.{one};
-ghost use Rattle.kx_lex.specs.Kinds.{front, is_mark};
+ghost use Rattle.kx_lex.specs.Parsing.{Read, many_read};
+ghost use Rattle.kx_lex.specs.Kinds.{front, is_mark, before_mark};
 ghost use Rattle.kx_lex.specs.Tokens.{mark, comma};
-ghost use Rattle.kx_lex.specs.Others.{before_mark};
 ghost use Rattle.kx_lex.specs.Lists.{put_before, after_comma_read, sequence_read, listed_read};
-ghost use Rattle.kx_lex.specs.Shrinks.{after_mark-shrinks};
 
 use crate::fault::Fault;
 use crate::name::Row;
@@ -30,14 +27,13 @@ pub trait Repeated {
     fn is_next(text: &[u8], tokens: &[Token]) -> bool
         ensures { result ≡ test text.now tokens.now };
 
-    /// Reads one more.
+    /// Reads one more, which takes a token at least.
     ///
     /// # Errors
     /// The fault of what may not stand there, and [`Fault::Memory`] where a growth is refused.
     fn read_next<'a>(alloc: Global, text: &[u8], tokens: &'a [Token]) -> Reading<'a, Self::Value>
-        ensures { Gives result (reading text.now tokens.now) };
-
-    ghost shrinks: { (text : List ℕ) (ts : List TokenValue) (x : Self.Value) (rest : List TokenValue) → reading text ts ≡ done x rest → length rest < length ts };
+        ensures read { Gives result (reading text.now tokens.now) }
+        ensures shorter { IfOk result (λ r. length r.1.now < length tokens.now) };
 }
 
 /// Reads as many as stand at the front, behind those that were read already.
@@ -92,8 +88,6 @@ impl<R: Repeated> Repeated for AfterComma<R> {
         let (_, rest) = read_mark(text, b',', tokens)?;
         R::read_next(alloc, text, rest)
     }
-
-    ghost shrinks = { λ text. after_mark-shrinks text comma (R.reading text) (R.shrinks text) };
 }
 
 /// Reads one, and more behind commas.

@@ -1,8 +1,7 @@
 ghost use Rattle.std.specs.Prelude.{◌≡◌, true};
 ghost use Rattle.kx_lex.specs.Gives.{Gives};
-ghost use Rattle.kx_lex.specs.Shrinks.{production-shrinks};
-ghost use Rattle.kx_parse.specs.Statements.{setting, bare_field, field, block_field, block_field-least, block, key_field, key_field-least, declared_mask, declaration, declaration-least, predicate, entry, entry-least};
-ghost use Rattle.kx_lex.specs.Others.{before_mark};
+ghost use Rattle.kx_parse.specs.Statements.{setting, bare_field, field, block_field, block, key_field, declared_mask, declaration, predicate, entry};
+ghost use Rattle.kx_lex.specs.Kinds.{before_mark};
 ghost use Rattle.kx_lex.specs.Tokens.{close_brace};
 
 use crate::tree::{Declaration, Entry, Expression, Field, KeyField, Place, Predicate, Setting};
@@ -87,8 +86,6 @@ impl Repeated for BlockFields {
     fn read_next<'a>(alloc: Global, text: &[u8], tokens: &'a [Token]) -> Reading<'a, Field> {
         read_block_field(alloc, text, tokens)
     }
-
-    ghost shrinks = { λ text. production-shrinks (block_field text) (block_field-least text) };
 }
 
 /// Takes the fields between braces, each with its `;`.
@@ -131,8 +128,6 @@ impl Repeated for KeyFields {
     fn read_next<'a>(alloc: Global, text: &[u8], tokens: &'a [Token]) -> Reading<'a, KeyField> {
         read_key_field(alloc, text, tokens)
     }
-
-    ghost shrinks = { λ text. production-shrinks (key_field text) (key_field-least text) };
 }
 
 fn read_declared_mask<'a>(
@@ -176,8 +171,6 @@ impl Repeated for Declarations {
     fn read_next<'a>(alloc: Global, text: &[u8], tokens: &'a [Token]) -> Reading<'a, Declaration> {
         read_declaration(alloc, text, tokens)
     }
-
-    ghost shrinks = { λ text. production-shrinks (declaration text) (declaration-least text) };
 }
 
 /// Takes the predicate of an interpretation: a call or a mask.
@@ -222,6 +215,4 @@ impl Repeated for Entries {
     fn read_next<'a>(alloc: Global, text: &[u8], tokens: &'a [Token]) -> Reading<'a, Entry> {
         read_entry(alloc, text, tokens)
     }
-
-    ghost shrinks = { λ text. production-shrinks (entry text) (entry-least text) };
 }

@@ -9,11 +9,9 @@ ghost use Rattle.kx_lex.specs.Gives.{Gives};
 ghost use Rattle.kx_lex.specs.Production.{optional, known, many, at_end};
 ghost use Rattle.kx_parse.specs.Refusals.{InSourceSection, InPlainSection};
 ghost use Rattle.kx_lex.specs.Stops.{StopsWithin};
-ghost use Rattle.kx_lex.specs.Shrinks.{production-shrinks};
-ghost use Rattle.kx_lex.specs.Kinds.{front, is_text, is_mark};
+ghost use Rattle.kx_lex.specs.Kinds.{front, is_text, is_mark, before_mark};
 ghost use Rattle.kx_lex.specs.Tokens.{text_name, close_brace};
-ghost use Rattle.kx_lex.specs.Others.{before_mark};
-ghost use Rattle.kx_parse.specs.Sections.{mode_of, join_of, begins_include, begins_moded, join, mode, include, moded, modal, own, item, item-least, kind_of, flag_of, kind, flag, flag-least, flags, optional_text, held_items, plain_section, geometry_body, geometry_section, flagged, section, whole_section, whole_section-least, held_sections, source, file, Spells, StopsWith, SpellsFile, FileStopsWith};
+ghost use Rattle.kx_parse.specs.Sections.{mode_of, join_of, begins_include, begins_moded, join, mode, include, moded, modal, own, item, kind_of, flag_of, kind, flag, flags, optional_text, held_items, plain_section, geometry_body, geometry_section, flagged, section, held_sections, source, file, Spells, StopsWith, SpellsFile, FileStopsWith};
 
 use crate::statements::read_statement;
 use crate::tree::{Flag, Item, Kind, Mode, Section, Statement, Tree};
@@ -193,8 +191,6 @@ impl Repeated for Items {
     fn read_next<'a>(alloc: Global, text: &[u8], tokens: &'a [Token]) -> Reading<'a, Item> {
         read_item(alloc, text, tokens)
     }
-
-    ghost shrinks = { λ text. production-shrinks (item text) (item-least text) };
 }
 
 #[tactic(auto, unfolding(crate::specs::Sections::kind_of))]
@@ -290,8 +286,6 @@ impl Repeated for Flags {
     fn read_next<'a>(alloc: Global, text: &[u8], tokens: &'a [Token]) -> Reading<'a, Flag> {
         read_flag(text, tokens)
     }
-
-    ghost shrinks = { λ text. production-shrinks (flag text) (flag-least text) };
 }
 
 #[tactic(auto, unfolding(crate::specs::Sections::flags))]
@@ -433,7 +427,7 @@ impl Repeated for HeldSections {
 
     ghost test = { λ text. before_mark close_brace };
 
-    ghost reading = { λ text. (whole_section text).read };
+    ghost reading = { λ text. (section text).read };
 
     fn is_next(text: &[u8], tokens: &[Token]) -> bool {
         is_before_mark(b'}', tokens)
@@ -442,8 +436,6 @@ impl Repeated for HeldSections {
     fn read_next<'a>(alloc: Global, text: &[u8], tokens: &'a [Token]) -> Reading<'a, Section> {
         read_section(alloc, text, tokens)
     }
-
-    ghost shrinks = { λ text. production-shrinks (whole_section text) (whole_section-least text) };
 }
 
 struct FileSections;
@@ -453,7 +445,7 @@ impl Repeated for FileSections {
 
     ghost test = { λ text. front (λ _. true) };
 
-    ghost reading = { λ text. (whole_section text).read };
+    ghost reading = { λ text. (section text).read };
 
     fn is_next(text: &[u8], tokens: &[Token]) -> bool {
         !tokens.is_empty()
@@ -462,8 +454,6 @@ impl Repeated for FileSections {
     fn read_next<'a>(alloc: Global, text: &[u8], tokens: &'a [Token]) -> Reading<'a, Section> {
         read_section(alloc, text, tokens)
     }
-
-    ghost shrinks = { λ text. production-shrinks (whole_section text) (whole_section-least text) };
 }
 
 #[tactic(auto, unfolding(crate::specs::Sections::held_sections))]
@@ -481,7 +471,7 @@ fn read_held_sections<'a>(
 }
 
 fn read_end<'a>(text: &[u8], tokens: &'a [Token]) -> Reading<'a, ()>
-    ensures { Gives result ((at_end text.now).read tokens.now) }
+    ensures { Gives result (at_end.read tokens.now) }
 {
     if tokens.is_empty() {
         Ok(((), tokens))

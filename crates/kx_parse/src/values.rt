@@ -1,8 +1,7 @@
 ghost use Rattle.std.specs.Prelude.{◌≡◌, true};
 ghost use Rattle.kx_lex.specs.Gives.{Gives};
-ghost use Rattle.kx_lex.specs.Shrinks.{production-shrinks};
 ghost use Rattle.kx_lex.specs.Kinds.{front};
-ghost use Rattle.kx_parse.specs.Values.{symbol, sign_of, is_sign, sign, signed_read, term, operation, operation-least, argument-least, part-least, element-least, bare_argument, expression, optional_index, index, optional_member, place, begins_set, set_argument, off_argument, argument, begins_call, call, part, braces, element, list, value};
+ghost use Rattle.kx_parse.specs.Values.{symbol, sign_of, is_sign, sign, signed_read, term, operation, bare_argument, expression, optional_index, index, optional_member, place, begins_set, set_argument, off_argument, argument, begins_call, call, part, braces, element, list, value};
 
 use crate::tree::{
     Argument, Braces, Call, Element, Expression, Index, List, Operation, Part, Place,
@@ -122,8 +121,6 @@ impl Repeated for Operations {
     fn read_next<'a>(alloc: Global, text: &[u8], tokens: &'a [Token]) -> Reading<'a, Operation> {
         read_operation(alloc, text, tokens)
     }
-
-    ghost shrinks = { λ text. production-shrinks (operation text) (operation-least text) };
 }
 
 /// Takes terms joined by `+` and `-`.
@@ -276,8 +273,6 @@ impl Repeated for Arguments {
     ) -> Reading<'a, PlacedArgument> {
         read_argument(alloc, text, tokens)
     }
-
-    ghost shrinks = { λ text. production-shrinks (argument text) (argument-least text) };
 }
 
 /// Whether the tokens begin a call: a word and `(`.
@@ -335,8 +330,6 @@ impl Repeated for Parts {
     fn read_next<'a>(alloc: Global, text: &[u8], tokens: &'a [Token]) -> Reading<'a, Part> {
         read_part(alloc, text, tokens)
     }
-
-    ghost shrinks = { λ text. production-shrinks (part text) (part-least text) };
 }
 
 #[tactic(auto, unfolding(crate::specs::Values::braces))]
@@ -382,8 +375,6 @@ impl Repeated for Elements {
     fn read_next<'a>(alloc: Global, text: &[u8], tokens: &'a [Token]) -> Reading<'a, Element> {
         read_element(alloc, text, tokens)
     }
-
-    ghost shrinks = { λ text. production-shrinks (element text) (element-least text) };
 }
 
 /// Takes a list between brackets.

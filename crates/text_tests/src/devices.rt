@@ -1,10 +1,11 @@
 use ks_core::{Feed, Lent, MemFeed, MemOut, Out, Press, put_all};
 use std::io;
 use std::io::{ErrorKind, Write};
+use std::process::Abort;
 use std::test::Fail;
 
-#[test]
-fn takes_from_a_slice(rt: HostRuntime) -> Result<(), Fail> {
+/// Asserts that two bytes are taken at most, and none once five were.
+fn takes_and_fails(rt: &impl Abort) -> Result<(), Fail> {
     let mut feed = MemFeed::new(b"abcdef").with_most(2).failing_after(5);
     let mut buffer = [0u8; 4];
     assert_eq!(rt; feed.take(&mut buffer)?, 2);
@@ -14,6 +15,13 @@ fn takes_from_a_slice(rt: HostRuntime) -> Result<(), Fail> {
     assert_eq!(rt; feed.take(&mut [])?, 0);
     assert!(rt; feed.take(&mut buffer).is_err());
     assert!(rt; feed.take(&mut buffer).is_err());
+    Ok(())
+}
+
+#[test]
+fn takes_from_a_slice(rt: HostRuntime) -> Result<(), Fail> {
+    takes_and_fails(&rt)?;
+    let mut buffer = [0u8; 4];
     let mut feed = MemFeed::new(b"ab");
     assert_eq!(rt; feed.take(&mut buffer)?, 2);
     assert_eq!(rt; feed.take(&mut buffer)?, 0);
@@ -22,21 +30,31 @@ fn takes_from_a_slice(rt: HostRuntime) -> Result<(), Fail> {
     Ok(())
 }
 
-#[test]
-fn puts_to_a_slice(rt: HostRuntime) -> Result<(), Fail> {
-    let mut room = [0u8; 6];
-    let mut out = MemOut::new(&mut room).with_most(4);
+/// Asserts that a device takes six bytes, four at a time.
+fn fills(rt: &impl Abort, mut out: MemOut) -> Result<(), Fail> {
     assert_eq!(rt; out.put(b"abcdefgh")?, 4);
     assert_eq!(rt; out.put(b"efgh")?, 2);
     assert_eq!(rt; out.put(b"")?, 0);
     assert!(rt; out.put(b"gh").is_err());
     assert_eq!(rt; out.written(), b"abcdef".as_slice());
-    let mut out = MemOut::new(&mut room).failing_after(1);
+    Ok(())
+}
+
+/// Asserts that a device takes one byte and then fails.
+fn fails_for_good(rt: &impl Abort, mut out: MemOut) -> Result<(), Fail> {
     assert!(rt; put_all(&mut out, b"xy").is_err());
     assert_eq!(rt; out.written(), b"x".as_slice());
     assert!(rt; out.put(b"y").is_err());
     assert_eq!(rt; out.put(b"")?, 0);
     assert!(rt; out.put(b"y").is_err());
+    Ok(())
+}
+
+#[test]
+fn puts_to_a_slice(rt: HostRuntime) -> Result<(), Fail> {
+    let mut room = [0u8; 6];
+    fills(&rt, MemOut::new(&mut room).with_most(4))?;
+    fails_for_good(&rt, MemOut::new(&mut room).failing_after(1))?;
     let mut out = MemOut::new(&mut room).with_most(0);
     assert!(rt; out.put(b"x").is_err());
     Ok(())

@@ -1,19 +1,43 @@
-use kx_include::{Entry, Expansion, Files, Library, Link, Part, Place, include_parts, is_of};
-use kx_lex::lex;
-use kx_parse::{Kind, Mode, parse};
+use kx_include::{
+    Bodies, Entry, Expansion, Files, Library, Link, Part, Place, include_parts, is_of,
+};
+use kx_lex::{Fault, lex};
+use kx_parse::{Kind, Mode, Tree, parse};
+use std::alloc::Global;
 use std::process::Abort;
 use std::test::Fail;
 
+// What owns much memory stands in a box: a function that holds it is proved much sooner.
+
+fn add(alloc: Global, files: &mut Files, name: &[u8], bytes: &[u8]) -> Result<(), Fault> {
+    let name = Vec::from_slice(alloc, name)?;
+    let bytes = Vec::from_slice(alloc, bytes)?;
+    files.insert(name, bytes)
+}
+
 /// The files handed in under these names.
-fn handed(rt: &(impl Abort + AllocGlobal), given: &[(&[u8], &[u8])]) -> Result<Files, Fail> {
-    let mut files = Files::new(rt.alloc());
+fn handed(rt: &impl AllocGlobal, given: &[(&[u8], &[u8])]) -> Result<Box<Files>, Fail> {
+    let mut files = Box::new(rt.alloc(), Files::new(rt.alloc()))?;
     for (name, bytes) in given {
-        files.insert(
-            Vec::from_slice(rt.alloc(), name)?,
-            Vec::from_slice(rt.alloc(), bytes)?,
-        )?;
+        add(rt.alloc(), &mut files, name, bytes)?;
     }
     Ok(files)
+}
+
+fn library_of<'f>(alloc: Global, text: &[u8], files: &'f Files) -> Result<Box<Library<'f>>, Fault> {
+    Ok(Box::new(alloc, Library::of_source(alloc, text, files)?)?)
+}
+
+fn bodies_of<'l>(alloc: Global, library: &'l Library) -> Result<Box<Bodies<'l>>, Fault> {
+    Ok(Box::new(alloc, library.expand(alloc)?)?)
+}
+
+/// `ok`, or the first fault of a library's includes.
+fn verdict_on(alloc: Global, library: &Library) -> Result<String, Fail> {
+    match bodies_of(alloc, library) {
+        Ok(_) => Ok(String::from_str(alloc, "ok")?),
+        Err(fault) => Ok(format!(in alloc; "{fault}")?),
+    }
 }
 
 /// `ok`, or the first fault of the includes of a source with these files.
@@ -23,11 +47,8 @@ fn verdict(
     given: &[(&[u8], &[u8])],
 ) -> Result<String, Fail> {
     let files = handed(rt, given)?;
-    let library = Library::of_source(rt.alloc(), text, &files)?;
-    match library.expand(rt.alloc()) {
-        Ok(_) => Ok(String::from_str(rt.alloc(), "ok")?),
-        Err(fault) => Ok(format!(in rt.alloc(); "{fault}")?),
-    }
+    let library = library_of(rt.alloc(), text, &files)?;
+    verdict_on(rt.alloc(), &library)
 }
 
 /// A source whose symbols are these items, which begin at byte 27.
@@ -55,6 +76,19 @@ fn inside(
     verdict(rt, text.as_slice(), given)
 }
 
+/// Fails where a row's items have another verdict than the one that is wanted.
+fn check(
+    rt: &(impl Abort + AllocGlobal),
+    rows: &[(&[u8], &str)],
+    given: &[(&[u8], &[u8])],
+) -> Result<(), Fail> {
+    for (items, wanted) in rows {
+        let line = inside(rt, items, given)?;
+        assert_eq!(rt; line.as_str(), *wanted, "{:?}", items);
+    }
+    Ok(())
+}
+
 #[test]
 fn faults_of_includes(rt: HostRuntime) -> Result<(), Fail> {
     let us = b"default xkb_symbols \"basic\" { key <A> { [ a ] }; };".as_slice();
@@ -65,40 +99,35 @@ fn faults_of_includes(rt: HostRuntime) -> Result<(), Fail> {
         (b"broken".as_slice(), broken),
         (b"types".as_slice(), types),
     ];
-    let rows: [(&[u8], &str); 23] = [
-        (b"include \"us\"", "ok"),
-        (b"include \"us(basic)\"", "ok"),
-        (b"include \"us(basic):2+us|us:32\"", "ok"),
-        (b"augment \"us\" replace \"us\" alternate \"us\"", "ok"),
-        (b"include \"zz\"", "F9 FileMissing at 0:35-39"),
-        (b"include \"us(nope)\"", "F10 MapMissing at 0:35-45"),
-        (b"include \"types\"", "F10 MapMissing at 0:35-42"),
-        (b"include \"us(\"", "F8 BadInclude at 0:35-40"),
-        (b"include \"\"", "F8 BadInclude at 0:35-37"),
-        (b"include \"us+\"", "F8 BadInclude at 0:35-40"),
-        (b"include \"+us\"", "F8 BadInclude at 0:35-40"),
-        (b"include \"us()\"", "F8 BadInclude at 0:35-41"),
-        (b"include \"us:0\"", "F8 BadInclude at 0:35-41"),
-        (b"include \"us:33\"", "F8 BadInclude at 0:35-42"),
-        (b"include \"us:001\"", "ok"),
-        (b"include \"us:0032\"", "ok"),
-        (b"include \"us:4294967297\"", "F8 BadInclude at 0:35-50"),
-        (b"include \"us:\"", "F8 BadInclude at 0:35-40"),
-        (b"include \"us:2(basic)\"", "F8 BadInclude at 0:35-48"),
-        (b"include \"us(basic)x\"", "F8 BadInclude at 0:35-47"),
-        (b"include \"us%\"", "F8 BadInclude at 0:35-40"),
-        (b"include \"us+zz\"", "F9 FileMissing at 0:35-42"),
-        (b"include \"broken\"", "F5 OpenKeyName at 2:18-20"),
-    ];
-    for (items, wanted) in &rows {
-        assert_eq!(rt;
-            inside(&rt, items, &given)?.as_str(),
-            *wanted,
-            "{:?}",
-            items
-        );
-    }
-    Ok(())
+    check(
+        &rt,
+        &[
+            (b"include \"us\"", "ok"),
+            (b"include \"us(basic)\"", "ok"),
+            (b"include \"us(basic):2+us|us:32\"", "ok"),
+            (b"augment \"us\" replace \"us\" alternate \"us\"", "ok"),
+            (b"include \"zz\"", "F9 FileMissing at 0:35-39"),
+            (b"include \"us(nope)\"", "F10 MapMissing at 0:35-45"),
+            (b"include \"types\"", "F10 MapMissing at 0:35-42"),
+            (b"include \"us(\"", "F8 BadInclude at 0:35-40"),
+            (b"include \"\"", "F8 BadInclude at 0:35-37"),
+            (b"include \"us+\"", "F8 BadInclude at 0:35-40"),
+            (b"include \"+us\"", "F8 BadInclude at 0:35-40"),
+            (b"include \"us()\"", "F8 BadInclude at 0:35-41"),
+            (b"include \"us:0\"", "F8 BadInclude at 0:35-41"),
+            (b"include \"us:33\"", "F8 BadInclude at 0:35-42"),
+            (b"include \"us:001\"", "ok"),
+            (b"include \"us:0032\"", "ok"),
+            (b"include \"us:4294967297\"", "F8 BadInclude at 0:35-50"),
+            (b"include \"us:\"", "F8 BadInclude at 0:35-40"),
+            (b"include \"us:2(basic)\"", "F8 BadInclude at 0:35-48"),
+            (b"include \"us(basic)x\"", "F8 BadInclude at 0:35-47"),
+            (b"include \"us%\"", "F8 BadInclude at 0:35-40"),
+            (b"include \"us+zz\"", "F9 FileMissing at 0:35-42"),
+            (b"include \"broken\"", "F5 OpenKeyName at 2:18-20"),
+        ],
+        &given,
+    )
 }
 
 #[test]
@@ -135,27 +164,24 @@ fn chain<'a>(
     Ok(given)
 }
 
+/// A file that includes the one of this name so many times.
+fn link_text(rt: &(impl Abort + AllocGlobal), next: u8, times: usize) -> Result<Vec<u8>, Fail> {
+    let include = [b"include \"".as_slice(), &[next], b"\" "].concat(rt.alloc())?;
+    let includes = repeated(rt, times, include.as_slice())?;
+    Ok([b"xkb_symbols { ".as_slice(), includes.as_slice(), b"};"].concat(rt.alloc())?)
+}
+
 /// The verdict on a source that includes the first of `count` such files.
 fn chained(rt: &(impl Abort + AllocGlobal), count: usize, times: usize) -> Result<String, Fail> {
     let names = b"abcdefghijklmnopqrstuvwxyz".as_slice();
     let mut texts = Vec::new(rt.alloc());
-    for place in 0..count {
-        let mut text = Vec::from_slice(rt.alloc(), b"xkb_symbols { ")?;
-        if place + 1 < count {
-            for _ in 0..times {
-                text.extend_from_slice(b"include \"")?;
-                text.push(names.get(place + 1).copied().unwrap_or(b'z'))?;
-                text.extend_from_slice(b"\" ")?;
-            }
-        }
-        text.extend_from_slice(b"};")?;
-        texts.push(text)?;
+    for place in 1..count {
+        let next = names.get(place).copied().unwrap_or(b'z');
+        texts.push(link_text(rt, next, times)?)?;
     }
+    texts.push(Vec::from_slice(rt.alloc(), b"xkb_symbols { };")?)?;
     let given = chain(rt, names, texts.as_slice())?;
-    let mut items = Vec::new(rt.alloc());
-    for _ in 0..times {
-        items.extend_from_slice(b"include \"a\" ")?;
-    }
+    let items = repeated(rt, times, b"include \"a\" ")?;
     inside(rt, items.as_slice(), given.as_slice())
 }
 
@@ -194,8 +220,9 @@ fn a_map_stands_once_however_often_it_is_included(rt: HostRuntime) -> Result<(),
     let files = handed(&rt, &[(b"us".as_slice(), us)])?;
     let items = repeated(&rt, 4096, b"include \"us\" ")?;
     let text = symbols_of(&rt, items.as_slice())?;
-    let library = Library::of_source(rt.alloc(), text.as_slice(), &files)?;
-    stands_once(&rt, &library.expand(rt.alloc())?.symbols);
+    let library = library_of(rt.alloc(), text.as_slice(), &files)?;
+    let bodies = bodies_of(rt.alloc(), &library)?;
+    stands_once(&rt, &bodies.symbols);
     Ok(())
 }
 
@@ -230,8 +257,8 @@ fn a_map_in_three_groups_has_three_links(rt: HostRuntime) -> Result<(), Fail> {
     let us = b"xkb_symbols { };".as_slice();
     let files = handed(&rt, &[(b"us".as_slice(), us)])?;
     let text = symbols_of(&rt, b"augment \"us+us:2|us:3\"")?;
-    let library = Library::of_source(rt.alloc(), text.as_slice(), &files)?;
-    let bodies = library.expand(rt.alloc())?;
+    let library = library_of(rt.alloc(), text.as_slice(), &files)?;
+    let bodies = bodies_of(rt.alloc(), &library)?;
     is_in_three_groups(&rt, first_include(&bodies.symbols));
     Ok(())
 }
@@ -320,10 +347,8 @@ fn maps_by_name_and_without(rt: HostRuntime) -> Result<(), Fail> {
     ];
     let files = handed(&rt, &given)?;
     assert_eq!(rt; files.len(), 2);
-    finds_maps(
-        &rt,
-        &Library::of_source(rt.alloc(), b"xkb_keymap { };", &files)?,
-    )
+    let library = library_of(rt.alloc(), b"xkb_keymap { };", &files)?;
+    finds_maps(&rt, &library)
 }
 
 #[test]
@@ -358,11 +383,15 @@ fn a_file_of_a_name_again_replaces_it(rt: HostRuntime) -> Result<(), Fail> {
     Ok(())
 }
 
+fn tree_of(alloc: Global, text: &[u8]) -> Result<Box<Tree>, Fault> {
+    let tokens = lex(alloc, text)?;
+    Ok(Box::new(alloc, parse(alloc, text, tokens.as_slice())?)?)
+}
+
 #[test]
 fn kinds_of_sections(rt: HostRuntime) -> Result<(), Fail> {
     let text = b"xkb_keymap { xkb_types { }; xkb_compat { }; };".as_slice();
-    let tokens = lex(rt.alloc(), text)?;
-    let tree = parse(rt.alloc(), text, tokens.as_slice())?;
+    let tree = tree_of(rt.alloc(), text)?;
     let sections = tree.sections.as_slice();
     assert_eq!(rt; sections.len(), 2);
     assert!(rt; is_of(Kind::Types, &sections[0]));

@@ -1,58 +1,72 @@
 use arrayvec::ArrayString;
 use ks_core::{Keysym, NameFault, NameTable, Note, Notes};
+use std::process::Abort;
 use std::test::Fail;
 
-#[test]
-fn reads_names_of_numbers(rt: HostRuntime) {
-    let names = NameTable::builtin();
-    for (name, want) in [
-        ("U20", Some(0x20)),
-        ("U7f", None),
-        ("Ua0", Some(0xa0)),
-        ("U00ff", Some(0xff)),
-        ("U0100", Some(0x100_0100)),
-        ("U10FFFF", Some(0x110_ffff)),
-        ("U110000", None),
-        ("U0000020", None),
-        ("u20", None),
-        ("U", Some(0x55)),
-        ("", None),
-        ("0x9", None),
-        ("0xa", Some(10)),
-        ("0x1fffffff", Some(0x1fff_ffff)),
-        ("0x20000000", None),
-        ("0x00000000a", None),
-        ("0x", None),
-        ("0X10", None),
-        ("frobnicate", None),
-    ] {
-        assert_eq!(rt;
-            names.by_name(name).map(|keysym| keysym.0),
-            want,
-            "at {name}"
-        );
+/// Asserts that these names stand for these numbers.
+fn reads(rt: &impl Abort, names: &NameTable, rows: &[(&str, Option<u32>)]) {
+    for (name, want) in rows {
+        let found = names.by_name(name).map(|keysym| keysym.0);
+        assert_eq!(rt; found, *want, "at {name}");
+    }
+}
+
+/// Asserts that these numbers have these names.
+fn writes(rt: &impl Abort, names: &NameTable, rows: &[(u32, &str)]) {
+    let mut text = ArrayString::new();
+    for (keysym, want) in rows {
+        names.write_name(Keysym(*keysym), &mut text);
+        assert_eq!(rt; text.as_str(), *want);
     }
 }
 
 #[test]
+fn reads_names_of_numbers(rt: HostRuntime) {
+    reads(
+        &rt,
+        &NameTable::builtin(),
+        &[
+            ("U20", Some(0x20)),
+            ("U7f", None),
+            ("Ua0", Some(0xa0)),
+            ("U00ff", Some(0xff)),
+            ("U0100", Some(0x100_0100)),
+            ("U10FFFF", Some(0x110_ffff)),
+            ("U110000", None),
+            ("U0000020", None),
+            ("u20", None),
+            ("U", Some(0x55)),
+            ("", None),
+            ("0x9", None),
+            ("0xa", Some(10)),
+            ("0x1fffffff", Some(0x1fff_ffff)),
+            ("0x20000000", None),
+            ("0x00000000a", None),
+            ("0x", None),
+            ("0X10", None),
+            ("frobnicate", None),
+        ],
+    );
+}
+
+#[test]
 fn writes_names_of_numbers(rt: HostRuntime) {
-    let names = NameTable::builtin();
-    let mut text = ArrayString::new();
-    for (keysym, want) in [
-        (0, "NoSymbol"),
-        (1, "0x1"),
-        (0x61, "a"),
-        (0x100_0020, "0x1000020"),
-        (0x100_00ff, "0x10000ff"),
-        (0x100_0100, "U0100"),
-        (0x100_0444, "U0444"),
-        (0x110_ffff, "U10FFFF"),
-        (0x111_0000, "0x1110000"),
-        (0xffff_ffff, "0xffffffff"),
-    ] {
-        names.write_name(Keysym(keysym), &mut text);
-        assert_eq!(rt; text.as_str(), want);
-    }
+    writes(
+        &rt,
+        &NameTable::builtin(),
+        &[
+            (0, "NoSymbol"),
+            (1, "0x1"),
+            (0x61, "a"),
+            (0x100_0020, "0x1000020"),
+            (0x100_00ff, "0x10000ff"),
+            (0x100_0100, "U0100"),
+            (0x100_0444, "U0444"),
+            (0x110_ffff, "U10FFFF"),
+            (0x111_0000, "0x1110000"),
+            (0xffff_ffff, "0xffffffff"),
+        ],
+    );
 }
 
 #[test]
@@ -100,24 +114,18 @@ fn takes_names_of_lines(rt: HostRuntime) -> Result<(), Fail> {
     assert_eq!(rt; fault, Some(NameFault::LineShape(5)));
     let lines = b"# \xff\nfoo 0x1000444\nqux 0x1000444\ngap 32";
     let names = NameTable::with_lines(rt.alloc(), lines)?;
-    for (name, want) in [
-        ("foo", Some(0x100_0444)),
-        ("qux", Some(0x100_0444)),
-        ("gap", Some(0x20)),
-        ("U0444", Some(0x100_0444)),
-        ("baz", None),
-    ] {
-        assert_eq!(rt;
-            names.by_name(name).map(|keysym| keysym.0),
-            want,
-            "at {name}"
-        );
-    }
-    let mut text = ArrayString::new();
-    names.write_name(Keysym(0x100_0444), &mut text);
-    assert_eq!(rt; text.as_str(), "foo");
-    names.write_name(Keysym(0x20), &mut text);
-    assert_eq!(rt; text.as_str(), "space");
+    reads(
+        &rt,
+        &names,
+        &[
+            ("foo", Some(0x100_0444)),
+            ("qux", Some(0x100_0444)),
+            ("gap", Some(0x20)),
+            ("U0444", Some(0x100_0444)),
+            ("baz", None),
+        ],
+    );
+    writes(&rt, &names, &[(0x100_0444, "foo"), (0x20, "space")]);
     Ok(())
 }
 

@@ -1,6 +1,5 @@
 ghost use Rattle.kx_lex.specs.Kinds.{front, is_mark};
-ghost use Rattle.kx_lex.specs.Shrinks.{production-shrinks};
-ghost use Rattle.kx_lex.specs.Tokens.{mark, mark-least, semicolon};
+ghost use Rattle.kx_lex.specs.Tokens.{mark, semicolon};
 
 use kx_lex::repeated::{Repeated, is_before_mark, read_listed, read_many, read_sequence};
 use kx_lex::tokens::{
@@ -37,42 +36,50 @@ fn shown(rt: &(impl Abort + AllocGlobal), text: &[u8]) -> Result<String, Fail> {
     Ok(all)
 }
 
-#[test]
-fn tokens_are_the_longest_of_their_kind(rt: HostRuntime) -> Result<(), Fail> {
-    let rows: [(&[u8], &str); 28] = [
-        (b"", ""),
-        (b" \t\n\x0b\x0c\r", ""),
-        (b"a_1 b", "w0-3 w4-5 "),
-        (b"<AB01>=38;", "k0-6 m6-7 n7-9 m9-10 "),
-        (b"<>", "k0-2 "),
-        (b"0x1fG", "n0-4 w4-5 "),
-        (b"0x", "n0-1 w1-2 "),
-        (b"18.5 18. 18", "d0-4 d5-8 n9-11 "),
-        (b"0x1.5", "n0-3 m3-4 n4-5 "),
-        (b"a//b\nc#d\ne", "w0-1 w5-6 w9-10 "),
-        (b"a/b", "w0-1 m1-2 w2-3 "),
-        (b"\"a\\\"b\"c", "t0-6 w6-7 "),
-        (b"\xef\xbb\xbfa", "w3-4 "),
-        (b"a\xef\xbb\xbf", "F3 BadByte at 0:1-2"),
-        (b"x \"ab\ncd\"", "F4 OpenString at 0:2-5"),
-        (b"\"a\\\n\"", "F4 OpenString at 0:0-3"),
-        (b"<A B>", "F5 OpenKeyName at 0:0-2"),
-        (b"<A", "F5 OpenKeyName at 0:0-2"),
-        (b"<!~><<>", "k0-4 k4-7 "),
-        (b"xkb_keymap { xkb_symbols \"x", "F4 OpenString at 0:25-27"),
-        (b"\"x\\", "F4 OpenString at 0:0-3"),
-        (b"\xef\xbb\xbf\xef\xbb\xbf", "F3 BadByte at 0:3-4"),
-        (b" \xef\xbb\xbf", "F3 BadByte at 0:1-2"),
-        (b"\xef\xbb", "F3 BadByte at 0:0-1"),
-        (b"0X1g 0xg", "n0-3 w3-4 n5-6 w6-8 "),
-        (b"4294967296 00", "n0-10 n11-13 "),
-        (b"a%", "F3 BadByte at 0:1-2"),
-        (b"a / b /* c", "w0-1 m2-3 w4-5 m6-7 m7-8 w9-10 "),
-    ];
+/// Fails where the tokens of a row's text are shown otherwise than is wanted.
+fn check(rt: &(impl Abort + AllocGlobal), rows: &[(&[u8], &str)]) -> Result<(), Fail> {
     for (text, wanted) in rows {
-        assert_eq!(rt; shown(&rt, text)?.as_str(), wanted);
+        let line = shown(rt, text)?;
+        assert_eq!(rt; line.as_str(), *wanted);
     }
     Ok(())
+}
+
+#[test]
+fn tokens_are_the_longest_of_their_kind(rt: HostRuntime) -> Result<(), Fail> {
+    check(
+        &rt,
+        &[
+            (b"", ""),
+            (b" \t\n\x0b\x0c\r", ""),
+            (b"a_1 b", "w0-3 w4-5 "),
+            (b"<AB01>=38;", "k0-6 m6-7 n7-9 m9-10 "),
+            (b"<>", "k0-2 "),
+            (b"0x1fG", "n0-4 w4-5 "),
+            (b"0x", "n0-1 w1-2 "),
+            (b"18.5 18. 18", "d0-4 d5-8 n9-11 "),
+            (b"0x1.5", "n0-3 m3-4 n4-5 "),
+            (b"a//b\nc#d\ne", "w0-1 w5-6 w9-10 "),
+            (b"a/b", "w0-1 m1-2 w2-3 "),
+            (b"\"a\\\"b\"c", "t0-6 w6-7 "),
+            (b"\xef\xbb\xbfa", "w3-4 "),
+            (b"a\xef\xbb\xbf", "F3 BadByte at 0:1-2"),
+            (b"x \"ab\ncd\"", "F4 OpenString at 0:2-5"),
+            (b"\"a\\\n\"", "F4 OpenString at 0:0-3"),
+            (b"<A B>", "F5 OpenKeyName at 0:0-2"),
+            (b"<A", "F5 OpenKeyName at 0:0-2"),
+            (b"<!~><<>", "k0-4 k4-7 "),
+            (b"xkb_keymap { xkb_symbols \"x", "F4 OpenString at 0:25-27"),
+            (b"\"x\\", "F4 OpenString at 0:0-3"),
+            (b"\xef\xbb\xbf\xef\xbb\xbf", "F3 BadByte at 0:3-4"),
+            (b" \xef\xbb\xbf", "F3 BadByte at 0:1-2"),
+            (b"\xef\xbb", "F3 BadByte at 0:0-1"),
+            (b"0X1g 0xg", "n0-3 w3-4 n5-6 w6-8 "),
+            (b"4294967296 00", "n0-10 n11-13 "),
+            (b"a%", "F3 BadByte at 0:1-2"),
+            (b"a / b /* c", "w0-1 m2-3 w4-5 m6-7 m7-8 w9-10 "),
+        ],
+    )
 }
 
 #[test]
@@ -123,17 +130,23 @@ fn an_item_goes_before_the_others(rt: HostRuntime) -> Result<(), Fail> {
     Ok(())
 }
 
+/// Asserts that so many bytes of a text are kept, and of these 24 at most where no more are wanted.
+fn keeps(rt: &(impl Abort + AllocGlobal), all: &[u8], len: usize) -> Result<(), Fail> {
+    let (wanted, _) = all.split_at(len.min(all.len()));
+    let given = Bytes::of(rt.alloc(), wanted)?;
+    assert_eq!(rt; given.as_slice(), wanted);
+    let front = Bytes::front(rt.alloc(), all, len)?;
+    assert_eq!(rt; front.as_slice(), wanted);
+    let fewer = Bytes::front(rt.alloc(), wanted, 24)?;
+    let (most, _) = wanted.split_at(wanted.len().min(24));
+    assert_eq!(rt; fewer.as_slice(), most);
+    Ok(())
+}
+
 #[test]
 fn bytes_are_kept_whole(rt: HostRuntime) -> Result<(), Fail> {
-    let all = b"abcdefghijklmnopqrstuvwxyz";
     for len in [0, 1, 21, 22, 23, 26] {
-        let wanted = &all[..len];
-        let given = Bytes::of(rt.alloc(), wanted)?;
-        assert_eq!(rt; given.as_slice(), wanted);
-        let front = Bytes::front(rt.alloc(), all, len)?;
-        assert_eq!(rt; front.as_slice(), wanted);
-        let fewer = Bytes::front(rt.alloc(), wanted, 24)?;
-        assert_eq!(rt; fewer.as_slice(), &wanted[..len.min(24)]);
+        keeps(&rt, b"abcdefghijklmnopqrstuvwxyz", len)?;
     }
     Ok(())
 }
@@ -143,6 +156,28 @@ fn a_value_stands_apart(rt: HostRuntime) -> Result<(), Fail> {
     let apart = Apart::of(rt.alloc(), 7u8)?;
     assert_eq!(rt; *apart.get(), 7);
     Ok(())
+}
+
+fn kinds_of_front(tokens: &[Token]) -> [bool; 7] {
+    [
+        front_is_word(tokens),
+        front_is_number(tokens),
+        front_is_text(tokens),
+        front_is_key_name(tokens),
+        front_is_mark(b';', tokens),
+        front_is_keyword(Keyword::Key, tokens),
+        is_before_mark(b';', tokens),
+    ]
+}
+
+/// Whether a word, a number, `;` and `key`.
+fn kinds_of(token: &Token) -> [bool; 4] {
+    [
+        is_word(token),
+        is_number(token),
+        is_mark(b';', token),
+        is_keyword(Keyword::Key, token),
+    ]
 }
 
 #[test]
@@ -158,23 +193,13 @@ fn fronts_are_told_apart(rt: HostRuntime) -> Result<(), Fail> {
         (b"", [false, false, false, false, false, false, false]),
     ];
     for (text, wanted) in rows {
-        let all = lex(rt.alloc(), text)?;
-        let tokens = all.as_slice();
-        let found = [
-            front_is_word(tokens),
-            front_is_number(tokens),
-            front_is_text(tokens),
-            front_is_key_name(tokens),
-            front_is_mark(b';', tokens),
-            front_is_keyword(Keyword::Key, tokens),
-            is_before_mark(b';', tokens),
-        ];
-        assert_eq!(rt; found, wanted, "{:?}", text);
-        if let Some(token) = tokens.first() {
-            assert_eq!(rt; is_word(token), wanted[0]);
-            assert_eq!(rt; is_number(token), wanted[1]);
-            assert_eq!(rt; is_mark(b';', token), wanted[4]);
-            assert_eq!(rt; is_keyword(Keyword::Key, token), wanted[5]);
+        let tokens = lex(rt.alloc(), text)?;
+        assert_eq!(rt; kinds_of_front(tokens.as_slice()), wanted, "{:?}", text);
+        if let Some(token) = tokens.as_slice().first() {
+            assert_eq!(rt;
+                kinds_of(token),
+                [wanted[0], wanted[1], wanted[4], wanted[5]]
+            );
         }
     }
     Ok(())
@@ -250,6 +275,20 @@ fn tokens_of_another_text_may_enclose_no_key_name(rt: HostRuntime) -> Result<(),
     Ok(())
 }
 
+/// The value and the span of a number with how many tokens are left, or the fault.
+fn number_shown(rt: &impl AllocGlobal, text: &[u8]) -> Result<String, Fail> {
+    let tokens = lex(rt.alloc(), text)?;
+    match read_number(text, tokens.as_slice()) {
+        Ok((number, rest)) => {
+            let left = rest.len();
+            let value = number.value;
+            let span = number.span;
+            Ok(format!(in rt.alloc(); "{value} {span} {left}")?)
+        }
+        Err(fault) => Ok(format!(in rt.alloc(); "{fault}")?),
+    }
+}
+
 #[test]
 fn numbers_are_at_most_4294967295(rt: HostRuntime) -> Result<(), Fail> {
     let rows: [(&[u8], &str); 6] = [
@@ -261,16 +300,7 @@ fn numbers_are_at_most_4294967295(rt: HostRuntime) -> Result<(), Fail> {
         (b"", "F6 Syntax at 0:0-0"),
     ];
     for (text, wanted) in rows {
-        let tokens = lex(rt.alloc(), text)?;
-        let shown = match read_number(text, tokens.as_slice()) {
-            Ok((number, rest)) => {
-                let left = rest.len();
-                let value = number.value;
-                let span = number.span;
-                format!(in rt.alloc(); "{value} {span} {left}")?
-            }
-            Err(fault) => format!(in rt.alloc(); "{fault}")?,
-        };
+        let shown = number_shown(&rt, text)?;
         assert_eq!(rt; shown.as_str(), wanted);
     }
     Ok(())
@@ -310,11 +340,10 @@ impl Repeated for Semicolons {
         front_is_mark(b';', tokens)
     }
 
+    #[tactic(auto, using(kx_lex::proofs::Shorter::shorter_marks))]
     fn read_next<'a>(_alloc: Global, text: &[u8], tokens: &'a [Token]) -> Reading<'a, Token> {
         read_mark(text, b';', tokens)
     }
-
-    ghost shrinks = { λ text. production-shrinks (mark text semicolon) (mark-least text semicolon) };
 }
 
 /// How many were read, and how many tokens are left.

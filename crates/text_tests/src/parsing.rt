@@ -1,5 +1,6 @@
-use kx_lex::{Span, lex};
+use kx_lex::{Fault, Span, lex};
 use kx_parse::{Item, Kind, Mode, Statement, Tree, parse, parse_file};
+use std::alloc::Global;
 use std::process::Abort;
 use std::test::Fail;
 
@@ -23,16 +24,27 @@ fn inside(rt: &(impl Abort + AllocGlobal), items: &[u8]) -> Result<String, Fail>
     verdict(rt, text.as_slice())
 }
 
-fn check_all(rt: &(impl Abort + AllocGlobal), rows: &[(&[u8], &str)]) -> Result<(), Fail> {
-    for (items, wanted) in rows {
-        assert_eq!(rt; inside(rt, items)?.as_str(), *wanted, "{:?}", items);
+/// Fails where a row's source has another verdict than the one that is wanted.
+fn check_sources(rt: &(impl Abort + AllocGlobal), rows: &[(&[u8], &str)]) -> Result<(), Fail> {
+    for (text, wanted) in rows {
+        let line = verdict(rt, text)?;
+        assert_eq!(rt; line.as_str(), *wanted, "{:?}", text);
     }
     Ok(())
 }
 
-fn tree_of(rt: &(impl Abort + AllocGlobal), text: &[u8]) -> Result<Tree, Fail> {
-    let tokens = lex(rt.alloc(), text)?;
-    Ok(parse(rt.alloc(), text, tokens.as_slice())?)
+fn check_all(rt: &(impl Abort + AllocGlobal), rows: &[(&[u8], &str)]) -> Result<(), Fail> {
+    for (items, wanted) in rows {
+        let line = inside(rt, items)?;
+        assert_eq!(rt; line.as_str(), *wanted, "{:?}", items);
+    }
+    Ok(())
+}
+
+/// A source's tree; in a box, since a function that holds it is proved much sooner then.
+fn tree_of(alloc: Global, text: &[u8]) -> Result<Box<Tree>, Fault> {
+    let tokens = lex(alloc, text)?;
+    Ok(Box::new(alloc, parse(alloc, text, tokens.as_slice())?)?)
 }
 
 /// What the first section holds.
@@ -45,69 +57,77 @@ fn first_items(tree: &Tree) -> &[Item] {
 
 #[test]
 fn sources_and_sections(rt: HostRuntime) -> Result<(), Fail> {
-    let rows: [(&[u8], &str); 27] = [
-        (b"xkb_keymap { };", "ok"),
-        (b"partial default XKB_KEYMAP \"x\" { };", "ok"),
-        (
-            b"xkb_keymap { xkb_keycodes \"a\" { <A>=38; }; hidden xkb_symbols { }; };",
-            "ok",
-        ),
-        (
-            b"xkb_keymap { xkb_types {}; xkb_compat {}; xkb_compatibility {}; xkb_compat_map {}; xkb_compatibility_map {}; };",
-            "ok",
-        ),
-        (
-            b"xkb_keymap { alphanumeric_keys modifier_keys keypad_keys function_keys alternate_group xkb_symbols {}; };",
-            "ok",
-        ),
-        (
-            b"xkb_keymap { xkb_geometry \"g\" { a { 18.5 { } 99999999999 } ; }; };",
-            "ok",
-        ),
-        (b"", "F6 Syntax at 0:0-0"),
-        (b"xkb_keymap", "F6 Syntax at 0:10-10"),
-        (b"xkb_keymap { }", "F6 Syntax at 0:14-14"),
-        (b"xkb_keymap { }; x", "F6 Syntax at 0:16-17"),
-        (b"xkb_keymap { xkb_rules {}; };", "F6 Syntax at 0:13-22"),
-        (b"xkb_keymap { partial };", "F6 Syntax at 0:21-22"),
-        (b"xkb_keymap { xkb_symbols {} };", "F6 Syntax at 0:28-29"),
-        (
-            b"xkb_keymap { xkb_symbols \"a\" \"b\" {}; };",
-            "F6 Syntax at 0:29-32",
-        ),
-        (
-            b"xkb_keymap { xkb_geometry { { }; };",
-            "F6 Syntax at 0:35-35",
-        ),
-        (
-            b"xkb_keymap { xkb_geometry { } } };",
-            "F6 Syntax at 0:30-31",
-        ),
-        (b"xkb_symbols { };", "F6 Syntax at 0:0-11"),
-        (b"\xef\xbb\xbfxkb_keymap { };", "ok"),
-        (
-            b"Partial DEFAULT xkb_Keymap { Hidden XKB_SYMBOLS \"x\" { Include \"us\" }; xKb_GeOmEtRy { } ; };",
-            "ok",
-        ),
-        (
-            b"xkb_keymap { xkb_geometry { 4294967296 0x100000000 18.5 } ; };",
-            "ok",
-        ),
-        (
-            b"xkb_keymap { xkb_geometry { } 18.5 ; };",
-            "F6 Syntax at 0:30-34",
-        ),
-        (b"xkb_keymap xkb_symbols", "F6 Syntax at 0:11-22"),
-        (b"partial 1", "F6 Syntax at 0:8-9"),
-        (b"xkb_keymap \"a\" \"b\" { };", "F6 Syntax at 0:15-18"),
-        (b"xkb_keymap { xkb_symbols };", "F6 Syntax at 0:25-26"),
-        (b"xkb_keymap { xkb_geometry };", "F6 Syntax at 0:26-27"),
-        (b"xkb_keymap { xkb_geometry { };", "F6 Syntax at 0:30-30"),
-    ];
-    for (text, wanted) in rows {
-        assert_eq!(rt; verdict(&rt, text)?.as_str(), wanted, "{:?}", text);
+    check_sources(
+        &rt,
+        &[
+            (b"xkb_keymap { };", "ok"),
+            (b"partial default XKB_KEYMAP \"x\" { };", "ok"),
+            (
+                b"xkb_keymap { xkb_keycodes \"a\" { <A>=38; }; hidden xkb_symbols { }; };",
+                "ok",
+            ),
+            (
+                b"xkb_keymap { xkb_types {}; xkb_compat {}; xkb_compatibility {}; xkb_compat_map {}; xkb_compatibility_map {}; };",
+                "ok",
+            ),
+            (
+                b"xkb_keymap { alphanumeric_keys modifier_keys keypad_keys function_keys alternate_group xkb_symbols {}; };",
+                "ok",
+            ),
+            (
+                b"xkb_keymap { xkb_geometry \"g\" { a { 18.5 { } 99999999999 } ; }; };",
+                "ok",
+            ),
+            (b"", "F6 Syntax at 0:0-0"),
+            (b"xkb_keymap", "F6 Syntax at 0:10-10"),
+            (b"xkb_keymap { }", "F6 Syntax at 0:14-14"),
+            (b"xkb_keymap { }; x", "F6 Syntax at 0:16-17"),
+            (b"xkb_keymap { xkb_rules {}; };", "F6 Syntax at 0:13-22"),
+            (b"xkb_keymap { partial };", "F6 Syntax at 0:21-22"),
+            (b"xkb_keymap { xkb_symbols {} };", "F6 Syntax at 0:28-29"),
+            (
+                b"xkb_keymap { xkb_symbols \"a\" \"b\" {}; };",
+                "F6 Syntax at 0:29-32",
+            ),
+            (
+                b"xkb_keymap { xkb_geometry { { }; };",
+                "F6 Syntax at 0:35-35",
+            ),
+            (
+                b"xkb_keymap { xkb_geometry { } } };",
+                "F6 Syntax at 0:30-31",
+            ),
+            (b"xkb_symbols { };", "F6 Syntax at 0:0-11"),
+            (b"\xef\xbb\xbfxkb_keymap { };", "ok"),
+            (
+                b"Partial DEFAULT xkb_Keymap { Hidden XKB_SYMBOLS \"x\" { Include \"us\" }; xKb_GeOmEtRy { } ; };",
+                "ok",
+            ),
+            (
+                b"xkb_keymap { xkb_geometry { 4294967296 0x100000000 18.5 } ; };",
+                "ok",
+            ),
+            (
+                b"xkb_keymap { xkb_geometry { } 18.5 ; };",
+                "F6 Syntax at 0:30-34",
+            ),
+            (b"xkb_keymap xkb_symbols", "F6 Syntax at 0:11-22"),
+            (b"partial 1", "F6 Syntax at 0:8-9"),
+            (b"xkb_keymap \"a\" \"b\" { };", "F6 Syntax at 0:15-18"),
+            (b"xkb_keymap { xkb_symbols };", "F6 Syntax at 0:25-26"),
+            (b"xkb_keymap { xkb_geometry };", "F6 Syntax at 0:26-27"),
+            (b"xkb_keymap { xkb_geometry { };", "F6 Syntax at 0:30-30"),
+        ],
+    )
+}
+
+/// `ok`, or the fault of a file.
+fn file_verdict(rt: &(impl Abort + AllocGlobal), text: &[u8]) -> Result<String, Fail> {
+    let tokens = lex(rt.alloc(), text)?;
+    match parse_file(rt.alloc(), text, tokens.as_slice()) {
+        Ok(_) => Ok(String::from_str(rt.alloc(), "ok")?),
+        Err(fault) => Ok(format!(in rt.alloc(); "{fault}")?),
     }
-    Ok(())
 }
 
 #[test]
@@ -122,11 +142,7 @@ fn a_file_holds_sections_alone(rt: HostRuntime) -> Result<(), Fail> {
         (b"xkb_types {}", "F6 Syntax at 0:12-12"),
     ];
     for (text, wanted) in rows {
-        let tokens = lex(rt.alloc(), text)?;
-        let shown = match parse_file(rt.alloc(), text, tokens.as_slice()) {
-            Ok(_) => String::from_str(rt.alloc(), "ok")?,
-            Err(fault) => format!(in rt.alloc(); "{fault}")?,
-        };
+        let shown = file_verdict(&rt, text)?;
         assert_eq!(rt; shown.as_str(), wanted);
     }
     Ok(())
@@ -349,6 +365,16 @@ modifier_map Mod5 { <LVL3> }; };
 };
 ";
 
+/// Asserts that sections have these kinds and counts of items.
+fn has_sections(rt: &impl Abort, tree: &Tree, kinds: &[Kind], counts: &[usize]) {
+    let sections = tree.sections.as_slice();
+    assert_eq!(rt; sections.len(), kinds.len());
+    for ((section, kind), count) in sections.iter().zip(kinds).zip(counts) {
+        assert_eq!(rt; section.kind, *kind);
+        assert_eq!(rt; section.items.as_slice().len(), *count);
+    }
+}
+
 #[test]
 fn sample_keymaps_have_their_sections(rt: HostRuntime) -> Result<(), Fail> {
     let samples: [(&[u8], &[Kind], &[usize]); 3] = [
@@ -361,21 +387,14 @@ fn sample_keymaps_have_their_sections(rt: HostRuntime) -> Result<(), Fail> {
         ),
     ];
     for (text, kinds, counts) in samples {
-        let tree = tree_of(&rt, text)?;
-        let sections = tree.sections.as_slice();
-        assert_eq!(rt; sections.len(), kinds.len());
-        for ((section, kind), count) in sections.iter().zip(kinds).zip(counts) {
-            assert_eq!(rt; section.kind, *kind);
-            assert_eq!(rt; section.items.as_slice().len(), *count);
-        }
+        let tree = tree_of(rt.alloc(), text)?;
+        has_sections(&rt, &tree, kinds, counts);
     }
     Ok(())
 }
 
-#[test]
-fn trees_keep_bytes_values_and_places(rt: HostRuntime) -> Result<(), Fail> {
-    let tree = tree_of(&rt, ONE_KEY)?;
-    let items = first_items(&tree);
+/// Asserts that items begin with the keycode of `ONE_KEY`.
+fn begin_with_its_code(rt: &impl Abort, items: &[Item]) {
     let Some(
         Item::Statement {
             mode,
@@ -386,7 +405,7 @@ fn trees_keep_bytes_values_and_places(rt: HostRuntime) -> Result<(), Fail> {
     ) = items.first()
     else {
         assert!(rt; false);
-        return Ok(());
+        return;
     };
     assert_eq!(rt; *mode, Mode::Override);
     assert_eq!(rt; name.as_slice(), b"A".as_slice());
@@ -412,20 +431,33 @@ fn trees_keep_bytes_values_and_places(rt: HostRuntime) -> Result<(), Fail> {
             stop: 35
         }
     );
+}
+
+#[test]
+fn trees_keep_bytes_values_and_places(rt: HostRuntime) -> Result<(), Fail> {
+    let tree = tree_of(rt.alloc(), ONE_KEY)?;
+    begin_with_its_code(&rt, first_items(&tree));
     Ok(())
+}
+
+/// Asserts that the words of items stand from and to these bytes.
+fn words_stand(rt: &impl Abort, items: &[Item], wanted: &[(u32, u32)]) {
+    assert_eq!(rt; items.len(), wanted.len());
+    for (item, (start, stop)) in items.iter().zip(wanted) {
+        let span = Span {
+            start: *start,
+            stop: *stop,
+        };
+        assert_eq!(rt; item.word_span(), span);
+    }
 }
 
 #[test]
 fn faults_of_unknown_fields_name_their_words(rt: HostRuntime) -> Result<(), Fail> {
     let tree = tree_of(
-        &rt,
+        rt.alloc(),
         b"xkb_keymap { xkb_symbols { include \"us\" !a.b; augment key <A> {}; }; };",
     )?;
-    let wanted = [(27, 39), (41, 42), (54, 57)];
-    let items = first_items(&tree);
-    assert_eq!(rt; items.len(), wanted.len());
-    for (item, (start, stop)) in items.iter().zip(wanted) {
-        assert_eq!(rt; item.word_span(), Span { start, stop });
-    }
+    words_stand(&rt, first_items(&tree), &[(27, 39), (41, 42), (54, 57)]);
     Ok(())
 }

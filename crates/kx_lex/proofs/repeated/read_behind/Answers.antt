@@ -10,12 +10,12 @@ pub returns-in_err-item : goal.returns-in_err-item
 returns-in_err-item g c =
     let p = err_from_is_err_and c.from_residual.result c.from_residual.ensures.1 in
     rw (p.1, p.2)
-    (SoFar-blamed (g.R.Repeated.test c.args.text.now) (g.R.Repeated.reading c.args.text.now) (g.met.R.Repeated.shrinks c.args.text.now) c.args.start.items c.args.tokens.now c.items.rest.now c.items.items.items _ c.items.invariant (search rules) c.in_err-item.ensures)
+    (SoFar-blamed (g.R.Repeated.test c.args.text.now) (g.R.Repeated.reading c.args.text.now) c.args.start.items c.args.tokens.now c.items.rest.now c.items.items.items _ c.items.invariant (search rules) c.in_err-item.ensures.read)
 
 pub items-preserved : goal.items-preserved
 items-preserved g c =
     rw c.in_ok-push.ensures.items
-    (SoFar-more (g.R.Repeated.test c.args.text.now) (g.R.Repeated.reading c.args.text.now) (g.met.R.Repeated.shrinks c.args.text.now) c.args.start.items c.args.tokens.now c.items.rest.now c.items.items.items c.in_ok-item.item c.in_ok-item.left.now c.items.invariant (search rules) c.in_ok-item.ensures)
+    (SoFar-more (g.R.Repeated.test c.args.text.now) (g.R.Repeated.reading c.args.text.now) c.args.start.items c.args.tokens.now c.items.rest.now c.items.items.items c.in_ok-item.item c.in_ok-item.left.now c.items.invariant (search rules) c.in_ok-item.ensures.read c.in_ok-item.ensures.shorter)
 
 pub returns : goal.returns
-returns g c = rw c.of.ensures (SoFar-last (g.R.Repeated.test c.args.text.now) (g.R.Repeated.reading c.args.text.now) (g.met.R.Repeated.shrinks c.args.text.now) c.args.start.items c.args.tokens.now c.items.rest.now c.items.items.items c.items.invariant (search rules))
+returns g c = rw c.of.ensures (SoFar-last (g.R.Repeated.test c.args.text.now) (g.R.Repeated.reading c.args.text.now) c.args.start.items c.args.tokens.now c.items.rest.now c.items.items.items c.items.invariant (search rules))

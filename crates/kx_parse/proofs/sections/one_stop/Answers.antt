@@ -1,4 +1,4 @@
-use Rattle.kx_parse.specs.Refusals.{source-one_stop, file-one_stop, source-spells_none, file-spells_none}
+use Rattle.kx_parse.proofs.Refusals.{source-one_stop, file-one_stop, source-spells_none, file-spells_none}
 use Rattle.kx_parse.proofs.sections.one_stop.Goals as goal
 
 pub returns-clause-source : goal.returns-clause-source

@@ -1,4 +1,4 @@
-use Rattle.kx_parse.specs.Sections.{Spells-one, SpellsFile-one}
+use Rattle.kx_parse.proofs.Trees.{Spells-one, SpellsFile-one}
 use Rattle.kx_parse.proofs.sections.one_tree.Goals as goal
 
 pub returns-clause-source : goal.returns-clause-source

@@ -1,4 +1,4 @@
-use Rattle.kx_parse.specs.Refusals.{source-stops, file-stops, source-number, file-number}
+use Rattle.kx_parse.proofs.Refusals.{source-stops, file-stops, source-number, file-number}
 use Rattle.kx_parse.proofs.sections.stops.Goals as goal
 
 pub returns-clause-source : goal.returns-clause-source

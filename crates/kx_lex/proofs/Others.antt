@@ -1,16 +1,11 @@
 -- A token that passes one test fails another: for the tests by which lists go on up to their closing mark.
-use Rattle.std.specs.Prelude.{ℕ, Bool, true, false, not, ◌==◌, List, [], ◌∷◌, ◌≡◌, Some, None}
-use Rattle.std.proofs.Common.{refl}
+use Rattle.std.proofs.Common.{ℕ, true, false, not, ◌==◌, List, [], ◌∷◌, ◌≡◌, refl}
 use Rattle.std.proofs.lemmas.Bool.{eqb-true}
 use Rattle.kx_lex.specs.declared.keyword.Keyword.{Keyword}
 use Rattle.kx_lex.specs.declared.token.Token.{Token}
 use Rattle.kx_lex.specs.declared.token.TokenKind.{TokenKind}
 use Rattle.kx_lex.specs.declared.token.TokenKind.TheVariants.{Word, Mark}
-use Rattle.kx_lex.specs.Kinds.{is_word_kind, is_number_kind, is_key_name_kind, is_text_kind, is_mark_kind, is_keyword_kind, is_word, is_number, is_key_name, is_text, is_mark, is_keyword, front}
-
--- the first token isn't this mark
-abbrev pub before_mark : ℕ → List Token → Bool
-before_mark byte ts = front (λ t. not (is_mark byte t)) ts
+use Rattle.kx_lex.specs.Kinds.{is_word_kind, is_number_kind, is_key_name_kind, is_text_kind, is_mark_kind, is_keyword_kind, is_word, is_number, is_key_name, is_text, is_mark, is_keyword, front, before_mark}
 
 word_kind : (k : TokenKind) (close : ℕ) → is_word_kind k ≡ true → not (is_mark_kind close k) ≡ true
 word_kind (Mark b) close h = cc

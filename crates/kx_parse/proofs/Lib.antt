@@ -1,0 +1,6 @@
+mod LawfulValues
+mod LawfulStatements
+mod LawfulGeometry
+mod LawfulSections
+mod Trees
+mod Refusals
