@@ -15,56 +15,47 @@ use Rattle.kx_include.specs.declared.expansion.Link.{Link}
 use Rattle.kx_include.specs.declared.expansion.Map.{Map}
 use Rattle.kx_include.specs.declared.place.Place.{Place}
 use Rattle.kx_codes.proofs.Distinct.{from_distinct}
-use Rattle.kx_codes.proofs.Alone.{alone_aliases}
 use Rattle.kx_codes.proofs.Standing.{once_stands}
-use Rattle.kx_codes.specs.Aliases.{Alias, aliases_from, aliases_taken}
 use Rattle.kx_codes.specs.CodeFaults.{faults_of, own_faults}
 use Rattle.kx_codes.specs.Gathering.{AreGathered, Blames, IsFound, IsGathered, Leaves, Took}
-use Rattle.kx_codes.specs.Indexed.{Stands}
+use Rattle.kx_codes.specs.Indexed.{Indexed, Stands}
 use Rattle.kx_codes.specs.Pairs.{Pair, all_taken, pairs_from, pairs_of}
-use Rattle.kx_codes.specs.declared.gathered.Gathered.{Gathered}
 
--- from pairs and aliases and a body, some of the body is behind in what is gathered now, without a fault
-pub record Going (Old : List Pair → Type 0) (bs : List Alias) (now : Gathered) (whole left : Body) : Type 0 where
-  pub pairs_go : (ps : List Pair) → Old ps → (qs : List Pair) × Stands now.pairs qs × (pairs_from qs left ≡ pairs_from ps whole)
-  pub aliases_go : aliases_from now.aliases left ≡ aliases_from bs whole
+-- from pairs and a body, some of the body is behind in what is gathered now, without a fault
+pub record Going (Old : List Pair → Type 0) (now : Indexed) (whole left : Body) : Type 0 where
+  pub pairs_go : (ps : List Pair) → Old ps → (qs : List Pair) × Stands now qs × (pairs_from qs left ≡ pairs_from ps whole)
   pub faults_go : faults_of whole ≡ faults_of left
 
 -- a body is one and then another
 pub record Splits (left one rest : Body) : Type 0 where
   pub pairs_split : (ps : List Pair) → pairs_from ps left ≡ pairs_from (pairs_from ps one) rest
-  pub aliases_split : (bs : List Alias) → aliases_from bs left ≡ aliases_from (aliases_from bs one) rest
   pub faults_split : faults_of left ≡ faults_of one ++ faults_of rest
 
-module _ (Old : List Pair → Type 0) (bs : List Alias) where
-  pub going_on : (whole left one rest : Body) (now new : Gathered) → Splits left one rest → Going Old bs now whole left → Took now new one → Going Old bs new whole rest
+module _ (Old : List Pair → Type 0) where
+  pub going_on : (whole left one rest : Body) (now new : Indexed) → Splits left one rest → Going Old now whole left → Took now new one → Going Old new whole rest
   going_on whole left one rest now new split g t = record {
     pairs_go = λ ps old. (pairs_from (g.pairs_go ps old).0 one, t.pairs_are (g.pairs_go ps old).0 (g.pairs_go ps old).1, sym (split.pairs_split (g.pairs_go ps old).0) ∙ (g.pairs_go ps old).2);
-    aliases_go = ap (λ cs. aliases_from cs rest) t.aliases_are ∙ sym (split.aliases_split now.aliases) ∙ g.aliases_go;
     faults_go = g.faults_go ∙ split.faults_split ∙ ap (λ fs. fs ++ faults_of rest) t.faultless;
   }
 
-  pub going_blames : (whole left one rest : Body) (now : Gathered) (e : Fault) → Splits left one rest → Going Old bs now whole left → Blames one e → Blames whole e
+  pub going_blames : (whole left one rest : Body) (now : Indexed) (e : Fault) → Splits left one rest → Going Old now whole left → Blames one e → Blames whole e
   going_blames whole left one rest now e split g has = subst (λ fs. Contains (Memory ∷ fs) e) (sym (g.faults_go ∙ split.faults_split)) (Contains-append_left (Memory ∷ faults_of one) (faults_of rest) e has)
 
-pub took_all : (old now : Gathered) (whole : Body) → Going (Stands old.pairs) old.aliases now whole End → Took old now whole
+pub took_all : (old now : Indexed) (whole : Body) → Going (Stands old) now whole End → Took old now whole
 took_all old now whole g = record {
-  pairs_are = λ ps s. subst (Stands now.pairs) (g.pairs_go ps s).2 (g.pairs_go ps s).1;
-  aliases_are = g.aliases_go;
+  pairs_are = λ ps s. subst (Stands now) (g.pairs_go ps s).2 (g.pairs_go ps s).1;
   faultless = g.faults_go;
 }
 
-pub leaves_all : (now : Gathered) (whole : Body) → Going (λ ps. ps ≡ []) [] now whole End → Leaves whole now
+pub leaves_all : (now : Indexed) (whole : Body) → Going (λ ps. ps ≡ []) now whole End → Leaves whole now
 leaves_all now whole g = record {
-  pairs_are = subst (Stands now.pairs) (g.pairs_go [] refl).2 (g.pairs_go [] refl).1;
-  aliases_are = g.aliases_go;
+  pairs_are = subst (Stands now) (g.pairs_go [] refl).2 (g.pairs_go [] refl).1;
   faultless = g.faults_go;
 }
 
-pub going_new : (g : Gathered) (whole left : Body) → Stands g.pairs [] → g.aliases ≡ [] → ((ps : List Pair) → pairs_from ps left ≡ pairs_from ps whole) → aliases_from [] left ≡ aliases_from [] whole → faults_of whole ≡ faults_of left → Going (λ ps. ps ≡ []) [] g whole left
-going_new g whole left s none p a f = record {
+pub going_new : (g : Indexed) (whole left : Body) → Stands g [] → ((ps : List Pair) → pairs_from ps left ≡ pairs_from ps whole) → faults_of whole ≡ faults_of left → Going (λ ps. ps ≡ []) g whole left
+going_new g whole left s p f = record {
   pairs_go = λ ps is. ([], s, p [] ∙ ap (λ qs. pairs_from qs whole) (sym is));
-  aliases_go = ap (λ cs. aliases_from cs left) none ∙ a;
   faults_go = f;
 }
 
@@ -86,25 +77,20 @@ read_again (x ∷ xs) (suc i) d h = read_again xs i d (omega (arith, h))
 
 module _ (bodies : List Body) where
   split-entry : (place : Place) (x : Entry) (xs : List Entry) → Splits (entries_body bodies place (x ∷ xs) End) (entries_body bodies place (x ∷ []) End) (entries_body bodies place xs End)
-  split-entry place (entry.Own item) xs = record { pairs_split = λ ps. refl; aliases_split = λ cs. refl; faults_split = ap (λ fs. fs ++ faults_of (entries_body bodies place xs End)) (sym (append-none _)) }
-  split-entry place (entry.Include mode links) xs = record { pairs_split = λ ps. refl; aliases_split = λ cs. refl; faults_split = ap (λ fs. fs ++ faults_of (entries_body bodies place xs End)) (sym (append-none _)) }
+  split-entry place (entry.Own item) xs = record { pairs_split = λ ps. refl; faults_split = ap (λ fs. fs ++ faults_of (entries_body bodies place xs End)) (sym (append-none _)) }
+  split-entry place (entry.Include mode links) xs = record { pairs_split = λ ps. refl; faults_split = ap (λ fs. fs ++ faults_of (entries_body bodies place xs End)) (sym (append-none _)) }
 
   pub split_entry : (place : Place) (es : List Entry) (i : ℕ) (x : Entry) → i < length es → x ≡ get_or es i x → Splits (entries_body bodies place (drop i es) End) (entries_body bodies place (x ∷ []) End) (entries_body bodies place (drop (i + 1) es) End)
   split_entry place es i x within is = subst (λ xs. Splits (entries_body bodies place xs End) (entries_body bodies place (x ∷ []) End) (entries_body bodies place (drop (i + 1) es) End)) (sym (drop_next es i x within is)) (split-entry place x (drop (i + 1) es))
 
   pub split_link : (ls : List Link) (i : ℕ) (l : Link) → i < length ls → l ≡ get_or ls i l → Splits (links_body bodies (drop i ls)) (links_body bodies (l ∷ [])) (links_body bodies (drop (i + 1) ls))
   split_link ls i l within is = subst (λ xs. Splits (links_body bodies xs) (links_body bodies (l ∷ [])) (links_body bodies (drop (i + 1) ls))) (sym (drop_next ls i l within is))
-      (record { pairs_split = λ ps. refl; aliases_split = λ cs. refl; faults_split = ap (λ fs. fs ++ faults_of (links_body bodies (drop (i + 1) ls))) (sym (append-none (faults_of (body_at bodies l.map)))) })
+      (record { pairs_split = λ ps. refl; faults_split = ap (λ fs. fs ++ faults_of (links_body bodies (drop (i + 1) ls))) (sym (append-none (faults_of (body_at bodies l.map)))) })
 
   pairs-behind : (place : Place) (xs : List Entry) (rest : Body) (ps : List Pair) → pairs_from ps (entries_body bodies place xs rest) ≡ pairs_from (pairs_from ps (entries_body bodies place xs End)) rest
   pairs-behind place [] rest ps = refl
   pairs-behind place (entry.Own item ∷ xs) rest ps = pairs-behind place xs rest (pairs_from ps (Own place item.now End))
   pairs-behind place (entry.Include mode links ∷ xs) rest ps = pairs-behind place xs rest (pairs_from ps (Inc mode None (links_body bodies links.items) End))
-
-  aliases-behind : (place : Place) (xs : List Entry) (rest : Body) (cs : List Alias) → aliases_from cs (entries_body bodies place xs rest) ≡ aliases_from (aliases_from cs (entries_body bodies place xs End)) rest
-  aliases-behind place [] rest cs = refl
-  aliases-behind place (entry.Own item ∷ xs) rest cs = aliases-behind place xs rest (aliases_from cs (Own place item.now End))
-  aliases-behind place (entry.Include mode links ∷ xs) rest cs = aliases-behind place xs rest (aliases_from cs (Inc mode None (links_body bodies links.items) End))
 
   faults-behind : (place : Place) (xs : List Entry) (rest : Body) → faults_of (entries_body bodies place xs rest) ≡ faults_of (entries_body bodies place xs End) ++ faults_of rest
   faults-behind place [] rest = refl
@@ -114,21 +100,18 @@ module _ (bodies : List Body) where
   pub split_section : (ms : List Map) (i : ℕ) (m : Map) → i < length ms → m ≡ get_or ms i m → Splits (shared_sections bodies (drop i ms)) (shared_body bodies m End) (shared_sections bodies (drop (i + 1) ms))
   split_section ms i m within is = subst (λ xs. Splits (shared_sections bodies xs) (shared_body bodies m End) (shared_sections bodies (drop (i + 1) ms))) (sym (drop_next ms i m within is)) (record {
     pairs_split = pairs-behind m.place m.entries.items (shared_sections bodies (drop (i + 1) ms));
-    aliases_split = aliases-behind m.place m.entries.items (shared_sections bodies (drop (i + 1) ms));
     faults_split = faults-behind m.place m.entries.items (shared_sections bodies (drop (i + 1) ms));
   })
 
 -- an include of what was gathered of a body
-pub took_included : (old new g : Gathered) (mode : Mode) (group : Option ℕ) (body : Body) → Leaves body g → ((ps qs : List Pair) → Stands old.pairs ps → Stands g.pairs qs → Stands new.pairs (all_taken mode ps qs)) → new.aliases ≡ aliases_taken mode old.aliases g.aliases
-    → Took old new (Inc mode group body End)
-took_included old new g mode group body is pairs aliases = record {
+pub took_included : (old new g : Indexed) (mode : Mode) (group : Option ℕ) (body : Body) → Leaves body g → ((ps qs : List Pair) → Stands old ps → Stands g qs → Stands new (all_taken mode ps qs)) → Took old new (Inc mode group body End)
+took_included old new g mode group body is pairs = record {
   pairs_are = λ ps s. pairs ps (pairs_of body) s is.pairs_are;
-  aliases_are = aliases ∙ ap (aliases_taken mode old.aliases) is.aliases_are;
   faultless = ap (λ fs. fs ++ []) is.faultless;
 }
 
-pub took_nothing : (g : Gathered) (mode : Mode) (group : Option ℕ) (body : Body) → body ≡ End → Took g g (Inc mode group body End)
-took_nothing g mode group body is = subst (λ b. Took g g (Inc mode group b End)) (sym is) (record { pairs_are = λ ps s. s; aliases_are = refl; faultless = refl })
+pub took_nothing : (g : Indexed) (mode : Mode) (group : Option ℕ) (body : Body) → body ≡ End → Took g g (Inc mode group body End)
+took_nothing g mode group body is = subst (λ b. Took g g (Inc mode group b End)) (sym is) (record { pairs_are = λ ps s. s; faultless = refl })
 
 pub blamed_included : (mode : Mode) (group : Option ℕ) (body : Body) (e : Fault) → Blames body e → Blames (Inc mode group body End) e
 blamed_included mode group body e has = Contains-append_left (Memory ∷ faults_of body) [] e has
@@ -137,12 +120,12 @@ blamed_included mode group body e has = Contains-append_left (Memory ∷ faults_
 pub memory_blamed : (body : Body) (e : Fault) → e ≡ Memory → Blames body e
 memory_blamed body e is = (0, omega arith, sym is)
 
-pub err_gathered : (r : Result Gathered Fault) (body : Body) (e : Fault) → IsErrAnd r (λ y. y ≡ e) → Blames body e → IsGathered body r
+pub err_gathered : (r : Result Indexed Fault) (body : Body) (e : Fault) → IsErrAnd r (λ y. y ≡ e) → Blames body e → IsGathered body r
 err_gathered (Ok g) body e is has = absurd is
 err_gathered (Err y) body e is has = subst (Blames body) (sym is) has
 
 -- one more map is gathered
-pushed-at : (done : List (Result Gathered Fault)) (bodies : List Body) (r : Result Gathered Fault) (b : Body) → length done ≡ length bodies → ((n : ℕ) → IsFound (body_at bodies n) (slice_get done n)) → IsGathered b r
+pushed-at : (done : List (Result Indexed Fault)) (bodies : List Body) (r : Result Indexed Fault) (b : Body) → length done ≡ length bodies → ((n : ℕ) → IsFound (body_at bodies n) (slice_get done n)) → IsGathered b r
     → (n : ℕ) → IsFound (body_at (bodies ++ b ∷ []) n) (slice_get (done ++ r ∷ []) n)
 pushed-at [] [] r b same each is zero = is
 pushed-at [] [] r b same each is (suc n) = refl
@@ -158,7 +141,7 @@ length-pushed (y ∷ ys) x = omega (arith, length-pushed ys x)
 pub none_gathered : AreGathered [] []
 none_gathered = record { count_is = refl; each_is = λ n. refl }
 
-pub one_gathered : (done : List (Result Gathered Fault)) (bodies : List Body) (r : Result Gathered Fault) (b : Body) → AreGathered done bodies → IsGathered b r → AreGathered (done ++ r ∷ []) (bodies ++ b ∷ [])
+pub one_gathered : (done : List (Result Indexed Fault)) (bodies : List Body) (r : Result Indexed Fault) (b : Body) → AreGathered done bodies → IsGathered b r → AreGathered (done ++ r ∷ []) (bodies ++ b ∷ [])
 one_gathered done bodies r b are is = record {
   count_is = length-pushed done r ∙ ap (λ n. n + 1) are.count_is ∙ sym (length-pushed bodies b);
   each_is = pushed-at done bodies r b are.count_is are.each_is is;
@@ -171,10 +154,9 @@ pub behind_all : (bodies : List Body) (ms : List Map) (i : ℕ) (all : List Body
 behind_all bodies ms i all over before = sym (ap (bodies_behind bodies) (drop_all i ms over)) ∙ before
 
 -- a single part of an include, taken under the include's mode
-pub took_once : (old new : Gathered) (mode inner : Mode) (group : Option ℕ) (body : Body) → Took old new (Inc mode group body End) → Took old new (Inc mode None (Inc inner group body End) End)
+pub took_once : (old new : Indexed) (mode inner : Mode) (group : Option ℕ) (body : Body) → Took old new (Inc mode group body End) → Took old new (Inc mode None (Inc inner group body End) End)
 took_once old new mode inner group body t = record {
-  pairs_are = λ ps s. once_stands mode inner new.pairs ps (pairs_of body) s.distinct_are (from_distinct [] body refl) (t.pairs_are ps s);
-  aliases_are = t.aliases_are ∙ sym (ap (aliases_taken mode old.aliases) (alone_aliases inner body));
+  pairs_are = λ ps s. once_stands mode inner new ps (pairs_of body) s.distinct_are (from_distinct [] body refl) (t.pairs_are ps s);
   faultless = ap (λ fs. fs ++ []) t.faultless;
 }
 

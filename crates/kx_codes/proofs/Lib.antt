@@ -1,8 +1,9 @@
-mod Alone
 mod Behind
 mod Distinct
 pub mod Ends
 mod Entries
+mod Faultless
+mod Given
 mod Matching
-mod Putting
 mod Standing
+pub mod Targets

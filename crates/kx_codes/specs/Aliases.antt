@@ -1,53 +1,71 @@
--- Aliases of names of keys, and the target that a keycodes body gives each.
-use Rattle.std.specs.Prelude.{ℕ, Bool, List, [], ◌∷◌, ◌++◌, Option, None, Some, if◌then◌else◌, fold}
-use Rattle.std.specs.List.{list_any}
+-- Aliases of names of keys, and the target that a keycodes body gives each, by precedence.
+use Rattle.std.specs.Prelude.{ℕ, List, [], ◌∷◌, ◌++◌, Option, None, Some, map}
+use Rattle.std.specs.Map.{lookup}
+use Rattle.std.specs.Option.{option_and_then}
 use Rattle.std.specs.Str.{bytes_eq}
+use Rattle.kx_include.specs.Expansion.{Body}
+use Rattle.kx_lex.specs.declared.fault.Fault.{Fault}
+use Rattle.kx_lex.specs.declared.name.Name.{Name}
+use Rattle.kx_lex.specs.declared.token.Span.{Span}
+use Rattle.kx_merge.specs.Bodies.{Moves, Rules, offers_of}
+use Rattle.kx_merge.specs.Offers.{Offer, value_of}
 use Rattle.kx_parse.specs.declared.tree.Item.{Item}
 use Rattle.kx_parse.specs.declared.tree.Item.TheVariants.{Include, Statement}
 use Rattle.kx_parse.specs.declared.tree.Mode.{Mode}
-use Rattle.kx_parse.specs.declared.tree.Mode.TheVariants.{Augment, Override, Replace}
 use Rattle.kx_parse.specs.declared.tree.Statement.{Statement as Said}
-use Rattle.kx_parse.specs.declared.tree.Statement.TheVariants as said
-use Rattle.kx_include.specs.Expansion.{Body, End, Begin, Own, Inc}
+use Rattle.kx_parse.specs.declared.tree.Statement.TheVariants.{Alias}
+use Rattle.kx_codes.specs.CodeFaults.{name_faults}
 
-pub record Alias : Type 0 where
-  pub name : List ℕ
-  pub target : List ℕ
+-- an alias has one cell, its target
+abbrev pub AliasOffer : Type 0
+AliasOffer = Offer (List ℕ) (Unit {0}) (List ℕ)
 
-abbrev pub put : List Alias → Alias → List Alias
-put [] a = a ∷ []
-put (b ∷ bs) a = if bytes_eq a.name b.name then record { name = b.name; target = a.target } ∷ bs else b ∷ put bs a
+abbrev pub alias_offer : Mode → List ℕ → List ℕ → AliasOffer
+alias_offer mode name target = record { mode = mode; name = name; value = λ _. Some target; width = λ _. 0 }
 
-abbrev pub has_alias : List ℕ → List Alias → Bool
-has_alias name bs = list_any (λ b. bytes_eq name b.name) bs
+-- the name and the target of an alias statement
+abbrev pub alias_in : Said → Option (Name × Name)
+alias_in (Alias name target) = Some (name, target)
+alias_in _ = None
 
--- each name has one target: the last under override or replace, else the first under augment
-abbrev pub alias_taken : Mode → List Alias → Alias → List Alias
-alias_taken Augment bs a = if has_alias a.name bs then bs else bs ++ a ∷ []
-alias_taken Override bs a = put bs a
-alias_taken Replace bs a = put bs a
+abbrev pub said_offers : Mode → Option (Name × Name) → List AliasOffer
+said_offers mode None = []
+said_offers mode (Some a) = alias_offer mode a.0.bytes a.1.bytes ∷ []
 
-abbrev pub aliases_taken : Mode → List Alias → List Alias → List Alias
-aliases_taken mode bs given = fold (alias_taken mode) bs given
+abbrev pub item_offers : Item → List AliasOffer
+item_offers (Statement mode statement first span) = said_offers mode (alias_in statement)
+item_offers (Include mode text span) = []
 
-abbrev pub said_aliases : Mode → Said → List Alias → List Alias
-said_aliases mode (said.Alias name target) bs = alias_taken mode bs (record { name = name.bytes; target = target.bytes })
-said_aliases mode _ bs = bs
+-- those of aliases alone; `whole` is the statement
+abbrev pub said_name_faults : ℕ → Span → Option (Name × Name) → List Fault
+said_name_faults file whole None = []
+said_name_faults file whole (Some a) = name_faults file whole a.0 ++ name_faults file whole a.1
 
-abbrev pub own_aliases : Item → List Alias → List Alias
-own_aliases (Statement mode statement first span) bs = said_aliases mode statement bs
-own_aliases (Include mode text span) bs = bs
+abbrev pub item_name_faults : ℕ → Item → List Fault
+item_name_faults file (Statement mode statement first span) = said_name_faults file span (alias_in statement)
+item_name_faults file (Include mode text span) = []
 
--- what a body leaves of aliases; an include gives each name the target that its body does
-abbrev pub aliases_from : List Alias → Body → List Alias
-aliases_from bs End = bs
-aliases_from bs (Begin rest) = aliases_from bs rest
-aliases_from bs (Own place item rest) = aliases_from (own_aliases item bs) rest
-aliases_from bs (Inc mode group body rest) = aliases_from (aliases_taken mode bs (aliases_from [] body)) rest
+abbrev pub alias_rules : Rules (List ℕ) (Unit {0}) (List ℕ) (Unit {0})
+alias_rules = record { start = tt; next = λ d item. tt; offers = λ d place item. item_offers item; faults = λ d place item. item_name_faults place.file item }
 
-abbrev pub aliases_of : Body → List Alias
-aliases_of body = aliases_from [] body
+-- a move to a group leaves aliases as they are
+abbrev pub alias_moves : Moves (List ℕ) (Unit {0})
+alias_moves = record { key = λ n name. Some name; cell = λ n c. Some c; group = λ n g. Some g }
 
-abbrev pub target_in : List Alias → List ℕ → Option (List ℕ)
-target_in [] name = None
-target_in (b ∷ bs) name = if bytes_eq name b.name then Some b.target else target_in bs name
+abbrev pub alias_offers : Body → List AliasOffer
+alias_offers body = offers_of bytes_eq alias_rules alias_moves body
+
+-- the name that a name stands for in a keycodes body
+abbrev pub target_of : Body → List ℕ → Option (List ℕ)
+target_of body name = value_of bytes_eq (alias_offers body) name tt
+
+-- names, each with its target
+abbrev pub Aliases : Type 0
+Aliases = List (List ℕ × Option (List ℕ))
+
+abbrev pub target_in : Aliases → List ℕ → Option (List ℕ)
+target_in aliases name = option_and_then (λ target. target) (lookup (bytes_eq name) aliases)
+
+-- the aliases of a body
+abbrev pub aliases_of : Body → Aliases
+aliases_of body = map (λ (o : AliasOffer). (o.name, target_of body o.name)) (alias_offers body)

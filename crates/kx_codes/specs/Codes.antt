@@ -3,14 +3,14 @@ use Rattle.std.specs.Prelude.{◌≡◌, ◌≤◌, ◌<◌, ◌+◌, ℕ, List,
 use Rattle.std.specs.Option.{option_and_then, option_or}
 use Rattle.kx_basics.specs.declared.limits.TheConstants.{CODES}
 use Rattle.kx_include.specs.Expansion.{Body}
-use Rattle.kx_codes.specs.Aliases.{Alias, aliases_of, target_in}
+use Rattle.kx_codes.specs.Aliases.{Aliases, target_in, target_of}
 use Rattle.kx_codes.specs.Pairs.{Pair, pairs_of, code_in, name_in}
 
 -- pairs by name, pairs by code, and aliases; all that shows of them is what `code_in`, `name_in` and `target_in` give
 pub record Codes : Type 0 where
   pub by_name : List Pair
   pub by_code : List Pair
-  pub aliases : List Alias
+  pub aliases : Aliases
 
 -- the entries of maps as pairs
 abbrev pub named : {K : Type 0} → (K → List ℕ) → List (K × ℕ) → List Pair
@@ -41,4 +41,4 @@ pub record IsEnd (end : ℕ) (name : ℕ → Option (List ℕ)) : Type 0 where
 pub record CodesShow (c : Codes) (body : Body) : Type 0 where
   pub codes_are : (name : List ℕ) → paired c name ≡ code_in (pairs_of body) name
   pub names_are : (code : ℕ) → name_of c code ≡ name_in (pairs_of body) code
-  pub targets_are : (name : List ℕ) → target_in c.aliases name ≡ target_in (aliases_of body) name
+  pub targets_are : (name : List ℕ) → target_in c.aliases name ≡ target_of body name

@@ -1,12 +1,13 @@
 //! Keycodes and the names of keys.
 #![tactic(auto)]
 
+mod alias_name;
 mod aliases;
 mod checks;
-mod gathered;
 mod name;
 mod pairs;
 mod reader;
+mod statements;
 mod table;
 mod walking;
 

@@ -6,13 +6,13 @@ use kx_lex::Fault;
 use std::alloc::Global;
 use std::marker::Model;
 
-/// The name of a pair; seen as its bytes.
+/// The name of a key, stored; seen as its bytes.
 #[derive(Drop)]
-pub(crate) struct PairName {
+pub struct StoredName {
     bytes: Vec<u8>,
 }
 
-impl Model for PairName {
+impl Model for StoredName {
     ghost use Rattle.std.specs.Prelude.{List, ℕ};
     ghost use Rattle.kx_basics.specs.KeyNames.{IsKeyName};
 
@@ -23,14 +23,14 @@ impl Model for PairName {
     ghost invariant = { λ n. IsKeyName n.bytes.items };
 }
 
-impl PairName {
-    pub(crate) fn of(alloc: Global, name: &[u8]) -> Result<PairName, Fault>
+impl StoredName {
+    pub(crate) fn of(alloc: Global, name: &[u8]) -> Result<StoredName, Fault>
         requires { IsKeyName name.now }
         ensures value { IfOk result (λ n. n ≡ name.now) }
         ensures err { IfErr result (λ e. e ≡ Memory) }
     {
         let bytes = Vec::from_slice(alloc, name)?;
-        Ok(PairName { bytes })
+        Ok(StoredName { bytes })
     }
 
     pub(crate) fn as_slice(&self) -> &[u8]

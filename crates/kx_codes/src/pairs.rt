@@ -9,7 +9,7 @@ ghost use Rattle.kx_basics.specs.declared.limits.TheConstants.{CODES};
 ghost use Rattle.kx_codes.specs.Codes.{IsEnd};
 ghost use Rattle.kx_codes.specs.Pairs.{Pair as PairValue, shares, taken, all_taken, code_in, name_in};
 
-use crate::name::PairName;
+use crate::name::StoredName;
 use indexmap::IndexMap;
 use kx_basics::CODES;
 use kx_lex::Fault;
@@ -21,7 +21,7 @@ use std::marker::Model;
 #[derive(Drop)]
 pub(crate) struct Pairs {
     codes: IndexMap<Vec<u8>, u16>,
-    names: IndexMap<u16, PairName>,
+    names: IndexMap<u16, StoredName>,
 }
 
 impl Model for Pairs {
@@ -116,7 +116,7 @@ impl Pairs {
         ensures err { IfErr result (λ e. e ≡ Memory) }
     {
         let key = Vec::from_slice(alloc, name)?;
-        let value = PairName::of(alloc, name)?;
+        let value = StoredName::of(alloc, name)?;
         self.codes.insert(key, code)?;
         self.names.insert(code, value)?;
         Ok(())

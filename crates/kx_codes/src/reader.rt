@@ -4,10 +4,12 @@ ghost use Rattle.kx_lex.specs.declared.fault.Fault.TheVariants.{Memory};
 ghost use Rattle.kx_codes.specs.CodeFaults.{faults_of};
 ghost use Rattle.kx_codes.specs.Codes.{CodesShow, name_of, paired};
 
+use crate::aliases::Alias;
 use crate::table::Codes;
 use crate::walking::gather;
 use kx_include::Expansion;
 use kx_lex::Fault;
+use kx_merge::merge;
 use std::alloc::Global;
 
 /// The pairs and the aliases that a source's keycodes leave at their end. No two pairs share a name or a code.
@@ -21,6 +23,7 @@ pub fn codes(alloc: Global, expansion: &Expansion) -> Result<Codes, Fault>
     ensures faultless { OnOk result (faults_of (expanded_body expansion.now) ≡ []) }
     ensures fault { IfErr result (λ e. Contains (Memory ∷ faults_of (expanded_body expansion.now)) e) }
 {
-    let gathered = gather(alloc, expansion)?;
-    Ok(Codes::of(gathered))
+    let pairs = gather(alloc, expansion)?;
+    let merged = merge::<(), Alias>(alloc, &(), expansion)?;
+    Ok(Codes::of(pairs, merged.records))
 }

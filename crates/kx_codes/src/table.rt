@@ -1,39 +1,50 @@
-ghost use Rattle.std.specs.Prelude.{◌≡◌, ℕ, List, IfSome};
+ghost use Rattle.std.specs.Prelude.{◌≡◌, map, IfSome};
 ghost use Rattle.std.specs.Option.{option_map};
 ghost use Rattle.kx_codes.specs.Aliases.{target_in};
-ghost use Rattle.kx_codes.specs.Codes.{IsEnd, code_of, name_of, paired};
+ghost use Rattle.kx_codes.specs.Codes.{IsEnd, code_of, name_of};
 ghost use Rattle.kx_basics.specs.KeyNames.{IsKeyName};
-ghost use Rattle.kx_codes.specs.Pairs.{code_in, name_in};
+ghost use Rattle.kx_codes.specs.Records.{shown_alias};
 
-use crate::aliases::Aliases;
-use crate::gathered::Gathered;
+use crate::alias_name::AliasName;
+use crate::aliases::Alias;
 use crate::pairs::Pairs;
+use indexmap::IndexMap;
 use std::marker::Model;
 
 /// The pairs that keycodes leave at the end, by name and by code, and the aliases.
 #[derive(Drop)]
 pub struct Codes {
     pairs: Pairs,
-    aliases: Aliases,
+    aliases: IndexMap<AliasName, Alias>,
 }
 
 impl Model for Codes {
+    ghost use Rattle.std.specs.Prelude.{map};
     ghost use Rattle.kx_codes.specs.Codes.{Codes};
+    ghost use Rattle.kx_codes.specs.Records.{shown_alias};
 
     ghost Value = { Codes };
 
-    ghost view = { λ c. record { by_name = c.pairs.by_name; by_code = c.pairs.by_code; aliases = c.aliases } };
+    ghost view = { λ c. record { by_name = c.pairs.by_name; by_code = c.pairs.by_code; aliases = map shown_alias c.aliases.entries } };
 }
 
 impl Codes {
-    pub(crate) fn of(gathered: Gathered) -> Codes
-        ensures codes { (name : List ℕ) → paired result name ≡ code_in gathered.pairs.by_name name }
-        ensures names { (code : ℕ) → name_of result code ≡ name_in gathered.pairs.by_code code }
-        ensures targets { (name : List ℕ) → target_in result.aliases name ≡ target_in gathered.aliases name }
+    pub(crate) fn of(pairs: Pairs, aliases: IndexMap<AliasName, Alias>) -> Codes
+        ensures { result ≡ record { by_name = pairs.by_name; by_code = pairs.by_code; aliases = map shown_alias aliases.entries } }
     {
-        Codes {
-            pairs: gathered.pairs,
-            aliases: gathered.aliases,
+        Codes { pairs, aliases }
+    }
+
+    /// The name that a name stands for.
+    fn target(&self, name: &[u8]) -> Option<&[u8]>
+        ensures { option_map (λ t. t.now) result ≡ target_in self.now.aliases name.now }
+    {
+        match self.aliases.get(name) {
+            None => None,
+            Some(alias) => match &alias.target {
+                None => None,
+                Some(target) => Some(target.as_slice()),
+            },
         }
     }
 
@@ -44,7 +55,7 @@ impl Codes {
     {
         match self.pairs.code_of(name) {
             Some(code) => Some(code),
-            None => self.pairs.code_of(self.aliases.target(name)?),
+            None => self.pairs.code_of(self.target(name)?),
         }
     }
 

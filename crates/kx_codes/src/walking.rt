@@ -1,16 +1,17 @@
-ghost use Rattle.std.specs.Prelude.{◌≡◌, ◌∷◌, [], IfErr, List, None, OnOk};
+ghost use Rattle.std.specs.Prelude.{◌∷◌, [], IfErr, List, None, OnOk};
 ghost use Rattle.kx_include.specs.Expansion.{Body, End, Inc};
 ghost use Rattle.kx_include.specs.Shared.{entries_body, expanded_body, links_body, shared_body, shared_sections};
 ghost use Rattle.kx_codes.specs.Gathering.{AreGathered, Blames, IsGathered, Took};
 
-use crate::gathered::Gathered;
+use crate::pairs::Pairs;
+use crate::statements::take_item;
 use kx_include::{Entry, Expansion, Link, Map, Place};
 use kx_lex::Fault;
 use kx_parse::Mode;
 use std::alloc::Global;
 
 /// What the keycodes of a source leave.
-pub(crate) fn gather(alloc: Global, expansion: &Expansion) -> Result<Gathered, Fault>
+pub(crate) fn gather(alloc: Global, expansion: &Expansion) -> Result<Pairs, Fault>
     ensures { IsGathered (expanded_body expansion.now) result }
 {
     // A fault in a map is one of the source only where the map is included, and is answered there.
@@ -25,12 +26,12 @@ pub(crate) fn gather(alloc: Global, expansion: &Expansion) -> Result<Gathered, F
 /// What the source's sections leave together, where `done` is what each map leaves.
 fn gather_sections(
     alloc: Global,
-    done: &[Result<Gathered, Fault>],
+    done: &[Result<Pairs, Fault>],
     sections: &[Map],
-) -> Result<Gathered, Fault>
+) -> Result<Pairs, Fault>
     ensures { (bodies : List Body) → AreGathered done.now bodies → IsGathered (shared_sections bodies sections.now) result }
 {
-    let mut gathered = Gathered::new(alloc);
+    let mut gathered = Pairs::new(alloc);
     'sections: for section in sections {
         gather_section(alloc, done, section, &mut gathered)?;
     }
@@ -38,10 +39,10 @@ fn gather_sections(
 }
 
 /// What a map leaves.
-fn gather_map(alloc: Global, done: &[Result<Gathered, Fault>], map: &Map) -> Result<Gathered, Fault>
+fn gather_map(alloc: Global, done: &[Result<Pairs, Fault>], map: &Map) -> Result<Pairs, Fault>
     ensures { (bodies : List Body) → AreGathered done.now bodies → IsGathered (shared_body bodies map.now End) result }
 {
-    let mut gathered = Gathered::new(alloc);
+    let mut gathered = Pairs::new(alloc);
     gather_section(alloc, done, map, &mut gathered)?;
     Ok(gathered)
 }
@@ -49,9 +50,9 @@ fn gather_map(alloc: Global, done: &[Result<Gathered, Fault>], map: &Map) -> Res
 /// Takes what the items of a section say.
 fn gather_section(
     alloc: Global,
-    done: &[Result<Gathered, Fault>],
+    done: &[Result<Pairs, Fault>],
     section: &Map,
-    gathered: &mut Gathered,
+    gathered: &mut Pairs,
 ) -> Result<(), Fault>
     ensures took { OnOk result ((bodies : List Body) → AreGathered done.now bodies → Took gathered.old gathered.new (shared_body bodies section.now End)) }
     ensures fault { IfErr result (λ e. (bodies : List Body) → AreGathered done.now bodies → Blames (shared_body bodies section.now End) e) }
@@ -65,16 +66,16 @@ fn gather_section(
 /// Takes what an item says.
 fn gather_entry(
     alloc: Global,
-    done: &[Result<Gathered, Fault>],
+    done: &[Result<Pairs, Fault>],
     place: Place,
     entry: &Entry,
-    gathered: &mut Gathered,
+    gathered: &mut Pairs,
 ) -> Result<(), Fault>
     ensures took { OnOk result ((bodies : List Body) → AreGathered done.now bodies → Took gathered.old gathered.new (entries_body bodies place (entry.now ∷ []) End)) }
     ensures fault { IfErr result (λ e. (bodies : List Body) → AreGathered done.now bodies → Blames (entries_body bodies place (entry.now ∷ []) End) e) }
 {
     match entry {
-        Entry::Own(item) => gathered.take_item(alloc, place, item),
+        Entry::Own(item) => take_item(alloc, gathered, place, item),
         Entry::Include { mode, links } => {
             gather_include(alloc, done, *mode, links.as_slice(), gathered)
         }
@@ -84,10 +85,10 @@ fn gather_entry(
 /// Takes what the parts of an include's text bring together, under the include's mode.
 fn gather_include(
     alloc: Global,
-    done: &[Result<Gathered, Fault>],
+    done: &[Result<Pairs, Fault>],
     mode: Mode,
     links: &[Link],
-    gathered: &mut Gathered,
+    gathered: &mut Pairs,
 ) -> Result<(), Fault>
     ensures took { OnOk result ((bodies : List Body) → AreGathered done.now bodies → Took gathered.old gathered.new (Inc mode None (links_body bodies links.now) End)) }
     ensures fault { IfErr result (λ e. (bodies : List Body) → AreGathered done.now bodies → Blames (Inc mode None (links_body bodies links.now) End) e) }
@@ -106,12 +107,12 @@ fn gather_include(
 /// What the parts of an include's text leave together.
 fn gather_links(
     alloc: Global,
-    done: &[Result<Gathered, Fault>],
+    done: &[Result<Pairs, Fault>],
     links: &[Link],
-) -> Result<Gathered, Fault>
+) -> Result<Pairs, Fault>
     ensures { (bodies : List Body) → AreGathered done.now bodies → IsGathered (links_body bodies links.now) result }
 {
-    let mut joined = Gathered::new(alloc);
+    let mut joined = Pairs::new(alloc);
     'links: for link in links {
         gather_link(alloc, done, *link, &mut joined)?;
     }
@@ -121,9 +122,9 @@ fn gather_links(
 /// Takes what a part of an include's text brings; nothing where there is no such map.
 fn gather_link(
     alloc: Global,
-    done: &[Result<Gathered, Fault>],
+    done: &[Result<Pairs, Fault>],
     link: Link,
-    gathered: &mut Gathered,
+    gathered: &mut Pairs,
 ) -> Result<(), Fault>
     ensures took { OnOk result ((bodies : List Body) → AreGathered done.now bodies → Took gathered.old gathered.new (links_body bodies (link ∷ []))) }
     ensures fault { IfErr result (λ e. (bodies : List Body) → AreGathered done.now bodies → Blames (links_body bodies (link ∷ [])) e) }

@@ -21,23 +21,23 @@ or-again : {X : Type 0} (a v : Option X) → or_else v (or_else v a) ≡ or_else
 or-again a (Some x) = refl
 or-again a None = refl
 
-taken-again : {X : Type 0} (m : Mode) (a v : Option X) → taken m (taken m a v) v ≡ taken m a v
+pub taken-again : {X : Type 0} (m : Mode) (a v : Option X) → taken m (taken m a v) v ≡ taken m a v
 taken-again Augment a v = or-same a v
 taken-again Override a v = or-again a v
 taken-again Replace a v = refl
 
-widened-again : (m : Mode) (a n : ℕ) → widened m (widened m a n) n ≡ widened m a n
+pub widened-again : (m : Mode) (a n : ℕ) → widened m (widened m a n) n ≡ widened m a n
 widened-again Augment a n = omega arith
 widened-again Override a n = omega arith
 widened-again Replace a n = refl
 
 -- what offers make of something, one by one
 module _ {K C V W : Type 0} (eq : K → K → Bool) (k : K) (step : Offer K C V → W → W) where
-  abbrev behind : W → List (Offer K C V) → W
+  abbrev pub behind : W → List (Offer K C V) → W
   behind w [] = w
   behind w (o ∷ os) = behind (cond (is_about eq k o) (step o w) w) os
 
-  behind-away : (w : W) (os : List (Offer K C V)) → list_any (eq k) (names os) ≡ false → behind w os ≡ w
+  pub behind-away : (w : W) (os : List (Offer K C V)) → list_any (eq k) (names os) ≡ false → behind w os ≡ w
   behind-away w [] away = refl
   behind-away w (o ∷ os) away =
       ap (λ b. behind (cond b (step o w) w) os) (or-first (eq k o.name) (list_any (eq k) (names os)) away)
@@ -62,13 +62,13 @@ module _ {K C V W : Type 0} (eq : K → K → Bool) (k : K) (step : Offer K C V 
             ∙ sym (ap (λ b. behind (cond b (step o w) w) os) e)
 
 module _ {K C V : Type 0} (eq : K → K → Bool) (k : K) where
-  take : C → Offer K C V → Option V → Option V
+  unfoldable pub take : C → Offer K C V → Option V → Option V
   take c o v = taken o.mode v (o.value c)
 
-  widen : ℕ → Offer K C V → ℕ → ℕ
+  unfoldable pub widen : ℕ → Offer K C V → ℕ → ℕ
   widen g o n = widened o.mode n (o.width g)
 
-  value-behind : (c : C) (os ps : List (Offer K C V)) → value_of eq (os ++ ps) k c ≡ behind eq k (take c) (value_of eq os k c) ps
+  pub value-behind : (c : C) (os ps : List (Offer K C V)) → value_of eq (os ++ ps) k c ≡ behind eq k (take c) (value_of eq os k c) ps
   unfolding take
   value-behind c os [] = ap (λ xs. value_of eq xs k c) (append-none os)
   value-behind c os (o ∷ ps) =
@@ -79,7 +79,7 @@ module _ {K C V : Type 0} (eq : K → K → Bool) (k : K) where
       by true e = value-more eq k o o.mode refl e os c ∙ sym (ap (λ b. cond b (taken o.mode (value_of eq os k c) (o.value c)) (value_of eq os k c)) e)
       by false e = value-other eq k o e os c ∙ sym (ap (λ b. cond b (taken o.mode (value_of eq os k c) (o.value c)) (value_of eq os k c)) e)
 
-  width-behind : (g : ℕ) (os ps : List (Offer K C V)) → width_of eq (os ++ ps) k g ≡ behind eq k (widen g) (width_of eq os k g) ps
+  pub width-behind : (g : ℕ) (os ps : List (Offer K C V)) → width_of eq (os ++ ps) k g ≡ behind eq k (widen g) (width_of eq os k g) ps
   unfolding widen
   width-behind g os [] = ap (λ xs. width_of eq xs k g) (append-none os)
   width-behind g os (o ∷ ps) =
@@ -127,19 +127,19 @@ module _ {K : Type 0} (eq : K → K → Bool) (laws : IsEquivalence eq) where
       by false e = any-last k ks
 
 module _ {K C V : Type 0} (eq : K → K → Bool) (laws : IsEquivalence eq) where
-  still-named : (j : K) (ks : List K) (os : List (Offer K C V)) → list_any (eq j) ks ≡ true → list_any (eq j) (names_behind eq ks os) ≡ true
+  pub still-named : (j : K) (ks : List K) (os : List (Offer K C V)) → list_any (eq j) ks ≡ true → list_any (eq j) (names_behind eq ks os) ≡ true
   still-named j ks [] h = h
   still-named j ks (o ∷ os) h = still-named j (with_name eq ks o.name) os (any-named eq laws j o.name ks h)
 
-  data Named (ks : List K) : List (Offer K C V) → Type 0 where
+  pub data Named (ks : List K) : List (Offer K C V) → Type 0 where
     no_name : Named ks []
     a_name : {o : Offer K C V} {os : List (Offer K C V)} → list_any (eq o.name) ks ≡ true → Named ks os → Named ks (o ∷ os)
 
-  all-named : (ks : List K) (os : List (Offer K C V)) → Named (names_behind eq ks os) os
+  pub all-named : (ks : List K) (os : List (Offer K C V)) → Named (names_behind eq ks os) os
   all-named ks [] = no_name
   all-named ks (o ∷ os) = a_name (still-named o.name (with_name eq ks o.name) os (is-named eq laws o.name ks)) (all-named (with_name eq ks o.name) os)
 
-  named-again : (ks : List K) (os : List (Offer K C V)) → Named ks os → names_behind eq ks os ≡ ks
+  pub named-again : (ks : List K) (os : List (Offer K C V)) → Named ks os → names_behind eq ks os ≡ ks
   named-again ks [] no_name = refl
   named-again ks (o ∷ os) (a_name here rest) = ap (λ b. names_behind eq (cond b ks (ks ++ o.name ∷ [])) os) here ∙ named-again ks os rest
 

@@ -15,10 +15,9 @@ use Rattle.kx_include.specs.declared.expansion.Entry.TheVariants.{Own, Include}
 use Rattle.kx_include.specs.declared.expansion.Link.{Link}
 use Rattle.kx_include.specs.declared.expansion.Map.{Map}
 use Rattle.kx_include.specs.declared.place.Place.{Place}
-use Rattle.kx_parse.specs.declared.tree.Mode.{Mode}
 use Rattle.kx_parse.specs.declared.tree.Mode.TheVariants.{Augment}
 use Rattle.kx_merge.specs.Bodies.{Rules, Moves, moved, gathered, offers, faults, offers_of, faults_of}
-use Rattle.kx_merge.specs.Gatherings.{Adds, AddsBehind, included_by, IsGathered, AreGathered, none, more, entry_offers, entry_faults, entry_next}
+use Rattle.kx_merge.specs.Gatherings.{Adds, AddsBehind, IsGathered, AreGathered, none, more, entry_offers, entry_faults, entry_next}
 use Rattle.kx_merge.specs.Offers.{Offer}
 use Rattle.kx_merge.specs.Records.{Shows, cell_in, width_in}
 use Rattle.kx_merge.specs.declared.gathering.Merged.{Merged}
@@ -59,7 +58,7 @@ drop-next (y ∷ xs) zero x within h = ap (λ z. z ∷ xs) (sym h)
 drop-next (y ∷ xs) (suc i) x within h = let next : suc i + 1 ≡ suc (i + 1) = omega arith in rw next (drop-next xs i x (omega (arith, within)) h)
 
 module _ {K C V D : Type 0} (eq : K → K → Bool) (rules : Rules K C V D) (moves : Moves K C) (bodies : List Body) where
-  entry-first : (place : Place) (d : D) (e : Entry) (es : List Entry) (rest : Body) → offers eq rules moves d (entries_body bodies place (e ∷ es) rest) ≡ entry_offers eq rules moves bodies place d e ++ offers eq rules moves (entry_next rules d e) (entries_body bodies place es rest)
+  pub entry-first : (place : Place) (d : D) (e : Entry) (es : List Entry) (rest : Body) → offers eq rules moves d (entries_body bodies place (e ∷ es) rest) ≡ entry_offers eq rules moves bodies place d e ++ offers eq rules moves (entry_next rules d e) (entries_body bodies place es rest)
   entry-first place d (Own item) es rest = refl
   entry-first place d (Include mode links) es rest = refl
 
@@ -122,56 +121,6 @@ module _ {K C V D : Type 0} (eq : K → K → Bool) (rules : Rules K C V D) (mov
       ap (λ ys. faults eq rules moves rules.start (shared_sections bodies ys)) (drop-next xs i x within is)
       ∙ entries-blamed x.place rules.start x.entries.items (shared_sections bodies (drop (i + 1) xs))
       ∙ ap (λ os. faults_of eq rules moves (shared_body bodies x End) ++ os) (restart-blamed (ended rules.start x.entries.items) (drop (i + 1) xs))
-
--- records behind what an include offered last, and one entry more
-abbrev pub last_offers : {K C V D : Type 0} → (K → K → Bool) → Rules K C V D → Moves K C → List Body → Mode × List Link → List (Offer K C V)
-last_offers eq rules moves bodies last = gathered eq last.0 (offers_of eq rules moves (links_body bodies last.1))
-
-abbrev pub last_faults : {K C V D : Type 0} → (K → K → Bool) → Rules K C V D → Moves K C → List Body → Mode × List Link → List Fault
-last_faults eq rules moves bodies last = faults_of eq rules moves (links_body bodies last.1)
-
-module _ {K C V D R : Type 0} (cell : R → C → Option V) (width : R → ℕ → ℕ) (eq : K → K → Bool) (rules : Rules K C V D) (moves : Moves K C) where
-  pub record LeftAfter (bodies : List Body) (last : Mode × List Link) (names : List K) (at : K → Option R) (d : D) (whole : Body) (now_names : List K) (now_at : K → Option R) (now_d : D) (rest : Body) : Type 0 where
-    pub so_far : Left cell width eq rules moves names at d whole now_names now_at now_d rest
-    pub front : List (Offer K C V)
-    pub ends : so_far.behind ≡ front ++ last_offers eq rules moves bodies last
-    pub clean : last_faults eq rules moves bodies last ≡ []
-
-  pub after_all : (bodies : List Body) (names : List K) (at : K → Option R) (d : D) (whole : Body) → LeftAfter bodies (Augment, []) names at d whole names at d whole
-  unfolding left_all
-  after_all bodies names at d whole = record { so_far = left_all cell width eq rules moves names at d whole; front = []; ends = refl; clean = refl }
-
-module _ {K C V D R X : Type 0} {cell : R → C → Option V} {width : R → ℕ → ℕ} {eq : K → K → Bool} {rules : Rules K C V D} {moves : Moves K C} {bodies : List Body} {last : Mode × List Link} {names n1 n2 : List K} {at a1 a2 : K → Option R} {d d1 : D} {whole b1 : Body} where
-  pub after_step : (place : Place) (e : Entry) (x : X) (d2 : D) (b2 : Body) → LeftAfter cell width eq rules moves bodies last names at d whole n1 a1 d1 b1
-      → offers eq rules moves d1 b1 ≡ entry_offers eq rules moves bodies place d1 e ++ offers eq rules moves d2 b2 → faults eq rules moves d1 b1 ≡ entry_faults eq rules moves bodies place d1 e ++ faults eq rules moves d2 b2
-      → AddsBehind cell width eq (last_offers eq rules moves bodies last) n1 a1 (Ok x) n2 a2 (entry_offers eq rules moves bodies place d1 e) (entry_faults eq rules moves bodies place d1 e)
-      → LeftAfter cell width eq rules moves bodies (included_by e) names at d whole n2 a2 d2 b2
-  after_step place e x d2 b2 l os_are fs_are adds = record { so_far = next; front = (by e adds.faultless).0; ends = (by e adds.faultless).1; clean = (by e adds.faultless).2 }
-    where
-      added : List (Offer K C V)
-      added = entry_offers eq rules moves bodies place d1 e
-
-      behind-is : (os : List (Offer K C V)) → os ++ l.so_far.behind ≡ (os ++ l.front) ++ last_offers eq rules moves bodies last
-      behind-is os = ap (λ b. os ++ b) l.ends ∙ sym (append-inner os l.front (last_offers eq rules moves bodies last))
-
-      shown : (os : List (Offer K C V)) → Shows cell width eq names at os → Shows cell width eq n2 a2 (os ++ (l.so_far.behind ++ added))
-      shown os before = subst (Shows cell width eq n2 a2) (ap (λ b. b ++ added) (sym (behind-is os)) ∙ append-inner os l.so_far.behind added) (adds.shows (os ++ l.front) (subst (Shows cell width eq n1 a1) (behind-is os) (l.so_far.shown os before)))
-
-      next : Left cell width eq rules moves names at d whole n2 a2 d2 b2
-      next = record {
-        behind = l.so_far.behind ++ added;
-        shown = shown;
-        offered = l.so_far.offered ∙ ap (λ rest. l.so_far.behind ++ rest) os_are ∙ sym (append-inner l.so_far.behind added (offers eq rules moves d2 b2));
-        blamed = l.so_far.blamed ∙ fs_are ∙ ap (λ gs. gs ++ faults eq rules moves d2 b2) adds.faultless;
-      }
-
-      by : (f : Entry) → entry_faults eq rules moves bodies place d1 f ≡ [] → (front : List (Offer K C V)) × (l.so_far.behind ++ entry_offers eq rules moves bodies place d1 f ≡ front ++ last_offers eq rules moves bodies (included_by f)) × (last_faults eq rules moves bodies (included_by f) ≡ [])
-      by (Own item) none_met = (l.so_far.behind ++ entry_offers eq rules moves bodies place d1 (Own item), sym (append-none (l.so_far.behind ++ entry_offers eq rules moves bodies place d1 (Own item))), refl)
-      by (Include mode links) none_met = (l.so_far.behind, refl, none_met)
-
-  pub after_fault : (rest added : List Fault) (os : List (Offer K C V)) (e : Fault) → LeftAfter cell width eq rules moves bodies last names at d whole n1 a1 d1 b1 → faults eq rules moves d1 b1 ≡ added ++ rest
-      → AddsBehind cell width eq {X = X} (last_offers eq rules moves bodies last) n1 a1 (Err e) n2 a2 os added → Contains (Memory ∷ faults eq rules moves d whole) e
-  after_fault rest added os e l fs_are adds = subst (λ gs. Contains (Memory ∷ gs) e) (sym (l.so_far.blamed ∙ fs_are)) (Contains-append_left (Memory ∷ added) rest e adds.fault)
 
 pub adds_behind : {K C V R X : Type 0} {cell : R → C → Option V} {width : R → ℕ → ℕ} {eq : K → K → Bool} {n1 n2 : List K} {a1 a2 : K → Option R} {r : Result X Fault} {added last : List (Offer K C V)} {blamed : List Fault} → Adds cell width eq n1 a1 r n2 a2 added blamed → AddsBehind cell width eq last n1 a1 r n2 a2 added blamed
 adds_behind {last = last} adds = record { shows = λ os shows. adds.shows (os ++ last) shows; faultless = adds.faultless; fault = adds.fault }

@@ -4,3 +4,5 @@ pub mod Movings
 pub mod Behind
 pub mod Single
 pub mod Again
+pub mod Repeated
+pub mod Passing

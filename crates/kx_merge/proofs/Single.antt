@@ -58,11 +58,11 @@ module _ {K : Type 0} (eq : K → K → Bool) (laws : IsEquivalence eq) where
       by true h = apart
       by false h = apart-more k ks apart h
 
-  names-apart : {C V : Type 0} (ks : List K) (os : List (Offer K C V)) → Apart eq ks → Apart eq (names_behind eq ks os)
+  pub names-apart : {C V : Type 0} (ks : List K) (os : List (Offer K C V)) → Apart eq ks → Apart eq (names_behind eq ks os)
   names-apart ks [] apart = apart
   names-apart ks (o ∷ os) apart = names-apart (with_name eq ks o.name) os (apart-named o.name ks apart)
 
-  names-of-gathered : {C V : Type 0} (mode : Mode) (os : List (Offer K C V)) (ks : List K) → names (map (gather eq mode os) ks) ≡ ks
+  pub names-of-gathered : {C V : Type 0} (mode : Mode) (os : List (Offer K C V)) (ks : List K) → names (map (gather eq mode os) ks) ≡ ks
   names-of-gathered mode os [] = refl
   names-of-gathered mode os (k ∷ ks) = ap (λ rest. k ∷ rest) (names-of-gathered mode os ks)
 

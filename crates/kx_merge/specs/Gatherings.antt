@@ -1,5 +1,6 @@
 -- What going over a part of a body makes of records.
-use Rattle.std.specs.Prelude.{◌≡◌, Bool, ℕ, List, [], ◌∷◌, ◌++◌, Option, Result, Ok, Err, IfErr, OnOk, Contains}
+use Rattle.std.specs.Prelude.{◌≡◌, ◌<◌, Bool, true, ℕ, List, [], ◌∷◌, ◌++◌, slice_get, Option, Some, Result, Ok, Err, IfErr, OnOk, Contains}
+use Rattle.std.specs.Option.{option_map}
 use Rattle.indexmap.specs.IndexMap.{get, keys}
 use Rattle.kx_lex.specs.declared.fault.Fault.{Fault}
 use Rattle.kx_lex.specs.declared.fault.Fault.TheVariants.{Memory}
@@ -13,7 +14,7 @@ use Rattle.kx_parse.specs.declared.tree.Mode.{Mode}
 use Rattle.kx_parse.specs.declared.tree.Mode.TheVariants.{Augment}
 use Rattle.kx_merge.specs.declared.gathering.Merged.{Merged}
 use Rattle.kx_merge.specs.Bodies.{Rules, Moves, gathered, offers_of, faults_of}
-use Rattle.kx_merge.specs.Offers.{Offer}
+use Rattle.kx_merge.specs.Offers.{Offer, is_strong}
 use Rattle.kx_merge.specs.Records.{Shows}
 
 module _ {K C V R : Type 0} (cell : R → C → Option V) (width : R → ℕ → ℕ) (eq : K → K → Bool) where
@@ -59,3 +60,17 @@ entry_next rules d (Include mode links) = d
 abbrev pub included_by : Entry → Mode × List Link
 included_by (Own item) = (Augment, [])
 included_by (Include mode links) = (mode, links.items)
+
+-- what the entry at a place includes
+abbrev pub included_at : List Entry → ℕ → Option (Mode × List Link)
+included_at es place = option_map included_by (slice_get es place)
+
+-- an include under override or replace stands before a place and behind it
+pub record StandsBetween (es : List Entry) (place : ℕ) (included : Mode × List Link) : Type 0 where
+  pub strong : is_strong included.0 ≡ true
+  pub first : ℕ
+  pub before : first < place
+  pub first_is : included_at es first ≡ Some included
+  pub last : ℕ
+  pub behind : place < last
+  pub last_is : included_at es last ≡ Some included

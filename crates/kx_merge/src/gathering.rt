@@ -9,6 +9,7 @@ ghost use Rattle.kx_merge.specs.Records.{Shows};
 
 use crate::fields::Fields;
 use crate::merging::{add_included, add_joined, merge_own};
+use crate::repeats::Repeats;
 use indexmap::IndexMap;
 use kx_include::{Entry, Expansion, Link, Map, Place};
 use kx_lex::Fault;
@@ -89,7 +90,8 @@ fn gather_map<C, R: Fields<C>>(
     Ok(Merged { records, notes })
 }
 
-/// What the items of a map make of records.
+/// What the items of a map make of records. An include that isn't under augment is passed over where the same stands before
+/// it and behind it: the one behind it gives the values, and the one before it the order.
 fn merge_map<C, R: Fields<C>>(
     alloc: Global,
     context: &C,
@@ -101,29 +103,37 @@ fn merge_map<C, R: Fields<C>>(
     ensures { (bodies : List Body) → AreGathered R.cell R.width R.Key.eq (R.rules context.now) R.moves done.now bodies
         → Adds R.cell R.width R.Key.eq (keys records.old) (get R.Key.eq records.old) result (keys records.new) (get R.Key.eq records.new) (offers_of R.Key.eq (R.rules context.now) R.moves (shared_body bodies map.now End)) (faults_of R.Key.eq (R.rules context.now) R.moves (shared_body bodies map.now End)) }
 {
+    let entries = map.entries.as_slice();
+    let repeats = Repeats::of(alloc, entries)?;
     let mut defaults = R::start(alloc, context);
     let mut last = Included {
         mode: Mode::Augment,
         links: &[],
     };
-    'entries: for entry in &map.entries {
-        defaults = merge_entry::<C, R>(
-            alloc, context, done, map.place, last, entry, defaults, records, notes,
-        )?;
-        last = included_by(entry);
+    'entries: for place in 0..entries.len() {
+        let entry = &entries[place];
+        let included = included_by(entry);
+        if repeats.stands_between(entries, place, included) {
+            note_links::<C, R>(done, included.links, notes);
+        } else {
+            defaults = merge_entry::<C, R>(
+                alloc, context, done, map.place, last, entry, defaults, records, notes,
+            )?;
+            last = included;
+        }
     }
     Ok(())
 }
 
 /// The parts of an include, under its mode.
 #[derive(Clone, Copy)]
-struct Included<'l> {
-    mode: Mode,
-    links: &'l [Link],
+pub(crate) struct Included<'l> {
+    pub(crate) mode: Mode,
+    pub(crate) links: &'l [Link],
 }
 
 /// What an entry includes; no parts where it is a statement.
-fn included_by<'m>(entry: &'m Entry) -> Included<'m>
+pub(crate) fn included_by<'m>(entry: &'m Entry) -> Included<'m>
     ensures { (result.mode, result.links.now) ≡ included_by entry.now }
 {
     match entry {
@@ -177,7 +187,7 @@ fn is_same_link(one: Link, other: Link) -> bool
     one.mode == other.mode && one.group == other.group && one.map == other.map
 }
 
-fn are_same_links(some: &[Link], others: &[Link]) -> bool
+pub(crate) fn are_same_links(some: &[Link], others: &[Link]) -> bool
     ensures { IsTrue result → some.now ≡ others.now }
 {
     if some.len() != others.len() {

@@ -4,6 +4,7 @@
 mod fields;
 mod gathering;
 mod merging;
+mod repeats;
 
 pub use fields::Fields;
 pub use gathering::{Merged, merge};

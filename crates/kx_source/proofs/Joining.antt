@@ -11,6 +11,7 @@ use Rattle.kx_bearing.specs.Read.{reading_of}
 use Rattle.kx_builder.specs.Lamps.{ResolvedIndicator, keymap_with}
 use Rattle.kx_builder.specs.Resolved.{Resolved}
 use Rattle.kx_choice.specs.Interpretations.{Interpretation}
+use Rattle.kx_codes.proofs.Targets.{target_same as alias_same}
 use Rattle.kx_codes.specs.Codes.{Codes, CodesShow, code_of, name_of}
 use Rattle.kx_compat.specs.Meaning.{interpretations_of}
 use Rattle.kx_include.specs.Bodies.{AreBodies}
@@ -67,7 +68,7 @@ any_same (suc n) f g same = λ i. any_same n f g (λ k less. same k (lt_trans le
 module _ (c : Codes) (body : Body) (shows : CodesShow c body) where
   -- the code of a name is that of the body's pairs and aliases
   code_same : (name : List ℕ) → code_of c name ≡ code_of (codes_of body) name
-  code_same name = λ i. option_or (shows.codes_are name i) (option_and_then (λ target. shows.codes_are target i) (shows.targets_are name i))
+  code_same name = λ i. option_or (shows.codes_are name i) (option_and_then (λ target. shows.codes_are target i) (alias_same c body shows name i))
 
   pub names_same : name_of c ≡ name_of (codes_of body)
   names_same = fun_ext shows.names_are

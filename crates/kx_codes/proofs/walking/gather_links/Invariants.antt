@@ -6,4 +6,4 @@ use Rattle.kx_codes.proofs.Behind.{Going}
 use Rattle.kx_codes.proofs.walking.gather_links.Given as goal
 
 abbrev pub invariant-links : goal.invariant-links
-invariant-links l = (bodies : List Body) → AreGathered l.done bodies → Going (λ ps. ps ≡ []) [] l.joined (links_body bodies l.links) (links_body bodies (drop l.link-index l.links))
+invariant-links l = (bodies : List Body) → AreGathered l.done bodies → Going (λ ps. ps ≡ []) l.joined (links_body bodies l.links) (links_body bodies (drop l.link-index l.links))

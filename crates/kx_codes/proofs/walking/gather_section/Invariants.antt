@@ -7,4 +7,4 @@ use Rattle.kx_codes.proofs.Behind.{Going}
 use Rattle.kx_codes.proofs.walking.gather_section.Given as goal
 
 abbrev pub invariant-entries : goal.invariant-entries
-invariant-entries l = (bodies : List Body) → AreGathered l.done bodies → Going (Stands l.initial.gathered.pairs) l.initial.gathered.aliases l.gathered (shared_body bodies l.section End) (entries_body bodies l.section.place (drop l.entry-index l.section.entries.items) End)
+invariant-entries l = (bodies : List Body) → AreGathered l.done bodies → Going (Stands l.initial.gathered) l.gathered (shared_body bodies l.section End) (entries_body bodies l.section.place (drop l.entry-index l.section.entries.items) End)

@@ -11,7 +11,7 @@ sections-preserved c = λ bodies are.
     let ms = c.args.sections.now in
     let i = c.sections.section-index in
     let m = c.section-item.result in
-    going_on (λ (ps : List Pair). ps ≡ []) [] (shared_sections bodies ms) (shared_sections bodies (drop i ms)) (shared_body bodies m End) (shared_sections bodies (drop (i + 1) ms))
+    going_on (λ (ps : List Pair). ps ≡ []) (shared_sections bodies ms) (shared_sections bodies (drop i ms)) (shared_body bodies m End) (shared_sections bodies (drop (i + 1) ms))
     c.sections.gathered c.gather_section.new.gathered
     (split_section bodies ms i m c.sections-test.true c.section-item.is) (c.sections.invariant bodies are) (c.in_ok-gather_section.ensures.took bodies are)
 
@@ -22,10 +22,10 @@ returns-in_err-gather_section c = λ bodies are.
     let m = c.section-item.result in
     let e = c.in_err-gather_section.field-0.0 in
     err_gathered c.from_residual.result (shared_sections bodies ms) e c.from_residual.ensures.1
-    (going_blames (λ (ps : List Pair). ps ≡ []) [] (shared_sections bodies ms) (shared_sections bodies (drop i ms)) (shared_body bodies m End) (shared_sections bodies (drop (i + 1) ms)) c.sections.gathered e
+    (going_blames (λ (ps : List Pair). ps ≡ []) (shared_sections bodies ms) (shared_sections bodies (drop i ms)) (shared_body bodies m End) (shared_sections bodies (drop (i + 1) ms)) c.sections.gathered e
     (split_section bodies ms i m c.sections-test.true c.section-item.is) (c.sections.invariant bodies are) (c.in_err-gather_section.ensures.fault bodies are))
 
 pub returns : goal.returns
 returns c = λ bodies are.
     leaves_all c.sections.gathered (shared_sections bodies c.args.sections.now)
-    (subst (λ ms. Going (λ ps. ps ≡ []) [] c.sections.gathered (shared_sections bodies c.args.sections.now) (shared_sections bodies ms)) (drop_all c.sections.section-index c.args.sections.now c.sections-test.false) (c.sections.invariant bodies are))
+    (subst (λ ms. Going (λ ps. ps ≡ []) c.sections.gathered (shared_sections bodies c.args.sections.now) (shared_sections bodies ms)) (drop_all c.sections.section-index c.args.sections.now c.sections-test.false) (c.sections.invariant bodies are))

@@ -6,4 +6,4 @@ use Rattle.kx_codes.proofs.Behind.{Going}
 use Rattle.kx_codes.proofs.walking.gather_sections.Given as goal
 
 abbrev pub invariant-sections : goal.invariant-sections
-invariant-sections l = (bodies : List Body) → AreGathered l.done bodies → Going (λ ps. ps ≡ []) [] l.gathered (shared_sections bodies l.sections) (shared_sections bodies (drop l.section-index l.sections))
+invariant-sections l = (bodies : List Body) → AreGathered l.done bodies → Going (λ ps. ps ≡ []) l.gathered (shared_sections bodies l.sections) (shared_sections bodies (drop l.section-index l.sections))

@@ -1,0 +1,80 @@
+ghost use Rattle.std.specs.Prelude.{◌≡◌, ◌∷◌, [], Contains, IfErr, List, OnOk};
+ghost use Rattle.kx_lex.specs.declared.fault.Fault.TheVariants.{Memory};
+ghost use Rattle.kx_codes.specs.CodeFaults.{own_faults, said_faults};
+ghost use Rattle.kx_codes.specs.Indexed.{Stands};
+ghost use Rattle.kx_codes.specs.Pairs.{Pair, own_pairs, said_pairs};
+
+use crate::checks::{check_code, check_name, is_limit};
+use crate::pairs::Pairs;
+use kx_include::Place;
+use kx_lex::{At, Fault, Span};
+use kx_parse::{Item, Mode, Statement};
+use std::alloc::Global;
+
+/// Takes what an item says; an include brings nothing here.
+pub(crate) fn take_item(
+    alloc: Global,
+    pairs: &mut Pairs,
+    place: Place,
+    item: &Item,
+) -> Result<(), Fault>
+    ensures took { OnOk result ((ps : List Pair) → Stands pairs.old ps → Stands pairs.new (own_pairs item.now ps)) }
+    ensures faultless { OnOk result (own_faults place.file item.now ≡ []) }
+    ensures fault { IfErr result (λ e. Contains (Memory ∷ own_faults place.file item.now) e) }
+{
+    match item {
+        Item::Statement {
+            mode,
+            statement,
+            first,
+            span,
+        } => take_said(alloc, pairs, place.file, *mode, statement, *first, *span),
+        Item::Include { .. } => Ok(()),
+    }
+}
+
+/// Takes what a statement says; `whole` is all of it, and `first` its first token.
+fn take_said(
+    alloc: Global,
+    pairs: &mut Pairs,
+    file: u32,
+    mode: Mode,
+    statement: &Statement,
+    first: Span,
+    whole: Span,
+) -> Result<(), Fault>
+    ensures took { OnOk result ((ps : List Pair) → Stands pairs.old ps → Stands pairs.new (said_pairs mode statement.now ps)) }
+    ensures faultless { OnOk result (said_faults file statement.now first whole ≡ []) }
+    ensures fault { IfErr result (λ e. Contains (Memory ∷ said_faults file statement.now first whole) e) }
+{
+    match statement {
+        Statement::Keycode { name, code } => {
+            let name = check_name(file, whole, name)?;
+            let code = check_code(file, *code)?;
+            pairs.take(alloc, mode, name, code)
+        }
+        Statement::Alias { name, target } => {
+            check_name(file, whole, name)?;
+            check_name(file, whole, target)?;
+            Ok(())
+        }
+        Statement::IndicatorName { .. } => Ok(()),
+        Statement::Field(field) => {
+            let field = field.get();
+            if is_limit(&field.place) {
+                return Ok(());
+            }
+            Err(Fault::UnknownField(At {
+                file,
+                span: field.place.word.span,
+            }))
+        }
+        Statement::VirtualModifiers(_)
+        | Statement::KeyType { .. }
+        | Statement::Interpretation { .. }
+        | Statement::Indicator { .. }
+        | Statement::Group { .. }
+        | Statement::Key { .. }
+        | Statement::ModifierMap { .. } => Err(Fault::UnknownField(At { file, span: first })),
+    }
+}
