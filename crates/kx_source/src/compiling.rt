@@ -1,7 +1,9 @@
 //! From a source to tables.
 ghost use Rattle.std.specs.Prelude.{◌≡◌, ◌⊎◌, [], IfErr, IfOk, OnOk};
+ghost use Rattle.kx_include.specs.Bodies.{AreBodies};
 ghost use Rattle.kx_include.specs.IncludeFaults.{IsWhole};
 ghost use Rattle.kx_lex.specs.declared.fault.Fault.TheVariants.{Memory};
+ghost use Rattle.kx_masks.specs.Declarations.{AreModNames, modifier_bodies, modifier_faults};
 ghost use Rattle.kx_source.specs.Meaning.{keymap_in};
 ghost use Rattle.kx_source.specs.Source.{HasFault, HasFaultIn, HoldsAll, Means, statement_faults};
 ghost use Rattle.kx_tables.specs.Keymap.{keymap_of};
@@ -9,12 +11,34 @@ ghost use Rattle.kx_tables.specs.Keymap.{keymap_of};
 use crate::parts::parts_of;
 use ks_core::{NameTable, Notes};
 use kx_codes::codes;
-use kx_include::{Files, Library};
+use kx_include::{Bodies, Files, Library};
 use kx_lex::Fault;
 use kx_masks::ModNames;
 use kx_tables::Owned;
 use kx_types::types;
 use std::alloc::Global;
+
+/// The tables of what the bodies say that a source and its files expand to, and what was passed over.
+fn tables_over(
+    alloc: Global,
+    library: &Library,
+    names: &NameTable,
+    bodies: &Bodies,
+    modifiers: &ModNames,
+) -> Result<(Owned, Notes), Fault>
+    requires bodies { AreBodies library.now bodies.now }
+    requires names { AreModNames modifiers.now (modifier_bodies bodies.now) }
+    requires faultless { modifier_faults (modifier_bodies bodies.now) ≡ [] }
+    ensures faultless { OnOk result (statement_faults names.now library.now ≡ []) }
+    ensures holds { IfOk result (λ made. HoldsAll names.now library.now made.0) }
+    ensures keymap { IfOk result (λ made. keymap_of made.0 ≡ keymap_in names.now library.now) }
+    ensures fault { IfErr result (λ e. (e ≡ Memory) ⊎ HasFaultIn names.now library.now e) }
+{
+    let codes = codes(alloc, &bodies.keycodes)?;
+    let types = types(alloc, &bodies.types, modifiers)?;
+    let (parts, notes) = parts_of(alloc, bodies, names, modifiers, &codes, &types)?;
+    Ok((Owned::from_sound(parts), notes))
+}
 
 /// The tables of what a source and its files say, and what was passed over.
 fn tables_of(alloc: Global, library: &Library, names: &NameTable) -> Result<(Owned, Notes), Fault>
@@ -26,10 +50,7 @@ fn tables_of(alloc: Global, library: &Library, names: &NameTable) -> Result<(Own
 {
     let bodies = library.expand(alloc)?;
     let modifiers = ModNames::of(alloc, &bodies)?;
-    let codes = codes(alloc, &bodies.keycodes)?;
-    let types = types(alloc, &bodies.types, &modifiers)?;
-    let (parts, notes) = parts_of(alloc, &bodies, names, &modifiers, &codes, &types)?;
-    Ok((Owned::from_sound(parts), notes))
+    tables_over(alloc, library, names, &bodies, &modifiers)
 }
 
 /// The tables of a source, and what was passed over: they hold the keys, with their names, that the source's statements

@@ -1,9 +1,9 @@
 //! What the fields of a type say together.
-ghost use Rattle.std.specs.Prelude.{◌≡◌, [], All, ℕ, Option, None, Some, IfOk, OnOk, nat_eq, unwrap_or};
+ghost use Rattle.std.specs.Prelude.{◌≡◌, [], All, ℕ, Option, None, Some, IfOk, OnOk, map, nat_eq, unwrap_or};
 ghost use Rattle.indexmap.specs.IndexMap.{get};
 ghost use Rattle.kx_types.specs.Firsts.{each_once, last_given, or_else, with_key};
 ghost use Rattle.kx_types.specs.Lawful.{IsLawful, NamesLevel};
-ghost use Rattle.kx_types.specs.KeyTypes.{definition_of, entries_of, entry_of, level_in, levels_of, mapped, mask_in, modifiers_of, preserved, written_modifiers};
+ghost use Rattle.kx_types.specs.KeyTypes.{definition_of, entries_of, entry_with, level_in, levels_of, mapped, mask_in, modifiers_of, preserved, written_modifiers};
 
 use crate::entry::TypeEntry;
 use crate::saying::Saying;
@@ -185,6 +185,26 @@ fn names_or_none(kept: &IndexMap<NameSet, NameSet>, mask: NameSet) -> NameSet
     }
 }
 
+/// The entries of these masks, with the levels that they map to and the modifiers that they preserve.
+fn entries_with(
+    alloc: Global,
+    masks: &IndexSet<NameSet>,
+    levels: &IndexMap<NameSet, u8>,
+    kept: &IndexMap<NameSet, NameSet>,
+) -> Result<Vec<TypeEntry>, AllocError>
+    ensures { IfOk result (λ entries. entries.items ≡ map (entry_with (get nat_eq levels.now) (get nat_eq kept.now)) masks.now.keys) }
+{
+    let mut entries = Vec::with_capacity(alloc, masks.len())?;
+    'masks: for mask in masks {
+        entries.push(TypeEntry {
+            mask: *mask,
+            level: level_or_first(levels, *mask),
+            preserve: names_or_none(kept, *mask).meet(*mask),
+        })?;
+    }
+    Ok(entries)
+}
+
 /// The entries of a type.
 fn entries_of(
     alloc: Global,
@@ -196,15 +216,7 @@ fn entries_of(
     let masks = masks_of(alloc, modifiers, said)?;
     let levels = mapped_levels(alloc, modifiers, said)?;
     let kept = preserved_names(alloc, modifiers, said)?;
-    let mut entries = Vec::with_capacity(alloc, masks.len())?;
-    'masks: for mask in &masks {
-        entries.push(TypeEntry {
-            mask: *mask,
-            level: level_or_first(&levels, *mask),
-            preserve: names_or_none(&kept, *mask).meet(*mask),
-        })?;
-    }
-    Ok(entries)
+    entries_with(alloc, &masks, &levels, &kept)
 }
 
 impl KeyType {

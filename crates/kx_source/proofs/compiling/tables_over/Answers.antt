@@ -1,0 +1,88 @@
+use Rattle.std.proofs.Common.{◌≡◌, ◌⊎◌, ◌∷◌, ◌++◌, [], Contains, ap, ◌∙◌, inl, subst, sym}
+use Rattle.kx_codes.specs.CodeFaults.{faults_of as keycodes_faults}
+use Rattle.kx_codes.specs.Codes.{CodesShow}
+use Rattle.kx_compat.specs.Meaning.{compat_faults}
+use Rattle.kx_lamps.specs.Meaning.{lamps_faults}
+use Rattle.kx_lex.specs.declared.fault.Fault.{Fault}
+use Rattle.kx_lex.specs.declared.fault.Fault.TheVariants.{Memory}
+use Rattle.kx_masks.specs.Declarations.{modifier_faults}
+use Rattle.kx_source.proofs.Ending.{made_holds, made_keymap}
+use Rattle.kx_source.proofs.Joining.{bodies_same, keys_faults_same, maps_faults_same, modifiers_same}
+use Rattle.kx_source.proofs.Names.{one_code}
+use Rattle.kx_source.proofs.Refusals.{all_faultless, keycodes_refused, parts_refused, passed, types_refused}
+use Rattle.kx_source.specs.Source.{HasFaultIn, HoldsAll, names_faults}
+use Rattle.kx_tables.specs.Keymap.{keymap_of}
+use Rattle.kx_tables.specs.Parts.{content_of}
+use Rattle.kx_types.specs.Types.{types_faults}
+use Rattle.kx_source.proofs.compiling.tables_over.Goals as goal
+
+pub returns-in_err-codes-clause-fault : goal.returns-in_err-codes-clause-fault
+returns-in_err-codes-clause-fault c =
+    passed c.from_residual.result (λ (e : Fault). (e ≡ Memory) ⊎ HasFaultIn c.args.names.now c.args.library.now e) c.in_err-codes.field-0.0 c.from_residual.ensures.1
+    (keycodes_refused c.args.names.now c.args.library.now c.in_err-codes.field-0.0
+    (subst (λ body. Contains (Memory ∷ keycodes_faults body) c.in_err-codes.field-0.0) c.requires.bodies.keycodes c.in_err-codes.ensures.fault))
+
+pub returns-in_err-types-clause-fault : goal.returns-in_err-types-clause-fault
+returns-in_err-types-clause-fault c =
+    let same = modifiers_same c.args.library.now c.args.bodies.now c.requires.bodies c.args.modifiers.now c.requires.names in
+    passed c.from_residual-in_err-types.result (λ (e : Fault). (e ≡ Memory) ⊎ HasFaultIn c.args.names.now c.args.library.now e) c.in_err-types.field-0.0 c.from_residual-in_err-types.ensures.1
+    (types_refused c.args.names.now c.args.library.now c.in_err-types.field-0.0
+    (subst (λ fs. Contains (Memory ∷ fs) c.in_err-types.field-0.0) (λ i. types_faults (same i) (c.requires.bodies.types i)) c.in_err-types.ensures.fault))
+
+pub returns-in_err-parts-clause-fault : goal.returns-in_err-parts-clause-fault
+returns-in_err-parts-clause-fault c =
+    let library = c.args.library.now in
+    let names = c.args.names.now in
+    let bodies = c.args.bodies.now in
+    let are = c.requires.bodies in
+    let m = c.args.modifiers.now in
+    let shows = c.requires.names in
+    let same = modifiers_same library bodies are m shows in
+    let codes_show = subst (CodesShow c.in_ok-codes.codes) are.keycodes c.in_ok-codes.ensures.shows in
+    let types = c.in_ok-types.types in
+    let types_show = c.in_ok-types.ensures.shows in
+    passed c.from_residual-in_err-parts.result (λ (e : Fault). (e ≡ Memory) ⊎ HasFaultIn names library e) c.in_err-parts.field-0.0 c.from_residual-in_err-parts.ensures.1
+    (parts_refused names library c.in_err-parts.field-0.0
+    (subst (λ fs. Contains (Memory ∷ fs) c.in_err-parts.field-0.0)
+    (λ i.
+    (keys_faults_same library bodies are m shows types types_show c.in_ok-codes.codes codes_show names i ++ maps_faults_same library bodies are m shows types types_show c.in_ok-codes.codes codes_show names i)
+    ++ (compat_faults names (same i) (are.compat i) ++ (names_faults (are.symbols i) ++ lamps_faults (same i) (are.compat i))))
+    c.in_err-parts.ensures.fault))
+
+pub from_sound-requires : goal.from_sound-requires
+from_sound-requires c = c.in_ok-parts.ensures.sound (one_code c.in_ok-codes.codes c.in_ok-codes.ensures.joined)
+
+pub returns-clause-keymap : goal.returns-clause-keymap
+returns-clause-keymap c =
+    let are = c.requires.bodies in
+    let codes_show = subst (CodesShow c.in_ok-codes.codes) are.keycodes c.in_ok-codes.ensures.shows in
+    ap keymap_of c.from_sound.ensures
+    ∙ made_keymap c.args.library.now c.args.bodies.now are c.args.modifiers.now c.requires.names c.in_ok-types.types c.in_ok-types.ensures.shows c.in_ok-codes.codes codes_show c.args.names.now (content_of c.in_ok-parts.parts) c.in_ok-parts.ensures.made
+
+pub returns-clause-holds : goal.returns-clause-holds
+returns-clause-holds c =
+    let are = c.requires.bodies in
+    let codes_show = subst (CodesShow c.in_ok-codes.codes) are.keycodes c.in_ok-codes.ensures.shows in
+    subst (HoldsAll c.args.names.now c.args.library.now) (sym c.from_sound.ensures) (made_holds c.args.library.now c.args.bodies.now are c.args.modifiers.now c.requires.names c.in_ok-types.types c.in_ok-types.ensures.shows c.in_ok-codes.codes codes_show c.args.names.now (content_of c.in_ok-parts.parts) c.in_ok-parts.ensures.made)
+
+pub returns-clause-faultless : goal.returns-clause-faultless
+returns-clause-faultless c =
+    let library = c.args.library.now in
+    let names = c.args.names.now in
+    let bodies = c.args.bodies.now in
+    let are = c.requires.bodies in
+    let m = c.args.modifiers.now in
+    let shows = c.requires.names in
+    let same = modifiers_same library bodies are m shows in
+    let codes_show = subst (CodesShow c.in_ok-codes.codes) are.keycodes c.in_ok-codes.ensures.shows in
+    let types = c.in_ok-types.types in
+    let types_show = c.in_ok-types.ensures.shows in
+    all_faultless names library
+    (ap modifier_faults (sym (bodies_same library bodies are)) ∙ c.requires.faultless)
+    (subst (λ body. keycodes_faults body ≡ []) are.keycodes c.in_ok-codes.ensures.faultless)
+    (sym (λ i. types_faults (same i) (are.types i)) ∙ c.in_ok-types.ensures.faultless)
+    (sym (keys_faults_same library bodies are m shows types types_show c.in_ok-codes.codes codes_show names) ∙ c.in_ok-parts.ensures.faultless_keys)
+    (sym (maps_faults_same library bodies are m shows types types_show c.in_ok-codes.codes codes_show names) ∙ c.in_ok-parts.ensures.faultless_maps)
+    (sym (λ i. compat_faults names (same i) (are.compat i)) ∙ c.in_ok-parts.ensures.faultless_compat)
+    (sym (ap names_faults are.symbols) ∙ c.in_ok-parts.ensures.faultless_names)
+    (sym (λ i. lamps_faults (same i) (are.compat i)) ∙ c.in_ok-parts.ensures.faultless_lamps)
