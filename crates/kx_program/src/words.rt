@@ -124,18 +124,28 @@ fn upgrade_command<'a>(alloc: Global) -> Result<Command<'a>, AllocError> {
         .arg(path(alloc, "OUT", "The image that is written"))
 }
 
-/// The program's words.
-fn command<'a>(alloc: Global) -> Result<Command<'a>, AllocError> {
+fn program<'a>(alloc: Global) -> Command<'a> {
     Command::new(alloc, "xkc")
         .about("Compiles keyboard layouts and runs keyboards")
         .after_help(SESSION)
         .version(VERSION)
-        .subcommand(try_command(alloc)?)?
-        .subcommand(compile_command(alloc)?)?
-        .subcommand(replay_command(alloc)?)?
-        .subcommand(print_command(alloc)?)?
-        .subcommand(dump_command(alloc)?)?
-        .subcommand(upgrade_command(alloc)?)
+}
+
+fn with<'a>(
+    command: Command<'a>,
+    below: Result<Command<'a>, AllocError>,
+) -> Result<Command<'a>, AllocError> {
+    command.subcommand(below?)
+}
+
+/// The program's words.
+fn command<'a>(alloc: Global) -> Result<Command<'a>, AllocError> {
+    let command = with(program(alloc), try_command(alloc))?;
+    let command = with(command, compile_command(alloc))?;
+    let command = with(command, replay_command(alloc))?;
+    let command = with(command, print_command(alloc))?;
+    let command = with(command, dump_command(alloc))?;
+    with(command, upgrade_command(alloc))
 }
 
 /// A word that a command can't take, with the command's own usage.

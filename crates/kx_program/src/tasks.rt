@@ -2,7 +2,8 @@
 use crate::failure::Failure;
 use crate::keeping::Kept;
 use crate::showing::{Shown, place_of};
-use crate::words::{Included, Task};
+use crate::usage::explain;
+use crate::words::{Included, Task, task_in};
 use crate::writing::write_whole;
 use ks_core::{Lent, NameTable, Notes};
 use kx_image::{UpgradeFault, View, upgrade};
@@ -227,5 +228,28 @@ pub fn run<'a>(
         Task::Print { image } => print_image(rt, image),
         Task::Dump { image } => dump_image(rt, image),
         Task::Upgrade { image, newer } => upgrade_image(rt, image, newer),
+    }
+}
+
+/// Prints a failure's line, and answers its status, which stands where the line can't be written.
+fn fail(rt: &impl Print, failure: Failure) -> u8 {
+    let status = failure.status();
+    let _ = rt.println(failure);
+    status
+}
+
+/// Does what the words ask for, and answers the status to end with: 0, 1 where something is refused, 2 where the words
+/// are wrong, 3 where a file, the input or the output can't be used. The first word is the program's own name.
+pub fn run_words(
+    rt: &(impl FileSystem + Input + Print + Eprint + AllocGlobal),
+    words: &[String],
+) -> u8 {
+    let task = match task_in(rt.alloc(), words) {
+        Ok(task) => task,
+        Err(error) => return explain(rt, error),
+    };
+    match run(rt, task) {
+        Ok(()) => 0,
+        Err(failure) => fail(rt, failure),
     }
 }

@@ -1,6 +1,6 @@
 //! Why a task ends early.
 ghost use Rattle.std.specs.Prelude.{◌≡◌};
-ghost use Rattle.xkc.specs.Status.{status_of};
+ghost use Rattle.kx_program.specs.Status.{status_of};
 
 use ks_core::NameFault;
 use kx_image::ImageFault;

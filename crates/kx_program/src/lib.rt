@@ -1,0 +1,17 @@
+//! What the program does: its words, the tasks that they ask for, and what a user sees where one ends early.
+#![tactic(auto)]
+
+mod failure;
+mod keeping;
+mod showing;
+mod tasks;
+mod usage;
+mod words;
+mod writing;
+
+pub use failure::Failure;
+pub use showing::Shown;
+pub use tasks::{run, run_words};
+pub use usage::{out_of_memory, word_that_is_not_text};
+pub use words::{Included, Task, task_in};
+pub use writing::write_whole;
