@@ -13,7 +13,7 @@ const LOCKS: &[u8] =
 const SETS: &[u8] = b"xkb_symbols \"x\" { setGroup.clearLocks; key <A> { [SetGroup()] }; };";
 
 /// The keys of these symbols items, which begin at byte 53, where A has the code 38, and what is noted.
-fn keys_of(rt: &impl AllocGlobal, items: &[u8]) -> Result<(Keys, Notes), Fault> {
+fn keys_of(rt: &impl AllocGlobal, items: &[u8]) -> Result<(Box<Keys>, Notes), Fault> {
     let front = b"xkb_keymap { xkb_keycodes { <A>=38; }; xkb_symbols { ";
     let given = [(b"locks".as_slice(), LOCKS), (b"sets".as_slice(), SETS)];
     keys_over(rt, front, items, given.as_slice())
@@ -56,16 +56,9 @@ fn level_of(
     Ok(text)
 }
 
-/// The levels of A, parted by blanks, and its groups, parted by `/`; or the line of the fault.
-fn shown(rt: &(impl Abort + AllocGlobal), items: &[u8]) -> Result<String, Fail> {
+/// The levels of a key, parted by blanks, and its groups, parted by `/`.
+fn levels_of(rt: &impl AllocGlobal, key: &KeyRecord) -> Result<String, Fail> {
     let mut text = String::new(rt.alloc());
-    let (keys, _notes) = match keys_of(rt, items) {
-        Ok(found) => found,
-        Err(fault) => return Ok(format!(in rt.alloc(); "{fault}")?),
-    };
-    let Some(key) = keys.key(38) else {
-        return Ok(text);
-    };
     for group in 0..key.group_count() {
         if group > 0 {
             text.push_str("/")?;
@@ -80,6 +73,17 @@ fn shown(rt: &(impl Abort + AllocGlobal), items: &[u8]) -> Result<String, Fail> 
     Ok(text)
 }
 
+/// The levels and groups of A; or the line of the fault.
+fn shown(rt: &impl AllocGlobal, items: &[u8]) -> Result<String, Fail> {
+    match keys_of(rt, items) {
+        Ok((keys, _notes)) => match keys.key(38) {
+            Some(key) => levels_of(rt, key),
+            None => Ok(String::new(rt.alloc())),
+        },
+        Err(fault) => Ok(format!(in rt.alloc(); "{fault}")?),
+    }
+}
+
 /// Whether A has an action.
 fn has_action(rt: &impl AllocGlobal, items: &[u8]) -> Result<bool, Fail> {
     let (keys, _notes) = keys_of(rt, items)?;
@@ -89,129 +93,135 @@ fn has_action(rt: &impl AllocGlobal, items: &[u8]) -> Result<bool, Fail> {
     }
 }
 
-#[test]
-fn lists_have_a_kind(rt: HostRuntime) -> Result<(), Fail> {
-    let rows: [(&[u8], &str); 17] = [
-        (b"key <A> { [LockGroup(group=2)] };", ":1"),
-        (b"key <A> { [a], [LockGroup(group=2)] };", "61:1"),
-        (b"key <A> { [LockGroup(group=2)], [a, b] };", "61:1 62"),
-        (
-            b"key <A> { [a], [b], [{ LockGroup(group=+1) }] };",
-            "61:+1/62",
-        ),
-        (b"key <A> { Actions[2]=[LockGroup()], [b] };", "62/:+0"),
-        (b"key <A> { ACTIONS=[{}, NoAction(), {}], [c] };", "63 - -"),
-        (b"key <A> { actions=[], actions=[LockGroup()] };", "/:+0"),
-        (b"key <A> { [{ }] };", "-"),
-        (
-            b"key <A> { [LockGroup(), Frobnicate(1, x=2)] };",
-            ":+0 :other",
-        ),
-        (
-            b"key <A> { [LockGroup()], [LockGroup(group=3)], symbols[2]=[a], [b] };",
-            "62:+0/61:2",
-        ),
-        (b"key <A> { [LockGroup(), a] };", "F15 BadValue at 0:77-78"),
-        (
-            b"key <A> { [a, { LockGroup() }] };",
-            "F15 BadValue at 0:64-65",
-        ),
-        (
-            b"key <A> { [{ LockGroup(), LockGroup() }] };",
-            "F15 BadValue at 0:64-92",
-        ),
-        (b"key <A> { actions=[a] };", "F15 BadValue at 0:72-73"),
-        (
-            b"key <A> { actions[1]=[], actions[1]=[] };",
-            "F15 BadValue at 0:89-91",
-        ),
-        (
-            b"key <A> { actions=LockGroup() };",
-            "F15 BadValue at 0:71-82",
-        ),
-        (
-            b"key <A> { [LockGroup(group=33)] };",
-            "F16 GroupRange at 0:80-82",
-        ),
-    ];
-    for (items, wanted) in &rows {
-        assert_eq!(rt; shown(&rt, items)?.as_str(), *wanted, "{:?}", items);
+/// Fails where a row's items are shown otherwise than is wanted.
+fn check(rt: &(impl Abort + AllocGlobal), rows: &[(&[u8], &str)]) -> Result<(), Fail> {
+    for (items, wanted) in rows {
+        let text = shown(rt, items)?;
+        assert_eq!(rt; text.as_str(), *wanted, "{:?}", items);
     }
     Ok(())
+}
+
+#[test]
+fn lists_have_a_kind(rt: HostRuntime) -> Result<(), Fail> {
+    check(
+        &rt,
+        &[
+            (b"key <A> { [LockGroup(group=2)] };", ":1"),
+            (b"key <A> { [a], [LockGroup(group=2)] };", "61:1"),
+            (b"key <A> { [LockGroup(group=2)], [a, b] };", "61:1 62"),
+            (
+                b"key <A> { [a], [b], [{ LockGroup(group=+1) }] };",
+                "61:+1/62",
+            ),
+            (b"key <A> { Actions[2]=[LockGroup()], [b] };", "62/:+0"),
+            (b"key <A> { ACTIONS=[{}, NoAction(), {}], [c] };", "63 - -"),
+            (b"key <A> { actions=[], actions=[LockGroup()] };", "/:+0"),
+            (b"key <A> { [{ }] };", "-"),
+            (
+                b"key <A> { [LockGroup(), Frobnicate(1, x=2)] };",
+                ":+0 :other",
+            ),
+            (
+                b"key <A> { [LockGroup()], [LockGroup(group=3)], symbols[2]=[a], [b] };",
+                "62:+0/61:2",
+            ),
+            (b"key <A> { [LockGroup(), a] };", "F15 BadValue at 0:77-78"),
+            (
+                b"key <A> { [a, { LockGroup() }] };",
+                "F15 BadValue at 0:64-65",
+            ),
+            (
+                b"key <A> { [{ LockGroup(), LockGroup() }] };",
+                "F15 BadValue at 0:64-92",
+            ),
+            (b"key <A> { actions=[a] };", "F15 BadValue at 0:72-73"),
+            (
+                b"key <A> { actions[1]=[], actions[1]=[] };",
+                "F15 BadValue at 0:89-91",
+            ),
+            (
+                b"key <A> { actions=LockGroup() };",
+                "F15 BadValue at 0:71-82",
+            ),
+            (
+                b"key <A> { [LockGroup(group=33)] };",
+                "F16 GroupRange at 0:80-82",
+            ),
+        ],
+    )
 }
 
 #[test]
 fn actions_by_precedence(rt: HostRuntime) -> Result<(), Fail> {
-    let rows: [(&[u8], &str); 11] = [
-        (
-            b"key <A> { [LockGroup(group=2)] }; key <A> { [LockGroup(group=3)] };",
-            ":2",
-        ),
-        (
-            b"key <A> { [LockGroup(group=2)] }; augment key <A> { [LockGroup(), LockGroup()] };",
-            ":1 :+0",
-        ),
-        (
-            b"key <A> { [LockGroup(group=2)] }; key <A> { [NoAction()] };",
-            ":1",
-        ),
-        (
-            b"key <A> { [LockGroup(group=2)] }; key <A> { [a] };",
-            "61:1",
-        ),
-        (
-            b"key <A> { [LockGroup(group=2)] }; replace key <A> { [a] };",
-            "61",
-        ),
-        (b"replace key <A> { [a] }; include \"locks\"", "61:4/:5"),
-        (b"include \"locks:3\" key <A> { [a] };", "61//:4"),
-        (b"include \"locks:2:2\"", "F8 BadInclude at 0:61-72"),
-        (
-            b"include \"sets\" key <A> { [a], [SetGroup()] };",
-            "61:false",
-        ),
-        (
-            b"setGroup.clearLocks; include \"locks\" key <A> { [SetGroup()] };",
-            ":true/:5",
-        ),
-        (
-            b"setGroup.clearLocks=yes; !setGroup.clearLocks; key <A> { [SetGroup()] };",
-            ":false",
-        ),
-    ];
-    for (items, wanted) in &rows {
-        assert_eq!(rt; shown(&rt, items)?.as_str(), *wanted, "{:?}", items);
-    }
-    Ok(())
+    check(
+        &rt,
+        &[
+            (
+                b"key <A> { [LockGroup(group=2)] }; key <A> { [LockGroup(group=3)] };",
+                ":2",
+            ),
+            (
+                b"key <A> { [LockGroup(group=2)] }; augment key <A> { [LockGroup(), LockGroup()] };",
+                ":1 :+0",
+            ),
+            (
+                b"key <A> { [LockGroup(group=2)] }; key <A> { [NoAction()] };",
+                ":1",
+            ),
+            (
+                b"key <A> { [LockGroup(group=2)] }; key <A> { [a] };",
+                "61:1",
+            ),
+            (
+                b"key <A> { [LockGroup(group=2)] }; replace key <A> { [a] };",
+                "61",
+            ),
+            (b"replace key <A> { [a] }; include \"locks\"", "61:4/:5"),
+            (b"include \"locks:3\" key <A> { [a] };", "61//:4"),
+            (b"include \"locks:2:2\"", "F8 BadInclude at 0:61-72"),
+            (
+                b"include \"sets\" key <A> { [a], [SetGroup()] };",
+                "61:false",
+            ),
+            (
+                b"setGroup.clearLocks; include \"locks\" key <A> { [SetGroup()] };",
+                ":true/:5",
+            ),
+            (
+                b"setGroup.clearLocks=yes; !setGroup.clearLocks; key <A> { [SetGroup()] };",
+                ":false",
+            ),
+        ],
+    )
 }
 
 #[test]
 fn statements_of_a_section(rt: HostRuntime) -> Result<(), Fail> {
-    let rows: [(&[u8], &str); 15] = [
-        (b"virtual_modifiers V;", ""),
-        // Modifier maps and names of groups are judged by those who read them.
-        (b"modifier_map Nope { <A> };", ""),
-        (b"name[1]=1;", ""),
-        (b"setMods.modifiers=Shift;", ""),
-        (b"setMods.group=1;", "F14 UnknownField at 0:61-66"),
-        (b"setMods.modifiers=Nope;", "F12 UnknownModifier at 0:71-75"),
-        (b"setMods=1;", "F14 UnknownField at 0:53-60"),
-        (b"name.x=1;", "F14 UnknownField at 0:53-57"),
-        (
-            b"interpret.action=SetMods();",
-            "F14 UnknownField at 0:53-62",
-        ),
-        (b"key.type=\"X\"; KEY.Repeat=yes;", ""),
-        (b"key.symbols=[];", "F14 UnknownField at 0:57-64"),
-        (b"key=1;", "F14 UnknownField at 0:53-56"),
-        (b"group 1 = Shift;", "F14 UnknownField at 0:53-58"),
-        (b"interpret Any { };", "F14 UnknownField at 0:53-62"),
-        (b"indicator \"x\" { };", "F14 UnknownField at 0:53-62"),
-    ];
-    for (items, wanted) in &rows {
-        assert_eq!(rt; shown(&rt, items)?.as_str(), *wanted, "{:?}", items);
-    }
-    Ok(())
+    check(
+        &rt,
+        &[
+            (b"virtual_modifiers V;", ""),
+            // Modifier maps and names of groups are judged by those who read them.
+            (b"modifier_map Nope { <A> };", ""),
+            (b"name[1]=1;", ""),
+            (b"setMods.modifiers=Shift;", ""),
+            (b"setMods.group=1;", "F14 UnknownField at 0:61-66"),
+            (b"setMods.modifiers=Nope;", "F12 UnknownModifier at 0:71-75"),
+            (b"setMods=1;", "F14 UnknownField at 0:53-60"),
+            (b"name.x=1;", "F14 UnknownField at 0:53-57"),
+            (
+                b"interpret.action=SetMods();",
+                "F14 UnknownField at 0:53-62",
+            ),
+            (b"key.type=\"X\"; KEY.Repeat=yes;", ""),
+            (b"key.symbols=[];", "F14 UnknownField at 0:57-64"),
+            (b"key=1;", "F14 UnknownField at 0:53-56"),
+            (b"group 1 = Shift;", "F14 UnknownField at 0:53-58"),
+            (b"interpret Any { };", "F14 UnknownField at 0:53-62"),
+            (b"indicator \"x\" { };", "F14 UnknownField at 0:53-62"),
+        ],
+    )
 }
 
 #[test]

@@ -9,7 +9,7 @@ const TYPED: &[u8] =
     b"xkb_symbols \"basic\" { key.type = \"K\"; key <A> { type[1]=\"ONE\", type[2]=\"TWO\", groupsClamp, [a] }; };";
 
 /// The keys of these symbols items, which begin at byte 77, where A has the code 38 and V and W are virtual modifiers.
-fn keys_of(rt: &impl AllocGlobal, items: &[u8]) -> Result<Keys, Fault> {
+fn keys_of(rt: &impl AllocGlobal, items: &[u8]) -> Result<Box<Keys>, Fault> {
     let front = b"xkb_keymap { xkb_keycodes { <A>=38; }; xkb_symbols { virtual_modifiers V, W; ";
     let given = [(b"typed".as_slice(), TYPED)];
     let (keys, _notes) = keys_over(rt, front, items, given.as_slice())?;
@@ -72,54 +72,61 @@ fn shown(rt: &impl AllocGlobal, items: &[u8]) -> Result<String, Fail> {
     }
 }
 
-#[test]
-fn settings_by_precedence(rt: HostRuntime) -> Result<(), Fail> {
-    let rows: [(&[u8], &str); 12] = [
-        (b"key <A> { [a] };", ""),
-        (b"key <A> { type=\"X\", Type[Group2]=\"Y\" };", "2:Y key:X "),
-        (b"key <A> { type=\"X\" }; key <A> { [a] };", "key:X "),
-        (
-            b"key <A> { type=\"X\" }; augment key <A> { type=\"Y\", vmods=V };",
-            "key:X mods:V ",
-        ),
-        (b"key <A> { type=\"X\" }; key <A> { type=\"Y\" };", "key:Y "),
-        (b"key <A> { type=\"X\" }; replace key <A> { [a] };", ""),
-        (
-            b"key <A> { vmods=V+W, groupsRedirect=3 };",
-            "mods:VW Redirect(2)",
-        ),
-        (b"include \"typed\"", "1:ONE 2:TWO key:K Clamp"),
-        (b"include \"typed:3\"", "3:ONE key:K Clamp"),
-        (
-            b"key.type=\"X\"; include \"typed:2\" key <A> { groupsWrap };",
-            "2:ONE key:X Wrap",
-        ),
-        (b"key.type=\"X\"; key <A> { type=\"Y\" };", "key:Y "),
-        (
-            b"key.groupsClamp; key.type[3]=\"Z\"; key <A> { [a] };",
-            "3:Z Clamp",
-        ),
-    ];
-    for (items, wanted) in &rows {
-        assert_eq!(rt; shown(&rt, items)?.as_str(), *wanted, "{:?}", items);
+/// Fails where a row's items are shown otherwise than is wanted.
+fn check(rt: &(impl Abort + AllocGlobal), rows: &[(&[u8], &str)]) -> Result<(), Fail> {
+    for (items, wanted) in rows {
+        let text = shown(rt, items)?;
+        assert_eq!(rt; text.as_str(), *wanted, "{:?}", items);
     }
     Ok(())
 }
 
 #[test]
+fn settings_by_precedence(rt: HostRuntime) -> Result<(), Fail> {
+    check(
+        &rt,
+        &[
+            (b"key <A> { [a] };", ""),
+            (b"key <A> { type=\"X\", Type[Group2]=\"Y\" };", "2:Y key:X "),
+            (b"key <A> { type=\"X\" }; key <A> { [a] };", "key:X "),
+            (
+                b"key <A> { type=\"X\" }; augment key <A> { type=\"Y\", vmods=V };",
+                "key:X mods:V ",
+            ),
+            (b"key <A> { type=\"X\" }; key <A> { type=\"Y\" };", "key:Y "),
+            (b"key <A> { type=\"X\" }; replace key <A> { [a] };", ""),
+            (
+                b"key <A> { vmods=V+W, groupsRedirect=3 };",
+                "mods:VW Redirect(2)",
+            ),
+            (b"include \"typed\"", "1:ONE 2:TWO key:K Clamp"),
+            (b"include \"typed:3\"", "3:ONE key:K Clamp"),
+            (
+                b"key.type=\"X\"; include \"typed:2\" key <A> { groupsWrap };",
+                "2:ONE key:X Wrap",
+            ),
+            (b"key.type=\"X\"; key <A> { type=\"Y\" };", "key:Y "),
+            (
+                b"key.groupsClamp; key.type[3]=\"Z\"; key <A> { [a] };",
+                "3:Z Clamp",
+            ),
+        ],
+    )
+}
+
+#[test]
 fn every_field_of_a_key_has_a_judge(rt: HostRuntime) -> Result<(), Fail> {
-    let rows: [(&[u8], &str); 8] = [
-        (b"key <A> { [a], repeat=no, radioGroup[9]=none };", ""),
-        (b"key <A> { frob=1 };", "F14 UnknownField at 0:87-91"),
-        (b"key <A> { a.type=\"X\" };", "F14 UnknownField at 0:87-88"),
-        (b"key <A> { symbols.x=[a] };", "F14 UnknownField at 0:87-94"),
-        (b"key <A> { type[33]=\"X\" };", "F16 GroupRange at 0:92-94"),
-        (b"key <A> { vmods=Shift };", "F15 BadValue at 0:93-98"),
-        (b"key <A> { vmods=X };", "F12 UnknownModifier at 0:93-94"),
-        (b"key <Z> { type=1 };", "F15 BadValue at 0:92-93"),
-    ];
-    for (items, wanted) in &rows {
-        assert_eq!(rt; shown(&rt, items)?.as_str(), *wanted, "{:?}", items);
-    }
-    Ok(())
+    check(
+        &rt,
+        &[
+            (b"key <A> { [a], repeat=no, radioGroup[9]=none };", ""),
+            (b"key <A> { frob=1 };", "F14 UnknownField at 0:87-91"),
+            (b"key <A> { a.type=\"X\" };", "F14 UnknownField at 0:87-88"),
+            (b"key <A> { symbols.x=[a] };", "F14 UnknownField at 0:87-94"),
+            (b"key <A> { type[33]=\"X\" };", "F16 GroupRange at 0:92-94"),
+            (b"key <A> { vmods=Shift };", "F15 BadValue at 0:93-98"),
+            (b"key <A> { vmods=X };", "F12 UnknownModifier at 0:93-94"),
+            (b"key <Z> { type=1 };", "F15 BadValue at 0:92-93"),
+        ],
+    )
 }

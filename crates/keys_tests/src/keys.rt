@@ -1,27 +1,42 @@
 //! Keys of sources.
 use crate::sources::{enclosed, files_of};
 use ks_core::{NameTable, Notes};
-use kx_codes::codes;
+use kx_codes::{Codes, codes};
 use kx_include::{Bodies, Library};
 use kx_lex::Fault;
 use kx_masks::ModNames;
 use kx_symbols::{Keys, symbols};
 use std::alloc::Global;
 
-fn keys_in(alloc: Global, bodies: &Bodies) -> Result<(Keys, Notes), Fault> {
-    let codes = codes(alloc, &bodies.keycodes)?;
-    let modifiers = ModNames::of(alloc, bodies)?;
-    symbols(
-        alloc,
-        &bodies.symbols,
-        &codes,
-        &NameTable::builtin(),
-        &modifiers,
-    )
+// What owns much memory stands in a box: a function that holds it is proved much sooner.
+
+fn codes_in(alloc: Global, bodies: &Bodies) -> Result<Box<Codes>, Fault> {
+    Ok(Box::new(alloc, codes(alloc, &bodies.keycodes)?)?)
 }
 
-fn keys_of_library(alloc: Global, library: &Library) -> Result<(Keys, Notes), Fault> {
-    let bodies = library.expand(alloc)?;
+fn modifiers_in(alloc: Global, bodies: &Bodies) -> Result<Box<ModNames>, Fault> {
+    Ok(Box::new(alloc, ModNames::of(alloc, bodies)?)?)
+}
+
+fn symbols_in(
+    alloc: Global,
+    bodies: &Bodies,
+    codes: &Codes,
+    modifiers: &ModNames,
+) -> Result<(Box<Keys>, Notes), Fault> {
+    let names = Box::new(alloc, NameTable::builtin())?;
+    let (keys, notes) = symbols(alloc, &bodies.symbols, codes, &names, modifiers)?;
+    Ok((Box::new(alloc, keys)?, notes))
+}
+
+fn keys_in(alloc: Global, bodies: &Bodies) -> Result<(Box<Keys>, Notes), Fault> {
+    let codes = codes_in(alloc, bodies)?;
+    let modifiers = modifiers_in(alloc, bodies)?;
+    symbols_in(alloc, bodies, &codes, &modifiers)
+}
+
+fn keys_of_library(alloc: Global, library: &Library) -> Result<(Box<Keys>, Notes), Fault> {
+    let bodies = Box::new(alloc, library.expand(alloc)?)?;
     keys_in(alloc, &bodies)
 }
 
@@ -31,7 +46,7 @@ pub fn keys_over(
     front: &[u8],
     items: &[u8],
     given: &[(&[u8], &[u8])],
-) -> Result<(Keys, Notes), Fault> {
+) -> Result<(Box<Keys>, Notes), Fault> {
     let text = enclosed(rt.alloc(), front, items, b" }; };")?;
     let files = files_of(rt.alloc(), given)?;
     let library = Library::of_source(rt.alloc(), text.as_slice(), &files)?;

@@ -1,4 +1,4 @@
-use crate::sources::{Frame, files_of, library_of};
+use crate::sources::{Frame, bodies_of, files_of, library_of, modifiers_of};
 use kx_actions::{ActionDefaults, KeyAction, is_action_word, read, real_action};
 use kx_include::{Library, Place};
 use kx_lex::Fault;
@@ -63,8 +63,8 @@ fn last_action(names: &ModNames, items: &[Item]) -> Result<KeyAction, Fault> {
 }
 
 fn action_in(alloc: Global, library: &Library) -> Result<KeyAction, Fault> {
-    let bodies = library.expand(alloc)?;
-    let names = ModNames::of(alloc, &bodies)?;
+    let bodies = bodies_of(alloc, library)?;
+    let names = modifiers_of(alloc, &bodies)?;
     last_action(&names, library.items_in(SYMBOLS))
 }
 
@@ -101,80 +101,89 @@ fn check(
 
 #[test]
 fn arguments_say_what_an_action_on_modifiers_does(rt: HostRuntime) -> Result<(), Fail> {
-    let rows: [(&[u8], &str); 5] = [
-        (
-            b"SetMods()",
-            "SetMods { mods: Mods(0), clear_locks: false }",
-        ),
-        (
-            b"sEtmods(MODS=Shift+V,clearlocks)",
-            "SetMods { mods: Mods(65), clear_locks: true }",
-        ),
-        (
-            b"SetMods(modifiers=modMapMods,clearLocks,!clearLocks)",
-            "SetMods { mods: Mods(128), clear_locks: false }",
-        ),
-        (
-            b"LatchMods(mods=Lock,modifiers=Control,clearLocks=oN,latchToLock=yes)",
-            "LatchMods { mods: Mods(4), clear_locks: true, latch_to_lock: true }",
-        ),
-        (
-            b"LatchMods(latchToLock,latchToLock=off,clearLocks=no)",
-            "LatchMods { mods: Mods(0), clear_locks: false, latch_to_lock: false }",
-        ),
-    ];
-    check(&rt, CALL, rows.as_slice())
+    check(
+        &rt,
+        CALL,
+        &[
+            (
+                b"SetMods()",
+                "SetMods { mods: Mods(0), clear_locks: false }",
+            ),
+            (
+                b"sEtmods(MODS=Shift+V,clearlocks)",
+                "SetMods { mods: Mods(65), clear_locks: true }",
+            ),
+            (
+                b"SetMods(modifiers=modMapMods,clearLocks,!clearLocks)",
+                "SetMods { mods: Mods(128), clear_locks: false }",
+            ),
+            (
+                b"LatchMods(mods=Lock,modifiers=Control,clearLocks=oN,latchToLock=yes)",
+                "LatchMods { mods: Mods(4), clear_locks: true, latch_to_lock: true }",
+            ),
+            (
+                b"LatchMods(latchToLock,latchToLock=off,clearLocks=no)",
+                "LatchMods { mods: Mods(0), clear_locks: false, latch_to_lock: false }",
+            ),
+        ],
+    )
 }
 
 #[test]
 fn affect_says_which_way_modifiers_are_locked(rt: HostRuntime) -> Result<(), Fail> {
-    let rows: [(&[u8], &str); 4] = [
-        (
-            b"LockMods(modifiers=Lock, affect=unlock)",
-            "LockMods { mods: Mods(2), locks: false, unlocks: true }",
-        ),
-        (
-            b"LockMods(affect=LOCK)",
-            "LockMods { mods: Mods(0), locks: true, unlocks: false }",
-        ),
-        (
-            b"LockMods(affect=neither)",
-            "LockMods { mods: Mods(0), locks: false, unlocks: false }",
-        ),
-        (
-            b"LockMods(affect=lock,affect=both)",
-            "LockMods { mods: Mods(0), locks: true, unlocks: true }",
-        ),
-    ];
-    check(&rt, CALL, rows.as_slice())
+    check(
+        &rt,
+        CALL,
+        &[
+            (
+                b"LockMods(modifiers=Lock, affect=unlock)",
+                "LockMods { mods: Mods(2), locks: false, unlocks: true }",
+            ),
+            (
+                b"LockMods(affect=LOCK)",
+                "LockMods { mods: Mods(0), locks: true, unlocks: false }",
+            ),
+            (
+                b"LockMods(affect=neither)",
+                "LockMods { mods: Mods(0), locks: false, unlocks: false }",
+            ),
+            (
+                b"LockMods(affect=lock,affect=both)",
+                "LockMods { mods: Mods(0), locks: true, unlocks: true }",
+            ),
+        ],
+    )
 }
 
 #[test]
 fn arguments_say_what_an_action_on_groups_does(rt: HostRuntime) -> Result<(), Fail> {
-    let rows: [(&[u8], &str); 6] = [
-        (
-            b"SetGroup(group=2,clearLocks=true)",
-            "SetGroup { group: Absolute(1), clear_locks: true }",
-        ),
-        (
-            b"LatchGroup(group=-1)",
-            "LatchGroup { group: Relative(-1), clear_locks: false, latch_to_lock: false }",
-        ),
-        (
-            b"LockGroup(group=gROUP032)",
-            "LockGroup { group: Absolute(31) }",
-        ),
-        (
-            b"LockGroup(group=-32)",
-            "LockGroup { group: Relative(-32) }",
-        ),
-        (
-            b"LockGroup(group=3,group=+32)",
-            "LockGroup { group: Relative(32) }",
-        ),
-        (b"LockGroup()", "LockGroup { group: Relative(0) }"),
-    ];
-    check(&rt, CALL, rows.as_slice())
+    check(
+        &rt,
+        CALL,
+        &[
+            (
+                b"SetGroup(group=2,clearLocks=true)",
+                "SetGroup { group: Absolute(1), clear_locks: true }",
+            ),
+            (
+                b"LatchGroup(group=-1)",
+                "LatchGroup { group: Relative(-1), clear_locks: false, latch_to_lock: false }",
+            ),
+            (
+                b"LockGroup(group=gROUP032)",
+                "LockGroup { group: Absolute(31) }",
+            ),
+            (
+                b"LockGroup(group=-32)",
+                "LockGroup { group: Relative(-32) }",
+            ),
+            (
+                b"LockGroup(group=3,group=+32)",
+                "LockGroup { group: Relative(32) }",
+            ),
+            (b"LockGroup()", "LockGroup { group: Relative(0) }"),
+        ],
+    )
 }
 
 #[test]
@@ -185,103 +194,112 @@ fn other_actions_do_nothing(rt: HostRuntime) -> Result<(), Fail> {
 
 #[test]
 fn the_last_default_before_a_call_counts(rt: HostRuntime) -> Result<(), Fail> {
-    let rows: [(&[u8], &str); 8] = [
-        (
-            b"setMods.clearLocks; x = SetMods();",
-            "SetMods { mods: Mods(0), clear_locks: true }",
-        ),
-        (
-            b"SETMODS.clearLocks=yes; x = SetMods(!clearLocks);",
-            "SetMods { mods: Mods(0), clear_locks: false }",
-        ),
-        (
-            b"!setMods.clearLocks; x = SetMods(clearLocks);",
-            "SetMods { mods: Mods(0), clear_locks: true }",
-        ),
-        (
-            b"setMods.clearLocks; !setMods.clearLocks; setMods.mods=Shift; x = SetMods();",
-            "SetMods { mods: Mods(1), clear_locks: false }",
-        ),
-        (
-            b"setMods.mods=Shift; x = SetMods(); setMods.mods=Lock;",
-            "SetMods { mods: Mods(1), clear_locks: false }",
-        ),
-        (
-            b"latchMods.mods=Shift; x = SetMods();",
-            "SetMods { mods: Mods(0), clear_locks: false }",
-        ),
-        (
-            b"lockGroup.group=+1; x = LockGroup(); lockGroup.group=2; x = LockGroup();",
-            "LockGroup { group: Absolute(1) }",
-        ),
-        (
-            b"lockMods.affect=unlock; x = LockMods(mods=Lock);",
-            "LockMods { mods: Mods(2), locks: false, unlocks: true }",
-        ),
-    ];
-    check(&rt, ITEMS, rows.as_slice())
+    check(
+        &rt,
+        ITEMS,
+        &[
+            (
+                b"setMods.clearLocks; x = SetMods();",
+                "SetMods { mods: Mods(0), clear_locks: true }",
+            ),
+            (
+                b"SETMODS.clearLocks=yes; x = SetMods(!clearLocks);",
+                "SetMods { mods: Mods(0), clear_locks: false }",
+            ),
+            (
+                b"!setMods.clearLocks; x = SetMods(clearLocks);",
+                "SetMods { mods: Mods(0), clear_locks: true }",
+            ),
+            (
+                b"setMods.clearLocks; !setMods.clearLocks; setMods.mods=Shift; x = SetMods();",
+                "SetMods { mods: Mods(1), clear_locks: false }",
+            ),
+            (
+                b"setMods.mods=Shift; x = SetMods(); setMods.mods=Lock;",
+                "SetMods { mods: Mods(1), clear_locks: false }",
+            ),
+            (
+                b"latchMods.mods=Shift; x = SetMods();",
+                "SetMods { mods: Mods(0), clear_locks: false }",
+            ),
+            (
+                b"lockGroup.group=+1; x = LockGroup(); lockGroup.group=2; x = LockGroup();",
+                "LockGroup { group: Absolute(1) }",
+            ),
+            (
+                b"lockMods.affect=unlock; x = LockMods(mods=Lock);",
+                "LockMods { mods: Mods(2), locks: false, unlocks: true }",
+            ),
+        ],
+    )
 }
 
 #[test]
 fn faults_of_arguments_name_their_place(rt: HostRuntime) -> Result<(), Fail> {
-    let rows: [(&[u8], &str); 16] = [
-        (b"LockGroup(group=+33)", "F16 GroupRange at 0:83-86"),
-        (b"SetGroup(group=0)", "F16 GroupRange at 0:82-83"),
-        (b"SetGroup(group=Shift)", "F15 BadValue at 0:82-87"),
-        (b"SetGroup(group=1+1)", "F15 BadValue at 0:82-85"),
-        (b"SetMods(foo)", "F14 UnknownField at 0:75-78"),
-        (b"SetMods(3)", "F15 BadValue at 0:75-76"),
-        (b"SetMods(a+b)", "F15 BadValue at 0:75-78"),
-        (b"SetMods(clearLocks[1]=yes)", "F14 UnknownField at 0:75-85"),
-        (b"SetMods(modifiers)", "F15 BadValue at 0:75-84"),
-        (b"SetMods(!mods)", "F15 BadValue at 0:75-80"),
-        (b"SetMods(clearLocks=1)", "F15 BadValue at 0:86-87"),
-        (b"LockMods(affect=most)", "F15 BadValue at 0:83-87"),
-        (
-            b"SetMods(modifiers=Shift+W)",
-            "F12 UnknownModifier at 0:91-92",
-        ),
-        (b"SetMods(mods=256)", "F15 BadValue at 0:80-83"),
-        (b"LockGroup(clearLocks)", "F14 UnknownField at 0:77-87"),
-        (b"NoAction(1)", "F15 BadValue at 0:76-77"),
-    ];
-    check(&rt, CALL, rows.as_slice())
+    check(
+        &rt,
+        CALL,
+        &[
+            (b"LockGroup(group=+33)", "F16 GroupRange at 0:83-86"),
+            (b"SetGroup(group=0)", "F16 GroupRange at 0:82-83"),
+            (b"SetGroup(group=Shift)", "F15 BadValue at 0:82-87"),
+            (b"SetGroup(group=1+1)", "F15 BadValue at 0:82-85"),
+            (b"SetMods(foo)", "F14 UnknownField at 0:75-78"),
+            (b"SetMods(3)", "F15 BadValue at 0:75-76"),
+            (b"SetMods(a+b)", "F15 BadValue at 0:75-78"),
+            (b"SetMods(clearLocks[1]=yes)", "F14 UnknownField at 0:75-85"),
+            (b"SetMods(modifiers)", "F15 BadValue at 0:75-84"),
+            (b"SetMods(!mods)", "F15 BadValue at 0:75-80"),
+            (b"SetMods(clearLocks=1)", "F15 BadValue at 0:86-87"),
+            (b"LockMods(affect=most)", "F15 BadValue at 0:83-87"),
+            (
+                b"SetMods(modifiers=Shift+W)",
+                "F12 UnknownModifier at 0:91-92",
+            ),
+            (b"SetMods(mods=256)", "F15 BadValue at 0:80-83"),
+            (b"LockGroup(clearLocks)", "F14 UnknownField at 0:77-87"),
+            (b"NoAction(1)", "F15 BadValue at 0:76-77"),
+        ],
+    )
 }
 
 #[test]
 fn faults_of_defaults_name_their_place(rt: HostRuntime) -> Result<(), Fail> {
-    let rows: [(&[u8], &str); 8] = [
-        (
-            b"lockGroup.group=Group33; x = LockGroup();",
-            "F16 GroupRange at 0:79-86",
-        ),
-        (
-            b"setMods.affect=both; x = SetMods();",
-            "F14 UnknownField at 0:71-77",
-        ),
-        (
-            b"setMods.group; x = SetMods();",
-            "F14 UnknownField at 0:71-76",
-        ),
-        (b"setMods.mods; x = SetMods();", "F15 BadValue at 0:63-75"),
-        (
-            b"setMods.clearLocks[1]=yes; x = SetMods();",
-            "F14 UnknownField at 0:71-81",
-        ),
-        (
-            b"setMods.clearLocks=[ a ]; x = SetMods();",
-            "F15 BadValue at 0:82-87",
-        ),
-        (
-            b"movePtr.x=1; x = SetMods();",
-            "F14 UnknownField at 0:63-70",
-        ),
-        (
-            b"setMods = 1; x = SetMods();",
-            "F14 UnknownField at 0:63-70",
-        ),
-    ];
-    check(&rt, ITEMS, rows.as_slice())
+    check(
+        &rt,
+        ITEMS,
+        &[
+            (
+                b"lockGroup.group=Group33; x = LockGroup();",
+                "F16 GroupRange at 0:79-86",
+            ),
+            (
+                b"setMods.affect=both; x = SetMods();",
+                "F14 UnknownField at 0:71-77",
+            ),
+            (
+                b"setMods.group; x = SetMods();",
+                "F14 UnknownField at 0:71-76",
+            ),
+            (b"setMods.mods; x = SetMods();", "F15 BadValue at 0:63-75"),
+            (
+                b"setMods.clearLocks[1]=yes; x = SetMods();",
+                "F14 UnknownField at 0:71-81",
+            ),
+            (
+                b"setMods.clearLocks=[ a ]; x = SetMods();",
+                "F15 BadValue at 0:82-87",
+            ),
+            (
+                b"movePtr.x=1; x = SetMods();",
+                "F14 UnknownField at 0:63-70",
+            ),
+            (
+                b"setMods = 1; x = SetMods();",
+                "F14 UnknownField at 0:63-70",
+            ),
+        ],
+    )
 }
 
 #[test]

@@ -1,4 +1,4 @@
-use crate::sources::{Frame, files_of, library_of};
+use crate::sources::{Frame, bodies_of, files_of, library_of};
 use kx_groups::{GroupNames, group_names};
 use kx_include::Library;
 use kx_lex::Fault;
@@ -22,12 +22,12 @@ const US: &[u8] = b"default xkb_symbols { name[Group1]=\"English\"; name[2]=\"Ot
 
 const RU: &[u8] = b"xkb_symbols \"x\" { name[1]=\"Russian\"; };";
 
-fn names_in(alloc: Global, library: &Library) -> Result<GroupNames, Fault> {
-    let bodies = library.expand(alloc)?;
-    group_names(alloc, &bodies.symbols)
+fn names_in(alloc: Global, library: &Library) -> Result<Box<GroupNames>, Fault> {
+    let bodies = bodies_of(alloc, library)?;
+    Ok(Box::new(alloc, group_names(alloc, &bodies.symbols)?)?)
 }
 
-fn names_of(alloc: Global, frame: Frame, items: &[u8]) -> Result<GroupNames, Fault> {
+fn names_of(alloc: Global, frame: Frame, items: &[u8]) -> Result<Box<GroupNames>, Fault> {
     let given = [(b"us".as_slice(), US), (b"ru".as_slice(), RU)];
     let files = files_of(alloc, given.as_slice())?;
     let library = library_of(alloc, frame, items, &files)?;
@@ -69,56 +69,62 @@ fn check(
 
 #[test]
 fn groups_have_names_by_precedence(rt: HostRuntime) -> Result<(), Fail> {
-    let rows: [(&[u8], &str); 16] = [
-        (b"", ""),
-        (b"name[Group1]=\"Test\";", "Test"),
-        (b"NAME[2]=\"B\"; name[1]=\"A\";", "A/B"),
-        (b"name[3]=\"C\"; name[gROUP04]=\"\";", "//C"),
-        (b"name[1]=\"A\"; name[1]=\"\";", ""),
-        (b"name[1]=\"A\"; augment name[1]=\"B\";", "A"),
-        (
-            b"augment name[1]=\"A\"; augment name[1]=\"B\"; name[1]=\"C\";",
-            "C",
-        ),
-        (
-            b"name[1]=\"A\"; replace name[1]=\"B\"; augment name[1]=\"C\";",
-            "B",
-        ),
-        (b"include \"us+ru(x):2\"", "English/Russian"),
-        (b"include \"us:2\"", "/English"),
-        (b"include \"us+ru(x)\"", "Russian/Other"),
-        (b"include \"us|ru(x)\"", "English/Other"),
-        (b"name[1]=\"A\"; augment \"us\"", "A/Other"),
-        (b"name[1]=\"A\"; replace \"us:2\"", "A/English"),
-        (b"include \"us:32\" name[32]=\"\"; name[2]=\"B\";", "/B"),
-        (
-            b"key <A> { [ a ] }; name.x = \"A\"; !other; modifier_map None { <A> };",
-            "",
-        ),
-    ];
-    check(&rt, ITEMS, rows.as_slice())
+    check(
+        &rt,
+        ITEMS,
+        &[
+            (b"", ""),
+            (b"name[Group1]=\"Test\";", "Test"),
+            (b"NAME[2]=\"B\"; name[1]=\"A\";", "A/B"),
+            (b"name[3]=\"C\"; name[gROUP04]=\"\";", "//C"),
+            (b"name[1]=\"A\"; name[1]=\"\";", ""),
+            (b"name[1]=\"A\"; augment name[1]=\"B\";", "A"),
+            (
+                b"augment name[1]=\"A\"; augment name[1]=\"B\"; name[1]=\"C\";",
+                "C",
+            ),
+            (
+                b"name[1]=\"A\"; replace name[1]=\"B\"; augment name[1]=\"C\";",
+                "B",
+            ),
+            (b"include \"us+ru(x):2\"", "English/Russian"),
+            (b"include \"us:2\"", "/English"),
+            (b"include \"us+ru(x)\"", "Russian/Other"),
+            (b"include \"us|ru(x)\"", "English/Other"),
+            (b"name[1]=\"A\"; augment \"us\"", "A/Other"),
+            (b"name[1]=\"A\"; replace \"us:2\"", "A/English"),
+            (b"include \"us:32\" name[32]=\"\"; name[2]=\"B\";", "/B"),
+            (
+                b"key <A> { [ a ] }; name.x = \"A\"; !other; modifier_map None { <A> };",
+                "",
+            ),
+        ],
+    )
 }
 
 #[test]
 fn faults_of_names_name_their_place(rt: HostRuntime) -> Result<(), Fail> {
-    let rows: [(&[u8], &str); 12] = [
-        (b"name=\"A\";", "F14 UnknownField at 0:27-31"),
-        (b"name[0]=\"A\";", "F16 GroupRange at 0:32-33"),
-        (b"name[33]=\"A\";", "F16 GroupRange at 0:32-34"),
-        (
-            b"name[Group99999999999]=\"A\";",
-            "F16 GroupRange at 0:32-48",
-        ),
-        (b"name[first]=\"A\";", "F15 BadValue at 0:32-37"),
-        (b"name[1+1]=\"A\";", "F15 BadValue at 0:32-35"),
-        (b"name[1]=A;", "F15 BadValue at 0:35-36"),
-        (b"name[1]=\"A\"+\"B\";", "F15 BadValue at 0:35-42"),
-        (b"name[1]=[ a ];", "F15 BadValue at 0:35-40"),
-        (b"name[1]=f();", "F15 BadValue at 0:35-38"),
-        (b"augment name[1];", "F15 BadValue at 0:35-42"),
-        (b"!name[1];", "F15 BadValue at 0:27-35"),
-    ];
-    check(&rt, ITEMS, rows.as_slice())
+    check(
+        &rt,
+        ITEMS,
+        &[
+            (b"name=\"A\";", "F14 UnknownField at 0:27-31"),
+            (b"name[0]=\"A\";", "F16 GroupRange at 0:32-33"),
+            (b"name[33]=\"A\";", "F16 GroupRange at 0:32-34"),
+            (
+                b"name[Group99999999999]=\"A\";",
+                "F16 GroupRange at 0:32-48",
+            ),
+            (b"name[first]=\"A\";", "F15 BadValue at 0:32-37"),
+            (b"name[1+1]=\"A\";", "F15 BadValue at 0:32-35"),
+            (b"name[1]=A;", "F15 BadValue at 0:35-36"),
+            (b"name[1]=\"A\"+\"B\";", "F15 BadValue at 0:35-42"),
+            (b"name[1]=[ a ];", "F15 BadValue at 0:35-40"),
+            (b"name[1]=f();", "F15 BadValue at 0:35-38"),
+            (b"augment name[1];", "F15 BadValue at 0:35-42"),
+            (b"!name[1];", "F15 BadValue at 0:27-35"),
+        ],
+    )
 }
 
 #[test]

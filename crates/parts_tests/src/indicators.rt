@@ -1,8 +1,7 @@
-use crate::sources::{Frame, files_of, library_of};
+use crate::sources::{Frame, bodies_of, files_of, library_of, modifiers_of};
 use kx_include::Library;
 use kx_lamps::{Indicators, Lamp, indicators};
 use kx_lex::Fault;
-use kx_masks::ModNames;
 use std::alloc::Global;
 use std::process::Abort;
 use std::test::Fail;
@@ -28,13 +27,13 @@ const NAME: Frame = Frame {
 const MAP: &[u8] =
     b"xkb_compat { indicator.groups=all; indicator \"M\" { groups=none; whichModState=base; }; indicator \"A\" { groups=7; }; };";
 
-fn indicators_in(alloc: Global, library: &Library) -> Result<Indicators, Fault> {
-    let bodies = library.expand(alloc)?;
-    let modifiers = ModNames::of(alloc, &bodies)?;
-    indicators(alloc, &bodies.compat, &modifiers)
+fn indicators_in(alloc: Global, library: &Library) -> Result<Box<Indicators>, Fault> {
+    let bodies = bodies_of(alloc, library)?;
+    let modifiers = modifiers_of(alloc, &bodies)?;
+    Ok(Box::new(alloc, indicators(alloc, &bodies.compat, &modifiers)?)?)
 }
 
-fn indicators_of(alloc: Global, frame: Frame, items: &[u8]) -> Result<Indicators, Fault> {
+fn indicators_of(alloc: Global, frame: Frame, items: &[u8]) -> Result<Box<Indicators>, Fault> {
     let given = [(b"m".as_slice(), MAP)];
     let files = files_of(alloc, given.as_slice())?;
     let library = library_of(alloc, frame, items, &files)?;
@@ -99,113 +98,125 @@ fn check(
 
 #[test]
 fn fields_say_what_lights_an_indicator(rt: HostRuntime) -> Result<(), Fail> {
-    let rows: [(&[u8], &str); 10] = [
-        (b"", ""),
-        (b"indicator \"L\" {};", "L 0 8 8 0;"),
-        (
-            b"indicator \"Caps Lock\" { whichModState= locked; modifiers= Lock; };",
-            "Caps Lock 2 4 8 0;",
-        ),
-        (
-            b"indicator \"G\" { groups= all - Group1; };",
-            "G 0 8 8 4294967294;",
-        ),
-        (
-            b"indicator \"G\" { GROUPS= 0x80000000 + group01; whichGroupState = BASE + latched - base; };",
-            "G 0 8 2 2147483649;",
-        ),
-        (
-            b"indicator \"S\" { whichModState = any + base; whichGroupState = compat; mods = V+Shift; };",
-            "S 257 9 8 0;",
-        ),
-        (
-            b"indicator \"N\" { whichModState = none; groups = none; modifiers = none; };",
-            "N 0 0 8 0;",
-        ),
-        (
-            b"indicator \"R\" { repeat; foo[3] = [ x ]; a.groups = 5; !index; };",
-            "R 0 8 8 0;",
-        ),
-        (
-            b"indicator \"A\" { groups=1; groups=2; }; indicator \"B\" { mods=Lock; };",
-            "A 0 8 8 2;B 2 8 8 0;",
-        ),
-        (
-            b"foo = 5; indicator = 5; indicator; interpret a { bad; }; interpret.groups = x; group 1 = Mod5;",
-            "",
-        ),
-    ];
-    check(&rt, ITEMS, rows.as_slice())
+    check(
+        &rt,
+        ITEMS,
+        &[
+            (b"", ""),
+            (b"indicator \"L\" {};", "L 0 8 8 0;"),
+            (
+                b"indicator \"Caps Lock\" { whichModState= locked; modifiers= Lock; };",
+                "Caps Lock 2 4 8 0;",
+            ),
+            (
+                b"indicator \"G\" { groups= all - Group1; };",
+                "G 0 8 8 4294967294;",
+            ),
+            (
+                b"indicator \"G\" { GROUPS= 0x80000000 + group01; whichGroupState = BASE + latched - base; };",
+                "G 0 8 2 2147483649;",
+            ),
+            (
+                b"indicator \"S\" { whichModState = any + base; whichGroupState = compat; mods = V+Shift; };",
+                "S 257 9 8 0;",
+            ),
+            (
+                b"indicator \"N\" { whichModState = none; groups = none; modifiers = none; };",
+                "N 0 0 8 0;",
+            ),
+            (
+                b"indicator \"R\" { repeat; foo[3] = [ x ]; a.groups = 5; !index; };",
+                "R 0 8 8 0;",
+            ),
+            (
+                b"indicator \"A\" { groups=1; groups=2; }; indicator \"B\" { mods=Lock; };",
+                "A 0 8 8 2;B 2 8 8 0;",
+            ),
+            (
+                b"foo = 5; indicator = 5; indicator; interpret a { bad; }; interpret.groups = x; group 1 = Mod5;",
+                "",
+            ),
+        ],
+    )
 }
 
 #[test]
 fn indicators_are_joined_by_precedence(rt: HostRuntime) -> Result<(), Fail> {
-    let rows: [(&[u8], &str); 7] = [
-        (
-            b"indicator.groups=5; indicator \"A\" {}; indicator.mods=Lock; indicator \"B\" { groups=none; };",
-            "A 0 8 8 5;B 2 8 8 0;",
-        ),
-        (
-            b"indicator.groups=5; }; xkb_compat { indicator \"A\" {};",
-            "A 0 8 8 0;",
-        ),
-        (
-            b"indicator \"A\" { mods=Lock; }; indicator \"B\" {}; indicator \"A\" { groups=1; }; augment indicator \"A\" { mods=Shift; whichModState=base; };",
-            "A 2 1 8 1;B 0 8 8 0;",
-        ),
-        (
-            b"indicator \"A\" { mods=Lock; groups=3; }; replace indicator \"A\" { mods=Shift; };",
-            "A 1 8 8 0;",
-        ),
-        (
-            b"indicator \"A\" { mods=Lock; }; include \"m\" indicator \"C\" {};",
-            "A 2 8 8 7;M 0 1 8 0;C 0 8 8 0;",
-        ),
-        (
-            b"augment \"m\" indicator \"A\" { mods=Lock; };",
-            "M 0 1 8 0;A 2 8 8 7;",
-        ),
-        (
-            b"indicator \"A\" { groups=9; mods=Lock; }; replace \"m\"",
-            "A 0 8 8 7;M 0 1 8 0;",
-        ),
-    ];
-    check(&rt, ITEMS, rows.as_slice())
+    check(
+        &rt,
+        ITEMS,
+        &[
+            (
+                b"indicator.groups=5; indicator \"A\" {}; indicator.mods=Lock; indicator \"B\" { groups=none; };",
+                "A 0 8 8 5;B 2 8 8 0;",
+            ),
+            (
+                b"indicator.groups=5; }; xkb_compat { indicator \"A\" {};",
+                "A 0 8 8 0;",
+            ),
+            (
+                b"indicator \"A\" { mods=Lock; }; indicator \"B\" {}; indicator \"A\" { groups=1; }; augment indicator \"A\" { mods=Shift; whichModState=base; };",
+                "A 2 1 8 1;B 0 8 8 0;",
+            ),
+            (
+                b"indicator \"A\" { mods=Lock; groups=3; }; replace indicator \"A\" { mods=Shift; };",
+                "A 1 8 8 0;",
+            ),
+            (
+                b"indicator \"A\" { mods=Lock; }; include \"m\" indicator \"C\" {};",
+                "A 2 8 8 7;M 0 1 8 0;C 0 8 8 0;",
+            ),
+            (
+                b"augment \"m\" indicator \"A\" { mods=Lock; };",
+                "M 0 1 8 0;A 2 8 8 7;",
+            ),
+            (
+                b"indicator \"A\" { groups=9; mods=Lock; }; replace \"m\"",
+                "A 0 8 8 7;M 0 1 8 0;",
+            ),
+        ],
+    )
 }
 
 #[test]
 fn faults_of_fields_name_their_place(rt: HostRuntime) -> Result<(), Fail> {
-    let rows: [(&[u8], &str); 15] = [
-        (b"groups[1] = all;", "F14 UnknownField at 0:81-87"),
-        (b"groups = [ a ];", "F15 BadValue at 0:90-95"),
-        (b"mods = f(x);", "F15 BadValue at 0:88-92"),
-        (b"!whichModState;", "F15 BadValue at 0:81-95"),
-        (b"modifiers;", "F15 BadValue at 0:81-90"),
-        (b"modifiers = Foo;", "F12 UnknownModifier at 0:93-96"),
-        (b"modifiers = 256;", "F15 BadValue at 0:93-96"),
-        (b"groups = Group33;", "F16 GroupRange at 0:90-97"),
-        (b"groups = all - GROUP0;", "F16 GroupRange at 0:96-102"),
-        (b"groups = Groupx;", "F15 BadValue at 0:90-96"),
-        (b"groups = +3;", "F15 BadValue at 0:90-92"),
-        (b"groups = 1 + <A>;", "F15 BadValue at 0:94-97"),
-        (b"whichGroupState = base + 4;", "F15 BadValue at 0:106-107"),
-        (b"whichModState = all;", "F15 BadValue at 0:97-100"),
-        (b"whichModState = Group1;", "F15 BadValue at 0:97-103"),
-    ];
-    check(&rt, FIELDS, rows.as_slice())
+    check(
+        &rt,
+        FIELDS,
+        &[
+            (b"groups[1] = all;", "F14 UnknownField at 0:81-87"),
+            (b"groups = [ a ];", "F15 BadValue at 0:90-95"),
+            (b"mods = f(x);", "F15 BadValue at 0:88-92"),
+            (b"!whichModState;", "F15 BadValue at 0:81-95"),
+            (b"modifiers;", "F15 BadValue at 0:81-90"),
+            (b"modifiers = Foo;", "F12 UnknownModifier at 0:93-96"),
+            (b"modifiers = 256;", "F15 BadValue at 0:93-96"),
+            (b"groups = Group33;", "F16 GroupRange at 0:90-97"),
+            (b"groups = all - GROUP0;", "F16 GroupRange at 0:96-102"),
+            (b"groups = Groupx;", "F15 BadValue at 0:90-96"),
+            (b"groups = +3;", "F15 BadValue at 0:90-92"),
+            (b"groups = 1 + <A>;", "F15 BadValue at 0:94-97"),
+            (b"whichGroupState = base + 4;", "F15 BadValue at 0:106-107"),
+            (b"whichModState = all;", "F15 BadValue at 0:97-100"),
+            (b"whichModState = Group1;", "F15 BadValue at 0:97-103"),
+        ],
+    )
 }
 
 #[test]
 fn faults_of_statements_name_their_place(rt: HostRuntime) -> Result<(), Fail> {
-    let rows: [(&[u8], &str); 3] = [
-        (b"indicator.groups = base;", "F15 BadValue at 0:84-88"),
-        (b"indicator.mods[2] = Lock;", "F14 UnknownField at 0:75-79"),
-        (
-            b"replace indicator \"L\" { whichModState = \"x\"; };",
-            "F15 BadValue at 0:105-108",
-        ),
-    ];
-    check(&rt, ITEMS, rows.as_slice())
+    check(
+        &rt,
+        ITEMS,
+        &[
+            (b"indicator.groups = base;", "F15 BadValue at 0:84-88"),
+            (b"indicator.mods[2] = Lock;", "F14 UnknownField at 0:75-79"),
+            (
+                b"replace indicator \"L\" { whichModState = \"x\"; };",
+                "F15 BadValue at 0:105-108",
+            ),
+        ],
+    )
 }
 
 /// So many indicators, and the first again behind each.

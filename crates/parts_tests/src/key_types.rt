@@ -1,7 +1,6 @@
-use crate::sources::{Frame, files_of, library_of};
+use crate::sources::{Frame, bodies_of, files_of, library_of, modifiers_of};
 use kx_include::Library;
 use kx_lex::Fault;
-use kx_masks::ModNames;
 use kx_types::{KeyType, Types, types};
 use std::alloc::Global;
 use std::process::Abort;
@@ -27,14 +26,14 @@ const NAME: Frame = Frame {
 
 const OTHER: &[u8] = b"xkb_types { type \"T\" { modifiers=Mod1; }; };";
 
-fn types_in(alloc: Global, library: &Library) -> Result<Types, Fault> {
-    let bodies = library.expand(alloc)?;
-    let modifiers = ModNames::of(alloc, &bodies)?;
-    types(alloc, &bodies.types, &modifiers)
+fn types_in(alloc: Global, library: &Library) -> Result<Box<Types>, Fault> {
+    let bodies = bodies_of(alloc, library)?;
+    let modifiers = modifiers_of(alloc, &bodies)?;
+    Ok(Box::new(alloc, types(alloc, &bodies.types, &modifiers)?)?)
 }
 
 /// The types of a keymap.
-pub fn types_of(alloc: Global, frame: Frame, items: &[u8]) -> Result<Types, Fault> {
+pub fn types_of(alloc: Global, frame: Frame, items: &[u8]) -> Result<Box<Types>, Fault> {
     let given = [(b"a".as_slice(), OTHER)];
     let files = files_of(alloc, given.as_slice())?;
     let library = library_of(alloc, frame, items, &files)?;
@@ -81,102 +80,114 @@ fn check(
 
 #[test]
 fn a_type_has_levels_and_entries(rt: HostRuntime) -> Result<(), Fail> {
-    let rows: [(&[u8], &str); 8] = [
-        (
-            b"modifiers=Shift+Lock; map[Shift]=2; preserve[Lock]=Lock;",
-            "3 2 1=2/0 2=1/2",
-        ),
-        (
-            b"modifiers=Shift+Lock; map[Shift]=2; preserve[Lock]=Lock; map[Lock]=Level2;",
-            "3 2 1=2/0 2=2/2",
-        ),
-        (
-            b"MAP[Shift+Lock]=2; preserve[Shift]=Lock; modifiers=Shift;",
-            "1 2 1=2/0",
-        ),
-        (
-            b"map[Shift+Lock]=2; map[Lock]=4; map[Shift]=3; modifiers=Lock; modifiers=Shift;",
-            "1 4 1=3/0 0=4/0",
-        ),
-        (b"modifiers=Lock; preserve[Lock+Shift]=all;", "2 1 2=1/2"),
-        (b"Level_Name[Level03]=\"x\"; levelname[1]=\"y\";", "0 3"),
-        (b"map[none]=2;", "0 2 0=2/0"),
-        (b"map[1]=64; preserve[1]=none; modifiers=1;", "1 64 1=64/0"),
-    ];
-    check(&rt, FIELDS, rows.as_slice())
+    check(
+        &rt,
+        FIELDS,
+        &[
+            (
+                b"modifiers=Shift+Lock; map[Shift]=2; preserve[Lock]=Lock;",
+                "3 2 1=2/0 2=1/2",
+            ),
+            (
+                b"modifiers=Shift+Lock; map[Shift]=2; preserve[Lock]=Lock; map[Lock]=Level2;",
+                "3 2 1=2/0 2=2/2",
+            ),
+            (
+                b"MAP[Shift+Lock]=2; preserve[Shift]=Lock; modifiers=Shift;",
+                "1 2 1=2/0",
+            ),
+            (
+                b"map[Shift+Lock]=2; map[Lock]=4; map[Shift]=3; modifiers=Lock; modifiers=Shift;",
+                "1 4 1=3/0 0=4/0",
+            ),
+            (b"modifiers=Lock; preserve[Lock+Shift]=all;", "2 1 2=1/2"),
+            (b"Level_Name[Level03]=\"x\"; levelname[1]=\"y\";", "0 3"),
+            (b"map[none]=2;", "0 2 0=2/0"),
+            (b"map[1]=64; preserve[1]=none; modifiers=1;", "1 64 1=64/0"),
+        ],
+    )
 }
 
 #[test]
 fn types_are_joined_by_precedence(rt: HostRuntime) -> Result<(), Fail> {
-    let rows: [(&[u8], &str); 10] = [
-        (
-            b"type \"T\" { modifiers=Shift+Alt; map[Alt]=2; }; virtual_modifiers Alt;",
-            "101 2 100=2/0",
-        ),
-        (b"type \"t\" { };", ""),
-        (b"type \"T\" { };", "0 1"),
-        (
-            b"type \"T\" { modifiers=Shift; }; type \"T\" { modifiers=Lock; };",
-            "2 1",
-        ),
-        (
-            b"type \"T\" { modifiers=Shift; }; augment type \"T\" { modifiers=Lock; };",
-            "1 1",
-        ),
-        (
-            b"augment type \"T\" { modifiers=Shift; }; augment type \"T\" { modifiers=Lock; };",
-            "1 1",
-        ),
-        (
-            b"type \"T\" { map[none]=2; }; replace type \"T\" { modifiers=Lock; };",
-            "2 1",
-        ),
-        (b"type \"T\" { modifiers=Shift; }; include \"a\"", "8 1"),
-        (b"type \"T\" { modifiers=Shift; }; augment \"a\"", "1 1"),
-        (b"type \"T\" { modifiers=Shift; }; include \"a:2\"", "8 1"),
-    ];
-    check(&rt, ITEMS, rows.as_slice())
+    check(
+        &rt,
+        ITEMS,
+        &[
+            (
+                b"type \"T\" { modifiers=Shift+Alt; map[Alt]=2; }; virtual_modifiers Alt;",
+                "101 2 100=2/0",
+            ),
+            (b"type \"t\" { };", ""),
+            (b"type \"T\" { };", "0 1"),
+            (
+                b"type \"T\" { modifiers=Shift; }; type \"T\" { modifiers=Lock; };",
+                "2 1",
+            ),
+            (
+                b"type \"T\" { modifiers=Shift; }; augment type \"T\" { modifiers=Lock; };",
+                "1 1",
+            ),
+            (
+                b"augment type \"T\" { modifiers=Shift; }; augment type \"T\" { modifiers=Lock; };",
+                "1 1",
+            ),
+            (
+                b"type \"T\" { map[none]=2; }; replace type \"T\" { modifiers=Lock; };",
+                "2 1",
+            ),
+            (b"type \"T\" { modifiers=Shift; }; include \"a\"", "8 1"),
+            (b"type \"T\" { modifiers=Shift; }; augment \"a\"", "1 1"),
+            (b"type \"T\" { modifiers=Shift; }; include \"a:2\"", "8 1"),
+        ],
+    )
 }
 
 #[test]
 fn faults_of_fields_name_their_place(rt: HostRuntime) -> Result<(), Fail> {
-    let rows: [(&[u8], &str); 20] = [
-        (b"modifiers=Foo;", "F12 UnknownModifier at 0:46-49"),
-        (b"preserve[Foo]=none;", "F12 UnknownModifier at 0:45-48"),
-        (b"modifiers=256;", "F15 BadValue at 0:46-49"),
-        (b"modifiers;", "F15 BadValue at 0:36-45"),
-        (b"!modifiers;", "F15 BadValue at 0:36-46"),
-        (b"modifiers=[a];", "F15 BadValue at 0:46-49"),
-        (b"modifiers=f();", "F15 BadValue at 0:46-49"),
-        (b"map[Shift]=Level65;", "F17 LevelRange at 0:47-54"),
-        (b"map[Shift]=Level99999999999;", "F17 LevelRange at 0:47-63"),
-        (b"map[Shift]=0;", "F17 LevelRange at 0:47-48"),
-        (b"map[Shift]=-1;", "F15 BadValue at 0:47-49"),
-        (b"map[Shift]=1+1;", "F15 BadValue at 0:47-50"),
-        (b"map[Shift]=Level;", "F15 BadValue at 0:47-52"),
-        (b"level_name[0]=\"x\";", "F17 LevelRange at 0:47-48"),
-        (b"level_name[1]=Foo;", "F15 BadValue at 0:50-53"),
-        (b"map=2;", "F14 UnknownField at 0:36-39"),
-        (b"modifiers[1]=none;", "F14 UnknownField at 0:36-45"),
-        (b"mods=none;", "F14 UnknownField at 0:36-40"),
-        (b"a.modifiers=none;", "F14 UnknownField at 0:36-37"),
-        (b"!a.map;", "F14 UnknownField at 0:37-38"),
-    ];
-    check(&rt, FIELDS, rows.as_slice())
+    check(
+        &rt,
+        FIELDS,
+        &[
+            (b"modifiers=Foo;", "F12 UnknownModifier at 0:46-49"),
+            (b"preserve[Foo]=none;", "F12 UnknownModifier at 0:45-48"),
+            (b"modifiers=256;", "F15 BadValue at 0:46-49"),
+            (b"modifiers;", "F15 BadValue at 0:36-45"),
+            (b"!modifiers;", "F15 BadValue at 0:36-46"),
+            (b"modifiers=[a];", "F15 BadValue at 0:46-49"),
+            (b"modifiers=f();", "F15 BadValue at 0:46-49"),
+            (b"map[Shift]=Level65;", "F17 LevelRange at 0:47-54"),
+            (b"map[Shift]=Level99999999999;", "F17 LevelRange at 0:47-63"),
+            (b"map[Shift]=0;", "F17 LevelRange at 0:47-48"),
+            (b"map[Shift]=-1;", "F15 BadValue at 0:47-49"),
+            (b"map[Shift]=1+1;", "F15 BadValue at 0:47-50"),
+            (b"map[Shift]=Level;", "F15 BadValue at 0:47-52"),
+            (b"level_name[0]=\"x\";", "F17 LevelRange at 0:47-48"),
+            (b"level_name[1]=Foo;", "F15 BadValue at 0:50-53"),
+            (b"map=2;", "F14 UnknownField at 0:36-39"),
+            (b"modifiers[1]=none;", "F14 UnknownField at 0:36-45"),
+            (b"mods=none;", "F14 UnknownField at 0:36-40"),
+            (b"a.modifiers=none;", "F14 UnknownField at 0:36-37"),
+            (b"!a.map;", "F14 UnknownField at 0:37-38"),
+        ],
+    )
 }
 
 #[test]
 fn faults_of_statements_name_their_place(rt: HostRuntime) -> Result<(), Fail> {
-    let rows: [(&[u8], &str); 4] = [
-        (b"type.modifiers=Shift;", "F14 UnknownField at 0:25-29"),
-        (b"augment key <A> { };", "F14 UnknownField at 0:33-36"),
-        (
-            b"augment type \"T\" { x; }; replace type \"T\" { };",
-            "F14 UnknownField at 0:44-45",
-        ),
-        (b"virtual_modifiers Shift;", "F15 BadValue at 0:43-48"),
-    ];
-    check(&rt, ITEMS, rows.as_slice())
+    check(
+        &rt,
+        ITEMS,
+        &[
+            (b"type.modifiers=Shift;", "F14 UnknownField at 0:25-29"),
+            (b"augment key <A> { };", "F14 UnknownField at 0:33-36"),
+            (
+                b"augment type \"T\" { x; }; replace type \"T\" { };",
+                "F14 UnknownField at 0:44-45",
+            ),
+            (b"virtual_modifiers Shift;", "F15 BadValue at 0:43-48"),
+        ],
+    )
 }
 
 #[test]

@@ -1,4 +1,4 @@
-use crate::sources::{Frame, files_of, library_of};
+use crate::sources::{Frame, bodies_of, files_of, library_of, modifiers_of};
 use ks_core::{NameTable, Notes};
 use kx_codes::{Codes, codes};
 use kx_include::{Bodies, Library};
@@ -24,29 +24,30 @@ const NAME: Frame = Frame {
 
 const MAP: &[u8] = b"xkb_symbols { modifier_map Mod1 { <A>, a }; };";
 
+fn codes_of(alloc: Global, bodies: &Bodies) -> Result<Box<Codes>, Fault> {
+    Ok(Box::new(alloc, codes(alloc, &bodies.keycodes)?)?)
+}
+
 fn maps_over(
     alloc: Global,
     bodies: &Bodies,
     codes: &Codes,
-) -> Result<(ModifierMaps, Notes), Fault> {
-    let modifiers = ModNames::of(alloc, bodies)?;
-    modifier_maps(
-        alloc,
-        &bodies.symbols,
-        codes,
-        &NameTable::builtin(),
-        &modifiers,
-    )
+    modifiers: &ModNames,
+) -> Result<(Box<ModifierMaps>, Notes), Fault> {
+    let names = Box::new(alloc, NameTable::builtin())?;
+    let (maps, notes) = modifier_maps(alloc, &bodies.symbols, codes, &names, modifiers)?;
+    Ok((Box::new(alloc, maps)?, notes))
 }
 
-fn maps_in(alloc: Global, library: &Library) -> Result<(ModifierMaps, Notes), Fault> {
-    let bodies = library.expand(alloc)?;
-    let codes = codes(alloc, &bodies.keycodes)?;
-    maps_over(alloc, &bodies, &codes)
+fn maps_in(alloc: Global, library: &Library) -> Result<(Box<ModifierMaps>, Notes), Fault> {
+    let bodies = bodies_of(alloc, library)?;
+    let codes = codes_of(alloc, &bodies)?;
+    let modifiers = modifiers_of(alloc, &bodies)?;
+    maps_over(alloc, &bodies, &codes, &modifiers)
 }
 
 /// The modifier maps of a keymap, and what is noted.
-fn maps_of(alloc: Global, frame: Frame, items: &[u8]) -> Result<(ModifierMaps, Notes), Fault> {
+fn maps_of(alloc: Global, frame: Frame, items: &[u8]) -> Result<(Box<ModifierMaps>, Notes), Fault> {
     let given = [(b"m".as_slice(), MAP)];
     let files = files_of(alloc, given.as_slice())?;
     let library = library_of(alloc, frame, items, &files)?;
@@ -87,103 +88,115 @@ fn check(
 
 #[test]
 fn keys_have_modifiers_by_precedence(rt: HostRuntime) -> Result<(), Fail> {
-    let rows: [(&[u8], &str); 9] = [
-        (b"", "0/0"),
-        (b"modifier_map Shift { <A>, <A>, <C> };", "1/0"),
-        (
-            b"modifier_map mod5 { <A>, Shift_L }; modifier_map LOCK { <C>, <B> };",
-            "130/2 ffe1=128",
-        ),
-        (
-            b"modifier_map Shift { <A> }; modifier_map None { <A> };",
-            "1/0",
-        ),
-        (
-            b"modifier_map Shift { <A> }; replace modifier_map none { <A> };",
-            "0/0",
-        ),
-        (
-            b"modifier_map Shift { <A> }; replace key <A> { [ a ] };",
-            "1/0",
-        ),
-        (
-            b"modifier_map Shift { <A> }; replace modifier_map Lock { <C> };",
-            "2/0",
-        ),
-        (b"modifier_map Shift { <Z>, frobnicate };", "0/0"),
-        (b"name = 5; virtual_modifiers W; key <A> { other };", "0/0"),
-    ];
-    check(&rt, ITEMS, rows.as_slice())
+    check(
+        &rt,
+        ITEMS,
+        &[
+            (b"", "0/0"),
+            (b"modifier_map Shift { <A>, <A>, <C> };", "1/0"),
+            (
+                b"modifier_map mod5 { <A>, Shift_L }; modifier_map LOCK { <C>, <B> };",
+                "130/2 ffe1=128",
+            ),
+            (
+                b"modifier_map Shift { <A> }; modifier_map None { <A> };",
+                "1/0",
+            ),
+            (
+                b"modifier_map Shift { <A> }; replace modifier_map none { <A> };",
+                "0/0",
+            ),
+            (
+                b"modifier_map Shift { <A> }; replace key <A> { [ a ] };",
+                "1/0",
+            ),
+            (
+                b"modifier_map Shift { <A> }; replace modifier_map Lock { <C> };",
+                "2/0",
+            ),
+            (b"modifier_map Shift { <Z>, frobnicate };", "0/0"),
+            (b"name = 5; virtual_modifiers W; key <A> { other };", "0/0"),
+        ],
+    )
 }
 
 #[test]
 fn keysyms_have_modifiers_by_precedence(rt: HostRuntime) -> Result<(), Fail> {
-    let rows: [(&[u8], &str); 5] = [
-        (
-            b"modifier_map Shift { a }; modifier_map Lock { a };",
-            "0/0 61=2",
-        ),
-        (
-            b"modifier_map Shift { a }; augment modifier_map Lock { a };",
-            "0/0 61=1",
-        ),
-        (
-            b"modifier_map Shift { a }; modifier_map None { a };",
-            "0/0 61=0",
-        ),
-        (
-            b"modifier_map Shift { b, a }; replace modifier_map Lock { a };",
-            "0/0 62=1 61=2",
-        ),
-        (
-            b"modifier_map Lock { 7, 0x61, U41, None, Any, NoSymbol };",
-            "0/0 37=2 61=2 41=2 ffffff=2",
-        ),
-    ];
-    check(&rt, ITEMS, rows.as_slice())
+    check(
+        &rt,
+        ITEMS,
+        &[
+            (
+                b"modifier_map Shift { a }; modifier_map Lock { a };",
+                "0/0 61=2",
+            ),
+            (
+                b"modifier_map Shift { a }; augment modifier_map Lock { a };",
+                "0/0 61=1",
+            ),
+            (
+                b"modifier_map Shift { a }; modifier_map None { a };",
+                "0/0 61=0",
+            ),
+            (
+                b"modifier_map Shift { b, a }; replace modifier_map Lock { a };",
+                "0/0 62=1 61=2",
+            ),
+            (
+                b"modifier_map Lock { 7, 0x61, U41, None, Any, NoSymbol };",
+                "0/0 37=2 61=2 41=2 ffffff=2",
+            ),
+        ],
+    )
 }
 
 #[test]
 fn includes_bring_their_modifier_maps(rt: HostRuntime) -> Result<(), Fail> {
-    let rows: [(&[u8], &str); 4] = [
-        (b"include \"m:2\"", "8/0 61=8"),
-        (b"modifier_map Shift { <A>, a }; augment \"m\"", "9/0 61=1"),
-        (
-            b"modifier_map Shift { <A>, a }; replace \"m:3\"",
-            "8/0 61=8",
-        ),
-        (
-            b"include \"m\" modifier_map Control { <B>, a };",
-            "8/4 61=4",
-        ),
-    ];
-    check(&rt, ITEMS, rows.as_slice())
+    check(
+        &rt,
+        ITEMS,
+        &[
+            (b"include \"m:2\"", "8/0 61=8"),
+            (b"modifier_map Shift { <A>, a }; augment \"m\"", "9/0 61=1"),
+            (
+                b"modifier_map Shift { <A>, a }; replace \"m:3\"",
+                "8/0 61=8",
+            ),
+            (
+                b"include \"m\" modifier_map Control { <B>, a };",
+                "8/4 61=4",
+            ),
+        ],
+    )
 }
 
 #[test]
 fn faults_of_modifier_maps_name_their_place(rt: HostRuntime) -> Result<(), Fail> {
-    let rows: [(&[u8], &str); 7] = [
-        (b"modifier_map aLL { <A> };", "F15 BadValue at 0:125-128"),
-        (b"modifier_map V { <A> };", "F15 BadValue at 0:125-126"),
-        (
-            b"modifier_map v { <A> };",
-            "F12 UnknownModifier at 0:125-126",
-        ),
-        (
-            b"modifier_map Mod6 { <A> };",
-            "F12 UnknownModifier at 0:125-129",
-        ),
-        (
-            b"replace modifier_map Foo { a };",
-            "F12 UnknownModifier at 0:133-136",
-        ),
-        (b"modifier_map Shift { 536870911 };", "0/0 1fffffff=1"),
-        (
-            b"modifier_map Shift { 536870912 };",
-            "F15 BadValue at 0:133-142",
-        ),
-    ];
-    check(&rt, ITEMS, rows.as_slice())
+    check(
+        &rt,
+        ITEMS,
+        &[
+            (b"modifier_map aLL { <A> };", "F15 BadValue at 0:125-128"),
+            (b"modifier_map V { <A> };", "F15 BadValue at 0:125-126"),
+            (
+                b"modifier_map v { <A> };",
+                "F12 UnknownModifier at 0:125-126",
+            ),
+            (
+                b"modifier_map Mod6 { <A> };",
+                "F12 UnknownModifier at 0:125-129",
+            ),
+            (
+                b"replace modifier_map Foo { a };",
+                "F12 UnknownModifier at 0:133-136",
+            ),
+            (b"modifier_map Shift { 536870911 };", "0/0 1fffffff=1"),
+            (
+                b"modifier_map Shift { 536870912 };",
+                "F15 BadValue at 0:133-142",
+            ),
+        ],
+    )
 }
 
 #[test]

@@ -27,7 +27,7 @@ const NAME: Frame = Frame {
     back: b"\" }; }; };",
 };
 
-fn settings_of(alloc: Global, frame: Frame, items: &[u8]) -> Result<KeySettings, Fault> {
+fn settings_of(alloc: Global, frame: Frame, items: &[u8]) -> Result<Box<KeySettings>, Fault> {
     let files = files_of(alloc, &[])?;
     let library = library_of(alloc, frame, items, &files)?;
     settings_in(alloc, &library)
@@ -94,115 +94,127 @@ fn check(
 
 #[test]
 fn fields_say_what_a_key_has(rt: HostRuntime) -> Result<(), Fail> {
-    let rows: [(&[u8], &str); 14] = [
-        (
-            b"type=\"T\", type[2]=\"U\", TYPE[Group03]=\"X\"",
-            "2=U 3=X =T ",
-        ),
-        (
-            b"type=\"T\", type=\"U\", type[1]=\"A\", type[1]=\"B\"",
-            "1=B =U ",
-        ),
-        (b"vmods=V+W-V", ":200 "),
-        (b"virtualMods=V, virtualModifiers=W-W", ":0 "),
-        (b"groupsWrap", "Wrap"),
-        (b"!groupsWrap", "Clamp"),
-        (b"wrapGroups=oFF", "Clamp"),
-        (b"groupsClamp=no", "Wrap"),
-        (b"clampGroups=Yes", "Clamp"),
-        (b"groupsRedirect=gROUP2", "Redirect(1)"),
-        (b"redirectGroups=32", "Redirect(31)"),
-        (b"groupsRedirect=2, groupsWrap", "Wrap"),
-        (
-            b"repeat=[a], Locks[x]=f(), !radioGroup, overlay2=<B>, allowNone",
-            "",
-        ),
-        (
-            b"[a], symbols[2]=[b], actions=[f()], !symbols, type=\"T\"",
-            "=T ",
-        ),
-    ];
-    check(&rt, FIELDS, rows.as_slice())
+    check(
+        &rt,
+        FIELDS,
+        &[
+            (
+                b"type=\"T\", type[2]=\"U\", TYPE[Group03]=\"X\"",
+                "2=U 3=X =T ",
+            ),
+            (
+                b"type=\"T\", type=\"U\", type[1]=\"A\", type[1]=\"B\"",
+                "1=B =U ",
+            ),
+            (b"vmods=V+W-V", ":200 "),
+            (b"virtualMods=V, virtualModifiers=W-W", ":0 "),
+            (b"groupsWrap", "Wrap"),
+            (b"!groupsWrap", "Clamp"),
+            (b"wrapGroups=oFF", "Clamp"),
+            (b"groupsClamp=no", "Wrap"),
+            (b"clampGroups=Yes", "Clamp"),
+            (b"groupsRedirect=gROUP2", "Redirect(1)"),
+            (b"redirectGroups=32", "Redirect(31)"),
+            (b"groupsRedirect=2, groupsWrap", "Wrap"),
+            (
+                b"repeat=[a], Locks[x]=f(), !radioGroup, overlay2=<B>, allowNone",
+                "",
+            ),
+            (
+                b"[a], symbols[2]=[b], actions=[f()], !symbols, type=\"T\"",
+                "=T ",
+            ),
+        ],
+    )
 }
 
 #[test]
 fn defaults_and_later_statements_count_by_precedence(rt: HostRuntime) -> Result<(), Fail> {
-    let rows: [(&[u8], &str); 14] = [
-        (b"key.type=\"T\"; key <A> { type[1]=\"U\" };", "1=U =T "),
-        (b"KEY.type[2]=\"T\"; key <A> { };", "2=T "),
-        (b"key.vmods=V; key.virtualMods=W; key <A> { };", ":200 "),
-        (b"key.vmods=V; key <A> { virtualMods=W-W };", ":0 "),
-        (b"key.groupsClamp; key <A> { groupsWrap };", "Wrap"),
-        (
-            b"key.groupsRedirect=3; !key.groupsClamp; key <A> { };",
-            "Wrap",
-        ),
-        (b"key.repeat=[a]; key <A> { };", ""),
-        (b"key <A> { }; key.type=\"T\";", ""),
-        (
-            b"key.type=\"T\"; key <A> { type=\"U\" }; key <A> { };",
-            "=T ",
-        ),
-        (b"key <A> { type=\"T\" }; key <A> { type=\"U\" };", "=U "),
-        (
-            b"key <A> { type=\"T\" }; augment key <A> { type=\"U\", type[2]=\"X\" };",
-            "2=X =T ",
-        ),
-        (
-            b"key <A> { type[1]=\"T\", type[3]=\"U\" }; key <A> { type[3]=\"X\", vmods=V };",
-            "1=T 3=X :100 ",
-        ),
-        (
-            b"key <A> { type=\"T\", groupsWrap }; replace key <A> { vmods=V };",
-            ":100 ",
-        ),
-        (b"key <A> { type=\"T\" }; replace key <A> { };", ""),
-    ];
-    check(&rt, ITEMS, rows.as_slice())
+    check(
+        &rt,
+        ITEMS,
+        &[
+            (b"key.type=\"T\"; key <A> { type[1]=\"U\" };", "1=U =T "),
+            (b"KEY.type[2]=\"T\"; key <A> { };", "2=T "),
+            (b"key.vmods=V; key.virtualMods=W; key <A> { };", ":200 "),
+            (b"key.vmods=V; key <A> { virtualMods=W-W };", ":0 "),
+            (b"key.groupsClamp; key <A> { groupsWrap };", "Wrap"),
+            (
+                b"key.groupsRedirect=3; !key.groupsClamp; key <A> { };",
+                "Wrap",
+            ),
+            (b"key.repeat=[a]; key <A> { };", ""),
+            (b"key <A> { }; key.type=\"T\";", ""),
+            (
+                b"key.type=\"T\"; key <A> { type=\"U\" }; key <A> { };",
+                "=T ",
+            ),
+            (b"key <A> { type=\"T\" }; key <A> { type=\"U\" };", "=U "),
+            (
+                b"key <A> { type=\"T\" }; augment key <A> { type=\"U\", type[2]=\"X\" };",
+                "2=X =T ",
+            ),
+            (
+                b"key <A> { type[1]=\"T\", type[3]=\"U\" }; key <A> { type[3]=\"X\", vmods=V };",
+                "1=T 3=X :100 ",
+            ),
+            (
+                b"key <A> { type=\"T\", groupsWrap }; replace key <A> { vmods=V };",
+                ":100 ",
+            ),
+            (b"key <A> { type=\"T\" }; replace key <A> { };", ""),
+        ],
+    )
 }
 
 #[test]
 fn faults_of_fields_name_their_place(rt: HostRuntime) -> Result<(), Fail> {
-    let rows: [(&[u8], &str); 22] = [
-        (b"type", "F15 BadValue at 0:76-80"),
-        (b"!type", "F15 BadValue at 0:76-81"),
-        (b"type=T", "F15 BadValue at 0:81-82"),
-        (b"type=\"A\"+\"B\"", "F15 BadValue at 0:81-88"),
-        (b"type=[a]", "F15 BadValue at 0:81-84"),
-        (b"type=f()", "F15 BadValue at 0:81-84"),
-        (b"type[33]=\"T\"", "F16 GroupRange at 0:81-83"),
-        (b"type[Group0]=\"T\"", "F16 GroupRange at 0:81-87"),
-        (b"type[-1]=\"T\"", "F15 BadValue at 0:81-83"),
-        (b"vmods=V+Shift", "F15 BadValue at 0:84-89"),
-        (b"vmods=nOne", "F15 BadValue at 0:82-86"),
-        (b"vmods=V-8", "F15 BadValue at 0:84-85"),
-        (b"vmods=v", "F12 UnknownModifier at 0:82-83"),
-        (b"virtualMods[1]=V", "F14 UnknownField at 0:76-87"),
-        (b"vmods", "F15 BadValue at 0:76-81"),
-        (b"groupsWrap=1", "F15 BadValue at 0:87-88"),
-        (b"groupsWrap[1]", "F14 UnknownField at 0:76-86"),
-        (b"groupsRedirect", "F15 BadValue at 0:76-90"),
-        (b"groupsRedirect=33", "F16 GroupRange at 0:91-93"),
-        (b"redirectGroups=1+1", "F15 BadValue at 0:91-94"),
-        (b"frobnicate=1", "F14 UnknownField at 0:76-86"),
-        (b"x.type=\"T\"", "F14 UnknownField at 0:76-77"),
-    ];
-    check(&rt, FIELDS, rows.as_slice())
+    check(
+        &rt,
+        FIELDS,
+        &[
+            (b"type", "F15 BadValue at 0:76-80"),
+            (b"!type", "F15 BadValue at 0:76-81"),
+            (b"type=T", "F15 BadValue at 0:81-82"),
+            (b"type=\"A\"+\"B\"", "F15 BadValue at 0:81-88"),
+            (b"type=[a]", "F15 BadValue at 0:81-84"),
+            (b"type=f()", "F15 BadValue at 0:81-84"),
+            (b"type[33]=\"T\"", "F16 GroupRange at 0:81-83"),
+            (b"type[Group0]=\"T\"", "F16 GroupRange at 0:81-87"),
+            (b"type[-1]=\"T\"", "F15 BadValue at 0:81-83"),
+            (b"vmods=V+Shift", "F15 BadValue at 0:84-89"),
+            (b"vmods=nOne", "F15 BadValue at 0:82-86"),
+            (b"vmods=V-8", "F15 BadValue at 0:84-85"),
+            (b"vmods=v", "F12 UnknownModifier at 0:82-83"),
+            (b"virtualMods[1]=V", "F14 UnknownField at 0:76-87"),
+            (b"vmods", "F15 BadValue at 0:76-81"),
+            (b"groupsWrap=1", "F15 BadValue at 0:87-88"),
+            (b"groupsWrap[1]", "F14 UnknownField at 0:76-86"),
+            (b"groupsRedirect", "F15 BadValue at 0:76-90"),
+            (b"groupsRedirect=33", "F16 GroupRange at 0:91-93"),
+            (b"redirectGroups=1+1", "F15 BadValue at 0:91-94"),
+            (b"frobnicate=1", "F14 UnknownField at 0:76-86"),
+            (b"x.type=\"T\"", "F14 UnknownField at 0:76-77"),
+        ],
+    )
 }
 
 #[test]
 fn faults_of_defaults_name_their_place(rt: HostRuntime) -> Result<(), Fail> {
-    let rows: [(&[u8], &str); 8] = [
-        (b"key.symbols=[a];", "F14 UnknownField at 0:70-77"),
-        (b"key.actions=[f()];", "F14 UnknownField at 0:70-77"),
-        (b"key.frobnicate;", "F14 UnknownField at 0:70-80"),
-        (b"key.vmods[1]=V;", "F14 UnknownField at 0:70-75"),
-        (b"key.type[33]=\"T\";", "F16 GroupRange at 0:75-77"),
-        (b"!key.type;", "F15 BadValue at 0:66-75"),
-        (b"key = 1;", "F14 UnknownField at 0:66-69"),
-        (b"x.type=\"T\";", "F14 UnknownField at 0:66-67"),
-    ];
-    check(&rt, ITEMS, rows.as_slice())
+    check(
+        &rt,
+        ITEMS,
+        &[
+            (b"key.symbols=[a];", "F14 UnknownField at 0:70-77"),
+            (b"key.actions=[f()];", "F14 UnknownField at 0:70-77"),
+            (b"key.frobnicate;", "F14 UnknownField at 0:70-80"),
+            (b"key.vmods[1]=V;", "F14 UnknownField at 0:70-75"),
+            (b"key.type[33]=\"T\";", "F16 GroupRange at 0:75-77"),
+            (b"!key.type;", "F15 BadValue at 0:66-75"),
+            (b"key = 1;", "F14 UnknownField at 0:66-69"),
+            (b"x.type=\"T\";", "F14 UnknownField at 0:66-67"),
+        ],
+    )
 }
 
 /// What is left of a key whose map is moved to a group, behind one with a type in its fourth group.

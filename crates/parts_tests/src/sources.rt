@@ -1,6 +1,7 @@
 //! Sources of a few items, and the files that they include.
-use kx_include::{Files, Library};
+use kx_include::{Bodies, Files, Library};
 use kx_lex::Fault;
+use kx_masks::ModNames;
 use std::alloc::Global;
 
 /// What stands round a part of a source.
@@ -16,9 +17,11 @@ fn add(alloc: Global, files: &mut Files, name: &[u8], bytes: &[u8]) -> Result<()
     files.insert(name, bytes)
 }
 
+// What owns much memory stands in a box: a function that holds it is proved much sooner.
+
 /// Files with these names and bytes.
-pub fn files_of(alloc: Global, given: &[(&[u8], &[u8])]) -> Result<Files, Fault> {
-    let mut files = Files::new(alloc);
+pub fn files_of(alloc: Global, given: &[(&[u8], &[u8])]) -> Result<Box<Files>, Fault> {
+    let mut files = Box::new(alloc, Files::new(alloc))?;
     for (name, bytes) in given {
         add(alloc, &mut files, name, bytes)?;
     }
@@ -31,9 +34,19 @@ pub fn library_of<'f>(
     frame: Frame,
     part: &[u8],
     files: &'f Files,
-) -> Result<Library<'f>, Fault> {
+) -> Result<Box<Library<'f>>, Fault> {
     let mut text = Vec::from_slice(alloc, frame.front)?;
     text.extend_from_slice(part)?;
     text.extend_from_slice(frame.back)?;
-    Library::of_source(alloc, text.as_slice(), files)
+    Ok(Box::new(alloc, Library::of_source(alloc, text.as_slice(), files)?)?)
+}
+
+/// The bodies of a source's sections.
+pub fn bodies_of<'l>(alloc: Global, library: &'l Library) -> Result<Box<Bodies<'l>>, Fault> {
+    Ok(Box::new(alloc, library.expand(alloc)?)?)
+}
+
+/// The virtual modifiers that bodies declare.
+pub fn modifiers_of(alloc: Global, bodies: &Bodies) -> Result<Box<ModNames>, Fault> {
+    Ok(Box::new(alloc, ModNames::of(alloc, bodies)?)?)
 }

@@ -1,4 +1,4 @@
-use crate::sources::{enclosed, files_of};
+use crate::sources::{bodies_of, enclosed, files_of, library_of};
 use kx_codes::{Codes, codes};
 use kx_include::Library;
 use kx_lex::Fault;
@@ -6,9 +6,9 @@ use std::alloc::Global;
 use std::process::Abort;
 use std::test::Fail;
 
-fn codes_in(alloc: Global, library: &Library) -> Result<Codes, Fault> {
-    let bodies = library.expand(alloc)?;
-    codes(alloc, &bodies.keycodes)
+fn codes_in(alloc: Global, library: &Library) -> Result<Box<Codes>, Fault> {
+    let bodies = bodies_of(alloc, library)?;
+    Ok(Box::new(alloc, codes(alloc, &bodies.keycodes)?)?)
 }
 
 /// The codes of these items, which begin at byte 28, over these files.
@@ -16,7 +16,7 @@ fn codes_over(
     rt: &impl AllocGlobal,
     items: &[u8],
     given: &[(&[u8], &[u8])],
-) -> Result<Codes, Fault> {
+) -> Result<Box<Codes>, Fault> {
     let text = enclosed(
         rt.alloc(),
         b"xkb_keymap { xkb_keycodes { ",
@@ -24,12 +24,8 @@ fn codes_over(
         b" }; };",
     )?;
     let files = files_of(rt.alloc(), given)?;
-    let library = Library::of_source(rt.alloc(), text.as_slice(), &files)?;
+    let library = library_of(rt.alloc(), text.as_slice(), &files)?;
     codes_in(rt.alloc(), &library)
-}
-
-fn codes_of(rt: &(impl Abort + AllocGlobal), items: &[u8]) -> Result<Codes, Fault> {
-    codes_over(rt, items, [].as_slice())
 }
 
 /// The codes of A, B and C, and the names of 38 and 39.
@@ -44,48 +40,65 @@ fn shown(rt: &(impl Abort + AllocGlobal), codes: &Codes) -> Result<String, Fail>
     Ok(format!(in rt.alloc(); "{a} {b} {c} {first} {second}")?)
 }
 
-/// Codes are shown so.
-fn assert_shown(
+/// Fails where the codes of a row's items over these files are shown otherwise than is wanted.
+fn check(
     rt: &(impl Abort + AllocGlobal),
-    codes: &Codes,
-    items: &[u8],
-    wanted: &str,
+    rows: &[(&[u8], &str)],
+    given: &[(&[u8], &[u8])],
 ) -> Result<(), Fail> {
-    let text = shown(rt, codes)?;
-    assert_eq!(rt; text.as_str(), wanted, "{:?}", items);
+    for (items, wanted) in rows {
+        let codes = codes_over(rt, items, given)?;
+        let text = shown(rt, &codes)?;
+        assert_eq!(rt; text.as_str(), *wanted, "{:?}", items);
+    }
     Ok(())
+}
+
+/// The line of the fault of some items over these files, or `ok`.
+fn verdict_over(
+    rt: &impl AllocGlobal,
+    items: &[u8],
+    given: &[(&[u8], &[u8])],
+) -> Result<String, Fail> {
+    match codes_over(rt, items, given) {
+        Ok(_) => Ok(String::from_str(rt.alloc(), "ok")?),
+        Err(fault) => Ok(format!(in rt.alloc(); "{fault}")?),
+    }
+}
+
+fn verdict(rt: &impl AllocGlobal, items: &[u8]) -> Result<String, Fail> {
+    verdict_over(rt, items, [].as_slice())
 }
 
 #[test]
 fn pairs_and_aliases(rt: HostRuntime) -> Result<(), Fail> {
-    let rows: [(&[u8], &str); 12] = [
-        (b"<A>=38; <B>=39; <A>=39;", "39 0 0 - A"),
-        (b"<A>=38; <B>=39; <A>=39; <C>=38; <B>=38;", "39 38 0 B A"),
-        (b"<A>=38; augment <B>=38;", "38 0 0 A -"),
-        (b"<A>=38; <B>=38;", "0 38 0 B -"),
-        (b"<A>=38; augment <A>=39; <C>=39;", "38 0 39 A C"),
-        (b"<A>=38; alias <B>=<A>;", "38 38 0 A -"),
-        (b"<A>=38; alias <B>=<A>; alias <C>=<B>;", "38 38 0 A -"),
-        (
-            b"alias <C>=<A>; <A>=38; <B>=39; alias <C>=<B>;",
-            "38 39 39 A B",
-        ),
-        (
-            b"alias <C>=<A>; <A>=38; <B>=39; augment alias <C>=<B>;",
-            "38 39 38 A B",
-        ),
-        (b"<A>=38; <B>=39; alias <A>=<B>;", "38 39 0 A B"),
-        (b"<A>=4095;", "4095 0 0 - -"),
-        (
-            b"minimum = 8; Maximum = 255; indicator 1 = \"Caps Lock\"; <A>=38;",
-            "38 0 0 A -",
-        ),
-    ];
-    for (items, wanted) in rows {
-        let codes = codes_of(&rt, items)?;
-        assert_shown(&rt, &codes, items, wanted)?;
-    }
-    Ok(())
+    check(
+        &rt,
+        &[
+            (b"<A>=38; <B>=39; <A>=39;", "39 0 0 - A"),
+            (b"<A>=38; <B>=39; <A>=39; <C>=38; <B>=38;", "39 38 0 B A"),
+            (b"<A>=38; augment <B>=38;", "38 0 0 A -"),
+            (b"<A>=38; <B>=38;", "0 38 0 B -"),
+            (b"<A>=38; augment <A>=39; <C>=39;", "38 0 39 A C"),
+            (b"<A>=38; alias <B>=<A>;", "38 38 0 A -"),
+            (b"<A>=38; alias <B>=<A>; alias <C>=<B>;", "38 38 0 A -"),
+            (
+                b"alias <C>=<A>; <A>=38; <B>=39; alias <C>=<B>;",
+                "38 39 39 A B",
+            ),
+            (
+                b"alias <C>=<A>; <A>=38; <B>=39; augment alias <C>=<B>;",
+                "38 39 38 A B",
+            ),
+            (b"<A>=38; <B>=39; alias <A>=<B>;", "38 39 0 A B"),
+            (b"<A>=4095;", "4095 0 0 - -"),
+            (
+                b"minimum = 8; Maximum = 255; indicator 1 = \"Caps Lock\"; <A>=38;",
+                "38 0 0 A -",
+            ),
+        ],
+        [].as_slice(),
+    )
 }
 
 #[test]
@@ -100,26 +113,21 @@ fn includes_bring_what_their_maps_leave(rt: HostRuntime) -> Result<(), Fail> {
         (b"outer".as_slice(), outer),
         (b"wrong".as_slice(), wrong),
     ];
-    let rows: [(&[u8], &str); 7] = [
-        (b"include \"evdev\"", "39 0 39 - A"),
-        (b"include \"evdev\" include \"evdev\"", "39 0 39 - A"),
-        (b"include \"outer\"", "39 38 39 B A"),
-        (b"include \"outer+other\"", "38 0 38 A -"),
-        (b"include \"outer|other\"", "39 38 39 B A"),
-        (b"<A>=38; augment \"evdev+other\"", "38 0 38 A -"),
-        (b"include \"other\" include \"evdev\"", "39 0 39 - A"),
-    ];
-    for (items, wanted) in rows {
-        let codes = codes_over(&rt, items, given.as_slice())?;
-        assert_shown(&rt, &codes, items, wanted)?;
-    }
-    match codes_over(&rt, b"<A>=38; include \"wrong\"", given.as_slice()) {
-        Ok(_) => assert_eq!(rt; "", "refused"),
-        Err(fault) => {
-            let text = format!(in rt.alloc(); "{fault}")?;
-            assert_eq!(rt; text.as_str(), "F18 CodeRange at 4:19-23");
-        }
-    }
+    check(
+        &rt,
+        &[
+            (b"include \"evdev\"", "39 0 39 - A"),
+            (b"include \"evdev\" include \"evdev\"", "39 0 39 - A"),
+            (b"include \"outer\"", "39 38 39 B A"),
+            (b"include \"outer+other\"", "38 0 38 A -"),
+            (b"include \"outer|other\"", "39 38 39 B A"),
+            (b"<A>=38; augment \"evdev+other\"", "38 0 38 A -"),
+            (b"include \"other\" include \"evdev\"", "39 0 39 - A"),
+        ],
+        given.as_slice(),
+    )?;
+    let line = verdict_over(&rt, b"<A>=38; include \"wrong\"", given.as_slice())?;
+    assert_eq!(rt; line.as_str(), "F18 CodeRange at 4:19-23");
     Ok(())
 }
 
@@ -134,20 +142,10 @@ fn faults_name_their_place(rt: HostRuntime) -> Result<(), Fail> {
         (b"type \"A\" { };", "F14 UnknownField at 0:28-32"),
     ];
     for (items, wanted) in rows {
-        match codes_of(&rt, items) {
-            Ok(_) => assert_eq!(rt; "", wanted),
-            Err(fault) => assert_eq!(rt; format!(in rt.alloc(); "{fault}")?.as_str(), wanted),
-        }
+        let line = verdict(&rt, items)?;
+        assert_eq!(rt; line.as_str(), wanted);
     }
     Ok(())
-}
-
-/// The line of the fault of some items, or `ok`.
-fn verdict(rt: &(impl Abort + AllocGlobal), items: &[u8]) -> Result<String, Fail> {
-    match codes_of(rt, items) {
-        Ok(_) => Ok(String::from_str(rt.alloc(), "ok")?),
-        Err(fault) => Ok(format!(in rt.alloc(); "{fault}")?),
-    }
 }
 
 /// The same of a name of so many bytes.
@@ -166,7 +164,7 @@ fn long_names_are_refused(rt: HostRuntime) -> Result<(), Fail> {
 }
 
 fn end_of(rt: &(impl Abort + AllocGlobal), items: &[u8]) -> Result<u16, Fault> {
-    Ok(codes_of(rt, items)?.end())
+    Ok(codes_over(rt, items, [].as_slice())?.end())
 }
 
 #[test]

@@ -1,8 +1,9 @@
+use crate::sources::{bodies_of, files_of};
 use kx_include::{Files, Library};
 use kx_lex::{Fault, Span, lex};
 use kx_masks::{MOST_VIRTUAL_MODIFIERS, ModNames, NameSet, real_mask, real_of};
 use kx_mods::Mods;
-use kx_parse::{Expression, Item, Setting, Statement, Value, parse};
+use kx_parse::{Expression, Item, Setting, Statement, Tree, Value, parse};
 use std::alloc::Global;
 use std::process::Abort;
 use std::test::Fail;
@@ -29,30 +30,26 @@ fn keymap(
     Ok(text)
 }
 
-/// The files that can be included.
-fn files(rt: &impl AllocGlobal) -> Result<Files, Fault> {
-    let mut files = Files::new(rt.alloc());
-    files.insert(
-        Vec::from_slice(rt.alloc(), b"virt")?,
-        Vec::from_slice(rt.alloc(), VIRT)?,
-    )?;
-    Ok(files)
-}
-
-fn library_in<'f>(alloc: Global, text: &[u8], files: &'f Files) -> Result<Library<'f>, Fault> {
+fn tree_of(alloc: Global, text: &[u8]) -> Result<Box<Tree>, Fault> {
     let tokens = lex(alloc, text)?;
-    let tree = parse(alloc, text, tokens.as_slice())?;
-    Library::read(alloc, tree, Span { start: 0, stop: 0 }, files)
+    Ok(Box::new(alloc, parse(alloc, text, tokens.as_slice())?)?)
 }
 
-fn names_of_library(alloc: Global, library: &Library) -> Result<ModNames, Fault> {
-    let bodies = library.expand(alloc)?;
-    ModNames::of(alloc, &bodies)
+fn library_in<'f>(alloc: Global, text: &[u8], files: &'f Files) -> Result<Box<Library<'f>>, Fault> {
+    let tree = Box::into_inner(tree_of(alloc, text)?);
+    let library = Library::read(alloc, tree, Span { start: 0, stop: 0 }, files)?;
+    Ok(Box::new(alloc, library)?)
 }
 
-/// The virtual modifiers of a keymap.
-fn names_in(rt: &impl AllocGlobal, text: &[u8]) -> Result<ModNames, Fault> {
-    let files = files(rt)?;
+fn names_of_library(alloc: Global, library: &Library) -> Result<Box<ModNames>, Fault> {
+    let bodies = bodies_of(alloc, library)?;
+    Ok(Box::new(alloc, ModNames::of(alloc, &bodies)?)?)
+}
+
+/// The virtual modifiers of a keymap, which can include a file.
+fn names_in(rt: &impl AllocGlobal, text: &[u8]) -> Result<Box<ModNames>, Fault> {
+    let given = [(b"virt".as_slice(), VIRT)];
+    let files = files_of(rt.alloc(), given.as_slice())?;
     let library = library_in(rt.alloc(), text, &files)?;
     names_of_library(rt.alloc(), &library)
 }
@@ -108,8 +105,7 @@ fn set_in(names: &ModNames, items: &[Item]) -> Result<u32, Fault> {
 /// The set that the first field of a keymap's symbols names, as bits.
 fn set_of(rt: &impl AllocGlobal, text: &[u8]) -> Result<u32, Fault> {
     let names = names_in(rt, text)?;
-    let tokens = lex(rt.alloc(), text)?;
-    let tree = parse(rt.alloc(), text, tokens.as_slice())?;
+    let tree = tree_of(rt.alloc(), text)?;
     match tree.sections.as_slice() {
         [.., symbols] => set_in(&names, symbols.items.as_slice()),
         [] => Ok(0),
@@ -132,121 +128,137 @@ fn set_line(rt: &impl AllocGlobal, text: &[u8]) -> Result<String, Fail> {
     }
 }
 
+/// Items of types, of compat and of symbols, and what they declare.
+type Declaring<'a> = (&'a [u8], &'a [u8], &'a [u8], &'a str);
+
+/// Fails where the virtual modifiers of a row are others than those that are wanted.
+fn check_names(rt: &(impl Abort + AllocGlobal), rows: &[Declaring]) -> Result<(), Fail> {
+    for (types, compat, symbols, wanted) in rows {
+        let text = keymap(rt, types, compat, symbols)?;
+        let shown = names_line(rt, text.as_slice())?;
+        assert_eq!(rt; shown.trim_end(), *wanted, "{:?}", types);
+    }
+    Ok(())
+}
+
 #[test]
 fn declarations(rt: HostRuntime) -> Result<(), Fail> {
-    let rows: [(&[u8], &[u8], &[u8], &str); 18] = [
-        (b"virtual_modifiers A=Shift+Lock-Shift;", b"", b"", "A=2"),
-        (b"virtual_modifiers A=ALL-mod5;", b"", b"", "A=127"),
-        (b"virtual_modifiers A=3, B=none;", b"", b"", "A=3 B=0"),
-        (
-            b"virtual_modifiers A=256;",
-            b"",
-            b"",
-            "F15 BadValue at 0:45-48",
-        ),
-        (
-            b"virtual_modifiers A=-1;",
-            b"",
-            b"",
-            "F15 BadValue at 0:45-47",
-        ),
-        (
-            b"virtual_modifiers A=Foo;",
-            b"",
-            b"",
-            "F12 UnknownModifier at 0:45-48",
-        ),
-        (
-            b"virtual_modifiers A=B;",
-            b"",
-            b"virtual_modifiers B;",
-            "F15 BadValue at 0:45-46",
-        ),
-        (
-            b"virtual_modifiers mOd3;",
-            b"",
-            b"",
-            "F15 BadValue at 0:43-47",
-        ),
-        (
-            b"virtual_modifiers None;",
-            b"",
-            b"",
-            "F15 BadValue at 0:43-47",
-        ),
-        (b"virtual_modifiers a, A=1;", b"", b"", "a=0 A=1"),
-        (
-            b"virtual_modifiers B;",
-            b"virtual_modifiers A;",
-            b"virtual_modifiers C, A;",
-            "B=0 A=0 C=0",
-        ),
-        (
-            b"virtual_modifiers A=Shift;",
-            b"virtual_modifiers A=Lock;",
-            b"",
-            "A=3",
-        ),
-        (
-            b"virtual_modifiers A=Shift;",
-            b"",
-            b"virtual_modifiers A=Control;",
-            "A=5",
-        ),
-        (b"replace virtual_modifiers X=Shift, X;", b"", b"", "X=1"),
-        (
-            b"augment virtual_modifiers X=Shift, X=Lock;",
-            b"",
-            b"",
-            "X=2",
-        ),
-        (
-            b"virtual_modifiers X=Shift; replace virtual_modifiers X;",
-            b"",
-            b"",
-            "X=0",
-        ),
-        (
-            b"virtual_modifiers X=Shift; augment virtual_modifiers X=Lock;",
-            b"",
-            b"",
-            "X=1",
-        ),
-        (
-            b"include \"virt\" include \"virt\" virtual_modifiers A;",
-            b"",
-            b"",
-            "V=64 W=0 A=0",
-        ),
-    ];
-    for (types, compat, symbols, wanted) in rows {
-        let text = keymap(&rt, types, compat, symbols)?;
-        let shown = names_line(&rt, text.as_slice())?;
-        assert_eq!(rt; shown.trim_end(), wanted, "{:?}", types);
+    check_names(
+        &rt,
+        &[
+            (b"virtual_modifiers A=Shift+Lock-Shift;", b"", b"", "A=2"),
+            (b"virtual_modifiers A=ALL-mod5;", b"", b"", "A=127"),
+            (b"virtual_modifiers A=3, B=none;", b"", b"", "A=3 B=0"),
+            (
+                b"virtual_modifiers A=256;",
+                b"",
+                b"",
+                "F15 BadValue at 0:45-48",
+            ),
+            (
+                b"virtual_modifiers A=-1;",
+                b"",
+                b"",
+                "F15 BadValue at 0:45-47",
+            ),
+            (
+                b"virtual_modifiers A=Foo;",
+                b"",
+                b"",
+                "F12 UnknownModifier at 0:45-48",
+            ),
+            (
+                b"virtual_modifiers A=B;",
+                b"",
+                b"virtual_modifiers B;",
+                "F15 BadValue at 0:45-46",
+            ),
+            (
+                b"virtual_modifiers mOd3;",
+                b"",
+                b"",
+                "F15 BadValue at 0:43-47",
+            ),
+            (
+                b"virtual_modifiers None;",
+                b"",
+                b"",
+                "F15 BadValue at 0:43-47",
+            ),
+            (b"virtual_modifiers a, A=1;", b"", b"", "a=0 A=1"),
+            (
+                b"virtual_modifiers B;",
+                b"virtual_modifiers A;",
+                b"virtual_modifiers C, A;",
+                "B=0 A=0 C=0",
+            ),
+            (
+                b"virtual_modifiers A=Shift;",
+                b"virtual_modifiers A=Lock;",
+                b"",
+                "A=3",
+            ),
+            (
+                b"virtual_modifiers A=Shift;",
+                b"",
+                b"virtual_modifiers A=Control;",
+                "A=5",
+            ),
+            (b"replace virtual_modifiers X=Shift, X;", b"", b"", "X=1"),
+            (
+                b"augment virtual_modifiers X=Shift, X=Lock;",
+                b"",
+                b"",
+                "X=2",
+            ),
+            (
+                b"virtual_modifiers X=Shift; replace virtual_modifiers X;",
+                b"",
+                b"",
+                "X=0",
+            ),
+            (
+                b"virtual_modifiers X=Shift; augment virtual_modifiers X=Lock;",
+                b"",
+                b"",
+                "X=1",
+            ),
+            (
+                b"include \"virt\" include \"virt\" virtual_modifiers A;",
+                b"",
+                b"",
+                "V=64 W=0 A=0",
+            ),
+        ],
+    )
+}
+
+/// Fails where the symbols of a row name another set than the one that is wanted.
+fn check_sets(rt: &(impl Abort + AllocGlobal), rows: &[(&[u8], &str)]) -> Result<(), Fail> {
+    for (symbols, wanted) in rows {
+        let text = keymap(rt, b"virtual_modifiers A, B;", b"", symbols)?;
+        let shown = set_line(rt, text.as_slice())?;
+        assert_eq!(rt; shown.as_str(), *wanted, "{:?}", symbols);
     }
     Ok(())
 }
 
 #[test]
 fn masks(rt: HostRuntime) -> Result<(), Fail> {
-    let types = b"virtual_modifiers A, B;".as_slice();
-    let rows: [(&[u8], &str); 9] = [
-        (b"m = A+B-A;", "512"),
-        (b"m = A+sHiFt+LOCK;", "259"),
-        (b"m = all-Mod5;", "127"),
-        (b"m = all+none+255-1;", "254"),
-        (b"m = C; virtual_modifiers C;", "1024"),
-        (b"m = a;", "F12 UnknownModifier at 0:87-88"),
-        (b"m = A+256;", "F15 BadValue at 0:89-92"),
-        (b"m = A+<B>;", "F15 BadValue at 0:89-92"),
-        (b"m = \"A\";", "F15 BadValue at 0:87-90"),
-    ];
-    for (symbols, wanted) in rows {
-        let text = keymap(&rt, types, b"", symbols)?;
-        let shown = set_line(&rt, text.as_slice())?;
-        assert_eq!(rt; shown.as_str(), wanted, "{:?}", symbols);
-    }
-    Ok(())
+    check_sets(
+        &rt,
+        &[
+            (b"m = A+B-A;", "512"),
+            (b"m = A+sHiFt+LOCK;", "259"),
+            (b"m = all-Mod5;", "127"),
+            (b"m = all+none+255-1;", "254"),
+            (b"m = C; virtual_modifiers C;", "1024"),
+            (b"m = a;", "F12 UnknownModifier at 0:87-88"),
+            (b"m = A+256;", "F15 BadValue at 0:89-92"),
+            (b"m = A+<B>;", "F15 BadValue at 0:89-92"),
+            (b"m = \"A\";", "F15 BadValue at 0:87-90"),
+        ],
+    )
 }
 
 /// A statement that declares so many names, and one that declares one of them and another.

@@ -9,12 +9,13 @@ ghost use Rattle.kx_merge.specs.Offers.{taken};
 ghost use Rattle.kx_merge.specs.Records.{AreOffered};
 ghost use Rattle.source_tests.specs.Sheet.{keycode_in, sheet_cell, sheet_moves, sheet_offer, sheet_rules};
 
-use crate::sources::{enclosed, files_of};
-use kx_include::{Files, Library, Place};
+use crate::sources::{bodies_of, enclosed, files_of, library_of};
+use kx_include::{Expansion, Files, Library, Place};
 use kx_lex::Fault;
 use kx_merge::{Fields, Merged, merge};
 use kx_parse::{Item, Mode, Statement};
 use std::alloc::Global;
+use std::process::Abort;
 use std::test::Fail;
 
 /// The values of two groups.
@@ -193,7 +194,7 @@ fn repeated(rt: &impl AllocGlobal, text: &[u8], count: usize) -> Result<Vec<u8>,
 }
 
 /// The files `a` and `b` with `<A>=7` and `<A>=8`, and `c` with a thousand statements.
-fn some_files(rt: &impl AllocGlobal) -> Result<Files, Fail> {
+fn some_files(rt: &impl AllocGlobal) -> Result<Box<Files>, Fail> {
     let statements = repeated(rt, b"<A>=1; ", 1000)?;
     let many = enclosed(rt.alloc(), b"xkb_symbols { ", statements.as_slice(), b"};")?;
     let given: [(&[u8], &[u8]); 3] = [
@@ -205,21 +206,26 @@ fn some_files(rt: &impl AllocGlobal) -> Result<Files, Fail> {
 }
 
 /// The library of a source with these symbols items.
-fn library_of<'f>(
+fn library_with<'f>(
     rt: &impl AllocGlobal,
     items: &[u8],
     files: &'f Files,
-) -> Result<Library<'f>, Fail> {
+) -> Result<Box<Library<'f>>, Fail> {
     let text = enclosed(rt.alloc(), b"xkb_keymap { xkb_symbols { ", items, b" }; };")?;
-    Ok(Library::of_source(rt.alloc(), text.as_slice(), files)?)
+    Ok(library_of(rt.alloc(), text.as_slice(), files)?)
+}
+
+/// A box with what the bodies of some sections are merged to.
+fn records_of(alloc: Global, body: &Expansion) -> Result<Box<Merged<u8, Sheet, u32>>, Fault> {
+    Ok(Box::new(alloc, merge::<(), Sheet>(alloc, &(), body)?)?)
 }
 
 /// The records of a source with these symbols items, and how many statements were noted.
-fn records_in(rt: &impl AllocGlobal, items: &[u8]) -> Result<Merged<u8, Sheet, u32>, Fail> {
+fn records_in(rt: &impl AllocGlobal, items: &[u8]) -> Result<Box<Merged<u8, Sheet, u32>>, Fail> {
     let files = some_files(rt)?;
-    let library = library_of(rt, items, &files)?;
-    let bodies = library.expand(rt.alloc())?;
-    Ok(merge::<(), Sheet>(rt.alloc(), &(), &bodies.symbols)?)
+    let library = library_with(rt, items, &files)?;
+    let bodies = bodies_of(rt.alloc(), &library)?;
+    Ok(records_of(rt.alloc(), &bodies.symbols)?)
 }
 
 /// The value of the record A in the first group or the second of a source with these symbols items.
@@ -231,35 +237,42 @@ fn value_in(rt: &impl AllocGlobal, items: &[u8], group: u8) -> Result<Option<u32
     }
 }
 
-#[test]
-fn values_by_precedence(rt: HostRuntime) -> Result<(), Fail> {
-    let rows: [(&[u8], Option<u32>); 21] = [
-        (b"<A>=1; <A>=2;", Some(2)),
-        (b"<A>=1; augment <A>=2;", Some(1)),
-        (b"augment <A>=1; augment <A>=2; override <A>=3;", Some(3)),
-        (b"<A>=1; <A>=0;", Some(1)),
-        (b"<A>=1; replace <A>=0;", None),
-        (b"<A>=1; replace <A>=0; augment <A>=2;", Some(2)),
-        (b"<A>=1; <B>=2;", Some(1)),
-        (b"<B>=1; replace <B>=2;", None),
-        (b"<A>=1; include \"a\"", Some(7)),
-        (b"<A>=1; augment \"a\"", Some(1)),
-        (b"augment \"a\" <A>=1;", Some(1)),
-        (b"augment \"a\" augment <A>=1;", Some(7)),
-        (b"<A>=1; replace \"a\"", Some(7)),
-        (b"include \"a+b\"", Some(8)),
-        (b"include \"a|b\"", Some(7)),
-        (b"include \"b+a\"", Some(7)),
-        (b"<A>=1; include \"b|a\"", Some(8)),
-        (b"<A>=1; include \"a:2\"", Some(1)),
-        (b"include \"a\" include \"b\" include \"a\"", Some(7)),
-        (b"include \"a\" <A>=1; include \"a\"", Some(7)),
-        (b"<A>=1; augment \"a\" include \"a\"", Some(7)),
-    ];
-    for (items, wanted) in &rows {
-        assert_eq!(rt; value_in(&rt, items, 1)?, *wanted, "{:?}", items);
+/// Fails where A has another value in the first group than is wanted.
+fn check(rt: &(impl Abort + AllocGlobal), rows: &[(&[u8], Option<u32>)]) -> Result<(), Fail> {
+    for (items, wanted) in rows {
+        assert_eq!(rt; value_in(rt, items, 1)?, *wanted, "{:?}", items);
     }
     Ok(())
+}
+
+#[test]
+fn values_by_precedence(rt: HostRuntime) -> Result<(), Fail> {
+    check(
+        &rt,
+        &[
+            (b"<A>=1; <A>=2;", Some(2)),
+            (b"<A>=1; augment <A>=2;", Some(1)),
+            (b"augment <A>=1; augment <A>=2; override <A>=3;", Some(3)),
+            (b"<A>=1; <A>=0;", Some(1)),
+            (b"<A>=1; replace <A>=0;", None),
+            (b"<A>=1; replace <A>=0; augment <A>=2;", Some(2)),
+            (b"<A>=1; <B>=2;", Some(1)),
+            (b"<B>=1; replace <B>=2;", None),
+            (b"<A>=1; include \"a\"", Some(7)),
+            (b"<A>=1; augment \"a\"", Some(1)),
+            (b"augment \"a\" <A>=1;", Some(1)),
+            (b"augment \"a\" augment <A>=1;", Some(7)),
+            (b"<A>=1; replace \"a\"", Some(7)),
+            (b"include \"a+b\"", Some(8)),
+            (b"include \"a|b\"", Some(7)),
+            (b"include \"b+a\"", Some(7)),
+            (b"<A>=1; include \"b|a\"", Some(8)),
+            (b"<A>=1; include \"a:2\"", Some(1)),
+            (b"include \"a\" include \"b\" include \"a\"", Some(7)),
+            (b"include \"a\" <A>=1; include \"a\"", Some(7)),
+            (b"<A>=1; augment \"a\" include \"a\"", Some(7)),
+        ],
+    )
 }
 
 #[test]
@@ -275,7 +288,8 @@ fn maps_moved_to_a_group(rt: HostRuntime) -> Result<(), Fail> {
 #[test]
 fn records_in_the_order_of_their_names(rt: HostRuntime) -> Result<(), Fail> {
     let items = b"<C>=1; include \"a\" <B>=2; <C>=3;";
-    let records = records_in(&rt, items)?.records;
+    let merged = records_in(&rt, items)?;
+    let records = &merged.records;
     assert_eq!(rt; records.len(), 3);
     for (place, name) in [(0, b'C'), (1, b'A'), (2, b'B')] {
         let found = records.get_index(place).ok_or("no record")?;
@@ -284,21 +298,17 @@ fn records_in_the_order_of_their_names(rt: HostRuntime) -> Result<(), Fail> {
     Ok(())
 }
 
-fn types_merged(rt: &impl AllocGlobal, library: &Library) -> Result<Merged<u8, Sheet, u32>, Fail> {
-    let bodies = library.expand(rt.alloc())?;
-    Ok(merge::<(), Sheet>(rt.alloc(), &(), &bodies.types)?)
-}
-
 /// How many records types have, and how many statements were noted.
 fn types_found(rt: &impl AllocGlobal, library: &Library) -> Result<(usize, u32), Fail> {
-    let merged = types_merged(rt, library)?;
+    let bodies = bodies_of(rt.alloc(), library)?;
+    let merged = records_of(rt.alloc(), &bodies.types)?;
     Ok((merged.records.len(), merged.notes))
 }
 
 #[test]
 fn sections_of_another_kind_give_nothing(rt: HostRuntime) -> Result<(), Fail> {
     let files = some_files(&rt)?;
-    let library = library_of(&rt, b"<A>=1; include \"a\"", &files)?;
+    let library = library_with(&rt, b"<A>=1; include \"a\"", &files)?;
     let found = types_found(&rt, &library)?;
     assert_eq!(rt; found, (0, 0));
     Ok(())

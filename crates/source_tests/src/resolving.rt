@@ -1,22 +1,14 @@
-use ks_core::{NameTable, Notes};
-use kx_include::Files;
-use kx_lex::Fault;
-use kx_source::tables;
-use kx_tables::{Owned, Rows, Tables};
+use crate::sources::tables_in;
+use kx_tables::{Rows, Tables};
+use std::alloc::Global;
 use std::process::Abort;
 use std::test::Fail;
-
-/// The tables of a source without files, and what was passed over.
-fn tables_in(rt: &(impl Abort + AllocGlobal), source: &[u8]) -> Result<(Owned, Notes), Fault> {
-    let files = Files::new(rt.alloc());
-    tables(rt.alloc(), source, &files, &NameTable::builtin())
-}
 
 #[test]
 fn keys_are_those_that_keycodes_name(rt: HostRuntime) -> Result<(), Fail> {
     let source =
         b"xkb_keymap { xkb_keycodes { <B>=40; <A>=38; }; xkb_keycodes { <C>=9; }; xkb_symbols { key <A> {[a]}; }; xkb_symbols { key <C> {[c]}; }; };";
-    let (tables, _) = tables_in(&rt, source)?;
+    let (tables, _) = tables_in(rt.alloc(), source)?;
     assert_eq!(rt; tables.counts().keys, 3);
     assert_eq!(rt; tables.key_row(0).code, 9);
     assert_eq!(rt; tables.key_name(1), b"A".as_slice());
@@ -31,7 +23,7 @@ fn keys_are_those_that_keycodes_name(rt: HostRuntime) -> Result<(), Fail> {
 
 #[test]
 fn no_group_uses_no_type(rt: HostRuntime) -> Result<(), Fail> {
-    let (tables, _) = tables_in(&rt, b"xkb_keymap { xkb_keycodes { <A>=38; }; };")?;
+    let (tables, _) = tables_in(rt.alloc(), b"xkb_keymap { xkb_keycodes { <A>=38; }; };")?;
     assert_eq!(rt; tables.counts().keys, 1);
     assert_eq!(rt; tables.counts().types, 0);
     Ok(())
@@ -41,7 +33,7 @@ fn no_group_uses_no_type(rt: HostRuntime) -> Result<(), Fail> {
 fn groups_of_one_level(rt: HostRuntime) -> Result<(), Fail> {
     let source =
         b"xkb_keymap { xkb_keycodes { <A>=38; }; xkb_symbols { key <A> { [a, A], [], [b] }; }; };";
-    let (tables, notes) = tables_in(&rt, source)?;
+    let (tables, notes) = tables_in(rt.alloc(), source)?;
     assert_eq!(rt; tables.counts().groups, 3);
     assert_eq!(rt; tables.counts().keysyms, 3);
     // The second group takes the content of the first.
@@ -53,45 +45,57 @@ fn groups_of_one_level(rt: HostRuntime) -> Result<(), Fail> {
     Ok(())
 }
 
-#[test]
-fn refusals_name_their_place(rt: HostRuntime) -> Result<(), Fail> {
-    let rows: [(&[u8], &str); 8] = [
-        (
-            b"xkb_keymap { xkb_types { type \"T\" { modifiers=Foo; }; }; };",
-            "F12 UnknownModifier at 0:46-49",
-        ),
-        (
-            b"xkb_keymap { xkb_symbols { modifier_map Shft { <A> }; }; };",
-            "F12 UnknownModifier at 0:40-44",
-        ),
-        (
-            b"xkb_keymap { xkb_symbols { name[33] = \"x\"; }; };",
-            "F16 GroupRange at 0:32-34",
-        ),
-        (
-            b"xkb_keymap { xkb_compat { interpret a { more; }; }; };",
-            "F14 UnknownField at 0:40-44",
-        ),
-        (
-            b"xkb_keymap { xkb_compat { }; xkb_compat { indicator \"x\" { mods = V; }; }; };",
-            "F12 UnknownModifier at 0:65-66",
-        ),
-        (
-            b"xkb_keymap { xkb_compat { key <A> { }; }; };",
-            "F14 UnknownField at 0:26-29",
-        ),
-        (
-            b"xkb_keymap { xkb_keycodes { <A>=4096; }; };",
-            "F18 CodeRange at 0:32-36",
-        ),
-        (b"xkb_keymap { xkb_symbols { key", "F6 Syntax at 0:30-30"),
-    ];
-    for (source, line) in rows {
-        let refusal = match tables_in(&rt, source) {
-            Ok(_) => String::from_str(rt.alloc(), "taken")?,
-            Err(fault) => format!(in rt.alloc(); "{fault}")?,
-        };
-        assert_eq!(rt; refusal.as_str(), line);
+/// The line of the fault of a source, or `taken`.
+fn verdict(alloc: Global, source: &[u8]) -> Result<String, Fail> {
+    match tables_in(alloc, source) {
+        Ok(_) => Ok(String::from_str(alloc, "taken")?),
+        Err(fault) => Ok(format!(in alloc; "{fault}")?),
+    }
+}
+
+/// Fails where a row's source has another verdict than the one that is wanted.
+fn check(rt: &(impl Abort + AllocGlobal), rows: &[(&[u8], &str)]) -> Result<(), Fail> {
+    for (source, wanted) in rows {
+        let line = verdict(rt.alloc(), source)?;
+        assert_eq!(rt; line.as_str(), *wanted);
     }
     Ok(())
+}
+
+#[test]
+fn refusals_name_their_place(rt: HostRuntime) -> Result<(), Fail> {
+    check(
+        &rt,
+        &[
+            (
+                b"xkb_keymap { xkb_types { type \"T\" { modifiers=Foo; }; }; };",
+                "F12 UnknownModifier at 0:46-49",
+            ),
+            (
+                b"xkb_keymap { xkb_symbols { modifier_map Shft { <A> }; }; };",
+                "F12 UnknownModifier at 0:40-44",
+            ),
+            (
+                b"xkb_keymap { xkb_symbols { name[33] = \"x\"; }; };",
+                "F16 GroupRange at 0:32-34",
+            ),
+            (
+                b"xkb_keymap { xkb_compat { interpret a { more; }; }; };",
+                "F14 UnknownField at 0:40-44",
+            ),
+            (
+                b"xkb_keymap { xkb_compat { }; xkb_compat { indicator \"x\" { mods = V; }; }; };",
+                "F12 UnknownModifier at 0:65-66",
+            ),
+            (
+                b"xkb_keymap { xkb_compat { key <A> { }; }; };",
+                "F14 UnknownField at 0:26-29",
+            ),
+            (
+                b"xkb_keymap { xkb_keycodes { <A>=4096; }; };",
+                "F18 CodeRange at 0:32-36",
+            ),
+            (b"xkb_keymap { xkb_symbols { key", "F6 Syntax at 0:30-30"),
+        ],
+    )
 }

@@ -1,18 +1,11 @@
-use ks_core::{NameTable, Notes};
-use kx_include::Files;
+use crate::sources::tables_in;
+use ks_core::Notes;
 use kx_lex::Fault;
 use kx_mods::Mods;
-use kx_source::tables;
 use kx_tables::{Action, EntryRow, Owned, Range, Rows, Tables};
 use std::alloc::Global;
 use std::process::Abort;
 use std::test::Fail;
-
-/// The tables of a source without files, and what was passed over.
-fn tables_in(alloc: Global, source: &[u8]) -> Result<(Owned, Notes), Fault> {
-    let files = Files::new(alloc);
-    tables(alloc, source, &files, &NameTable::builtin())
-}
 
 fn entry(mods: Mods, level: u8, preserve: Mods) -> EntryRow {
     EntryRow {
@@ -73,26 +66,33 @@ fn has_type(alloc: Global, list: &[u8], name: &[u8]) -> Result<bool, Fault> {
     Ok(tables.type_name(0) == name)
 }
 
-#[test]
-fn automatic_types(rt: HostRuntime) -> Result<(), Fail> {
-    let rows: [(&[u8], &[u8]); 12] = [
-        (b"[a]", b"ONE_LEVEL"),
-        (b"[1, 2]", b"TWO_LEVEL"),
-        (b"[a, A]", b"ALPHABETIC"),
-        (b"[A, a]", b"TWO_LEVEL"),
-        (b"[KP_Home, KP_7]", b"KEYPAD"),
-        (b"[1, KP_7]", b"KEYPAD"),
-        (b"[1, 2, 3]", b"FOUR_LEVEL"),
-        (b"[a, A, b, B]", b"FOUR_LEVEL_ALPHABETIC"),
-        (b"[a, A, 1, 2]", b"FOUR_LEVEL_SEMIALPHABETIC"),
-        (b"[1, KP_7, a, A]", b"FOUR_LEVEL_KEYPAD"),
-        (b"[a, A, b, B, c]", b"ONE_LEVEL"),
-        (b"type=\"KEYPAD\", [a, A]", b"KEYPAD"),
-    ];
+/// Fails where a row's list has not the type of that name.
+fn check(rt: &(impl Abort + AllocGlobal), rows: &[(&[u8], &[u8])]) -> Result<(), Fail> {
     for (list, name) in rows {
         assert!(rt; has_type(rt.alloc(), list, name)?);
     }
     Ok(())
+}
+
+#[test]
+fn automatic_types(rt: HostRuntime) -> Result<(), Fail> {
+    check(
+        &rt,
+        &[
+            (b"[a]", b"ONE_LEVEL"),
+            (b"[1, 2]", b"TWO_LEVEL"),
+            (b"[a, A]", b"ALPHABETIC"),
+            (b"[A, a]", b"TWO_LEVEL"),
+            (b"[KP_Home, KP_7]", b"KEYPAD"),
+            (b"[1, KP_7]", b"KEYPAD"),
+            (b"[1, 2, 3]", b"FOUR_LEVEL"),
+            (b"[a, A, b, B]", b"FOUR_LEVEL_ALPHABETIC"),
+            (b"[a, A, 1, 2]", b"FOUR_LEVEL_SEMIALPHABETIC"),
+            (b"[1, KP_7, a, A]", b"FOUR_LEVEL_KEYPAD"),
+            (b"[a, A, b, B, c]", b"ONE_LEVEL"),
+            (b"type=\"KEYPAD\", [a, A]", b"KEYPAD"),
+        ],
+    )
 }
 
 fn assert_types_and_keys(rt: &impl Abort, tables: &Owned) {

@@ -8,13 +8,12 @@ use std::alloc::Global;
 use std::test::Fail;
 
 /// `<A>` with the groups a A and Cyrillic_ef, of the types TWO and ONE, and `<B>` with no group.
-fn built(alloc: Global) -> Result<Builder, BuildFault> {
+fn push_rows(builder: &mut Builder) -> Result<(), BuildFault> {
     let entry = EntryRow {
         mods: Mods::SHIFT,
         level: 2,
         preserve: Mods::NONE,
     };
-    let mut builder = Builder::new(alloc);
     builder.push_type(b"TWO", Mods::SHIFT, 2, [entry].as_slice())?;
     builder.push_type(b"ONE", Mods::NONE, 1, [].as_slice())?;
     builder.push_key(38, b"A", Mods::NONE, Range::Wrap)?;
@@ -23,8 +22,18 @@ fn built(alloc: Global) -> Result<Builder, BuildFault> {
     builder.push_cell([0x41, 0xc1].as_slice(), Action::None)?;
     builder.push_group(1)?;
     builder.push_cell([].as_slice(), LOCK)?;
-    builder.push_key(40, b"BB", Mods::LOCK, Range::Redirect(1))?;
-    Ok(builder)
+    builder.push_key(40, b"BB", Mods::LOCK, Range::Redirect(1))
+}
+
+fn built(alloc: Global) -> Result<Builder, Fail> {
+    let mut builder = Box::new(alloc, Builder::new(alloc))?;
+    push_rows(&mut builder).ok().ok_or("refused")?;
+    Ok(Box::into_inner(builder))
+}
+
+/// The tables of what was built. In a box, tests that hold it are proved much sooner.
+fn built_parts(alloc: Global) -> Result<Box<Parts>, Fail> {
+    Ok(Box::new(alloc, built(alloc)?.into_parts())?)
 }
 
 const LOCK: Action = Action::LockMods {
@@ -35,7 +44,7 @@ const LOCK: Action = Action::LockMods {
 
 #[test]
 fn builds_the_rows(rt: HostRuntime) -> Result<(), Fail> {
-    let parts = built(rt.alloc()).ok().ok_or("refused")?.into_parts();
+    let parts = built_parts(rt.alloc())?;
     let two = TypeRow {
         mods: Mods::SHIFT,
         levels: 2,
@@ -78,7 +87,7 @@ fn builds_the_rows(rt: HostRuntime) -> Result<(), Fail> {
 
 #[test]
 fn builds_the_groups(rt: HostRuntime) -> Result<(), Fail> {
-    let parts = built(rt.alloc()).ok().ok_or("refused")?.into_parts();
+    let parts = built_parts(rt.alloc())?;
     let groups = [
         GroupRow {
             key_type: 0,
@@ -117,8 +126,9 @@ fn builds_the_groups(rt: HostRuntime) -> Result<(), Fail> {
 
 #[test]
 fn builds_sound_tables(rt: HostRuntime) -> Result<(), Fail> {
-    let parts = built(rt.alloc()).ok().ok_or("refused")?.into_parts();
-    let tables = Owned::new(parts).ok().ok_or("unsound")?;
+    let tables = Owned::new(built(rt.alloc())?.into_parts())
+        .ok()
+        .ok_or("unsound")?;
     assert_eq!(rt; tables.counts().cells, 3);
     Ok(())
 }
@@ -126,7 +136,7 @@ fn builds_sound_tables(rt: HostRuntime) -> Result<(), Fail> {
 #[test]
 fn refuses_what_has_no_place(rt: HostRuntime) -> Result<(), Fail> {
     let misplaced = Some(BuildFault::Misplaced);
-    let mut builder = Builder::new(rt.alloc());
+    let mut builder = Box::new(rt.alloc(), Builder::new(rt.alloc()))?;
     assert_eq!(rt; builder.push_group(0).err(), misplaced);
     assert_eq!(rt;
         builder.push_cell([].as_slice(), Action::None).err(),
@@ -146,16 +156,17 @@ fn refuses_what_has_no_place(rt: HostRuntime) -> Result<(), Fail> {
 #[test]
 fn refuses_what_does_not_fit(rt: HostRuntime) -> Result<(), Fail> {
     let too_many = Some(BuildFault::TooMany);
-    let mut builder = Builder::new(rt.alloc());
+    let mut builder = Box::new(rt.alloc(), Builder::new(rt.alloc()))?;
     let name = vec![in rt.alloc(); b'A'; 65536]?;
     let pushed = builder.push_type(name.as_slice(), Mods::NONE, 1, [].as_slice());
     assert_eq!(rt; pushed.err(), too_many);
-    assert!(rt; builder.into_parts().names.is_empty());
+    let parts = Box::new(rt.alloc(), Box::into_inner(builder).into_parts())?;
+    assert!(rt; parts.names.is_empty());
     Ok(())
 }
 
-#[test]
-fn builds_indicators_and_group_names(rt: HostRuntime) -> Result<(), Fail> {
+/// The same with an indicator and two groups' names.
+fn with_lamps(alloc: Global) -> Result<Box<Parts>, Fail> {
     let caps = Indicator {
         name: b"Caps",
         mods: Mods::LOCK,
@@ -164,9 +175,13 @@ fn builds_indicators_and_group_names(rt: HostRuntime) -> Result<(), Fail> {
         groups: 2,
     };
     let names: [&[u8]; 2] = [b"", b"ru"];
-    let builder = built(rt.alloc()).ok().ok_or("refused")?;
-    let parts = builder.with_lamps([caps].as_slice(), names.as_slice());
-    let parts = parts.ok().ok_or("refused")?;
+    let parts = built(alloc)?.with_lamps([caps].as_slice(), names.as_slice());
+    Ok(Box::new(alloc, parts.ok().ok_or("refused")?)?)
+}
+
+#[test]
+fn builds_indicators_and_group_names(rt: HostRuntime) -> Result<(), Fail> {
+    let parts = with_lamps(rt.alloc())?;
     let lit = IndicatorRow {
         mods: Mods::LOCK,
         mod_states: States::from_mask(4),

@@ -74,7 +74,8 @@ fn shows_one_key(rt: &impl Abort, tables: &Owned) {
 
 #[test]
 fn takes_sound_tables(rt: HostRuntime) -> Result<(), Fail> {
-    let tables = Owned::new(one_key(rt.alloc(), 38)?).ok().ok_or("unsound")?;
+    let tables = Owned::new(one_key(rt.alloc(), 38)?);
+    let tables = Box::new(rt.alloc(), tables.ok().ok_or("unsound")?)?;
     shows_one_key(&rt, &tables);
     Ok(())
 }
@@ -92,7 +93,7 @@ fn refuses_unsound_tables(rt: HostRuntime) -> Result<(), Fail> {
 
 /// The tables of one key, with so many indicators.
 fn with_indicators(alloc: Global, count: u32) -> Result<Parts, AllocError> {
-    let mut parts = one_key(alloc, 38)?;
+    let mut parts = Box::new(alloc, one_key(alloc, 38)?)?;
     for _ in 0..count {
         parts.indicators.push(IndicatorRow {
             mods: Mods::NONE,
@@ -103,7 +104,7 @@ fn with_indicators(alloc: Global, count: u32) -> Result<Parts, AllocError> {
             first_name: 10,
         })?;
     }
-    Ok(parts)
+    Ok(Box::into_inner(parts))
 }
 
 /// What tables with so many indicators are refused for.

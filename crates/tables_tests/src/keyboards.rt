@@ -24,8 +24,13 @@ fn desktop_tables(rt: &HostRuntime) -> Result<Owned, Fail> {
     desktop(rt.alloc())?.finish()
 }
 
-fn on_a_desktop(rt: &HostRuntime) -> Result<Player<Owned>, Fail> {
-    Ok(Player::start(rt.alloc(), desktop_tables(rt)?)?)
+/// A player over tables. A test that holds it in a box is proved much sooner.
+fn on(rt: &HostRuntime, tables: Owned) -> Result<Box<Player<Owned>>, Fail> {
+    Ok(Box::new(rt.alloc(), Player::start(rt.alloc(), tables)?)?)
+}
+
+fn on_a_desktop(rt: &HostRuntime) -> Result<Box<Player<Owned>>, Fail> {
+    on(rt, desktop_tables(rt)?)
 }
 
 /// Plays each run from the opening state of the desktop keymap.
@@ -71,14 +76,14 @@ fn holds_shift_through_many_taps(rt: HostRuntime) -> Result<(), Fail> {
 
 #[test]
 fn undoes_the_action_of_the_press(rt: HostRuntime) -> Result<(), Fail> {
-    let mut player = Player::start(rt.alloc(), desktop_with_two_groups(rt.alloc())?)?;
+    let mut player = on(&rt, desktop_with_two_groups(rt.alloc())?)?;
     plays(&rt, &mut player, &GROUP_CHANGED);
     Ok(())
 }
 
 #[test]
 fn lacks_the_third_level(rt: HostRuntime) -> Result<(), Fail> {
-    let mut player = Player::start(rt.alloc(), desktop_without_third_level(rt.alloc())?)?;
+    let mut player = on(&rt, desktop_without_third_level(rt.alloc())?)?;
     plays(&rt, &mut player, &NO_THIRD_LEVEL);
     Ok(())
 }
@@ -98,7 +103,7 @@ fn takes_groups_in_range(rt: HostRuntime) -> Result<(), Fail> {
         (lock(GroupChange::Relative(5)), &FIVE_GROUPS_ON),
     ];
     for (action, run) in runs {
-        let mut player = Player::start(rt.alloc(), ranges(rt.alloc(), action)?.finish()?)?;
+        let mut player = on(&rt, ranges(rt.alloc(), action)?.finish()?)?;
         plays(&rt, &mut player, run);
     }
     Ok(())
@@ -106,7 +111,7 @@ fn takes_groups_in_range(rt: HostRuntime) -> Result<(), Fail> {
 
 #[test]
 fn knows_no_key_of_empty_tables(rt: HostRuntime) -> Result<(), Fail> {
-    let mut player = Player::start(rt.alloc(), Built::new(rt.alloc()).finish()?)?;
+    let mut player = on(&rt, Built::new(rt.alloc()).finish()?)?;
     let reply = player.event(38, Direction::Down);
     assert!(rt; !reply.known);
     assert_eq!(rt; reply.syms.len(), 0);
@@ -230,7 +235,7 @@ fn lights(rt: &impl Abort, player: &mut Player<Owned>, follower: &mut Follower<O
 
 #[test]
 fn lights_caps_lock(rt: HostRuntime) -> Result<(), Fail> {
-    let mut player = Player::start(rt.alloc(), desktop_with_a_lamp(&rt)?)?;
+    let mut player = on(&rt, desktop_with_a_lamp(&rt)?)?;
     let mut follower = Follower::start(desktop_with_a_lamp(&rt)?);
     lights(&rt, &mut player, &mut follower);
     Ok(())
@@ -248,7 +253,7 @@ fn ranges_with_lamps(rt: &HostRuntime) -> Result<Owned, Fail> {
 
 #[test]
 fn lights_groups(rt: HostRuntime) -> Result<(), Fail> {
-    let mut player = Player::start(rt.alloc(), ranges_with_lamps(&rt)?)?;
+    let mut player = on(&rt, ranges_with_lamps(&rt)?)?;
     assert_eq!(rt; player.event(20, Direction::Down).lit, 0);
     assert_eq!(rt; player.event(24, Direction::Down).lit, 2);
     Ok(())

@@ -4,9 +4,9 @@ mod statements;
 mod types;
 
 use crate::samples::DESKTOP;
-use crate::sources::files_of;
+use crate::sources::{builtin, files_of};
 use keymaps::{CHANGED, DESKTOP_ANSWERS, GIVEN, SOURCES};
-use ks_core::{MemFeed, MemOut, NameTable};
+use ks_core::{MemFeed, MemOut};
 use kx_tool::session;
 use statements::{LAMPS, SECTIONS};
 use std::alloc::{AllocError, Global};
@@ -61,13 +61,14 @@ fn input_of(alloc: Global, source: &str, events: &str) -> Result<String, AllocEr
 /// What a session over this input answers.
 fn answered(rt: &(impl Abort + AllocGlobal), input: &str) -> Result<String, Fail> {
     let files = files_of(rt.alloc(), &GIVEN)?;
+    let names = builtin(rt.alloc())?;
     let mut room = [0u8; 2048];
     let mut out = MemOut::new(&mut room);
     let ended = session(
         rt.alloc(),
         &mut MemFeed::new(input.as_bytes()),
         &files,
-        &NameTable::builtin(),
+        &names,
         &mut out,
     );
     assert_eq!(rt; ended, Ok(()), "{input}");

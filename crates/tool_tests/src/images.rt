@@ -2,8 +2,8 @@
 mod rows;
 
 use crate::samples::{DESKTOP, DESKTOP_OF_TOOLS, ONE_KEY, RANGES};
-use crate::sources::files_of;
-use ks_core::{NameTable, Notes};
+use crate::sources::{builtin, files_of};
+use ks_core::Notes;
 use kx_tool::compile;
 use rows::{DESKTOP_IMAGE, GIVEN, IMAGES};
 use std::alloc::Global;
@@ -104,7 +104,8 @@ const INDICATORS: [(&str, &str); 15] = [
 /// The image of a source, and the counts of what is noted.
 fn image_of(alloc: Global, source: &str) -> Result<(Vec<u8>, Notes), Fail> {
     let files = files_of(alloc, &GIVEN)?;
-    let made = compile(alloc, source.as_bytes(), &files, &NameTable::builtin())?;
+    let names = builtin(alloc)?;
+    let made = compile(alloc, source.as_bytes(), &files, &names)?;
     Ok(made)
 }
 

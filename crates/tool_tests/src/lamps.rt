@@ -1,10 +1,12 @@
 //! Names of lit indicators in answers.
-use ks_core::{Lent, MemFeed, MemOut, NameTable};
+use crate::sources::builtin;
+use ks_core::{Lent, MemFeed, MemOut};
 use kx_image::write;
 use kx_mods::Mods;
 use kx_tables::{IndicatorRow, Owned, Parts, States};
 use kx_tool::replay;
 use std::alloc::Global;
+use std::process::Abort;
 use std::test::Fail;
 
 /// The image of a keymap with no key, whose indicators have these names and are always lit.
@@ -33,9 +35,27 @@ fn image_of(alloc: Global, names: &[&[u8]]) -> Result<Vec<u8>, Fail> {
         group_names: Vec::new(alloc),
         names: all,
     });
+    let tables = Box::new(alloc, tables.ok().ok_or("unsound tables")?)?;
     let mut out = Lent::new(Vec::new(alloc));
-    write(&tables.ok().ok_or("unsound tables")?, &mut out)?;
+    write(tables.as_ref(), &mut out)?;
     Ok(out.device)
+}
+
+/// Asserts what is answered over an image to a release of a key that it hasn't.
+fn answers(rt: &(impl Abort + AllocGlobal), image: &[u8], wanted: &[u8]) -> Result<(), Fail> {
+    let names = builtin(rt.alloc())?;
+    let mut room = [0u8; 256];
+    let mut out = MemOut::new(&mut room);
+    let ended = replay(
+        rt.alloc(),
+        &mut MemFeed::new(b"up 9"),
+        image,
+        &names,
+        &mut out,
+    );
+    assert_eq!(rt; ended, Ok(()));
+    assert_eq!(rt; out.written(), wanted);
+    Ok(())
 }
 
 #[test]
@@ -58,17 +78,7 @@ fn names_of_lit_indicators_stay_on_their_line(rt: HostRuntime) -> Result<(), Fai
             lit,
         ]
         .concat(rt.alloc())?;
-        let mut room = [0u8; 256];
-        let mut out = MemOut::new(&mut room);
-        let ended = replay(
-            rt.alloc(),
-            &mut MemFeed::new(b"up 9"),
-            image.as_slice(),
-            &NameTable::builtin(),
-            &mut out,
-        );
-        assert_eq!(rt; ended, Ok(()));
-        assert_eq!(rt; out.written(), wanted.as_slice());
+        answers(&rt, image.as_slice(), wanted.as_slice())?;
     }
     Ok(())
 }

@@ -6,6 +6,8 @@ mod answers;
 #[cfg(test)]
 mod faults;
 #[cfg(test)]
+mod headline;
+#[cfg(test)]
 mod images;
 #[cfg(test)]
 mod lamps;

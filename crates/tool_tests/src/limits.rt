@@ -1,6 +1,6 @@
 //! Sources at each limit, and those that pass it by one.
 use crate::refused::refusal;
-use kx_tool::Files;
+use crate::sources::no_files;
 use std::alloc::{AllocError, Global};
 use std::process::Abort;
 use std::test::Fail;
@@ -235,7 +235,7 @@ pub fn repeated(
 
 /// Asserts how the sources of these rows are refused.
 fn reach_limits(rt: &(impl Abort + AllocGlobal), rows: &[Row]) -> Result<(), Fail> {
-    let files = Files::new(rt.alloc());
+    let files = no_files(rt.alloc())?;
     for (front, piece, count, back, wanted) in rows {
         let source = repeated(rt.alloc(), front, piece, *count, back)?;
         let found = refusal(rt, source.as_bytes(), &files)?;

@@ -1,7 +1,7 @@
 //! As many keys and types as there can be.
 use crate::limits::repeated;
-use ks_core::NameTable;
-use kx_tool::{Files, compile};
+use crate::sources::{builtin, no_files};
+use kx_tool::compile;
 use std::alloc::{AllocError, Global};
 use std::test::Fail;
 
@@ -143,8 +143,9 @@ fn each_key_and_type_has_its_record(rt: HostRuntime) -> Result<(), Fail> {
     put_levels(&mut wanted)?;
     put_names(rt.alloc(), &mut wanted)?;
     let source = source(rt.alloc())?;
-    let files = Files::new(rt.alloc());
-    let (image, _) = compile(rt.alloc(), source.as_bytes(), &files, &NameTable::builtin())?;
+    let files = no_files(rt.alloc())?;
+    let names = builtin(rt.alloc())?;
+    let (image, _) = compile(rt.alloc(), source.as_bytes(), &files, &names)?;
     assert_eq!(rt; image.len(), 268_148);
     assert!(rt; image.as_slice() == wanted.as_slice());
     Ok(())

@@ -1,6 +1,6 @@
 //! Includes that are nested as deep, and are as many, as they can be.
 use crate::refused::refusal;
-use crate::sources::add;
+use crate::sources::{add, no_files};
 use kx_tool::Files;
 use std::alloc::{AllocError, Global};
 use std::test::Fail;
@@ -32,8 +32,8 @@ fn add_file(alloc: Global, files: &mut Files, number: u32, count: usize) -> Resu
 }
 
 /// Files that include each other so deep, the first by the source.
-fn nested_files(alloc: Global, depth: u32, width: usize) -> Result<Files, Fail> {
-    let mut files = Files::new(alloc);
+fn nested_files(alloc: Global, depth: u32, width: usize) -> Result<Box<Files>, Fail> {
+    let mut files = no_files(alloc)?;
     for number in 1..depth {
         add_file(alloc, &mut files, number, width)?;
     }

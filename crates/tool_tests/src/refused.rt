@@ -1,8 +1,7 @@
 //! Sources that are refused, with the place of their fault.
 mod rows;
 
-use crate::sources::files_of;
-use ks_core::NameTable;
+use crate::sources::{builtin, files_of};
 use kx_tool::{Files, compile};
 use rows::{GIVEN, REFUSED};
 use std::process::Abort;
@@ -14,7 +13,8 @@ pub fn refusal(
     source: &[u8],
     files: &Files,
 ) -> Result<String, Fail> {
-    match compile(rt.alloc(), source, files, &NameTable::builtin()) {
+    let names = builtin(rt.alloc())?;
+    match compile(rt.alloc(), source, files, &names) {
         Ok(_) => Ok(String::from_str(rt.alloc(), "taken")?),
         Err(fault) => Ok(format!(in rt.alloc(); "{fault}")?),
     }

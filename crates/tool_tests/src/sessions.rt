@@ -2,10 +2,11 @@ mod devices;
 mod includes;
 mod prompt;
 
-use ks_core::{MemFeed, MemOut, NameTable};
+use crate::sources::{builtin, no_files};
+use ks_core::{MemFeed, MemOut};
 use kx_image::View;
 use kx_tables::Rows;
-use kx_tool::{Files, compile, session};
+use kx_tool::{compile, session};
 use std::process::Abort;
 use std::test::Fail;
 
@@ -17,14 +18,9 @@ fn run(rt: &(impl Abort + AllocGlobal), input: &[u8], wanted: &[u8]) -> Result<S
     let mut feed = MemFeed::new(input);
     let mut room = [0u8; 1024];
     let mut out = MemOut::new(&mut room);
-    let names = NameTable::builtin();
-    let ended = match session(
-        rt.alloc(),
-        &mut feed,
-        &Files::new(rt.alloc()),
-        &names,
-        &mut out,
-    ) {
+    let names = builtin(rt.alloc())?;
+    let files = no_files(rt.alloc())?;
+    let ended = match session(rt.alloc(), &mut feed, &files, &names, &mut out) {
         Ok(()) => String::from_str(rt.alloc(), "")?,
         Err(fault) => format!(in rt.alloc(); "{fault}")?,
     };
@@ -57,17 +53,13 @@ fn the_sample_answers(rt: HostRuntime) -> Result<(), Fail> {
 
 #[test]
 fn the_sample_is_98_bytes(rt: HostRuntime) -> Result<(), Fail> {
-    let names = NameTable::builtin();
-    let (image, _) = compile(rt.alloc(), SAMPLE, &Files::new(rt.alloc()), &names)?;
+    let names = builtin(rt.alloc())?;
+    let files = no_files(rt.alloc())?;
+    let (image, _) = compile(rt.alloc(), SAMPLE, &files, &names)?;
     assert_eq!(rt; image.len(), 98);
     let view = View::open(image.as_slice())?;
     assert_eq!(rt; view.counts().keys, 1);
-    let (empty, _) = compile(
-        rt.alloc(),
-        b"xkb_keymap { };",
-        &Files::new(rt.alloc()),
-        &names,
-    )?;
+    let (empty, _) = compile(rt.alloc(), b"xkb_keymap { };", &files, &names)?;
     assert_eq!(rt;
         empty.as_slice(),
         b"KXI\n\x02\0\0\0\0\0\0\0\0\0\0\0\0\0\0\0\0\0\0\0\0\0\0\0\0\0\0\0".as_slice()
@@ -77,10 +69,11 @@ fn the_sample_is_98_bytes(rt: HostRuntime) -> Result<(), Fail> {
 
 #[test]
 fn unknown_names_are_noted(rt: HostRuntime) -> Result<(), Fail> {
-    let names = NameTable::builtin();
+    let names = builtin(rt.alloc())?;
+    let files = no_files(rt.alloc())?;
     let source: &[u8] =
         b"xkb_keymap { xkb_keycodes { <A>=38; <B>=39; }; xkb_symbols { key <A> { [ U41 ] }; key <C> { [ b ] }; key <B> { [ frobnicate ] }; }; };";
-    let (_, notes) = compile(rt.alloc(), source, &Files::new(rt.alloc()), &names)?;
+    let (_, notes) = compile(rt.alloc(), source, &files, &names)?;
     assert_eq!(rt; notes.keys, 1);
     assert_eq!(rt; notes.keysyms, 1);
     let ended = run_lines(

@@ -29,14 +29,20 @@ fn push_keysym(alloc: Global, text: &mut String, keysym: WantedKeysym) -> Result
     Ok(())
 }
 
-/// Adds the keysym, condition and mask, action, virtual modifier and whether it is for the first level alone.
-fn push_shown(alloc: Global, text: &mut String, one: &Interpretation) -> Result<(), Fail> {
+/// Adds the keysym, condition and mask, and action.
+fn push_head(alloc: Global, text: &mut String, one: &Interpretation) -> Result<(), Fail> {
     let trigger = one.trigger();
     push_keysym(alloc, text, trigger.keysym)?;
     let condition = trigger.condition;
     let mask = trigger.mods().mask();
     let action = action_word(one.action());
     text.push_str(format!(in alloc; " {condition:?} {mask} {action}")?.as_str())?;
+    Ok(())
+}
+
+/// Adds the same, the virtual modifier and whether it is for the first level alone.
+fn push_shown(alloc: Global, text: &mut String, one: &Interpretation) -> Result<(), Fail> {
+    push_head(alloc, text, one)?;
     if let Some(number) = one.modifier() {
         text.push_str(format!(in alloc; " V{number}")?.as_str())?;
     }

@@ -1,4 +1,5 @@
 //! What a keymap says of a key.
+use crate::sources::{bodies_of, modifiers_of};
 use kx_include::{Library, Place};
 use kx_lex::Fault;
 use kx_masks::ModNames;
@@ -62,8 +63,8 @@ fn said_by(alloc: Global, names: &ModNames, items: &[Item]) -> Result<KeySetting
 }
 
 /// What the key statements in the symbols of a source say, as if they were of one key.
-pub fn settings_in(alloc: Global, library: &Library) -> Result<KeySettings, Fault> {
-    let bodies = library.expand(alloc)?;
-    let names = ModNames::of(alloc, &bodies)?;
-    said_by(alloc, &names, library.items_in(SYMBOLS))
+pub fn settings_in(alloc: Global, library: &Library) -> Result<Box<KeySettings>, Fault> {
+    let bodies = bodies_of(alloc, library)?;
+    let names = modifiers_of(alloc, &bodies)?;
+    Ok(Box::new(alloc, said_by(alloc, &names, library.items_in(SYMBOLS))?)?)
 }

@@ -2,9 +2,10 @@
 ghost use Rattle.std.specs.Prelude.{None};
 
 use super::SAMPLE;
-use ks_core::{Feed, MemFeed, MemOut, NameTable};
+use crate::sources::{builtin, no_files};
+use ks_core::{Feed, MemFeed, MemOut};
 use kx_image::ImageFault;
-use kx_tool::{Files, ReplayFault, SessionFault, dump, replay, session};
+use kx_tool::{ReplayFault, SessionFault, dump, replay, session};
 use std::io;
 use std::test::Fail;
 
@@ -37,8 +38,8 @@ impl Feed for Endless {
 }
 
 #[test]
-fn replay_answers_lines(rt: HostRuntime) {
-    let names = NameTable::builtin();
+fn replay_answers_lines(rt: HostRuntime) -> Result<(), Fail> {
+    let names = builtin(rt.alloc())?;
     for most in [1, 2, 7, 4096] {
         let mut feed = MemFeed::new(LINES).with_most(most);
         let mut room = [0u8; 512];
@@ -47,23 +48,25 @@ fn replay_answers_lines(rt: HostRuntime) {
         assert_eq!(rt; ended, Ok(()));
         assert_eq!(rt; out.written(), ANSWERS);
     }
+    Ok(())
 }
 
 #[test]
-fn replay_refuses_what_is_no_image(rt: HostRuntime) {
-    let names = NameTable::builtin();
+fn replay_refuses_what_is_no_image(rt: HostRuntime) -> Result<(), Fail> {
+    let names = builtin(rt.alloc())?;
     let mut feed = MemFeed::new(LINES);
     let mut room = [0u8; 512];
     let mut out = MemOut::new(&mut room);
     let ended = replay(rt.alloc(), &mut feed, &IMAGE[..93], &names, &mut out);
     assert_eq!(rt; ended, Err(ReplayFault::Image(ImageFault::Truncated)));
     assert!(rt; out.written().is_empty());
+    Ok(())
 }
 
 #[test]
 fn readers_that_fail_at_each_byte(rt: HostRuntime) -> Result<(), Fail> {
-    let names = NameTable::builtin();
-    let files = Files::new(rt.alloc());
+    let names = builtin(rt.alloc())?;
+    let files = no_files(rt.alloc())?;
     for place in 0..LINES.len() {
         let mut feed = MemFeed::new(LINES).failing_after(place);
         let mut room = [0u8; 512];
@@ -90,8 +93,8 @@ fn readers_that_fail_at_each_byte(rt: HostRuntime) -> Result<(), Fail> {
 
 #[test]
 fn writers_that_fail_at_each_byte(rt: HostRuntime) -> Result<(), Fail> {
-    let names = NameTable::builtin();
-    let files = Files::new(rt.alloc());
+    let names = builtin(rt.alloc())?;
+    let files = no_files(rt.alloc())?;
     let input = [SAMPLE, b"%%\n".as_slice(), LINES].concat(rt.alloc())?;
     for place in 0..ANSWERS.len() {
         let mut feed = MemFeed::new(LINES);
@@ -115,19 +118,20 @@ fn writers_that_fail_at_each_byte(rt: HostRuntime) -> Result<(), Fail> {
 }
 
 #[test]
-fn a_reader_without_end_is_refused(rt: HostRuntime) {
-    let names = NameTable::builtin();
+fn a_reader_without_end_is_refused(rt: HostRuntime) -> Result<(), Fail> {
+    let names = builtin(rt.alloc())?;
     let mut room = [0u8; 16];
     let mut out = MemOut::new(&mut room);
     let ended = replay(rt.alloc(), &mut Endless, &IMAGE, &names, &mut out);
     assert_eq!(rt; ended, Err(ReplayFault::Read));
     assert!(rt; out.written().is_empty());
+    Ok(())
 }
 
 #[test]
 fn a_mark_without_its_line_feed_ends_the_source(rt: HostRuntime) -> Result<(), Fail> {
-    let names = NameTable::builtin();
-    let files = Files::new(rt.alloc());
+    let names = builtin(rt.alloc())?;
+    let files = no_files(rt.alloc())?;
     for end in [b"%%".as_slice(), b"%%\n", b""] {
         let input = [SAMPLE, end].concat(rt.alloc())?;
         let mut feed = MemFeed::new(input.as_slice());

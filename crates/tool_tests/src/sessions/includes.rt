@@ -1,5 +1,5 @@
 //! Sources that include files.
-use crate::sources::{add, image_of};
+use crate::sources::{add, image_of, no_files};
 use ks_core::{MemFeed, MemOut, NameTable};
 use kx_image::{ImageFault, View};
 use kx_lex::Fault;
@@ -14,8 +14,8 @@ const US: &[u8] = b"default xkb_symbols \"basic\" { key <A> { [ a ] }; };";
 const RU: &[u8] = b"xkb_symbols \"x\" { key <A> { [ U0444 ] }; };";
 
 /// The files with these names and bytes.
-fn files_of(alloc: Global, given: &[(&[u8], &[u8])]) -> Result<Files, Fault> {
-    let mut files = Files::new(alloc);
+fn files_of(alloc: Global, given: &[(&[u8], &[u8])]) -> Result<Box<Files>, Fault> {
+    let mut files = no_files(alloc)?;
     for (name, bytes) in given {
         add(alloc, &mut files, name, bytes)?;
     }
@@ -120,7 +120,7 @@ fn names_in(alloc: Global, image: &[u8]) -> Result<String, Fail> {
 /// The keys of a source whose keycodes are these items, each as its code and its name.
 fn keys_named(rt: &(impl Abort + AllocGlobal), items: &[u8]) -> Result<String, Fail> {
     let maps = b"xkb_keycodes \"a\" { <A>=38; }; xkb_keycodes \"b\" { <B>=38; };";
-    let mut files = Files::new(rt.alloc());
+    let mut files = no_files(rt.alloc())?;
     add(rt.alloc(), &mut files, b"keycodes/kc", maps)?;
     let image = image_of(rt.alloc(), b"xkb_keymap { xkb_keycodes { ", items, &files)?;
     names_in(rt.alloc(), image.as_slice())
@@ -145,9 +145,10 @@ fn keycodes_of_included_maps(rt: HostRuntime) -> Result<(), Fail> {
 
 #[test]
 fn a_session_takes_files_and_names(rt: HostRuntime) -> Result<(), Fail> {
-    let mut files = Files::new(rt.alloc());
+    let mut files = no_files(rt.alloc())?;
     add(rt.alloc(), &mut files, b"us", US)?;
     let names = NameTable::with_lines(rt.alloc(), b"frob 0x10081234\n")?;
+    let names = Box::new(rt.alloc(), names)?;
     let input: &[u8] =
         b"xkb_keymap { xkb_keycodes { <A>=38; <B>=39; }; xkb_symbols { include \"us\" key <B> { [ frob ] }; }; };\n%%\ndown 38\ndown 39";
     let mut feed = MemFeed::new(input);

@@ -2,8 +2,9 @@
 ghost use Rattle.std.specs.Prelude.{None};
 
 use super::SAMPLE;
-use ks_core::{Feed, NameTable, Out};
-use kx_tool::{Files, session};
+use crate::sources::{builtin, no_files};
+use ks_core::{Feed, Out};
+use kx_tool::session;
 use std::cell::Cell;
 use std::io;
 use std::test::Fail;
@@ -76,11 +77,13 @@ fn answers_are_put_before_more_is_read(rt: HostRuntime) -> Result<(), Fail> {
         lines: &lines,
         is_late: false,
     };
+    let files = no_files(rt.alloc())?;
+    let names = builtin(rt.alloc())?;
     let ended = session(
         rt.alloc(),
         &mut feed,
-        &Files::new(rt.alloc()),
-        &NameTable::builtin(),
+        &files,
+        &names,
         &mut Counting { lines: &lines },
     );
     assert_eq!(rt; ended, Ok(()));
