@@ -1,4 +1,5 @@
--- What is resolved is small: the places and counts of its tables, and of whatever is pushed next, fit their numbers.
+-- What is resolved is within the limits: there is so little of it that the places and counts of its tables, and of
+-- whatever is pushed next, fit their numbers.
 use Rattle.std.specs.Prelude.{◌<◌, ◌≤◌, ◌^◌, All, length}
 use Rattle.kx_builder.specs.Resolved.{Resolved, ResolvedCell, ResolvedGroup, ResolvedKey, ResolvedType}
 

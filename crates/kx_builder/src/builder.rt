@@ -115,7 +115,7 @@ impl Builder {
         add_cell(&mut self.parts, row, keysyms)
     }
 
-    /// The tables. Where what is resolved is whole, their keymap is its keymap; where it is fine, they are sound.
+    /// The tables. Where what is resolved is whole, their keymap is its keymap; where it is valid, they are sound.
     pub fn into_parts(self) -> Parts
         ensures content { content_of result ≡ content_of_resolved self }
         ensures agrees { IsWhole self → ShowsSame (keymap_of (content_of result)) (keymap_of_resolved self) }
@@ -124,7 +124,7 @@ impl Builder {
         self.parts
     }
 
-    /// The tables, with indicators and the names of groups. Where what is resolved is whole and fine, and so are these,
+    /// The tables, with indicators and the names of groups. Where what is resolved is whole and valid, and so are these,
     /// their keymap is its keymap with these lamps, and they are sound.
     pub fn with_lamps(
         self,

@@ -36,7 +36,7 @@ abbrev pub item_offers : Item → List AliasOffer
 item_offers (Statement mode statement first span) = said_offers mode (alias_in statement)
 item_offers (Include mode text span) = []
 
--- those of aliases alone; `whole` is the statement
+-- the faults of an alias' two names; `whole` is the statement
 abbrev pub said_name_faults : ℕ → Span → Option (Name × Name) → List Fault
 said_name_faults file whole None = []
 said_name_faults file whole (Some a) = name_faults file whole a.0 ++ name_faults file whole a.1

@@ -39,7 +39,7 @@ impl Failure<'_> {
     }
 
     /// A file at a path can't be used, or there is no memory for it.
-    pub fn of_file<'a>(fault: &io::Error, path: &'a str) -> Failure<'a> {
+    pub(crate) fn of_file<'a>(fault: &io::Error, path: &'a str) -> Failure<'a> {
         if fault.kind() == io::ErrorKind::OutOfMemory {
             Failure::Source(Fault::Memory)
         } else {
@@ -48,7 +48,7 @@ impl Failure<'_> {
     }
 
     /// The failure of a session.
-    pub fn of_session<'a>(fault: SessionFault) -> Failure<'a> {
+    pub(crate) fn of_session<'a>(fault: SessionFault) -> Failure<'a> {
         match fault {
             SessionFault::Compile(fault) => Failure::Source(fault),
             SessionFault::Replay(fault) => Failure::Replay(fault),
