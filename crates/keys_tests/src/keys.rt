@@ -10,7 +10,7 @@ use std::alloc::Global;
 
 // What owns much memory stands in a box: a function that holds it is proved much sooner.
 
-fn codes_in(alloc: Global, bodies: &Bodies) -> Result<Box<Codes>, Fault> {
+fn codes_in<'l>(alloc: Global, bodies: &Bodies<'l>) -> Result<Box<Codes<'l>>, Fault> {
     Ok(Box::new(alloc, codes(alloc, &bodies.keycodes)?)?)
 }
 

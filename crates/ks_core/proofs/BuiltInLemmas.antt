@@ -13,16 +13,16 @@ use Rattle.ks_core.specs.Names.{is_word_or_number, is_written_back}
 use Rattle.ks_core.proofs.IndexLemmas.{is_keysym, is_keysym-true, keysym_in-entry, name_in-entry}
 
 -- its name is of that keysym, has at most 64 bytes, is an identifier or a number, and of neither the U form nor the 0x form
-abbrev is_fine : Entry → Bool
-is_fine e = is_keysym (keysym_in built_in e.0) e.1 && (nat_le (length e.0) 64 && (is_word_or_number e.0 && not (is_u_form e.0 || is_hex_form e.0)))
+abbrev is_valid : Entry → Bool
+is_valid e = is_keysym (keysym_in built_in e.0) e.1 && (nat_le (length e.0) 64 && (is_word_or_number e.0 && not (is_u_form e.0 || is_hex_form e.0)))
 
-all_fine : list_all is_fine built_in ≡ true
+all_valid : list_all is_valid built_in ≡ true
 unfolding is_keysym built_in built_in_runs numbered entries_of_run is_word is_hex is_u_form is_hex_form is_decimal
-all_fine = refl
+all_valid = refl
 
 pub built_in-named : (name : List ℕ) (keysym : ℕ) → name_in built_in keysym ≡ Some name → (keysym_in built_in name ≡ Some keysym) × (length name ≤ 64) × (is_word_or_number name ≡ true)
 built_in-named name keysym found =
-    let e = name_in-entry is_fine built_in name keysym all_fine found in
+    let e = name_in-entry is_valid built_in name keysym all_valid found in
     let one = and_parts (is_keysym (keysym_in built_in e.0.0) e.0.1) _ e.1 in
     let two = and_parts (nat_le (length e.0.0) 64) _ one.1 in
     let three = and_parts (is_word_or_number e.0.0) _ two.1 in (
@@ -42,7 +42,7 @@ built_in-free name form = by (keysym_in built_in name) refl
     by : (r : Option ℕ) → keysym_in built_in name ≡ r → keysym_in built_in name ≡ None
     by None none = none
     by (Some keysym) some =
-        let e = keysym_in-entry is_fine built_in name keysym all_fine some in
+        let e = keysym_in-entry is_valid built_in name keysym all_valid some in
         let one = and_parts (is_keysym (keysym_in built_in e.0.0) e.0.1) _ e.1 in
         let two = and_parts (nat_le (length e.0.0) 64) _ one.1 in
         let three = and_parts (is_word_or_number e.0.0) _ two.1 in

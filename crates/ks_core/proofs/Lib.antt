@@ -1,5 +1,5 @@
 pub mod DeviceLemmas
-pub mod PressLemmas
+pub mod BufferedOutLemmas
 pub mod IndexLemmas
 pub mod DigitsLemmas
 pub mod NameLemmas

@@ -229,6 +229,6 @@ unfolding is_sound
 sound-written_back given name None sound h = tt
 sound-written_back given name (Some keysym) sound h =
     let e = keysym_in-entry is_sound given name keysym sound (sym h) in
-    let fine = and_parts (is_given_name e.0.0 && is_keysym e.0.1) (not (is_some (keysym_in built_in e.0.0))) e.1 in
-    let nameable = (and_parts (is_given_name e.0.0) (is_keysym e.0.1) fine.0).1 in
+    let valid = and_parts (is_given_name e.0.0 && is_keysym e.0.1) (not (is_some (keysym_in built_in e.0.0))) e.1 in
+    let nameable = (and_parts (is_given_name e.0.0) (is_keysym e.0.1) valid.0).1 in
     subst (λ k. is_written_back k ≡ true) e.3 (or_second (e.0.1 == 0) (is_keysym e.0.1) nameable)

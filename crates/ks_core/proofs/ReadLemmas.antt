@@ -19,11 +19,11 @@ pub record ReadSoFar (lines : List (List ℕ)) (number : ℕ) (given : List Entr
   pub parted : lines ≡ done ++ left
   pub counted : number ≡ length done
   pub gave : given ≡ given_by done
-  pub fine : (index : ℕ) → index < length done → fault_at lines index ≡ None
+  pub valid : (index : ℕ) → index < length done → fault_at lines index ≡ None
 
 pub ReadSoFar-start : (lines : List (List ℕ)) → ReadSoFar lines 0 [] lines
 unfolding given_by
-ReadSoFar-start lines = record { done = []; parted = refl; counted = refl; gave = refl; fine = λ index below. absurd (omega arith) }
+ReadSoFar-start lines = record { done = []; parted = refl; counted = refl; gave = refl; valid = λ index below. absurd (omega arith) }
 
 module _ (lines : List (List ℕ)) (number : ℕ) (given : List Entry) (line : List ℕ) (left : List (List ℕ)) (h : ReadSoFar lines number given (line ∷ left)) where
   -- the fault of the next line
@@ -42,7 +42,7 @@ module _ (lines : List (List ℕ)) (number : ℕ) (given : List Entry) (line : L
         index = number;
         within = rw (h.parted, h.counted) (omega (arith, length-append h.done (line ∷ left)));
         is = fault_at-next ∙ is;
-        before = λ earlier below. h.fine earlier (rw (← h.counted) below);
+        before = λ earlier below. h.valid earlier (rw (← h.counted) below);
       }
 
   pub ReadSoFar-next : fault_of_line given (number + 1) line ≡ None → ReadSoFar lines (number + 1) (given_after given line) left
@@ -53,19 +53,19 @@ module _ (lines : List (List ℕ)) (number : ℕ) (given : List Entry) (line : L
         parted = h.parted ∙ sym (append_assoc h.done (line ∷ []) left);
         counted = ap (λ n. n + 1) h.counted ∙ sym (length-append h.done (line ∷ []));
         gave = ap (λ g. given_after g line) h.gave ∙ sym (fold-append given_after [] h.done (line ∷ []));
-        fine = λ index below.
+        valid = λ index below.
             let le : index < length h.done + 1 = omega (arith, length-append h.done (line ∷ []), below) in
             by index (cases_lt index (length h.done)) le;
       }
     where
       by : (index : ℕ) → (index < length h.done) ⊎ (length h.done ≤ index) → index < length h.done + 1 → fault_at lines index ≡ None
-      by index (inl before) below = h.fine index before
+      by index (inl before) below = h.valid index before
       by index (inr at) below = let here : index ≡ number = omega (arith, h.counted) in rw here (fault_at-next ∙ none)
 
 pub ReadSoFar-faultless : (lines : List (List ℕ)) (number : ℕ) (given : List Entry) → ReadSoFar lines number given [] → AreFaultless lines
 ReadSoFar-faultless lines number given h =
     let all = h.parted ∙ append-nil h.done in
-    record { none = λ index within. h.fine index (rw all at within) }
+    record { none = λ index within. h.valid index (rw all at within) }
 
 pub ReadSoFar-given : (lines : List (List ℕ)) (number : ℕ) (given : List Entry) → ReadSoFar lines number given [] → given ≡ given_by lines
 ReadSoFar-given lines number given h = h.gave ∙ ap given_by (sym (h.parted ∙ append-nil h.done))

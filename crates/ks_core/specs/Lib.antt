@@ -1,6 +1,6 @@
 pub mod Device
 pub mod Memory
-pub mod Press
+pub mod BufferedOut
 pub mod PrintedName
 pub mod Notes
 pub mod Keysym

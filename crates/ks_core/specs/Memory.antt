@@ -2,9 +2,10 @@
 use Rattle.std.specs.Prelude.{ℕ, ◌≡◌, ◌<◌, ◌-◌, Bool, false, ◌||◌, ◌==◌, List, length, min, Option, None, Some, if◌then◌else◌}
 use Rattle.ks_core.specs.declared.memory.Limits.{Limits}
 
--- a slice to take from: the bytes that are left
+-- a slice to take from: the bytes that are left, and how many were taken
 pub record Source : Type 0 where
   pub left : List ℕ
+  pub taken : ℕ
   pub limits : Limits
 
 -- a slice to put to: the bytes put so far, and how many still fit

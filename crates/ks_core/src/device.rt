@@ -1,7 +1,7 @@
 //! What bytes are read from and written to.
 ghost use Rattle.std.specs.Prelude.{◌≡◌, ◌<◌, ◌≤◌, ℕ, List, Option, length, IfOk};
 ghost use Rattle.std.specs.Io.KnownBytes.{ReadConsumes, WriteAppends};
-ghost use Rattle.ks_core.specs.Device.{Counts};
+ghost use Rattle.ks_core.specs.Device.{Adds, Counts};
 
 use std::io;
 use std::io::{Read, Write};
@@ -11,6 +11,9 @@ pub trait Feed {
     // The bytes that are left to take, where they are known.
     ghost left: { Self → Option (List ℕ) };
 
+    // How many bytes were taken.
+    ghost taken: { Self → ℕ };
+
     // A number that each failure changes.
     ghost failures: { Self → ℕ };
 
@@ -18,6 +21,7 @@ pub trait Feed {
     fn take(&mut self, buffer: &mut [u8]) -> io::Result<usize>
         ensures within { IfOk result (λ n. n ≤ length buffer.new) }
         ensures bytes { ReadConsumes (left self.old) (left self.new) result buffer.new }
+        ensures added { Adds (taken self.old) (taken self.new) result }
         ensures counted { Counts (failures self.old) (failures self.new) result };
 }
 
@@ -42,6 +46,8 @@ pub trait Out {
 pub struct Lent<D> {
     /// The reader or the writer.
     pub device: D,
+    /// How many bytes were taken.
+    pub taken: u64,
     /// A number that each failure changes.
     pub failures: u64,
 }
@@ -50,10 +56,12 @@ impl<D> Lent<D> {
     /// The reader or writer as a device that has not failed yet.
     pub fn new(device: D) -> Lent<D>
         ensures device { result.device ≡ device }
+        ensures taken { result.taken ≡ 0 }
         ensures failures { result.failures ≡ 0 }
     {
         Lent {
             device,
+            taken: 0,
             failures: 0,
         }
     }
@@ -62,15 +70,26 @@ impl<D> Lent<D> {
 impl<D: Read> Feed for Lent<D> {
     ghost left = { λ s. D.remaining s.device };
 
+    ghost taken = { λ s. s.taken };
+
     ghost failures = { λ s. s.failures };
 
-    /// One `read` of the device.
+    /// One `read` of the device. Where the count of bytes would pass 2^64, it is an error, and nothing is read.
     fn take(&mut self, buffer: &mut [u8]) -> io::Result<usize> {
-        let result = self.device.read(buffer);
-        if result.is_err() {
+        if buffer.len() as u64 > u64::MAX - self.taken {
             self.failures = self.failures.wrapping_add(1);
+            return Err(io::Error::other("too many bytes were taken to be counted"));
         }
-        result
+        match self.device.read(buffer) {
+            Ok(count) => {
+                self.taken += count as u64;
+                Ok(count)
+            }
+            Err(error) => {
+                self.failures = self.failures.wrapping_add(1);
+                Err(error)
+            }
+        }
     }
 }
 

@@ -70,7 +70,7 @@ impl Given {
         line: &[u8],
         number: usize,
     ) -> Result<(), NameFault>
-        ensures fine { OnOk result (fault_of_line self.old number line.now ≡ None) }
+        ensures valid { OnOk result (fault_of_line self.old number line.now ≡ None) }
         ensures given { OnOk result (self.new ≡ given_after self.old line.now) }
         ensures fault { IfErr result (λ fault. (fault ≡ NameFault.Memory) ⊎ (fault_of_line self.old number line.now ≡ Some fault)) }
     {
@@ -92,7 +92,7 @@ impl Given {
         keysym: u32,
         number: usize,
     ) -> Result<(), NameFault>
-        ensures fine { OnOk result (is_another (known_keysym self.old name.now) keysym ≡ false) }
+        ensures valid { OnOk result (is_another (known_keysym self.old name.now) keysym ≡ false) }
         ensures given { OnOk result (self.new ≡ with_entry self.old (name.now, keysym)) }
         ensures fault { IfErr result (λ fault. (fault ≡ NameFault.Memory)
             ⊎ ((is_another (known_keysym self.old name.now) keysym ≡ true) × (fault ≡ NameFault.Twice number))) }

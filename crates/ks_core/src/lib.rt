@@ -1,6 +1,7 @@
 //! Keysyms and their names, the devices that a keymap is read from and written to, and the counts of what a compiler notes.
 #![tactic(auto)]
 
+mod buffered_out;
 mod builtin;
 mod device;
 mod digits;
@@ -11,15 +12,14 @@ mod line;
 mod memory;
 mod names;
 mod notes;
-mod press;
 mod printed;
 mod table;
 
+pub use buffered_out::{BufferedOut, put_all};
 pub use device::{Feed, Lent, Out};
 pub use fault::NameFault;
 pub use keysym::Keysym;
 pub use memory::{MemFeed, MemOut};
 pub use names::NameTable;
 pub use notes::{Note, Notes};
-pub use press::{Press, put_all};
 pub use printed::write_printed_name;

@@ -40,7 +40,7 @@ fn line_end(text: &[u8]) -> Option<usize>
 #[tactic(auto, unfolding(crate::specs::Lines::own_fault, crate::specs::Lines::entry_of))]
 pub(crate) fn read_line(line: &[u8], number: usize) -> Result<Option<(&str, u32)>, NameFault>
     ensures fault { IfErr result (λ fault. own_fault number line.now ≡ Some fault) }
-    ensures fine { OnOk result (own_fault number line.now ≡ None) }
+    ensures valid { OnOk result (own_fault number line.now ≡ None) }
     ensures skipped { IfOk result (λ entry. IfNone entry (is_skipped line.now ≡ true)) }
     ensures read { IfOk result (λ entry. IfSome entry (λ e. (is_skipped line.now ≡ false) × ((e.0.now, e.1) ≡ entry_of line.now))) }
 {

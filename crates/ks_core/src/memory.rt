@@ -1,7 +1,7 @@
 //! Devices over slices, which take no memory. They can be slow, and fail at a byte, as real ones do.
-ghost use Rattle.std.specs.Prelude.{◌≡◌, ◌≢◌, ◌<◌, ◌≤◌, ◌-◌, ◌++◌, [], length, take, drop, min, Some, None, IfOk, OnErr, MatchResult};
+ghost use Rattle.std.specs.Prelude.{◌≡◌, ◌≢◌, ◌<◌, ◌≤◌, ◌+◌, ◌-◌, ◌++◌, [], length, take, drop, min, Some, None, IfOk, OnErr, MatchResult};
 ghost use Rattle.std.specs.Io.KnownBytes.{ReadConsumes, WriteAppends};
-ghost use Rattle.ks_core.specs.Device.{Counts};
+ghost use Rattle.ks_core.specs.Device.{Adds, Counts};
 ghost use Rattle.ks_core.specs.Memory.{FailsForGood, no_limits, moved, after_move, taken_of, put_of};
 
 use crate::device::{Feed, Out};
@@ -82,24 +82,29 @@ impl Limits {
 #[derive(Debug, Drop)]
 pub struct MemFeed<'a> {
     left: &'a [u8],
+    taken: usize,
     limits: Limits,
 }
 
 impl<'a> Model for MemFeed<'a> {
+    ghost use Rattle.std.specs.Prelude.{◌+◌, ◌<◌, ◌^◌, length};
     ghost use Rattle.ks_core.specs.Memory.{Source};
 
     ghost Value = { Source };
 
-    ghost view = { λ s. record { left = s.left.now; limits = s.limits } };
+    ghost view = { λ s. record { left = s.left.now; taken = s.taken; limits = s.limits } };
+
+    ghost invariant = { λ s. s.taken + length s.left.now < 2 ^ 64 };
 }
 
 impl<'a> MemFeed<'a> {
     /// A device that gives these bytes, as many as fit in each call, and then the end.
     pub fn new(bytes: &'a [u8]) -> MemFeed<'a>
-        ensures { result ≡ record { left = bytes.now; limits = no_limits } }
+        ensures { result ≡ record { left = bytes.now; taken = 0; limits = no_limits } }
     {
         MemFeed {
             left: bytes,
+            taken: 0,
             limits: Limits::none(),
         }
     }
@@ -110,6 +115,7 @@ impl<'a> MemFeed<'a> {
     {
         MemFeed {
             left: self.left,
+            taken: self.taken,
             limits: self.limits.with_most(most),
         }
     }
@@ -120,6 +126,7 @@ impl<'a> MemFeed<'a> {
     {
         MemFeed {
             left: self.left,
+            taken: self.taken,
             limits: self.limits.failing_after(bytes),
         }
     }
@@ -128,11 +135,14 @@ impl<'a> MemFeed<'a> {
 impl Feed for MemFeed<'_> {
     ghost left = { λ s. Some s.left };
 
+    ghost taken = { λ s. s.taken };
+
     ghost failures = { λ s. s.limits.failures };
 
     fn take(&mut self, buffer: &mut [u8]) -> io::Result<usize>
         ensures within { IfOk result (λ n. n ≤ length buffer.new) }
         ensures bytes { ReadConsumes (Some self.old.left) (Some self.new.left) result buffer.new }
+        ensures added { Adds self.old.taken self.new.taken result }
         ensures counted { Counts self.old.limits.failures self.new.limits.failures result }
 
         ensures count { MatchResult result
@@ -142,6 +152,7 @@ impl Feed for MemFeed<'_> {
         ensures kept { OnErr result (buffer.new ≡ buffer.old) }
         ensures after { IfOk result (λ n. self.new ≡ record {
           left = drop n self.old.left;
+          taken = self.old.taken + n;
           limits = after_move self.old.limits n;
         }) }
         ensures failed { OnErr result (self.new.left ≡ self.old.left) }
@@ -154,6 +165,7 @@ impl Feed for MemFeed<'_> {
         let (front, rest) = self.left.split_at(n);
         buffer[..n].copy_from_slice(front);
         self.left = rest;
+        self.taken += n;
         Ok(n)
     }
 }

@@ -1,10 +1,10 @@
 //! Names as printed text writes them, so that they stay on their line and between quotes.
 ghost use Rattle.std.specs.Prelude.{◌≡◌, [], ◌∷◌};
-ghost use Rattle.ks_core.specs.Press.{Tells};
+ghost use Rattle.ks_core.specs.BufferedOut.{Writes};
 ghost use Rattle.ks_core.specs.PrintedName.{is_plain, octal, printed_byte, printed_name};
 
+use crate::buffered_out::BufferedOut;
 use crate::device::Out;
-use crate::press::Press;
 
 /// Whether a byte stands as it is: 0x20 to 0x7e, but `"` and `\`.
 fn is_plain(byte: u8) -> bool
@@ -25,22 +25,22 @@ fn octal(byte: u8) -> [u8; 4]
     ]
 }
 
-fn write_printed_byte<O: Out>(press: &mut Press, out: &mut O, byte: u8)
-    ensures { Tells O.written O.failures out.old press.old out.new press.new (printed_byte byte) }
+fn write_printed_byte<O: Out>(buffered: &mut BufferedOut, out: &mut O, byte: u8)
+    ensures { Writes O.written O.failures out.old buffered.old out.new buffered.new (printed_byte byte) }
 {
     if is_plain(byte) {
-        press.tell(out, &[byte]);
+        buffered.write(out, &[byte]);
     } else {
-        press.tell(out, &octal(byte));
+        buffered.write(out, &octal(byte));
     }
 }
 
-/// Tells a name as printed text writes it: the bytes 0x20 to 0x7e but `"` and `\` as they are, any other as `\` and
+/// Writes a name as printed text writes it: the bytes 0x20 to 0x7e but `"` and `\` as they are, any other as `\` and
 /// three octal digits.
-pub fn write_printed_name<O: Out>(press: &mut Press, out: &mut O, name: &[u8])
-    ensures { Tells O.written O.failures out.old press.old out.new press.new (printed_name name.now) }
+pub fn write_printed_name<O: Out>(buffered: &mut BufferedOut, out: &mut O, name: &[u8])
+    ensures { Writes O.written O.failures out.old buffered.old out.new buffered.new (printed_name name.now) }
 {
     for byte in name {
-        write_printed_byte(press, out, *byte);
+        write_printed_byte(buffered, out, *byte);
     }
 }

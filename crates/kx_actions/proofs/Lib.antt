@@ -1,3 +1,3 @@
-mod Fine
+mod Faultless
 mod Going
 mod Last

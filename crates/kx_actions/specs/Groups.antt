@@ -65,6 +65,6 @@ change_of w = change_by w.0 w.1
 
 -- whether a change is in its range
 abbrev pub is_change : GroupChange → Bool
-is_change (Absolute group) = nat_le group 31
-is_change (Relative (pos n)) = nat_le n 32
-is_change (Relative (negsuc n)) = nat_le n 31
+is_change (Absolute group) = nat_le group (MOST_GROUPS - 1)
+is_change (Relative (pos n)) = nat_le n MOST_GROUPS
+is_change (Relative (negsuc n)) = nat_le n (MOST_GROUPS - 1)

@@ -92,7 +92,7 @@ member_given names kind word index setting = option_and_then (λ field. setting_
 
 module _ (file : ℕ) where
   abbrev pub bad_unless : Bool → Span → List Fault
-  bad_unless fine span = if fine then [] else BadValue (at file span) ∷ []
+  bad_unless valid span = if valid then [] else BadValue (at file span) ∷ []
 
   abbrev pub written_faults : Span → Option Written → List Fault
   written_faults span None = BadValue (at file span) ∷ []

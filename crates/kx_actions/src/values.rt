@@ -14,7 +14,7 @@ use crate::kinds::{ActionField, ActionKind};
 use crate::settings::Given;
 use kx_lex::{At, Fault, Name, Span};
 use kx_masks::ModNames;
-use kx_parse::{Apart, Expression, Index, Term};
+use kx_parse::{Boxed, Expression, Index, Term};
 
 pub(crate) fn bad_value(file: u32, span: Span) -> Fault
     ensures { result ≡ BadValue (at file span) }
@@ -197,7 +197,7 @@ pub(crate) fn known_field(
     file: u32,
     kind: ActionKind,
     word: &Name,
-    index: &Option<Apart<Index>>,
+    index: &Option<Boxed<Index>>,
 ) -> Result<ActionField, Fault>
     ensures value { result_ok result ≡ known_field kind word.now index.now }
     ensures fault { IfErr result (λ e. e ≡ UnknownField (at file word.now.span)) }

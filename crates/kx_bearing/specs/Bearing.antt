@@ -12,6 +12,7 @@ use Rattle.kx_mods.specs.declared.mods.Mods.{Mods}
 use Rattle.kx_types.specs.KeyTypes.{Definition}
 use Rattle.kx_typing.specs.Given.{KeyGiven}
 use Rattle.kx_typing.specs.GroupTypes.{content_group, group_count, group_levels, has_action, level_keysyms}
+use Rattle.kx_basics.specs.declared.limits.TheConstants.{CODES}
 
 -- ---- The interpretation of a level
 
@@ -65,4 +66,4 @@ module _ (r : Reading) where
 
   -- a virtual modifier stands for its declared mask and for what the keys are mapped to that bear it; codes are at most 4,095
   abbrev pub stands : ℕ → RealSet
-  stands number real = r.masks number real || any_below 4096 (brings number real)
+  stands number real = r.masks number real || any_below CODES (brings number real)

@@ -12,6 +12,7 @@ ghost use Rattle.kx_mods.specs.Mods.{mask};
 ghost use Rattle.kx_typing.specs.Given.{given};
 ghost use Rattle.kx_typing.specs.GroupTypes.{has_action};
 ghost use Rattle.kx_types.specs.Types.{type_named};
+ghost use Rattle.kx_basics.specs.declared.limits.TheConstants.{CODES};
 
 use crate::deeds::InterpretedKey;
 use kx_choice::Interpretations;
@@ -105,7 +106,7 @@ fn bearers_of(
     modmaps: &KeyMods,
     interpretations: &Interpretations,
 ) -> Result<Vec<Bearer>, Fault>
-    ensures all { IfOk result (λ bearers. (number real : ℕ) → is_brought bearers.items number real ≡ any_below 4096 (brings (reading_of codes.now types.now keys.now (modmap_at modmaps.now) interpretations.now []) number real)) }
+    ensures all { IfOk result (λ bearers. (number real : ℕ) → is_brought bearers.items number real ≡ any_below CODES (brings (reading_of codes.now types.now keys.now (modmap_at modmaps.now) interpretations.now []) number real)) }
     ensures err { IfErr result (λ e. e ≡ Memory) }
 {
     let mut bearers = Vec::new(alloc);

@@ -1,4 +1,4 @@
--- Tables with indicators and names of groups: they show the same, with the lamps, and are sound where all is fine.
+-- Tables with indicators and names of groups: they show the same, with the lamps, and are sound where all is valid.
 use Rattle.std.proofs.Common.{ℕ, suc, ◌+◌, ◌<◌, ◌≤◌, ◌≡◌, ◌^◌, All, List, [], ◌∷◌, ◌++◌, Some, get_or, drop, length, map, take, slice_get, sum_by, refl, sym, ap, subst, ◌∙◌, arith, append_assoc}
 use Rattle.std.proofs.lemmas.List.{drop-take, length-append, take-append-le}
 use Rattle.std.proofs.lemmas.List.Elements.{All-append, All-weaker}
@@ -7,7 +7,7 @@ use Rattle.std.proofs.lemmas.Option.{get_or_from_slice_get, slice_get-get_or, sl
 use Rattle.kx_builder.proofs.Agreeing.{All_at, tables_agree}
 use Rattle.kx_builder.proofs.Counting.{each_row, row_from, sum_before, sum_of_rows}
 use Rattle.kx_builder.proofs.Placing.{get_before, part_between, rows_length, split_at}
-use Rattle.kx_builder.proofs.Sounding.{fine_is_small, fine_is_sound}
+use Rattle.kx_builder.proofs.Sounding.{valid_is_small, valid_is_sound}
 use Rattle.kx_builder.specs.Agreement.{ShowsSame}
 use Rattle.kx_builder.specs.Valid.{IsValid}
 use Rattle.kx_builder.specs.Lamps.{GroupNameIsValid, IndicatorIsValid, LampsAreValid, LampsFit, ResolvedIndicator, group_name_row, indicator_row, keymap_with, lamp_of_indicator, names_of_groups, names_of_indicators, with_indicators, with_lamps}
@@ -52,7 +52,7 @@ all_any : {X : Type 0} (xs : List X) → All any xs
 unfolding any
 all_any xs = λ k d within. tt
 
-module _ (c : Content) (s : Sound c) (no_indicators : c.indicators ≡ []) (no_groups : c.group_names ≡ []) (few : length c.names ≤ 17755905) (ds : List ResolvedIndicator) (gs : List (List ℕ)) (fine : LampsAreValid ds gs) where
+module _ (c : Content) (s : Sound c) (no_indicators : c.indicators ≡ []) (no_groups : c.group_names ≡ []) (few : length c.names ≤ 17755905) (ds : List ResolvedIndicator) (gs : List (List ℕ)) (valid : LampsAreValid ds gs) where
   names_are : length c.names ≡ type_names c + key_names c
   names_are =
       let lamps : indicator_names c ≡ 0 = ap (λ (xs : List IndicatorRow). sum_by (λ (d : IndicatorRow). d.name_length) xs) no_indicators in
@@ -142,9 +142,9 @@ module _ (c : Content) (s : Sound c) (no_indicators : c.indicators ≡ []) (no_g
 
   indicator_holds : (i : ℕ) (d : ResolvedIndicator) → slice_get ds i ≡ Some d → IndicatorHolds (with_lamps c ds gs) i (indicator_row (length c.names) (take i ds) d)
   indicator_holds i d at =
-      let holds : IndicatorIsValid d = All_at IndicatorIsValid ds i d fine.each_indicator at in
+      let holds : IndicatorIsValid d = All_at IndicatorIsValid ds i d valid.each_indicator at in
       record {
-        place = omega (arith, fine.few_indicators, slice_get_within ds i d at);
+        place = omega (arith, valid.few_indicators, slice_get_within ds i d at);
         mods = holds.mods;
         mod_states = holds.mod_states;
         group_states = holds.group_states;
@@ -153,27 +153,27 @@ module _ (c : Content) (s : Sound c) (no_indicators : c.indicators ≡ []) (no_g
         first_name = omega (arith, names_are, indicator_sum i);
         is_new = λ j other below other_at same.
             let from = row_from (indicator_row (length c.names)) ds j other other_at in
-            fine.indicators_apart i j d from.0 below at from.1
+            valid.indicators_apart i j d from.0 below at from.1
             (sym (indicator_named j from.0 from.1) ∙ ap (indicator_name (with_lamps c ds gs)) from.2 ∙ same ∙ indicator_named i d at);
       }
 
   group_name_holds : (i : ℕ) (g : List ℕ) → slice_get gs i ≡ Some g → GroupNameHolds (with_lamps c ds gs) i (row (take i gs) g)
   group_name_holds i g at =
-      let holds : GroupNameIsValid g = All_at GroupNameIsValid gs i g fine.each_group at in
+      let holds : GroupNameIsValid g = All_at GroupNameIsValid gs i g valid.each_group at in
       record {
-        place = omega (arith, fine.few_groups, slice_get_within gs i g at);
+        place = omega (arith, valid.few_groups, slice_get_within gs i g at);
         name_length = holds.name_fits;
         first_name = omega (arith, names_are, length-append c.names (names_of_indicators ds), indicators_are, group_sum i);
-        last = λ e. fine.last i g at (e ∙ rows_length row gs);
+        last = λ e. valid.last i g at (e ∙ rows_length row gs);
       }
 
   -- ---- Names and counts
 
   indicator_bytes : All (λ b. b < 2 ^ 8) (names_of_indicators ds)
-  indicator_bytes = All_flat (λ (d : ResolvedIndicator). d.name) (λ b. b < 2 ^ 8) ds (All-weaker IndicatorIsValid (λ (d : ResolvedIndicator). All (λ b. b < 2 ^ 8) d.name) (λ d holds. holds.each_byte) ds fine.each_indicator)
+  indicator_bytes = All_flat (λ (d : ResolvedIndicator). d.name) (λ b. b < 2 ^ 8) ds (All-weaker IndicatorIsValid (λ (d : ResolvedIndicator). All (λ b. b < 2 ^ 8) d.name) (λ d holds. holds.each_byte) ds valid.each_indicator)
 
   group_bytes : All (λ b. b < 2 ^ 8) (names_of_groups gs)
-  group_bytes = All_flat (λ (g : List ℕ). g) (λ b. b < 2 ^ 8) gs (All-weaker GroupNameIsValid (λ (g : List ℕ). All (λ b. b < 2 ^ 8) g) (λ g holds. holds.each_byte) gs fine.each_group)
+  group_bytes = All_flat (λ (g : List ℕ). g) (λ b. b < 2 ^ 8) gs (All-weaker GroupNameIsValid (λ (g : List ℕ). All (λ b. b < 2 ^ 8) g) (λ g holds. holds.each_byte) gs valid.each_group)
 
   old_bytes : All (λ b. b < 2 ^ 8) c.names
   old_bytes = λ i d within. (s.names i (get_or c.names i d) (slice_get-get_or c.names i d within)).byte
@@ -187,10 +187,10 @@ module _ (c : Content) (s : Sound c) (no_indicators : c.indicators ≡ []) (no_g
   }
 
   few_more : length (names_of_indicators ds) ≤ 8160
-  few_more = omega (arith, fine.few_indicators, flat_length (λ (d : ResolvedIndicator). d.name) 255 ds (All-weaker IndicatorIsValid (λ (d : ResolvedIndicator). length d.name ≤ 255) (λ d holds. holds.name_fits) ds fine.each_indicator))
+  few_more = omega (arith, valid.few_indicators, flat_length (λ (d : ResolvedIndicator). d.name) 255 ds (All-weaker IndicatorIsValid (λ (d : ResolvedIndicator). length d.name ≤ 255) (λ d holds. holds.name_fits) ds valid.each_indicator))
 
   few_last : length (names_of_groups gs) ≤ 8160
-  few_last = omega (arith, fine.few_groups, flat_length (λ (g : List ℕ). g) 255 gs (All-weaker GroupNameIsValid (λ (g : List ℕ). length g ≤ 255) (λ g holds. holds.name_fits) gs fine.each_group))
+  few_last = omega (arith, valid.few_groups, flat_length (λ (g : List ℕ). g) 255 gs (All-weaker GroupNameIsValid (λ (g : List ℕ). length g ≤ 255) (λ g holds. holds.name_fits) gs valid.each_group))
 
   length_is : length (with_lamps c ds gs).names ≡ length c.names + length (names_of_indicators ds) + length (names_of_groups gs)
   length_is = omega (arith, length-append (c.names ++ names_of_indicators ds) (names_of_groups gs), length-append c.names (names_of_indicators ds))
@@ -225,13 +225,13 @@ module _ (c : Content) (s : Sound c) (no_indicators : c.indicators ≡ []) (no_g
   }
 
 pub tables_sound_with : (c : Content) (r : Resolved) (ds : List ResolvedIndicator) (gs : List (List ℕ)) → c ≡ content_of_resolved r → IsValid r → LampsAreValid ds gs → Sound (with_lamps c ds gs)
-tables_sound_with c r ds gs held fine lamps =
-    subst (λ d. Sound (with_lamps d ds gs)) (sym held) (lamps_sound (content_of_resolved r) (fine_is_sound r fine) refl refl (name_bytes r (fine_is_small r fine)) ds gs lamps)
+tables_sound_with c r ds gs held valid lamps =
+    subst (λ d. Sound (with_lamps d ds gs)) (sym held) (lamps_sound (content_of_resolved r) (valid_is_sound r valid) refl refl (name_bytes r (valid_is_small r valid)) ds gs lamps)
 
--- the names of what is fine fit
+-- the names of what is valid fit
 pub lamps_fit : (r : Resolved) (ds : List ResolvedIndicator) (gs : List (List ℕ)) → IsValid r → LampsAreValid ds gs → LampsFit (content_of_resolved r) ds gs
-lamps_fit r ds gs fine lamps =
-    let few : length (content_of_resolved r).names ≤ 17755905 = name_bytes r (fine_is_small r fine) in (
+lamps_fit r ds gs valid lamps =
+    let few : length (content_of_resolved r).names ≤ 17755905 = name_bytes r (valid_is_small r valid) in (
       record {
         lengths = All-weaker IndicatorIsValid (λ (d : ResolvedIndicator). length d.name < 2 ^ 16) (λ d holds. let h : length d.name ≤ 255 = holds.name_fits in omega (arith, h)) ds lamps.each_indicator;
         all = omega (arith, few, few_indicator_bytes);

@@ -9,7 +9,7 @@ ghost use Rattle.kx_builder.specs.Pushes.{with_type, with_key, with_group, with_
 ghost use Rattle.kx_builder.specs.Resolved.{keymap_of_resolved, nothing_resolved};
 ghost use Rattle.kx_builder.specs.Whole.{IsWhole};
 ghost use Rattle.kx_tables.specs.Keymap.{keymap_of};
-ghost use Rattle.kx_tables.specs.Parts.{content_of};
+ghost use Rattle.kx_tables.specs.RawTables.{content_of};
 ghost use Rattle.kx_tables.specs.Sound.{Sound};
 
 use crate::fault::BuildFault;
@@ -19,7 +19,7 @@ use crate::tables::{
     place,
 };
 use kx_mods::Mods;
-use kx_tables::{Action, EntryRow, GroupRow, Parts, Range};
+use kx_tables::{Action, EntryRow, GroupRow, Range, RawTables};
 use std::alloc::Global;
 use std::marker::Model;
 
@@ -27,7 +27,7 @@ use std::marker::Model;
 /// cells. What is refused leaves a builder as it was.
 #[derive(Drop)]
 pub struct Builder {
-    parts: Parts,
+    parts: RawTables,
 }
 
 impl Model for Builder {
@@ -35,7 +35,7 @@ impl Model for Builder {
     ghost use Rattle.kx_builder.specs.Placed.{content_of_resolved};
     ghost use Rattle.kx_builder.specs.Resolved.{Resolved};
     ghost use Rattle.kx_builder.specs.Seen.{seen};
-    ghost use Rattle.kx_tables.specs.Parts.{content_of};
+    ghost use Rattle.kx_tables.specs.RawTables.{content_of};
 
     ghost Value = { Resolved };
 
@@ -116,7 +116,7 @@ impl Builder {
     }
 
     /// The tables. Where what is resolved is whole, their keymap is its keymap; where it is valid, they are sound.
-    pub fn into_parts(self) -> Parts
+    pub fn into_parts(self) -> RawTables
         ensures content { content_of result ≡ content_of_resolved self }
         ensures agrees { IsWhole self → ShowsSame (keymap_of (content_of result)) (keymap_of_resolved self) }
         ensures sound { IsValid self → Sound (content_of result) }
@@ -130,7 +130,7 @@ impl Builder {
         self,
         indicators: &[Indicator<'_>],
         group_names: &[&[u8]],
-    ) -> Result<Parts, BuildFault>
+    ) -> Result<RawTables, BuildFault>
         ensures content { IfOk result (λ parts. content_of parts ≡ with_lamps (content_of_resolved self) (map indicator_of indicators.now) (map (λ g. g.now) group_names.now)) }
         ensures agrees { IsWhole self → IfOk result (λ parts. ShowsSame (keymap_of (content_of parts)) (keymap_with (keymap_of_resolved self) (map indicator_of indicators.now))) }
         ensures sound { IsValid self → LampsAreValid (map indicator_of indicators.now) (map (λ g. g.now) group_names.now) → IfOk result (λ parts. Sound (content_of parts)) }

@@ -2,12 +2,12 @@ ghost use Rattle.std.specs.Prelude.{◌≡◌, ⊤, [], OnOk, IfErr, IfOk, lengt
 ghost use Rattle.kx_builder.specs.Faults.{IsCause};
 ghost use Rattle.kx_builder.specs.Lamps.{NamesFit, indicator_of, with_group_names, with_indicators};
 ghost use Rattle.kx_builder.specs.LampsAdded.{NameFits, group_name_added, indicator_added};
-ghost use Rattle.kx_tables.specs.Parts.{content_of};
+ghost use Rattle.kx_tables.specs.RawTables.{content_of};
 
 use crate::fault::BuildFault;
 use crate::tables::{count, place};
 use kx_mods::Mods;
-use kx_tables::{GroupNameRow, IndicatorRow, Parts, States};
+use kx_tables::{GroupNameRow, IndicatorRow, RawTables, States};
 
 /// An indicator: lit by modifiers of the states that it looks at, or by groups of the states that it looks at.
 #[derive(Clone, Copy)]
@@ -25,7 +25,7 @@ pub struct Indicator<'n> {
 }
 
 /// Appends an indicator's row and its name.
-fn push_indicator(parts: &mut Parts, indicator: &Indicator<'_>) -> Result<(), BuildFault>
+fn push_indicator(parts: &mut RawTables, indicator: &Indicator<'_>) -> Result<(), BuildFault>
     ensures added { OnOk result (content_of parts.new ≡ indicator_added (content_of parts.old) (indicator_of indicator.now)) }
     ensures fault { IfErr result (λ e. IsCause e (NameFits (content_of parts.old) indicator.now.name.now) ⊤) }
 {
@@ -43,7 +43,7 @@ fn push_indicator(parts: &mut Parts, indicator: &Indicator<'_>) -> Result<(), Bu
 }
 
 /// Appends the row of a group's name and the name.
-fn push_group_name(parts: &mut Parts, name: &[u8]) -> Result<(), BuildFault>
+fn push_group_name(parts: &mut RawTables, name: &[u8]) -> Result<(), BuildFault>
     ensures added { OnOk result (content_of parts.new ≡ group_name_added (content_of parts.old) name.now) }
     ensures fault { IfErr result (λ e. IsCause e (NameFits (content_of parts.old) name.now) ⊤) }
 {
@@ -58,7 +58,7 @@ fn push_group_name(parts: &mut Parts, name: &[u8]) -> Result<(), BuildFault>
 
 /// Appends indicators in order, where there are none.
 pub(crate) fn push_indicators(
-    parts: &mut Parts,
+    parts: &mut RawTables,
     indicators: &[Indicator<'_>],
 ) -> Result<(), BuildFault>
     requires { (content_of parts.old).indicators ≡ [] }
@@ -72,7 +72,7 @@ pub(crate) fn push_indicators(
 }
 
 /// Appends the names of groups in order, where there are none.
-pub(crate) fn push_group_names(parts: &mut Parts, names: &[&[u8]]) -> Result<(), BuildFault>
+pub(crate) fn push_group_names(parts: &mut RawTables, names: &[&[u8]]) -> Result<(), BuildFault>
     requires { (content_of parts.old).group_names ≡ [] }
     ensures added { OnOk result (content_of parts.new ≡ with_group_names (content_of parts.old) (map (λ g. g.now) names.now)) }
     ensures fault { IfErr result (λ e. IsCause e (NamesFit (content_of parts.old) (λ g. g.now) names.now) ⊤) }

@@ -2,11 +2,11 @@ ghost use Rattle.std.specs.Prelude.{◌≡◌, ◌+◌, ◌<◌, ◌≤◌, ◌^
 ghost use Rattle.kx_builder.specs.Added.{TypeFits, KeyFits, CellFits, next_type, next_key, next_cell, with_type_row, with_key_row, with_group_row, with_cell_row, last_count};
 ghost use Rattle.kx_builder.specs.Faults.{IsCause};
 ghost use Rattle.kx_builder.specs.declared.fault.BuildFault.TheVariants.{Memory, TooMany};
-ghost use Rattle.kx_tables.specs.Parts.{content_of};
+ghost use Rattle.kx_tables.specs.RawTables.{content_of};
 
 use crate::fault::BuildFault;
 use kx_mods::Mods;
-use kx_tables::{Action, CellRow, EntryRow, GroupRow, KeyRow, Parts, Range, TypeRow};
+use kx_tables::{Action, CellRow, EntryRow, GroupRow, KeyRow, Range, RawTables, TypeRow};
 use std::alloc::Global;
 
 /// A place in a table, as a row holds it.
@@ -34,10 +34,10 @@ pub(crate) fn small_count(number: usize) -> Result<u8, BuildFault>
 }
 
 /// Tables with no rows.
-pub(crate) fn no_tables(alloc: Global) -> Parts
+pub(crate) fn no_tables(alloc: Global) -> RawTables
     ensures { content_of result ≡ record { types = []; entries = []; keys = []; groups = []; cells = []; keysyms = []; indicators = []; group_names = []; names = [] } }
 {
-    Parts {
+    RawTables {
         types: Vec::new(alloc),
         entries: Vec::new(alloc),
         keys: Vec::new(alloc),
@@ -52,7 +52,7 @@ pub(crate) fn no_tables(alloc: Global) -> Parts
 
 /// The row of a type behind all others.
 pub(crate) fn next_type(
-    parts: &Parts,
+    parts: &RawTables,
     name: &[u8],
     mods: Mods,
     levels: u8,
@@ -74,7 +74,7 @@ pub(crate) fn next_type(
 
 /// The row of a key behind all others, without groups.
 pub(crate) fn next_key(
-    parts: &Parts,
+    parts: &RawTables,
     code: u16,
     name: &[u8],
     modmap: Mods,
@@ -97,7 +97,7 @@ pub(crate) fn next_key(
 
 /// The row of a cell behind all others.
 pub(crate) fn next_cell(
-    parts: &Parts,
+    parts: &RawTables,
     keysyms: &[u32],
     action: Action,
 ) -> Result<CellRow, BuildFault>
@@ -114,7 +114,7 @@ pub(crate) fn next_cell(
 
 /// Appends a type's row, its entries and its name.
 pub(crate) fn add_type(
-    parts: &mut Parts,
+    parts: &mut RawTables,
     row: TypeRow,
     name: &[u8],
     entries: &[EntryRow],
@@ -132,7 +132,7 @@ pub(crate) fn add_type(
 }
 
 /// Appends a key's row and its name.
-pub(crate) fn add_key(parts: &mut Parts, row: KeyRow, name: &[u8]) -> Result<(), BuildFault>
+pub(crate) fn add_key(parts: &mut RawTables, row: KeyRow, name: &[u8]) -> Result<(), BuildFault>
     ensures added { OnOk result (content_of parts.new ≡ with_key_row (content_of parts.old) row name.now) }
     ensures fault { IfErr result (λ e. e ≡ Memory) }
     ensures unchanged { OnErr result (content_of parts.new ≡ content_of parts.old) }
@@ -152,7 +152,7 @@ fn one_more(groups: u8) -> Result<u8, BuildFault>
 }
 
 /// How many groups the last key has, 0 where there is no key.
-pub(crate) fn last_count(parts: &Parts) -> u8
+pub(crate) fn last_count(parts: &RawTables) -> u8
     ensures { result ≡ last_count (content_of parts.now).keys }
 {
     match parts.keys.last() {
@@ -162,7 +162,7 @@ pub(crate) fn last_count(parts: &Parts) -> u8
 }
 
 /// Appends a group's row, which is one more of the last key.
-pub(crate) fn add_group(parts: &mut Parts, row: GroupRow) -> Result<(), BuildFault>
+pub(crate) fn add_group(parts: &mut RawTables, row: GroupRow) -> Result<(), BuildFault>
     ensures some_key { OnOk result (0 < length (content_of parts.old).keys) }
     ensures added { OnOk result (content_of parts.new ≡ with_group_row (content_of parts.old) row) }
     ensures fault { IfErr result (λ e. IsCause e (last_count (content_of parts.old).keys + 1 < 2 ^ 8) (0 < length (content_of parts.old).keys)) }
@@ -180,7 +180,11 @@ pub(crate) fn add_group(parts: &mut Parts, row: GroupRow) -> Result<(), BuildFau
 }
 
 /// Appends a cell's row and its keysyms.
-pub(crate) fn add_cell(parts: &mut Parts, row: CellRow, keysyms: &[u32]) -> Result<(), BuildFault>
+pub(crate) fn add_cell(
+    parts: &mut RawTables,
+    row: CellRow,
+    keysyms: &[u32],
+) -> Result<(), BuildFault>
     ensures added { OnOk result (content_of parts.new ≡ with_cell_row (content_of parts.old) row keysyms.now) }
     ensures fault { IfErr result (λ e. e ≡ Memory) }
     ensures unchanged { OnErr result (content_of parts.new ≡ content_of parts.old) }

@@ -10,7 +10,7 @@ use kx_parse::{KeyName, Number, Place};
 /// The bytes of a name; `whole` is the statement in which it stands.
 pub(crate) fn check_name(file: u32, whole: Span, name: &KeyName) -> Result<&[u8], Fault>
     ensures value { IfOk result (λ bytes. bytes.now ≡ name.now.bytes) }
-    ensures fine { IfOk result (λ bytes. IsKeyName bytes.now) }
+    ensures valid { IfOk result (λ bytes. IsKeyName bytes.now) }
     ensures faultless { OnOk result (name_faults file whole name.now ≡ []) }
     ensures fault { IfErr result (λ e. Contains (Memory ∷ name_faults file whole name.now) e) }
 {

@@ -35,8 +35,41 @@ impl StoredName {
 
     pub(crate) fn as_slice(&self) -> &[u8]
         ensures value { result.now ≡ self.now }
-        ensures fine { IsKeyName result.now }
+        ensures valid { IsKeyName result.now }
     {
         self.bytes.as_slice()
+    }
+}
+
+/// The name of a key, lent by its statement; seen as its bytes.
+#[derive(Drop)]
+pub struct LentName<'l> {
+    bytes: &'l [u8],
+}
+
+impl<'l> Model for LentName<'l> {
+    ghost use Rattle.std.specs.Prelude.{List, ℕ};
+    ghost use Rattle.kx_basics.specs.KeyNames.{IsKeyName};
+
+    ghost Value = { List ℕ };
+
+    ghost view = { λ n. n.bytes.now };
+
+    ghost invariant = { λ n. IsKeyName n.bytes.now };
+}
+
+impl<'l> LentName<'l> {
+    pub(crate) fn of(name: &'l [u8]) -> LentName<'l>
+        requires { IsKeyName name.now }
+        ensures { result ≡ name.now }
+    {
+        LentName { bytes: name }
+    }
+
+    pub(crate) fn as_slice(&self) -> &'l [u8]
+        ensures value { result.now ≡ self.now }
+        ensures valid { IsKeyName result.now }
+    {
+        self.bytes
     }
 }

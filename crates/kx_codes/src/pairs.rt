@@ -9,7 +9,7 @@ ghost use Rattle.kx_basics.specs.declared.limits.TheConstants.{CODES};
 ghost use Rattle.kx_codes.specs.Codes.{IsEnd};
 ghost use Rattle.kx_codes.specs.Pairs.{Pair as PairValue, shares, taken, all_taken, code_in, name_in};
 
-use crate::name::StoredName;
+use crate::name::LentName;
 use indexmap::IndexMap;
 use kx_basics::CODES;
 use kx_lex::Fault;
@@ -17,24 +17,24 @@ use kx_parse::Mode;
 use std::alloc::Global;
 use std::marker::Model;
 
-/// Pairs of a name and a keycode, of which no two share either.
+/// Pairs of a name and a keycode, of which no two share either. The names are lent by the statements.
 #[derive(Drop)]
-pub(crate) struct Pairs {
-    codes: IndexMap<Vec<u8>, u16>,
-    names: IndexMap<u16, StoredName>,
+pub(crate) struct Pairs<'l> {
+    codes: IndexMap<&'l [u8], u16>,
+    names: IndexMap<u16, LentName<'l>>,
 }
 
-impl Model for Pairs {
+impl<'l> Model for Pairs<'l> {
     ghost use Rattle.kx_codes.specs.Codes.{named, coded};
     ghost use Rattle.kx_codes.specs.Indexed.{Indexed};
 
     ghost Value = { Indexed };
 
-    ghost view = { λ p. record { by_name = named (λ k. k.items) p.codes.entries; by_code = coded p.names.entries } };
+    ghost view = { λ p. record { by_name = named (λ k. k.now) p.codes.entries; by_code = coded p.names.entries } };
 }
 
-impl Pairs {
-    pub(crate) fn new(alloc: Global) -> Pairs
+impl<'l> Pairs<'l> {
+    pub(crate) fn new(alloc: Global) -> Pairs<'l>
         ensures { Stands result [] }
     {
         Pairs {
@@ -51,7 +51,7 @@ impl Pairs {
 
     pub(crate) fn name_of(&self, code: u16) -> Option<&[u8]>
         ensures value { option_map (λ n. n.now) result ≡ name_in self.now.by_code code }
-        ensures fine { IfSome result (λ name. IsKeyName name.now) }
+        ensures valid { IfSome result (λ name. IsKeyName name.now) }
     {
         match self.names.get(&code) {
             Some(name) => Some(name.as_slice()),
@@ -110,27 +110,19 @@ impl Pairs {
     }
 
     /// Puts in a pair that shares nothing with another.
-    fn insert(&mut self, alloc: Global, name: &[u8], code: u16) -> Result<(), Fault>
+    fn insert(&mut self, name: &'l [u8], code: u16) -> Result<(), Fault>
         requires { IsKeyName name.now }
         ensures inserted { OnOk result ((ps : List PairValue) → Stands self.old ps → list_any (shares (record { name = name.now; code = code })) ps ≡ false → Stands self.new (ps ++ record { name = name.now; code = code } ∷ [])) }
         ensures err { IfErr result (λ e. e ≡ Memory) }
     {
-        let key = Vec::from_slice(alloc, name)?;
-        let value = StoredName::of(alloc, name)?;
-        self.codes.insert(key, code)?;
-        self.names.insert(code, value)?;
+        self.codes.insert(name, code)?;
+        self.names.insert(code, LentName::of(name))?;
         Ok(())
     }
 
     /// Takes a pair. Under override and replace it removes every pair that shares its name or its code; under augment
     /// it is dropped where there is such a pair.
-    pub(crate) fn take(
-        &mut self,
-        alloc: Global,
-        mode: Mode,
-        name: &[u8],
-        code: u16,
-    ) -> Result<(), Fault>
+    pub(crate) fn take(&mut self, mode: Mode, name: &'l [u8], code: u16) -> Result<(), Fault>
         requires { IsKeyName name.now }
         ensures took { OnOk result ((ps : List PairValue) → Stands self.old ps → Stands self.new (taken mode ps (record { name = name.now; code = code }))) }
         ensures err { IfErr result (λ e. e ≡ Memory) }
@@ -138,47 +130,41 @@ impl Pairs {
         if self.code_of(name) == Some(code) {
             return Ok(());
         }
-        if !self.has_sharing(name, code) {
-            self.insert(alloc, name, code)?;
-            return Ok(());
-        }
         if mode == Mode::Augment {
+            if self.has_sharing(name, code) {
+                return Ok(());
+            }
+            self.insert(name, code)?;
             return Ok(());
         }
         self.remove_name(name);
         self.remove_code(code);
-        self.insert(alloc, name, code)?;
+        self.insert(name, code)?;
         Ok(())
     }
 
     /// Takes the pair at a place of others.
-    fn take_at(
-        &mut self,
-        alloc: Global,
-        mode: Mode,
-        given: &Pairs,
-        place: usize,
-    ) -> Result<(), Fault>
+    fn take_at(&mut self, mode: Mode, given: &Pairs<'l>, place: usize) -> Result<(), Fault>
         ensures took { OnOk result ((ps : List PairValue) (p : PairValue) → Stands self.old ps → slice_get given.now.by_code place ≡ Some p → Stands self.new (taken mode ps p)) }
         ensures err { IfErr result (λ e. e ≡ Memory) }
     {
         match given.names.get_index(place) {
             None => Ok(()),
             Some((code, name)) => {
-                self.take(alloc, mode, name.as_slice(), *code)?;
+                self.take(mode, name.as_slice(), *code)?;
                 Ok(())
             }
         }
     }
 
     /// Takes others.
-    pub(crate) fn take_all(&mut self, alloc: Global, mode: Mode, given: &Pairs) -> Result<(), Fault>
+    pub(crate) fn take_all(&mut self, mode: Mode, given: &Pairs<'l>) -> Result<(), Fault>
         ensures took { OnOk result ((ps qs : List PairValue) → Stands self.old ps → Stands given.now qs → Stands self.new (all_taken mode ps qs)) }
         ensures err { IfErr result (λ e. e ≡ Memory) }
     {
         let count = given.names.len();
         'given: for place in 0..count {
-            self.take_at(alloc, mode, given, place)?;
+            self.take_at(mode, given, place)?;
         }
         Ok(())
     }

@@ -17,7 +17,7 @@ use std::alloc::Global;
 /// # Errors
 /// `CodeRange` at a code above 4,095, `TooMany` at a statement with a name of over 255 bytes, `UnknownField` at a
 /// statement that keycodes don't have; `Memory`.
-pub fn codes(alloc: Global, expansion: &Expansion) -> Result<Codes, Fault>
+pub fn codes<'l>(alloc: Global, expansion: &Expansion<'l>) -> Result<Codes<'l>, Fault>
     ensures shows { IfOk result (λ c. CodesShow c (expanded_body expansion.now)) }
     ensures joined { IfOk result (λ c. (code : ℕ) (name : List ℕ) → (name_of c code ≡ Some name) ↔ (paired c name ≡ Some code)) }
     ensures faultless { OnOk result (faults_of (expanded_body expansion.now) ≡ []) }

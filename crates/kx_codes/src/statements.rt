@@ -9,14 +9,12 @@ use crate::pairs::Pairs;
 use kx_include::Place;
 use kx_lex::{At, Fault, Span};
 use kx_parse::{Item, Mode, Statement};
-use std::alloc::Global;
 
 /// Takes what an item says; an include brings nothing here.
-pub(crate) fn take_item(
-    alloc: Global,
-    pairs: &mut Pairs,
+pub(crate) fn take_item<'l>(
+    pairs: &mut Pairs<'l>,
     place: Place,
-    item: &Item,
+    item: &'l Item,
 ) -> Result<(), Fault>
     ensures took { OnOk result ((ps : List Pair) → Stands pairs.old ps → Stands pairs.new (own_pairs item.now ps)) }
     ensures faultless { OnOk result (own_faults place.file item.now ≡ []) }
@@ -28,18 +26,17 @@ pub(crate) fn take_item(
             statement,
             first,
             span,
-        } => take_said(alloc, pairs, place.file, *mode, statement, *first, *span),
+        } => take_said(pairs, place.file, *mode, statement, *first, *span),
         Item::Include { .. } => Ok(()),
     }
 }
 
 /// Takes what a statement says; `whole` is all of it, and `first` its first token.
-fn take_said(
-    alloc: Global,
-    pairs: &mut Pairs,
+fn take_said<'l>(
+    pairs: &mut Pairs<'l>,
     file: u32,
     mode: Mode,
-    statement: &Statement,
+    statement: &'l Statement,
     first: Span,
     whole: Span,
 ) -> Result<(), Fault>
@@ -51,7 +48,7 @@ fn take_said(
         Statement::Keycode { name, code } => {
             let name = check_name(file, whole, name)?;
             let code = check_code(file, *code)?;
-            pairs.take(alloc, mode, name, code)
+            pairs.take(mode, name, code)
         }
         Statement::Alias { name, target } => {
             check_name(file, whole, name)?;

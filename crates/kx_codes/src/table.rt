@@ -11,14 +11,15 @@ use crate::pairs::Pairs;
 use indexmap::IndexMap;
 use std::marker::Model;
 
-/// The pairs that keycodes leave at the end, by name and by code, and the aliases.
+/// The pairs that keycodes leave at the end, by name and by code, and the aliases. The names of pairs are lent by the
+/// trees of the source.
 #[derive(Drop)]
-pub struct Codes {
-    pairs: Pairs,
+pub struct Codes<'l> {
+    pairs: Pairs<'l>,
     aliases: IndexMap<AliasName, Alias>,
 }
 
-impl Model for Codes {
+impl<'l> Model for Codes<'l> {
     ghost use Rattle.std.specs.Prelude.{map};
     ghost use Rattle.kx_codes.specs.Codes.{Codes};
     ghost use Rattle.kx_codes.specs.Records.{shown_alias};
@@ -28,9 +29,9 @@ impl Model for Codes {
     ghost view = { λ c. record { by_name = c.pairs.by_name; by_code = c.pairs.by_code; aliases = map shown_alias c.aliases.entries } };
 }
 
-impl Codes {
-    pub(crate) fn of(pairs: Pairs, aliases: IndexMap<AliasName, Alias>) -> Codes
-        ensures { result ≡ record { by_name = pairs.by_name; by_code = pairs.by_code; aliases = map shown_alias aliases.entries } }
+impl<'l> Codes<'l> {
+    pub(crate) fn of(pairs: Pairs<'l>, aliases: IndexMap<AliasName, Alias>) -> Codes<'l>
+        ensures { result ≡ record { by_name = pairs.entry.by_name; by_code = pairs.entry.by_code; aliases = map shown_alias aliases.entries } }
     {
         Codes { pairs, aliases }
     }
@@ -62,7 +63,7 @@ impl Codes {
     /// The name of a keycode.
     pub fn name_of(&self, code: u16) -> Option<&[u8]>
         ensures value { option_map (λ n. n.now) result ≡ name_of self.now code }
-        ensures fine { IfSome result (λ name. IsKeyName name.now) }
+        ensures valid { IfSome result (λ name. IsKeyName name.now) }
     {
         self.pairs.name_of(code)
     }

@@ -7,7 +7,7 @@ use crate::fields::read_field;
 use crate::values::{FieldValue, FieldValues};
 use ks_core::Notes;
 use kx_actions::ActionDefaults;
-use kx_lex::{Apart, Name};
+use kx_lex::{Boxed, Name};
 use kx_masks::ModNames;
 use kx_parse::{Field, Item, Statement};
 
@@ -65,7 +65,7 @@ fn member_value(
     names: &ModNames,
     actions: &ActionDefaults,
     field: &Field,
-    member: &Option<Apart<Name>>,
+    member: &Option<Boxed<Name>>,
 ) -> Option<FieldValue>
     ensures { result ≡ member_value names.now.names actions.now field.now member.now }
 {

@@ -10,7 +10,7 @@ use crate::values::FieldValue;
 use ks_core::{Note, Notes};
 use kx_actions::{ActionDefaults, KeyAction, is_action_word, read};
 use kx_choice::{GivenAction, GivenModifier};
-use kx_lex::{Apart, At, Fault, Name, Span};
+use kx_lex::{At, Boxed, Fault, Name, Span};
 use kx_masks::{ModNames, real_mask};
 use kx_parse::{Call, Expression, Field, Index, Setting, Value};
 
@@ -50,7 +50,7 @@ fn word_field(word: &[u8]) -> Option<InterpretField>
 }
 
 /// A field where it stands with an index, or without.
-fn indexed(index: &Option<Apart<Index>>, field: InterpretField) -> Option<InterpretField>
+fn indexed(index: &Option<Boxed<Index>>, field: InterpretField) -> Option<InterpretField>
     ensures { result ≡ indexed index.now field }
 {
     match (index, field) {
@@ -60,7 +60,7 @@ fn indexed(index: &Option<Apart<Index>>, field: InterpretField) -> Option<Interp
     }
 }
 
-fn field_named(word: &[u8], index: &Option<Apart<Index>>) -> Option<InterpretField>
+fn field_named(word: &[u8], index: &Option<Boxed<Index>>) -> Option<InterpretField>
     ensures { result ≡ field_named word.now index.now }
 {
     match word_field(word) {

@@ -12,7 +12,7 @@ ghost use Rattle.kx_compat.specs.Triggers.{call_wants, condition_faults, conditi
 
 use ks_core::{NameTable, Notes};
 use kx_choice::{Condition, WantedKeysym};
-use kx_lex::{Apart, At, Fault, Name, Span};
+use kx_lex::{At, Boxed, Fault, Name, Span};
 use kx_masks::ModNames;
 use kx_mods::Mods;
 use kx_parse::{Argument, Call, Expression, PlacedArgument, Predicate, Symbol, Term};
@@ -180,7 +180,7 @@ fn read_mask(
 pub(crate) fn read_predicate(
     names: &ModNames,
     file: u32,
-    predicate: &Option<Apart<Predicate>>,
+    predicate: &Option<Boxed<Predicate>>,
 ) -> Result<(Condition, Mods), Fault>
     ensures value { IfOk result (λ wanted. Some (wanted.0, mask wanted.1) ≡ predicate_wants predicate.now) }
     ensures faultless { OnOk result (predicate_faults file names.now.names predicate.now ≡ []) }

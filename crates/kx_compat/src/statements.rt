@@ -19,7 +19,7 @@ use crate::values::{FieldValue, FieldValues};
 use ks_core::{NameTable, Notes};
 use kx_actions::ActionDefaults;
 use kx_choice::{Condition, Trigger, WantedKeysym};
-use kx_lex::{Apart, At, Fault, Name, Row, Span};
+use kx_lex::{At, Boxed, Fault, Name, Row, Span};
 use kx_masks::ModNames;
 use kx_mods::Mods;
 use kx_parse::{Field, Item, Predicate, Statement, Symbol};
@@ -28,7 +28,7 @@ use std::alloc::Global;
 /// The symbol, the predicate and the fields of an interpretation.
 fn interpretation_in(
     statement: &Statement,
-) -> Option<(&Symbol, &Option<Apart<Predicate>>, &Row<Field>)>
+) -> Option<(&Symbol, &Option<Boxed<Predicate>>, &Row<Field>)>
     ensures { option_map (λ i. (i.0.now, i.1.now, i.2.now)) result ≡ interpretation_in statement.now }
 {
     match statement {
@@ -88,7 +88,7 @@ fn read_trigger(
     names: &ModNames,
     file: u32,
     symbol: &Symbol,
-    predicate: &Option<Apart<Predicate>>,
+    predicate: &Option<Boxed<Predicate>>,
     notes: &mut Notes,
 ) -> Result<Option<Trigger>, Fault>
     ensures value { IfOk result (λ trigger. trigger ≡ trigger_of table.now symbol.now predicate.now) }
@@ -180,7 +180,7 @@ fn read_interpretation(
     file: u32,
     defaults: &CompatDefaults,
     symbol: &Symbol,
-    predicate: &Option<Apart<Predicate>>,
+    predicate: &Option<Boxed<Predicate>>,
     fields: &[Field],
     notes: &mut Notes,
 ) -> Result<Vec<(Trigger, FieldValues)>, Fault>

@@ -6,7 +6,7 @@ ghost use Rattle.kx_groups.specs.Fields.{field_faults, group_faults, index_fault
 ghost use Rattle.kx_settings.specs.Groups.{group_of as group_named, is_group};
 
 use kx_basics::{MOST_GROUPS, MOST_NAME_BYTES};
-use kx_lex::{Apart, At, Fault, Name, Span};
+use kx_lex::{At, Boxed, Fault, Name, Span};
 use kx_parse::{Expression, Field, Index, Place, Setting, Statement, Term, Value};
 use kx_settings::group_of;
 
@@ -77,7 +77,7 @@ fn valued_group(file: u32, value: &Expression) -> Result<u8, Fault>
 }
 
 /// The group, counted from 1, that an index behind a word names.
-fn read_group(file: u32, word: &Name, index: &Option<Apart<Index>>) -> Result<u8, Fault>
+fn read_group(file: u32, word: &Name, index: &Option<Boxed<Index>>) -> Result<u8, Fault>
     ensures value { IfOk result (λ group. Some group ≡ indexed_group index.now) }
     ensures faultless { OnOk result (index_faults file word.now index.now ≡ []) }
     ensures fault { IfErr result (λ e. Contains (index_faults file word.now index.now) e) }

@@ -96,7 +96,7 @@ fn all_names(alloc: Global, records: &IndexMap<u8, GroupName>) -> Result<Vec<Nam
 
 /// How many names there are up to the last that has a byte, once one more is read.
 fn count_with(count: usize, place: usize, name: &[u8]) -> usize
-    requires { place < 32 }
+    requires { place < MOST_GROUPS }
     ensures { result ≡ (if nat_eq (length name.now) 0 then count else place + 1) }
 {
     if name.is_empty() { count } else { place + 1 }
@@ -104,7 +104,7 @@ fn count_with(count: usize, place: usize, name: &[u8]) -> usize
 
 /// How many names there are up to the last that has a byte.
 fn named_count(names: &[NameText]) -> usize
-    requires { length names.now ≤ 32 }
+    requires { length names.now ≤ MOST_GROUPS }
     ensures within { result ≤ length names.now }
     ensures behind { (group : ℕ) → result ≤ group → name_at names.now group ≡ [] }
     ensures last { name_at names.now (result - 1) ≡ [] → result ≡ 0 }
@@ -118,9 +118,9 @@ fn named_count(names: &[NameText]) -> usize
 
 /// The names without those of no bytes at the end.
 fn named(names: Vec<NameText>) -> Vec<NameText>
-    requires { length names.items ≤ 32 }
+    requires { length names.items ≤ MOST_GROUPS }
     ensures names { (group : ℕ) → name_at result.items group ≡ name_at names.items group }
-    ensures few { length result.items ≤ 32 }
+    ensures few { length result.items ≤ MOST_GROUPS }
     ensures ends { name_at result.items (length result.items - 1) ≡ [] → result.items ≡ [] }
 {
     let mut names = names;

@@ -13,10 +13,10 @@ use Rattle.std.proofs.lemmas.Slice.Eq.{bytes_eq-Decides}
 use Rattle.kx_tables.specs.Content.{Content, greatest_groups, part}
 use Rattle.kx_tables.specs.Sound.{Sound}
 use Rattle.kx_image.specs.Cut.{rows_at, record_at}
-use Rattle.kx_image.specs.Image.{IsImage, Tellable, Tells, body, content_in, header_for, image}
+use Rattle.kx_image.specs.Image.{IsImage, IsExpressible, IsCanonical, body, content_in, header_for, image}
 use Rattle.kx_image.specs.Records.{two, four, two_at, four_at, type_bytes, type_of, entry_bytes, entry_of, key_bytes, key_of, group_bytes, group_of, cell_bytes, cell_of, keysym_bytes, keysym_of, indicator_bytes, indicator_of, group_name_bytes, group_name_of}
 use Rattle.kx_image.specs.Shape.{magic, edition_number, edition_of, new_count_at, front_fault, length_fault, shape_fault, called_for, header_bytes, header_of, header_size, entries_start, keys_start, groups_start, cells_start, keysyms_start, indicators_start, group_names_start, names_start, group_count}
-use Rattle.kx_image.specs.Telling.{AllTell}
+use Rattle.kx_image.specs.Canonical.{AreCanonical}
 use Rattle.kx_image.specs.declared.fault.ImageFault.{ImageFault}
 use Rattle.kx_image.specs.declared.fault.ImageFault.TheVariants.{Truncated, Magic, Version, Length}
 use Rattle.kx_image.specs.declared.header.Header.{Header}
@@ -145,7 +145,7 @@ header_is s end groups_are =
 last_part : (s : List ℕ) (start n : ℕ) → length s ≡ start + n → drop start s ≡ part s start n
 last_part s start n end = sym (take-append-drop n (drop start s)) ∙ ap (λ t. take n (drop start s) ++ t) (drop-drop n start s ∙ ap (λ k. drop k s) (sym end) ∙ drop-length s) ∙ append-nil (take n (drop start s))
 
-body_is : (s : List ℕ) → length s ≡ called_for s → AllTell s → drop (header_size (header_of s).edition) s ≡ body (content_in s)
+body_is : (s : List ℕ) → length s ≡ called_for s → AreCanonical s → drop (header_size (header_of s).edition) s ≡ body (content_in s)
 body_is s end all =
     let h = header_of s in
     let groups = group_count h s in
@@ -159,18 +159,18 @@ body_is s end all =
     ∙ ap (λ t. flat_map indicator_bytes (content_in s).indicators ++ t) (table_bytes group_name_bytes group_name_of 8 h.group_names (group_names_start h groups) s all.group_names.each
     ∙ ap (λ t. flat_map group_name_bytes (content_in s).group_names ++ t) (last_part s (names_start h groups) h.names end))))))))
 
-tellable_in : (e : Edition) (s : List ℕ) (a b : ℕ) (c : Content) → c.indicators ≡ rows_at indicator_of 16 (new_count_at e s 28) a s → c.group_names ≡ rows_at group_name_of 8 (new_count_at e s 30) b s → Tellable e c
-tellable_in One s a b c p q = (p, q)
-tellable_in Two s a b c p q = tt
+expressible_in : (e : Edition) (s : List ℕ) (a b : ℕ) (c : Content) → c.indicators ≡ rows_at indicator_of 16 (new_count_at e s 28) a s → c.group_names ≡ rows_at group_name_of 8 (new_count_at e s 30) b s → IsExpressible e c
+expressible_in One s a b c p q = (p, q)
+expressible_in Two s a b c p q = tt
 
-pub image_found : (s : List ℕ) → AreBytes s → shape_fault s ≡ None → length s ≡ called_for s → AllTell s → (header_of s).groups ≡ greatest_groups (content_in s).keys → Sound (content_in s) → IsImage (content_in s) s
+pub image_found : (s : List ℕ) → AreBytes s → shape_fault s ≡ None → length s ≡ called_for s → AreCanonical s → (header_of s).groups ≡ greatest_groups (content_in s).keys → Sound (content_in s) → IsImage (content_in s) s
 image_found s bytes whole end all groups_are sound =
     let front = front_whole s whole in
     let e = edition_of (two_at s 4) in
     record {
       edition = e;
       sound = sound;
-      tellable = tellable_in e s (indicators_start (header_of s) (group_count (header_of s) s)) (group_names_start (header_of s) (group_count (header_of s) s)) (content_in s) refl refl;
+      expressible = expressible_in e s (indicators_start (header_of s) (group_count (header_of s) s)) (group_names_start (header_of s) (group_count (header_of s) s)) (content_in s) refl refl;
       is = header_told e s bytes front.begins front.number front.long ∙ ap (λ t. header_bytes (header_of s) ++ t) (body_is s end all)
           ∙ ap (λ h. header_bytes h ++ body (content_in s)) (sym (header_is s end groups_are));
     }

@@ -4,9 +4,9 @@ use Rattle.std.proofs.lemmas.Bool.{cases_lt}
 use Rattle.std.proofs.Math.Nat.{mul-le-mul_left}
 use Rattle.kx_tables.specs.declared.check.Part.{Part}
 use Rattle.kx_image.specs.Cut.{record_at}
-use Rattle.kx_image.specs.Image.{Tells, HasFault, RecordGarbled, Garbled}
+use Rattle.kx_image.specs.Image.{IsCanonical, HasFault, RecordGarbled, Garbled}
 use Rattle.kx_image.specs.Shape.{shape_fault}
-use Rattle.kx_image.specs.Telling.{TableTells, NamesGarbled}
+use Rattle.kx_image.specs.Canonical.{IsCanonicalTable, NamesGarbled}
 use Rattle.kx_image.specs.declared.fault.ImageFault.{ImageFault}
 use Rattle.kx_image.specs.declared.fault.ImageFault.TheVariants.{BadRecord}
 
@@ -15,24 +15,24 @@ record_within size count index start total low within =
     let more : size * (index + 1) ≤ size * count = mul-le-mul_left size (omega arith) in
     omega (arith, more)
 
-pub tells_more : (tells : List ℕ → Type 0) (size n start : ℕ) (s : List ℕ) → TableTells tells size n start s → tells (record_at s start size n) → TableTells tells size (n + 1) start s
-tells_more tells size n start s so_far here = record {
+pub writes_more : (is_canonical : List ℕ → Type 0) (size n start : ℕ) (s : List ℕ) → IsCanonicalTable is_canonical size n start s → is_canonical (record_at s start size n) → IsCanonicalTable is_canonical size (n + 1) start s
+writes_more is_canonical size n start s so_far here = record {
   each = λ i lt. elim (cases_lt i n) [
     | inl earlier ↦ so_far.each i earlier
-    | inr later ↦ let same : n ≡ i = omega arith in subst (λ (j : ℕ). tells (record_at s start size j)) same here
+    | inr later ↦ let same : n ≡ i = omega arith in subst (λ (j : ℕ). is_canonical (record_at s start size j)) same here
   ];
 }
 
-pub table_told : (tells : List ℕ → Type 0) (size count start count' start' : ℕ) (s : List ℕ) (r : Result (Unit {0}) ImageFault) → count ≡ count' → start ≡ start' → OnOk r (TableTells tells size count start s) → OnOk r (TableTells tells size count' start' s)
-table_told tells size count start count' start' s r count_is start_is told =
-    subst (λ (n : ℕ). OnOk r (TableTells tells size n start' s)) count_is (subst (λ (p : ℕ). OnOk r (TableTells tells size count p s)) start_is told)
+pub table_told : (is_canonical : List ℕ → Type 0) (size count start count' start' : ℕ) (s : List ℕ) (r : Result (Unit {0}) ImageFault) → count ≡ count' → start ≡ start' → OnOk r (IsCanonicalTable is_canonical size count start s) → OnOk r (IsCanonicalTable is_canonical size count' start' s)
+table_told is_canonical size count start count' start' s r count_is start_is told =
+    subst (λ (n : ℕ). OnOk r (IsCanonicalTable is_canonical size n start' s)) count_is (subst (λ (p : ℕ). OnOk r (IsCanonicalTable is_canonical size count p s)) start_is told)
 
-named_fault : {X : Type 0} (bytes_of : X → List ℕ) (of : List ℕ → X) (part : Part) (size count start : ℕ) (s : List ℕ) → shape_fault s ≡ None → ((i : ℕ) → Garbled bytes_of of size count start s i → RecordGarbled s part i) → (f : ImageFault) → NamesGarbled (Tells bytes_of of) part size count start s f → HasFault s f
+named_fault : {X : Type 0} (bytes_of : X → List ℕ) (of : List ℕ → X) (part : Part) (size count start : ℕ) (s : List ℕ) → shape_fault s ≡ None → ((i : ℕ) → Garbled bytes_of of size count start s i → RecordGarbled s part i) → (f : ImageFault) → NamesGarbled (IsCanonical bytes_of of) part size count start s f → HasFault s f
 named_fault bytes_of of part size count start s whole to f named =
     subst (HasFault s) (sym named.is) (whole, inl (to named.index (record { below = named.below; garbled = named.garbled })))
 
-pub garbled_fault : {X : Type 0} (bytes_of : X → List ℕ) (of : List ℕ → X) (part : Part) (size count start count' start' : ℕ) (s : List ℕ) (r : Result (Unit {0}) ImageFault) → shape_fault s ≡ None → ((i : ℕ) → Garbled bytes_of of size count' start' s i → RecordGarbled s part i) → count ≡ count' → start ≡ start' → IfErr r (NamesGarbled (Tells bytes_of of) part size count start s) → IfErr r (HasFault s)
+pub garbled_fault : {X : Type 0} (bytes_of : X → List ℕ) (of : List ℕ → X) (part : Part) (size count start count' start' : ℕ) (s : List ℕ) (r : Result (Unit {0}) ImageFault) → shape_fault s ≡ None → ((i : ℕ) → Garbled bytes_of of size count' start' s i → RecordGarbled s part i) → count ≡ count' → start ≡ start' → IfErr r (NamesGarbled (IsCanonical bytes_of of) part size count start s) → IfErr r (HasFault s)
 garbled_fault bytes_of of part size count start count' start' s (Ok x) whole to count_is start_is named = tt
 garbled_fault bytes_of of part size count start count' start' s (Err f) whole to count_is start_is named =
     named_fault bytes_of of part size count' start' s whole to f
-    (subst (λ (n : ℕ). NamesGarbled (Tells bytes_of of) part size n start' s f) count_is (subst (λ (p : ℕ). NamesGarbled (Tells bytes_of of) part size count p s f) start_is named))
+    (subst (λ (n : ℕ). NamesGarbled (IsCanonical bytes_of of) part size n start' s f) count_is (subst (λ (p : ℕ). NamesGarbled (IsCanonical bytes_of of) part size count p s f) start_is named))

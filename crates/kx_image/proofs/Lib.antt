@@ -6,4 +6,4 @@ pub mod Only
 pub mod Reading
 pub mod Refused
 pub mod Slicing
-pub mod Pressing
+pub mod Buffering

@@ -12,7 +12,7 @@ use Rattle.kx_tables.proofs.Bounds.{entries_within, groups_within, cells_within,
 use Rattle.kx_tables.specs.Content.{Content, greatest_groups, part}
 use Rattle.kx_tables.specs.Sound.{Sound, KeyHolds}
 use Rattle.kx_tables.specs.declared.rows.KeyRow.{KeyRow}
-use Rattle.kx_image.specs.Image.{IsImage, Tellable, body, content_in, header_for, image}
+use Rattle.kx_image.specs.Image.{IsImage, IsExpressible, body, content_in, header_for, image}
 use Rattle.kx_image.specs.Records.{two, four, two_at, four_at, key_bytes}
 use Rattle.kx_image.specs.Shape.{magic, edition_number, edition_of, new_count_at, front_fault, shape_fault, called_for, header_bytes, header_of, header_size, groups_from}
 use Rattle.kx_image.specs.declared.header.Header.{Header}

@@ -23,7 +23,7 @@ use Rattle.kx_tables.specs.declared.rows.IndicatorRow.{IndicatorRow}
 use Rattle.kx_tables.specs.declared.rows.KeyRow.{KeyRow}
 use Rattle.kx_tables.specs.declared.rows.TypeRow.{TypeRow}
 use Rattle.kx_image.specs.Cut.{rows_at, record_at}
-use Rattle.kx_image.specs.Image.{IsImage, Tellable, Tells, Garbled, RecordGarbled, HasFault, body, content_in, header_for, image}
+use Rattle.kx_image.specs.Image.{IsImage, IsExpressible, IsCanonical, Garbled, RecordGarbled, HasFault, body, content_in, header_for, image}
 use Rattle.kx_image.specs.Records.{type_bytes, type_of, entry_bytes, entry_of, key_bytes, key_of, group_bytes, group_of, cell_bytes, cell_of, keysym_bytes, keysym_of, indicator_bytes, indicator_of, group_name_bytes, group_name_of}
 use Rattle.kx_image.specs.Shape.{front_fault, length_fault, shape_fault, called_for, header_bytes, header_of, header_size, entries_start, keys_start, groups_start, cells_start, keysyms_start, indicators_start, group_names_start, names_start, group_count}
 use Rattle.kx_image.specs.declared.fault.ImageFault.{ImageFault}
@@ -41,9 +41,9 @@ header_fits c e sound =
     let few = groups_fit c sound in
     record { groups = omega arith; types = fit.types; keys = fit.keys; entries = fit.entries; cells = fit.cells; keysyms = fit.keysyms; names = fit.names; indicators = fit.indicators; group_names = fit.group_names }
 
-old_header : (c : Content) (e : Edition) → Tellable e c → Old e (header_for e c)
-old_header c One tellable = (ap length tellable.0, ap length tellable.1)
-old_header c Two tellable = tt
+old_header : (c : Content) (e : Edition) → IsExpressible e c → Old e (header_for e c)
+old_header c One expressible = (ap length expressible.0, ap length expressible.1)
+old_header c Two expressible = tt
 
 -- what a content's image gives back, table by table
 record Whole (c : Content) (h : Header) (s : List ℕ) : Type 0 where
@@ -207,7 +207,7 @@ form_of s front end =
 told_of : (c : Content) (s : List ℕ) (img : IsImage c s) → Told c img.edition s
 told_of c s img =
     let e = img.edition in
-    let header : header_of s ≡ header_for img.edition c = ap header_of img.is ∙ header_again (header_for img.edition c) (body c) (header_fits c img.edition img.sound) (old_header c img.edition img.tellable) in
+    let header : header_of s ≡ header_for img.edition c = ap header_of img.is ∙ header_again (header_for img.edition c) (body c) (header_fits c img.edition img.sound) (old_header c img.edition img.expressible) in
     let whole = whole_of c img.edition s img.sound img.is in
     let counted : group_count (header_of s) s ≡ length c.groups = ap (λ (h : Header). group_count h s) header ∙ whole.counted in
     let end : length s ≡ called_for s = whole.end ∙ sym (ap (λ (h : Header). names_start h (group_count h s) + h.names) header ∙ ap (λ n. names_start (header_for img.edition c) n + length c.names) whole.counted) in

@@ -26,11 +26,11 @@ module _ {X : Type 0} (of : List ℕ → X) (size : ℕ) where
 module _ {X : Type 0} (bytes_of : X → List ℕ) (of : List ℕ → X) (size : ℕ) where
   -- records that are the bytes of their rows
   pub table_bytes : (n start : ℕ) (s : List ℕ) → ((i : ℕ) → i < n → bytes_of (of (record_at s start size i)) ≡ record_at s start size i) → drop start s ≡ flat_map bytes_of (rows_at of size n start s) ++ drop (start + size * n) s
-  table_bytes zero start s tells = let e : start + size * 0 ≡ start = omega arith in rw e refl
-  table_bytes (suc n) start s tells =
-      let first : bytes_of (of (part s start size)) ≡ part s start size = let e : start + size * 0 ≡ start = omega arith in rw e at (tells 0 (omega arith)) in
+  table_bytes zero start s is_canonical = let e : start + size * 0 ≡ start = omega arith in rw e refl
+  table_bytes (suc n) start s is_canonical =
+      let first : bytes_of (of (part s start size)) ≡ part s start size = let e : start + size * 0 ≡ start = omega arith in rw e at (is_canonical 0 (omega arith)) in
       let later : (i : ℕ) → i < n → bytes_of (of (record_at s (start + size) size i)) ≡ record_at s (start + size) size i = λ i lt.
-      let e : start + size * suc i ≡ start + size + size * i = omega arith in subst (λ (p : ℕ). bytes_of (of (part s p size)) ≡ part s p size) e (tells (suc i) (omega arith)) in
+      let e : start + size * suc i ≡ start + size + size * i = omega arith in subst (λ (p : ℕ). bytes_of (of (part s p size)) ≡ part s p size) e (is_canonical (suc i) (omega arith)) in
       let rest = table_bytes n (start + size) s later in
       let end : start + size + size * n ≡ start + size * suc n = omega arith in
       sym (cut_first of size start s) ∙ ap (λ t. part s start size ++ t) (rest ∙ ap (λ (p : ℕ). flat_map bytes_of (rows_at of size n (start + size) s) ++ drop p s) end)

@@ -38,15 +38,15 @@ abbrev pub image : Edition → Content → List ℕ
 image e c = header_bytes (header_for e c) ++ body c
 
 -- what a version can tell: version 1 has no indicators and no group names
-abbrev pub Tellable : Edition → Content → Type 0
-Tellable One c = (c.indicators ≡ []) × (c.group_names ≡ [])
-Tellable Two c = Unit {0}
+abbrev pub IsExpressible : Edition → Content → Type 0
+IsExpressible One c = (c.indicators ≡ []) × (c.group_names ≡ [])
+IsExpressible Two c = Unit {0}
 
 -- the bytes are the image of a sound content, in one of the versions
 pub record IsImage (c : Content) (s : List ℕ) : Type 0 where
   pub edition : Edition
   pub sound : Sound c
-  pub tellable : Tellable edition c
+  pub expressible : IsExpressible edition c
   pub is : s ≡ image edition c
 
 -- the content whose rows the bytes tell, record by record
@@ -67,13 +67,13 @@ content_in s =
     }
 
 -- a record's bytes are those of the row that they tell: what is reserved is zero, and no code stands for nothing
-abbrev pub Tells : {X : Type 0} → (X → List ℕ) → (List ℕ → X) → List ℕ → Type 0
-Tells bytes_of of s = bytes_of (of s) ≡ s
+abbrev pub IsCanonical : {X : Type 0} → (X → List ℕ) → (List ℕ → X) → List ℕ → Type 0
+IsCanonical bytes_of of s = bytes_of (of s) ≡ s
 
 -- the record at an index isn't the bytes of a row
 pub record Garbled {X : Type 0} (bytes_of : X → List ℕ) (of : List ℕ → X) (size count start : ℕ) (s : List ℕ) (i : ℕ) : Type 0 where
   pub below : i < count
-  pub garbled : Tells bytes_of of (record_at s start size i) → ⊥
+  pub garbled : IsCanonical bytes_of of (record_at s start size i) → ⊥
 
 abbrev pub RecordGarbled : List ℕ → Part → ℕ → Type 0
 RecordGarbled s parts.Header i = (i ≡ 0) × ((header_of s).groups ≡ greatest_groups (content_in s).keys → ⊥)

@@ -4,5 +4,5 @@ pub mod LayoutHolds
 pub mod Records
 pub mod Shape
 pub mod Starts
-pub mod Telling
+pub mod Canonical
 pub mod Upgrade

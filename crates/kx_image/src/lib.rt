@@ -1,13 +1,13 @@
 //! The image of a keymap: its bytes, how they are written, opened in place, and brought to the newest version.
 #![tactic(auto)]
 
+mod canonical;
 mod fault;
 mod header;
 mod layout;
 mod numbers;
 mod records;
 mod shape;
-mod telling;
 mod upgrading;
 mod view;
 mod writer;

@@ -3,10 +3,10 @@ ghost use Rattle.std.specs.Prelude.{◌≡◌, ◌<◌, ℕ, List, IfOk, IfErr, 
 ghost use Rattle.kx_image.specs.Image.{IsImage, HasFault};
 ghost use Rattle.kx_tables.specs.Content.{Content, key_name, type_name};
 
+use crate::canonical::check_records;
 use crate::fault::ImageFault;
 use crate::layout::Layout;
 use crate::shape::shape;
-use crate::telling::records_tell;
 use kx_tables::{
     CellRow, Counts, EntryRow, GroupNameRow, GroupRow, IndicatorRow, KeyRow, Part, Rows, Tables,
     TypeRow, check_tables, most_groups,
@@ -50,7 +50,7 @@ impl<'a> View<'a> {
         ensures fault { IfErr result (HasFault bytes.now) }
     {
         let (header, groups) = shape(bytes)?;
-        records_tell(bytes, header, groups)?;
+        check_records(bytes, header, groups)?;
         let layout = Layout::new(bytes, header, groups);
         if let Err(broken) = check_tables(&layout) {
             return Err(ImageFault::BadRecord(broken.part, broken.index));

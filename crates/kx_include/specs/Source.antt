@@ -8,6 +8,8 @@ use Rattle.kx_lex.specs.declared.fault.Fault.TheVariants.{TooLong, TooMany}
 use Rattle.kx_lex.specs.declared.token.Token.{Token}
 use Rattle.kx_parse.specs.Sections.{Spells, StopsWith}
 use Rattle.kx_parse.specs.declared.tree.Tree.{Tree}
+use Rattle.kx_lex.specs.declared.scan.TheConstants.{MOST_TEXT_BYTES}
+use Rattle.kx_include.specs.declared.sources.TheConstants.{MOST_FILES}
 
 -- files by name, as they are handed in
 abbrev pub Handed : Type 0
@@ -18,7 +20,7 @@ pub record IsRead (source : List ℕ) (files : Handed) (library : Library) : Typ
   pub tokens : List Token
   pub tree : Tree
   pub short : IsShort source
-  pub few_files : length files ≤ 65535
+  pub few_files : length files ≤ MOST_FILES
   pub reading : IsReading source tokens
   pub spelled : Spells source tokens tree
   pub texts : IsLibrary tree files library
@@ -26,8 +28,8 @@ pub record IsRead (source : List ℕ) (files : Handed) (library : Library) : Typ
 -- the source has no tree: it is too long; else its reading stops, or that of its tokens does
 abbrev pub HasNoTree : List ℕ → Fault → Type 0
 HasNoTree source e =
-    ((1048576 < length source) × (e ≡ TooLong (whole_of source)))
+    ((MOST_TEXT_BYTES < length source) × (e ≡ TooLong (whole_of source)))
     ⊎ (IsShort source × (LexingStopsWith source e ⊎ ((tokens : List Token) × IsReading source tokens × StopsWith source tokens e)))
 
 abbrev pub HasTooManyFiles : List ℕ → Handed → Fault → Type 0
-HasTooManyFiles source files e = (65535 < length files) × (e ≡ TooMany (whole_of source))
+HasTooManyFiles source files e = (MOST_FILES < length files) × (e ≡ TooMany (whole_of source))

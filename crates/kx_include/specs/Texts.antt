@@ -8,6 +8,7 @@ use Rattle.kx_lex.specs.declared.token.Token.{Token}
 use Rattle.kx_parse.specs.Sections.{SpellsFile, FileStopsWith}
 use Rattle.kx_parse.specs.declared.tree.Tree.{Tree}
 use Rattle.kx_include.specs.Library.{Library, Text}
+use Rattle.kx_lex.specs.declared.scan.TheConstants.{MOST_TEXT_BYTES}
 
 abbrev in_text : ℕ → At → At
 in_text file at = record { file = file; span = at.span }
@@ -35,7 +36,7 @@ in_file file (fault.CodeRange at) = fault.CodeRange (in_text file at)
 
 -- a text has at most 1 MiB
 abbrev pub IsShort : List ℕ → Type 0
-IsShort bytes = length bytes ≤ 1048576
+IsShort bytes = length bytes ≤ MOST_TEXT_BYTES
 
 -- the tree that a short text's tokens spell
 abbrev pub IsTree : List ℕ → Tree → Type 0
@@ -43,7 +44,7 @@ IsTree bytes tree = IsShort bytes × ((tokens : List Token) × IsReading bytes t
 
 -- a text is too long; else its reading stops, or the reading of its tokens does
 abbrev pub IsStop : List ℕ → Fault → Type 0
-IsStop bytes e = ((1048576 < length bytes) × (e ≡ fault.TooLong (whole_of bytes))) ⊎ (IsShort bytes × (StopsWith bytes e ⊎ ((tokens : List Token) × IsReading bytes tokens × FileStopsWith bytes tokens e)))
+IsStop bytes e = ((MOST_TEXT_BYTES < length bytes) × (e ≡ fault.TooLong (whole_of bytes))) ⊎ (IsShort bytes × (StopsWith bytes e ⊎ ((tokens : List Token) × IsReading bytes tokens × FileStopsWith bytes tokens e)))
 
 abbrev pub IsText : ℕ → List ℕ → Text → Type 0
 IsText file bytes (Ok tree) = IsTree bytes tree

@@ -19,10 +19,10 @@ use kx_parse::{Item, Kind};
 use std::alloc::Global;
 
 /// At most this many parts of includes are expanded.
-const MOST_PARTS: u32 = 4096;
+pub const MOST_PARTS: u32 = 4096;
 
 /// Includes in the source are nested at most this deep.
-const MOST_DEPTH: u8 = 16;
+pub const MOST_DEPTH: u8 = 16;
 
 /// How far the includes in something that was expanded go.
 #[derive(Clone, Copy)]

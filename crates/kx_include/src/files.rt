@@ -2,6 +2,7 @@ ghost use Rattle.std.specs.Prelude.{◌≡◌, ◌++◌, [], ◌≤◌, List, �
 ghost use Rattle.std.specs.Option.{option_map};
 ghost use Rattle.kx_lex.specs.declared.fault.Fault.TheVariants.{Memory};
 ghost use Rattle.kx_include.specs.Library.{number_of, with_file};
+ghost use Rattle.kx_include.specs.declared.sources.TheConstants.{MOST_FILES};
 
 use indexmap::IndexMap;
 use kx_lex::Fault;
@@ -54,7 +55,7 @@ impl Files {
 
     /// The number of the file of a name, counted from 1.
     pub(crate) fn number_of(&self, name: &[u8]) -> Option<u32>
-        requires { length self.now ≤ 65535 }
+        requires { length self.now ≤ MOST_FILES }
         ensures { result ≡ number_of (map (λ f. f.0) self.now) name.now }
     {
         match self.files.get_index_of(name) {

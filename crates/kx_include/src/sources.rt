@@ -16,7 +16,7 @@ use std::alloc::{AllocError, Global};
 use std::marker::Model;
 
 /// At most this many files can be handed in.
-const MOST_FILES: usize = 65_535;
+pub const MOST_FILES: usize = 65_535;
 
 /// The source's tree and the texts of the files that includes can name, each read once.
 #[derive(Drop)]
@@ -133,8 +133,8 @@ impl<'a> Library<'a> {
         files: &'a Files,
     ) -> Result<Library<'a>, Fault>
         ensures texts { IfOk result (λ library. IsLibrary tree files.now library) }
-        ensures few { OnOk result (length files.now ≤ 65535) }
-        ensures err { IfErr result (λ e. (e ≡ Memory) ⊎ ((65535 < length files.now) × (e ≡ TooMany (at 0 whole)))) }
+        ensures few { OnOk result (length files.now ≤ MOST_FILES) }
+        ensures err { IfErr result (λ e. (e ≡ Memory) ⊎ ((MOST_FILES < length files.now) × (e ≡ TooMany (at 0 whole)))) }
     {
         if files.len() > MOST_FILES {
             return Err(Fault::TooMany(At {

@@ -19,7 +19,7 @@ use Rattle.kx_parse.specs.declared.tree.Item.{Item}
 use Rattle.kx_parse.specs.declared.tree.Item.TheVariants.{Include, Statement}
 use Rattle.kx_parse.specs.declared.tree.Statement.{Statement as StatementValue}
 use Rattle.kx_lamps.specs.Blocks.{indicator_in, item_faults, lamp_names, next_default, own_faults, said_faults, written_name}
-use Rattle.kx_lamps.specs.Bounds.{NamesAreFine}
+use Rattle.kx_lamps.specs.Bounds.{NamesAreValid}
 use Rattle.kx_lamps.specs.declared.limits.TheConstants.{MOST_INDICATORS}
 use Rattle.kx_lamps.specs.Given.{LampValues}
 use Rattle.kx_lamps.specs.Giving.{no_values}
@@ -133,8 +133,8 @@ pub names_apart : (saids : List Said) → IsDistinct bytes_eq (names_of lamp_nam
 unfolding IsDistinct
 names_apart saids = distinct-behind [] saids tt
 
-pub names_fine : (lamps names : List (List ℕ)) (body : Body) (ks : List (List ℕ)) → ks ≡ names_of lamp_names (statements_of body) → length ks ≤ MOST_INDICATORS → faults_of nat_eq (lamp_rules lamps names) lamp_moves body ≡ [] → NamesAreFine ks
-names_fine lamps names body ks are few h = record {
+pub names_valid : (lamps names : List (List ℕ)) (body : Body) (ks : List (List ℕ)) → ks ≡ names_of lamp_names (statements_of body) → length ks ≤ MOST_INDICATORS → faults_of nat_eq (lamp_rules lamps names) lamp_moves body ≡ [] → NamesAreValid ks
+names_valid lamps names body ks are few h = record {
   few = few;
   short = subst (All IsShort) (sym are) (names_short lamps names body h);
   apart = subst (IsDistinct bytes_eq) (sym are) (names_apart (statements_of body));

@@ -7,12 +7,12 @@ use Rattle.kx_lamps.specs.Meaning.{Indicators}
 use Rattle.kx_lamps.specs.declared.limits.TheConstants.{MOST_INDICATORS}
 
 -- there are few, none is too long, and no two are the same
-pub record NamesAreFine (names : List (List ℕ)) : Type 0 where
+pub record NamesAreValid (names : List (List ℕ)) : Type 0 where
   pub few : length names ≤ MOST_INDICATORS
   pub short : All (λ name. length name ≤ MOST_NAME_BYTES) names
   pub apart : IsDistinct bytes_eq names
 
 -- for each name there is what lights its indicator
-pub record AreFine (is : Indicators) : Type 0 where
-  pub names : NamesAreFine is.names
+pub record AreValid (is : Indicators) : Type 0 where
+  pub names : NamesAreValid is.names
   pub as_many : length is.lamps ≡ length is.names

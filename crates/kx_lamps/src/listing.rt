@@ -5,7 +5,7 @@ ghost use Rattle.kx_include.specs.Shared.{expanded_body};
 ghost use Rattle.kx_lex.specs.declared.fault.Fault.TheVariants.{Memory};
 ghost use Rattle.kx_masks.specs.Once.{OffersOnce};
 ghost use Rattle.kx_lamps.specs.Blocks.{DefaultsAreLast};
-ghost use Rattle.kx_lamps.specs.Bounds.{NamesAreFine};
+ghost use Rattle.kx_lamps.specs.Bounds.{NamesAreValid};
 ghost use Rattle.kx_lamps.specs.Meaning.{AreIndicators, lamp_rules, lamps_faults};
 ghost use Rattle.kx_lamps.specs.Shown.{lamp_recorded};
 
@@ -62,9 +62,22 @@ pub fn indicators(
     names: &ModNames,
 ) -> Result<Indicators, Fault>
     ensures shows { IfOk result (λ found. AreIndicators found names.now.names (expanded_body expansion.now)) }
-    ensures fine { IfOk result (λ found. NamesAreFine found.names) }
+    ensures valid { IfOk result (λ found. NamesAreValid found.names) }
     ensures defaults { DefaultsAreLast names.now.names }
     ensures once { (lamps : List (List ℕ)) → OffersOnce nat_eq (lamp_rules lamps names.now.names) }
+    ensures faultless { OnOk result (lamps_faults names.now.names (expanded_body expansion.now) ≡ []) }
+    ensures fault { IfErr result (λ e. Contains (Memory ∷ lamps_faults names.now.names (expanded_body expansion.now)) e) }
+{
+    list_indicators(alloc, expansion, names)
+}
+
+fn list_indicators(
+    alloc: Global,
+    expansion: &Expansion,
+    names: &ModNames,
+) -> Result<Indicators, Fault>
+    ensures shows { IfOk result (λ found. AreIndicators found names.now.names (expanded_body expansion.now)) }
+    ensures valid { IfOk result (λ found. NamesAreValid found.names) }
     ensures faultless { OnOk result (lamps_faults names.now.names (expanded_body expansion.now) ≡ []) }
     ensures fault { IfErr result (λ e. Contains (Memory ∷ lamps_faults names.now.names (expanded_body expansion.now)) e) }
 {

@@ -14,24 +14,24 @@ pub struct Indicators {
 }
 
 impl Model for Indicators {
-    ghost use Rattle.kx_lamps.specs.Bounds.{AreFine};
+    ghost use Rattle.kx_lamps.specs.Bounds.{AreValid};
     ghost use Rattle.kx_lamps.specs.Meaning.{Indicators};
 
     ghost Value = { Indicators };
 
     ghost view = { λ i. record { names = i.names; lamps = i.lamps.items } };
 
-    ghost invariant = { λ i. AreFine (record { names = i.names; lamps = i.lamps.items }) };
+    ghost invariant = { λ i. AreValid (record { names = i.names; lamps = i.lamps.items }) };
 }
 
 impl Indicators {
     ghost use Rattle.std.specs.Prelude.{◌≡◌, length, slice_get};
     ghost use Rattle.std.specs.Option.{option_map};
-    ghost use Rattle.kx_lamps.specs.Bounds.{AreFine, NamesAreFine};
+    ghost use Rattle.kx_lamps.specs.Bounds.{AreValid, NamesAreValid};
 
     /// The indicators with these names.
     pub(crate) fn of(names: Names, lamps: Vec<Lamp>) -> Indicators
-        requires names { NamesAreFine names }
+        requires names { NamesAreValid names }
         requires as_many { length lamps.items ≡ length names }
         ensures { result ≡ record { names = names; lamps = lamps.items } }
     {
@@ -41,7 +41,7 @@ impl Indicators {
     /// How many there are.
     pub fn len(&self) -> usize
         ensures value { result ≡ length self.now.names }
-        ensures fine { AreFine self.now }
+        ensures valid { AreValid self.now }
     {
         self.names.len()
     }

@@ -20,7 +20,7 @@ use Rattle.kx_types.specs.KeyTypes.{Definition}
 use Rattle.kx_types.specs.Lawful.{EntryIsLawful, IsLawful}
 use Rattle.kx_types.specs.declared.entry.TypeEntry.{TypeEntry}
 use Rattle.kx_levels.specs.Going.{ComesOf, IsRowOf, RowsOf, mask_of}
-use Rattle.kx_levels.specs.Rows.{RowsAreFine, resolved_type}
+use Rattle.kx_levels.specs.Rows.{RowsAreValid, resolved_type}
 use Rattle.kx_levels.specs.Selecting.{RealSet}
 use Rattle.kx_levels.proofs.Bits.{any_wider, has_and, within_mask}
 
@@ -74,8 +74,8 @@ module _ (real : ℕ → RealSet) (wider : (a b r : ℕ) → real (meet a b) r �
   row_fits : (row : EntryRow) → ComesOf real t.entries row → mask row.mods < 2 ^ 8
   row_fits row comes = comes.2.mods_fit
 
-  row_fine : (name : List ℕ) (row : EntryRow) → ComesOf real t.entries row → EntryIsValid (resolved_type name t mods rows) row
-  row_fine name row comes =
+  row_valid : (name : List ℕ) (row : EntryRow) → ComesOf real t.entries row → EntryIsValid (resolved_type name t mods rows) row
+  row_valid name row comes =
       let e = comes.0 in
       let law = All-contains (EntryIsLawful t) t.entries e lawful.each_entry comes.1 in
       let is = comes.2 in
@@ -90,8 +90,8 @@ module _ (real : ℕ → RealSet) (wider : (a b r : ℕ) → real (meet a b) r �
         preserve_within = within_mask (mask row.preserve) (mask row.mods) is.preserve_fit (λ r within h. is.mods_are r within ∙ wider e.preserve e.mask r (ap (λ s. real s r) law.preserve_within ∙ sym (is.preserve_are r within) ∙ h));
       }
 
-  pub rows_fine : RowsAreFine t mods rows
-  rows_fine name short bytes =
+  pub rows_valid : RowsAreValid t mods rows
+  rows_valid name short bytes =
       let small = All-weaker (ComesOf real t.entries) (λ (row : EntryRow). mask row.mods < 2 ^ 8) row_fits rows all.each in
       let few = length-le_from_distinct_below (map mask_of rows) (2 ^ 8) all.apart (λ q there. small_keys rows q small there) in
       let still : length (map mask_of rows) ≡ length rows = length-map rows mask_of in
@@ -99,7 +99,7 @@ module _ (real : ℕ → RealSet) (wider : (a b r : ℕ) → real (meet a b) r �
         mods = fits;
         some_level = lawful.some_level;
         levels = lawful.few_levels;
-        each_entry = All-weaker (ComesOf real t.entries) (EntryIsValid (resolved_type name t mods rows)) (row_fine name) rows all.each;
+        each_entry = All-weaker (ComesOf real t.entries) (EntryIsValid (resolved_type name t mods rows)) (row_valid name) rows all.each;
         entries_apart = rows_apart rows all.apart;
         entries_fit = omega (arith, few, still);
         name_fits = short;

@@ -50,5 +50,5 @@ pub record RowsShow (real : ℕ → RealSet) (t : Definition) (mods : Mods) (row
   pub consumed_are : (name : List ℕ) (w r : ℕ) → w < 2 ^ 8 → r < 8 → has (consumed_mods (resolved_type name t mods rows) (entry_chosen (resolved_type name t mods rows) w)) r ≡ consumed real t (has w) r
 
 -- with a name that a type may have they keep the rules of tables
-abbrev pub RowsAreFine : Definition → Mods → List EntryRow → Type 0
-RowsAreFine t mods rows = (name : List ℕ) → length name ≤ MOST_NAME_BYTES → All (λ b. b < 2 ^ 8) name → TypeIsValid (resolved_type name t mods rows)
+abbrev pub RowsAreValid : Definition → Mods → List EntryRow → Type 0
+RowsAreValid t mods rows = (name : List ℕ) → length name ≤ MOST_NAME_BYTES → All (λ b. b < 2 ^ 8) name → TypeIsValid (resolved_type name t mods rows)

@@ -5,7 +5,7 @@ ghost use Rattle.kx_masks.specs.Sets.{has, real_of as stood_for};
 ghost use Rattle.kx_masks.specs.Standing.{stands_for};
 ghost use Rattle.kx_mods.specs.Mods.{mask};
 ghost use Rattle.kx_tables.specs.declared.rows.EntryRow.{EntryRow as RowValue};
-ghost use Rattle.kx_levels.specs.Rows.{RowsAreFine, RowsShow, entry_rows, mods_of, with_entry};
+ghost use Rattle.kx_levels.specs.Rows.{RowsAreValid, RowsShow, entry_rows, mods_of, with_entry};
 ghost use Rattle.kx_levels.specs.Selecting.{is_live};
 
 use kx_masks::{NameSet, real_of};
@@ -92,7 +92,7 @@ impl TypeRows {
         ensures mods { IfOk result (λ rows. rows.mods ≡ mods_of (stood_for (stands_for stands.now) key_type.now.modifiers)) }
         ensures entries { IfOk result (λ rows. rows.entries.items ≡ entry_rows (stood_for (stands_for stands.now)) key_type.now.entries) }
         ensures shows { IfOk result (λ rows. RowsShow (stood_for (stands_for stands.now)) key_type.now rows.mods rows.entries.items) }
-        ensures fine { IfOk result (λ rows. RowsAreFine key_type.now rows.mods rows.entries.items) }
+        ensures valid { IfOk result (λ rows. RowsAreValid key_type.now rows.mods rows.entries.items) }
     {
         let entries = entry_rows(alloc, key_type.entries(), stands)?;
         let mods = real_mods(key_type.modifiers(), stands);

@@ -6,29 +6,29 @@ use std::marker::Model;
 
 /// A value in an allocation of its own, so that what holds it stays small; seen as the value.
 #[derive(Debug, Drop)]
-pub struct Apart<T> {
+pub struct Boxed<T> {
     value: Box<T>,
 }
 
-impl<T> Model for Apart<T> {
+impl<T> Model for Boxed<T> {
     ghost Value = { T };
 
-    ghost view = { λ apart. apart.value.value };
+    ghost view = { λ boxed. boxed.value.value };
 }
 
-impl<T> Apart<T> {
+impl<T> Boxed<T> {
     ghost use Rattle.std.specs.Prelude.{◌≡◌, IfOk};
 
-    /// This value apart.
+    /// This value in an allocation of its own.
     ///
     /// # Errors
     /// Where a growth is refused.
-    pub fn of(alloc: Global, value: T) -> Result<Apart<T>, AllocError>
+    pub fn of(alloc: Global, value: T) -> Result<Boxed<T>, AllocError>
     where
         T: Drop,
-        ensures { IfOk result (λ apart. apart ≡ value) }
+        ensures { IfOk result (λ boxed. boxed ≡ value) }
     {
-        Ok(Apart {
+        Ok(Boxed {
             value: Box::new(alloc, value)?,
         })
     }

@@ -14,7 +14,7 @@ pub mod token;
 pub mod tokens;
 
 pub use fault::{At, Fault};
-pub use kept::{Apart, Bytes};
+pub use kept::{Boxed, Bytes};
 pub use keyword::Keyword;
 pub use name::{KeyName, Name, Number, Row};
 pub use scan::{MOST_TEXT_BYTES, begins_hex, key_names_of_readings, lex, one_reading};

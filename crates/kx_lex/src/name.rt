@@ -94,7 +94,7 @@ impl KeyName {
     /// Its bytes in order.
     pub fn as_slice(&self) -> &[u8]
         ensures value { result.now ≡ self.now.bytes }
-        ensures fine { AreKeyBytes result.now }
+        ensures valid { AreKeyBytes result.now }
     {
         self.name.bytes.as_slice()
     }

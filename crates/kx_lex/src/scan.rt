@@ -162,7 +162,7 @@ pub fn begins_hex(bytes: &[u8]) -> bool
 fn number_piece(bytes: &[u8]) -> Piece
     requires some { 0 < length bytes.now }
     requires digit { IsTrue (is_ascii_digit (slice_index bytes.now 0)) }
-    requires small { length bytes.now ≤ 1048576 }
+    requires small { length bytes.now ≤ MOST_TEXT_BYTES }
     ensures exact { result ≡ number_piece bytes.now }
     ensures within { piece_len result ≤ length bytes.now }
     ensures some { 0 < piece_len result }
@@ -195,7 +195,7 @@ fn past(bytes: &[u8], n: usize) -> &[u8]
 
 #[tactic(auto, unfolding(crate::specs::Pieces::key_name_piece))]
 fn key_name_piece(bytes: &[u8]) -> Piece
-    requires { length bytes.now < 1048576 }
+    requires { length bytes.now < MOST_TEXT_BYTES }
     ensures exact { result ≡ key_name_piece bytes.now }
     ensures some { 0 < piece_len result }
     ensures within { piece_len result ≤ length bytes.now + 1 }
@@ -209,7 +209,7 @@ fn key_name_piece(bytes: &[u8]) -> Piece
 }
 
 fn string_piece(bytes: &[u8]) -> Piece
-    requires { length bytes.now < 1048576 }
+    requires { length bytes.now < MOST_TEXT_BYTES }
     ensures exact { result ≡ string_piece (extent false bytes.now) }
     ensures some { 0 < piece_len result }
     ensures within { piece_len result ≤ length bytes.now + 1 }
@@ -231,7 +231,7 @@ fn word_of(bytes: &[u8], len: usize) -> Piece
 
 #[tactic(auto, using(crate::proofs::Pieces::pieces))]
 fn piece_at(bytes: &[u8]) -> Piece
-    requires { length bytes.now ≤ 1048576 }
+    requires { length bytes.now ≤ MOST_TEXT_BYTES }
     ensures exact { result ≡ piece bytes.now }
     ensures within { piece_len result ≤ length bytes.now }
     ensures some { result ≢ End → 0 < piece_len result }
@@ -295,10 +295,10 @@ fn whole(text: &[u8]) -> At
 /// where the reading stops, in file 0; `Memory` where a growth is refused.
 #[inline(never)]
 pub fn lex(alloc: Global, text: &[u8]) -> Result<Vec<Token>, Fault>
-    ensures long { 1048576 < length text.now → result ≡ Err (TooLong (whole_of text.now)) }
+    ensures long { MOST_TEXT_BYTES < length text.now → result ≡ Err (TooLong (whole_of text.now)) }
     ensures read { IfOk result (λ tokens. IsReading text.now tokens.items) }
-    ensures stopped { length text.now ≤ 1048576 → IfErr result (λ e. (e ≡ Memory) ⊎ StopsWith text.now e) }
-    ensures complete { (tokens : List TokenValue) → IsReading text.now tokens → length text.now ≤ 1048576 → IfErr result (λ e. e ≡ Memory) }
+    ensures stopped { length text.now ≤ MOST_TEXT_BYTES → IfErr result (λ e. (e ≡ Memory) ⊎ StopsWith text.now e) }
+    ensures complete { (tokens : List TokenValue) → IsReading text.now tokens → length text.now ≤ MOST_TEXT_BYTES → IfErr result (λ e. e ≡ Memory) }
 {
     if text.len() > MOST_TEXT_BYTES {
         return Err(Fault::TooLong(whole(text)));

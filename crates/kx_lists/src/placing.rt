@@ -7,7 +7,7 @@ ghost use Rattle.kx_settings.specs.Groups.{group_at, group_faults};
 
 use crate::levels::{LevelValue, Levels};
 use kx_basics::MOST_GROUPS;
-use kx_lex::{Apart, At, Fault};
+use kx_lex::{At, Boxed, Fault};
 use kx_parse::{Expression, Index, List as Listed};
 use kx_settings::read_group;
 use std::alloc::AllocError;
@@ -98,7 +98,7 @@ fn indexed_group<X: LevelValue>(
 pub fn group_for<X: LevelValue>(
     file: u32,
     lists: &[Option<Levels<X>>],
-    index: &Option<Apart<Index>>,
+    index: &Option<Boxed<Index>>,
     list: &Listed,
 ) -> Result<usize, Fault>
     ensures small { IfOk result (λ group. group < MOST_GROUPS) }

@@ -11,6 +11,7 @@ use Rattle.kx_types.specs.KeyTypes.{Definition}
 use Rattle.kx_typing.specs.Given.{KeyGiven}
 use Rattle.kx_typing.specs.GroupTypes.{content_group, group_count, group_levels, level_keysyms}
 use Rattle.kx_mapped.specs.declared.places.Place.{Place}
+use Rattle.kx_basics.specs.declared.limits.TheConstants.{CODES}
 
 -- what is read of a keymap: the names and keys of codes, the types by name, and what modifier maps give the keys of codes and,
 -- each with a mask, keysyms
@@ -63,9 +64,8 @@ module _ (keysym : ℕ) where
     places_below zero = []
     places_below (suc code) = places_below code ++ key_places m.declared code (m.name code) (m.key code)
 
-    -- codes are at most 4,095
     unfoldable pub first_place : Option Place
-    first_place = first_of (places_below 4096)
+    first_place = first_of (places_below CODES)
 
 -- ---- What a key is mapped to
 

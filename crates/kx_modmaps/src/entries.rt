@@ -24,7 +24,7 @@ use std::alloc::Global;
 /// What modifier maps are read against.
 #[derive(Clone, Copy)]
 pub struct Context<'a> {
-    pub codes: &'a Codes,
+    pub codes: &'a Codes<'a>,
     pub names: &'a NameTable,
     pub modifiers: &'a ModNames,
 }

@@ -12,7 +12,7 @@ use kx_lex::repeated::{Repeated, is_before_mark, read_many};
 use kx_lex::tokens::{
     Reading, front_is_key_name, front_is_mark, read_key_name, read_mark, read_word, span_between,
 };
-use kx_lex::{Apart, Fault, Row, Token};
+use kx_lex::{Boxed, Fault, Row, Token};
 use std::alloc::Global;
 
 #[tactic(auto, unfolding(crate::specs::Statements::setting))]
@@ -108,7 +108,7 @@ fn read_key_field<'a>(alloc: Global, text: &[u8], tokens: &'a [Token]) -> Readin
         return Ok((KeyField::List(list), rest));
     }
     let (field, rest) = read_field(alloc, text, tokens)?;
-    Ok((KeyField::Field(Apart::of(alloc, field)?), rest))
+    Ok((KeyField::Field(Boxed::of(alloc, field)?), rest))
 }
 
 /// The fields of a key.

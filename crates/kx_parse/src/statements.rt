@@ -12,7 +12,7 @@ use kx_lex::tokens::{
     front_is_text, front_is_word, is_number, is_word, read_key_name, read_keyword, read_mark,
     read_number, read_text, read_word,
 };
-use kx_lex::{Apart, Fault, Keyword, Row, Token};
+use kx_lex::{Boxed, Fault, Keyword, Row, Token};
 use std::alloc::Global;
 
 #[tactic(auto, unfolding(crate::specs::Statements::keycode))]
@@ -91,7 +91,7 @@ fn read_wanted_modifiers<'a>(
     alloc: Global,
     text: &[u8],
     tokens: &'a [Token],
-) -> Reading<'a, Option<Apart<Predicate>>>
+) -> Reading<'a, Option<Boxed<Predicate>>>
     ensures { Gives result ((optional_modifiers text.now).read tokens.now) }
 {
     if !front_is_mark(b'+', tokens) {
@@ -99,7 +99,7 @@ fn read_wanted_modifiers<'a>(
     }
     let (_, rest) = read_mark(text, b'+', tokens)?;
     let (predicate, rest) = read_predicate(alloc, text, rest)?;
-    Ok((Some(Apart::of(alloc, predicate)?), rest))
+    Ok((Some(Boxed::of(alloc, predicate)?), rest))
 }
 
 #[tactic(auto, unfolding(crate::specs::Statements::interpretation))]
@@ -142,7 +142,7 @@ fn read_group<'a>(alloc: Global, text: &[u8], tokens: &'a [Token]) -> Reading<'a
     let (number, rest) = read_number(text, rest)?;
     let (_, rest) = read_mark(text, b'=', rest)?;
     let (mask, rest) = read_expression(alloc, text, rest)?;
-    let mask = Apart::of(alloc, mask)?;
+    let mask = Boxed::of(alloc, mask)?;
     Ok((Statement::Group { number, mask }, rest))
 }
 
@@ -190,7 +190,7 @@ fn read_field_statement<'a>(
     ensures { Gives result ((field_statement text.now).read tokens.now) }
 {
     let (field, rest) = read_field(alloc, text, tokens)?;
-    Ok((Statement::Field(Apart::of(alloc, field)?), rest))
+    Ok((Statement::Field(Boxed::of(alloc, field)?), rest))
 }
 
 /// Whether this word stands at the front, where what stands behind it is right. That is told first,

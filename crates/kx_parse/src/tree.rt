@@ -1,4 +1,4 @@
-use kx_lex::{Apart, KeyName, Name, Number, Row, Span};
+use kx_lex::{Boxed, KeyName, Name, Number, Row, Span};
 
 /// A keysym as it is written: a name or a number.
 #[derive(Debug, Drop)]
@@ -58,8 +58,8 @@ pub struct Index {
 #[derive(Debug, Drop)]
 pub struct Place {
     pub word: Name,
-    pub member: Option<Apart<Name>>,
-    pub index: Option<Apart<Index>>,
+    pub member: Option<Boxed<Name>>,
+    pub index: Option<Boxed<Index>>,
 }
 
 /// What an argument of a call sets.
@@ -70,7 +70,7 @@ pub enum Argument {
     /// `word = value`, `word[index] = value`
     Set {
         word: Name,
-        index: Option<Apart<Index>>,
+        index: Option<Boxed<Index>>,
         value: Expression,
     },
     /// A value without a name.
@@ -103,7 +103,7 @@ pub enum Part {
 #[derive(Debug, Drop)]
 pub enum Element {
     Symbol(Symbol),
-    Call(Apart<Call>),
+    Call(Boxed<Call>),
     Braces(Braces),
 }
 
@@ -151,7 +151,7 @@ pub struct Field {
 /// A field of a key.
 #[derive(Debug, Drop)]
 pub enum KeyField {
-    Field(Apart<Field>),
+    Field(Boxed<Field>),
     List(List),
 }
 
@@ -204,7 +204,7 @@ pub enum Statement {
     /// `interpret SYMBOL + PREDICATE { .. }`
     Interpretation {
         symbol: Symbol,
-        predicate: Option<Apart<Predicate>>,
+        predicate: Option<Boxed<Predicate>>,
         fields: Row<Field>,
     },
     /// `indicator "NAME" { .. }`
@@ -215,7 +215,7 @@ pub enum Statement {
     /// `group NUMBER = MASK`
     Group {
         number: Number,
-        mask: Apart<Expression>,
+        mask: Boxed<Expression>,
     },
     /// `key <NAME> { .. }`
     Key {
@@ -228,7 +228,7 @@ pub enum Statement {
         entries: Row<Entry>,
     },
     /// A field that stands alone.
-    Field(Apart<Field>),
+    Field(Boxed<Field>),
 }
 
 /// How a statement or an include joins what stands before it.

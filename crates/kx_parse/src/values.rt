@@ -13,7 +13,7 @@ use kx_lex::tokens::{
     front_is_word, is_mark, read_key_name, read_mark, read_number, read_text, read_word,
     span_between, syntax,
 };
-use kx_lex::{Apart, Fault, Name, Token};
+use kx_lex::{Boxed, Fault, Name, Token};
 use std::alloc::Global;
 
 /// Takes a keysym as it is written.
@@ -160,14 +160,14 @@ fn read_optional_index<'a>(
     alloc: Global,
     text: &[u8],
     tokens: &'a [Token],
-) -> Reading<'a, Option<Apart<Index>>>
+) -> Reading<'a, Option<Boxed<Index>>>
     ensures { Gives result ((optional_index text.now).read tokens.now) }
 {
     if !front_is_mark(b'[', tokens) {
         return Ok((None, tokens));
     }
     let (index, rest) = read_index(alloc, text, tokens)?;
-    Ok((Some(Apart::of(alloc, index)?), rest))
+    Ok((Some(Boxed::of(alloc, index)?), rest))
 }
 
 #[tactic(auto, unfolding(crate::specs::Values::member))]
@@ -175,7 +175,7 @@ fn read_optional_member<'a>(
     alloc: Global,
     text: &[u8],
     tokens: &'a [Token],
-) -> Reading<'a, Option<Apart<Name>>>
+) -> Reading<'a, Option<Boxed<Name>>>
     ensures { Gives result ((optional_member text.now).read tokens.now) }
 {
     if !front_is_mark(b'.', tokens) {
@@ -183,7 +183,7 @@ fn read_optional_member<'a>(
     }
     let (_, rest) = read_mark(text, b'.', tokens)?;
     let (name, rest) = read_word(alloc, text, rest)?;
-    Ok((Some(Apart::of(alloc, name)?), rest))
+    Ok((Some(Boxed::of(alloc, name)?), rest))
 }
 
 /// Takes what a field sets, without its value.
@@ -353,7 +353,7 @@ fn read_element<'a>(alloc: Global, text: &[u8], tokens: &'a [Token]) -> Reading<
     }
     if begins_call(tokens) {
         let (call, rest) = read_call(alloc, text, tokens)?;
-        return Ok((Element::Call(Apart::of(alloc, call)?), rest));
+        return Ok((Element::Call(Boxed::of(alloc, call)?), rest));
     }
     let (symbol, rest) = read_symbol(alloc, text, tokens)?;
     Ok((Element::Symbol(symbol), rest))

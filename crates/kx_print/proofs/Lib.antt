@@ -3,4 +3,4 @@ pub mod Listing
 pub mod RangeLemmas
 pub mod Rows
 pub mod Signs
-pub mod Telling
+pub mod Writing

@@ -3,11 +3,11 @@ use Rattle.std.proofs.Common.{◌≡◌, ℕ, ◌+◌, List, [], ◌∷◌, ◌+
 use Rattle.std.proofs.lemmas.Grind.{flat_map-append}
 use Rattle.std.proofs.lemmas.List.{map-append}
 use Rattle.std.specs.List.{flat_map}
-use Rattle.ks_core.specs.Press.{Gathered, Tells}
-use Rattle.ks_core.proofs.PressLemmas.{tells_nothing}
+use Rattle.ks_core.specs.BufferedOut.{Gathered, Writes}
+use Rattle.ks_core.proofs.BufferedOutLemmas.{writes_nothing}
 use Rattle.kx_print.specs.Phrases.{joined}
 use Rattle.kx_print.proofs.Rows.{take-at}
-use Rattle.kx_print.proofs.Telling.{◌⨟◌, retell}
+use Rattle.kx_print.proofs.Writing.{◌⨟◌, rewritten}
 
 -- what stands before the next piece
 abbrev pub lead : List ℕ → List (List ℕ) → List ℕ
@@ -25,39 +25,39 @@ lead-append : (mark : List ℕ) (xs : List (List ℕ)) (y : List ℕ) (ys : List
 lead-append mark [] y ys = refl
 lead-append mark (x ∷ xs) y ys = refl
 
--- pieces of a list were told, and the next one stands behind `before`
+-- pieces of a list were written, and the next one stands behind `before`
 module _ {D : Type 0} (written : D → Option (List ℕ)) (failures : D → ℕ) where
   pub record Listed (mark : List ℕ) (d e : D) (p q : Gathered) (before : List ℕ) (pieces : List (List ℕ)) : Type 0 where
-    pub told : Tells written failures d p e q (joined mark pieces)
+    pub told : Writes written failures d p e q (joined mark pieces)
     pub before_is : before ≡ lead mark pieces
 
   pub listed_nothing : (mark : List ℕ) (d : D) (p : Gathered) → Listed mark d d p p [] []
-  listed_nothing mark d p = record { told = tells_nothing written failures d p; before_is = refl }
+  listed_nothing mark d p = record { told = writes_nothing written failures d p; before_is = refl }
 
   -- some pieces more, which are not none
   pub listed_append : (mark : List ℕ) (d e f : D) (p q r : Gathered) (before : List ℕ) (pieces : List (List ℕ)) (y : List ℕ) (ys : List (List ℕ)) → Listed mark d e p q before pieces
-      → Tells written failures e q f r (before ++ joined mark (y ∷ ys)) → Listed mark d f p r mark (pieces ++ (y ∷ ys))
+      → Writes written failures e q f r (before ++ joined mark (y ∷ ys)) → Listed mark d f p r mark (pieces ++ (y ∷ ys))
   listed_append mark d e f p q r before pieces y ys h here =
       record {
-        told = retell (ap (λ b. joined mark pieces ++ (b ++ joined mark (y ∷ ys))) h.before_is ∙ sym (joined-append mark pieces y ys)) (h.told ⨟ here);
+        told = rewritten (ap (λ b. joined mark pieces ++ (b ++ joined mark (y ∷ ys))) h.before_is ∙ sym (joined-append mark pieces y ys)) (h.told ⨟ here);
         before_is = sym (lead-append mark pieces y ys);
       }
 
   pub listed_more : (mark : List ℕ) (d e f : D) (p q r : Gathered) (before : List ℕ) (pieces : List (List ℕ)) (piece : List ℕ) → Listed mark d e p q before pieces
-      → Tells written failures e q f r (before ++ piece) → Listed mark d f p r mark (pieces ++ piece ∷ [])
+      → Writes written failures e q f r (before ++ piece) → Listed mark d f p r mark (pieces ++ piece ∷ [])
   listed_more mark d e f p q r before pieces piece h here =
-      listed_append mark d e f p q r before pieces piece [] h (retell (ap (λ t. before ++ t) (sym (append-nil piece))) here)
+      listed_append mark d e f p q r before pieces piece [] h (rewritten (ap (λ t. before ++ t) (sym (append-nil piece))) here)
 
   -- the piece of one row more
   pub listed_row : {X : Type 0} (text_of : X → List ℕ) (xs : List X) (i : ℕ) (x : X) (mark : List ℕ) (d e f : D) (p q r : Gathered) (before : List ℕ) → slice_get xs i ≡ Some x
-      → Listed mark d e p q before (map text_of (take i xs)) → Tells written failures e q f r (before ++ text_of x) → Listed mark d f p r mark (map text_of (take (i + 1) xs))
+      → Listed mark d e p q before (map text_of (take i xs)) → Writes written failures e q f r (before ++ text_of x) → Listed mark d f p r mark (map text_of (take (i + 1) xs))
   listed_row text_of xs i x mark d e f p q r before at h here =
       subst (λ pieces. Listed mark d f p r mark pieces) (sym (ap (map text_of) (take-at xs i x at) ∙ map-append text_of (take i xs) (x ∷ [])))
       (listed_more mark d e f p q r before (map text_of (take i xs)) (text_of x) h here)
 
   -- the pieces of one row more, which are not none
   pub listed_rows : (mark : List ℕ) (d e f : D) (p q r : Gathered) (before : List ℕ) (pieces more all : List (List ℕ)) (y : List ℕ) (ys : List (List ℕ)) → more ≡ y ∷ ys → all ≡ pieces ++ more → Listed mark d e p q before pieces
-      → Tells written failures e q f r (before ++ joined mark more) → Listed mark d f p r mark all
+      → Writes written failures e q f r (before ++ joined mark more) → Listed mark d f p r mark all
   listed_rows mark d e f p q r before pieces more all y ys some is h here =
       subst (λ l. Listed mark d f p r mark l) (sym (is ∙ ap (λ l. pieces ++ l) some))
-      (listed_append mark d e f p q r before pieces y ys h (retell (ap (λ l. before ++ joined mark l) some) here))
+      (listed_append mark d e f p q r before pieces y ys h (rewritten (ap (λ l. before ++ joined mark l) some) here))

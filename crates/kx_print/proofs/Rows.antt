@@ -79,6 +79,6 @@ length-part (x ∷ xs) zero (suc count) within = ap suc (length-part xs 0 count 
 length-part [] (suc first) (suc count) within = absurd (omega arith)
 length-part (x ∷ xs) (suc first) (suc count) within = length-part xs first (suc count) (omega arith)
 
--- the texts of rows that were told, and of one more
+-- the texts of rows that were written, and of one more
 pub flat_map-more : {X : Type 0} (f : X → List ℕ) (xs : List X) (x : X) → flat_map f xs ++ f x ≡ flat_map f (xs ++ x ∷ [])
 flat_map-more f xs x = sym (flat_map-append f xs (x ∷ []) ∙ ap (λ t. flat_map f xs ++ t) (append-nil (f x)))

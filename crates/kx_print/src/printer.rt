@@ -1,13 +1,13 @@
 //! The whole text.
 ghost use Rattle.std.specs.Prelude.{◌≡◌};
 ghost use Rattle.ks_core.specs.Device.{Puts};
-ghost use Rattle.ks_core.specs.Press.{Tells};
+ghost use Rattle.ks_core.specs.BufferedOut.{Writes};
 ghost use Rattle.kx_print.specs.Printed.{printed};
 
-use crate::indicators::tell_indicators;
-use crate::keys::{tell_keycodes, tell_symbols};
-use crate::types::tell_types;
-use ks_core::{Out, Press};
+use crate::indicators::write_indicators;
+use crate::keys::{write_keycodes, write_symbols};
+use crate::types::write_types;
+use ks_core::{BufferedOut, Out};
 use kx_tables::Tables;
 use std::io;
 
@@ -18,18 +18,18 @@ use std::io;
 pub fn print<T: Tables, O: Out>(tables: &T, out: &mut O) -> io::Result<()>
     ensures { Puts O.written O.failures out.old out.new result (printed (T.content tables.now)) }
 {
-    let mut press = Press::new();
-    tell_keymap(tables, &mut press, out);
-    press.finish(out)
+    let mut buffered = BufferedOut::new();
+    write_keymap(tables, &mut buffered, out);
+    buffered.finish(out)
 }
 
-fn tell_keymap<T: Tables, O: Out>(tables: &T, press: &mut Press, out: &mut O)
-    ensures { Tells O.written O.failures out.old press.old out.new press.new (printed (T.content tables.now)) }
+fn write_keymap<T: Tables, O: Out>(tables: &T, buffered: &mut BufferedOut, out: &mut O)
+    ensures { Writes O.written O.failures out.old buffered.old out.new buffered.new (printed (T.content tables.now)) }
 {
-    press.tell(out, b"xkb_keymap {\n");
-    tell_keycodes(tables, press, out);
-    tell_types(tables, press, out);
-    tell_indicators(tables, press, out);
-    tell_symbols(tables, press, out);
-    press.tell(out, b"};\n");
+    buffered.write(out, b"xkb_keymap {\n");
+    write_keycodes(tables, buffered, out);
+    write_types(tables, buffered, out);
+    write_indicators(tables, buffered, out);
+    write_symbols(tables, buffered, out);
+    buffered.write(out, b"};\n");
 }

@@ -1,10 +1,10 @@
 //! Sets by the names of their members.
 ghost use Rattle.std.specs.Prelude.{◌≡◌, ◌<◌, ◌++◌, Some, codes, length, slice_get};
-ghost use Rattle.ks_core.specs.Press.{Tells};
+ghost use Rattle.ks_core.specs.BufferedOut.{Writes};
 ghost use Rattle.kx_print.specs.Masks.{chosen, mod_names, mods_text, names_of, set_text, states_text};
 ghost use Rattle.kx_print.specs.Phrases.{joined};
 
-use ks_core::{Out, Press};
+use ks_core::{BufferedOut, Out};
 use kx_mods::Mods;
 use kx_tables::States;
 
@@ -71,47 +71,47 @@ fn state_name(bit: u8) -> &'static str
     }
 }
 
-/// Tells modifiers joined by `+`, or `none`.
-pub fn tell_mods<O: Out>(press: &mut Press, out: &mut O, mods: Mods)
-    ensures { Tells O.written O.failures out.old press.old out.new press.new (mods_text mods) }
+/// Writes modifiers joined by `+`, or `none`.
+pub fn write_mods<O: Out>(buffered: &mut BufferedOut, out: &mut O, mods: Mods)
+    ensures { Writes O.written O.failures out.old buffered.old out.new buffered.new (mods_text mods) }
 {
-    tell_set(press, out, Names::Modifiers, mods.mask());
+    write_set(buffered, out, Names::Modifiers, mods.mask());
 }
 
-/// Tells states joined by `+`, or `none`.
-pub fn tell_states<O: Out>(press: &mut Press, out: &mut O, states: States)
-    ensures { Tells O.written O.failures out.old press.old out.new press.new (states_text states) }
+/// Writes states joined by `+`, or `none`.
+pub fn write_states<O: Out>(buffered: &mut BufferedOut, out: &mut O, states: States)
+    ensures { Writes O.written O.failures out.old buffered.old out.new buffered.new (states_text states) }
 {
-    tell_set(press, out, Names::States, states.mask());
+    write_set(buffered, out, Names::States, states.mask());
 }
 
-fn tell_set<O: Out>(press: &mut Press, out: &mut O, names: Names, bits: u8)
-    ensures { Tells O.written O.failures out.old press.old out.new press.new (set_text (names_of names) bits) }
+fn write_set<O: Out>(buffered: &mut BufferedOut, out: &mut O, names: Names, bits: u8)
+    ensures { Writes O.written O.failures out.old buffered.old out.new buffered.new (set_text (names_of names) bits) }
 {
     if bits == 0 {
-        press.tell(out, b"none");
+        buffered.write(out, b"none");
     } else {
-        tell_members(press, out, names, bits);
+        write_members(buffered, out, names, bits);
     }
 }
 
-fn tell_members<O: Out>(press: &mut Press, out: &mut O, names: Names, bits: u8)
-    ensures { Tells O.written O.failures out.old press.old out.new press.new (joined (codes "+") (chosen bits (names_of names))) }
+fn write_members<O: Out>(buffered: &mut BufferedOut, out: &mut O, names: Names, bits: u8)
+    ensures { Writes O.written O.failures out.old buffered.old out.new buffered.new (joined (codes "+") (chosen bits (names_of names))) }
 {
     let mut before: &[u8] = b"";
     let mut left = bits;
     for bit in 0..names.count() {
         if left % 2 == 1 {
-            tell_member(press, out, before, names.of(bit));
+            write_member(buffered, out, before, names.of(bit));
             before = b"+";
         }
         left /= 2;
     }
 }
 
-fn tell_member<O: Out>(press: &mut Press, out: &mut O, before: &[u8], name: &str)
-    ensures { Tells O.written O.failures out.old press.old out.new press.new (before.now ++ name.now) }
+fn write_member<O: Out>(buffered: &mut BufferedOut, out: &mut O, before: &[u8], name: &str)
+    ensures { Writes O.written O.failures out.old buffered.old out.new buffered.new (before.now ++ name.now) }
 {
-    press.tell(out, before);
-    press.tell(out, name.as_bytes());
+    buffered.write(out, before);
+    buffered.write(out, name.as_bytes());
 }

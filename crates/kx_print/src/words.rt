@@ -1,49 +1,49 @@
 //! Names and numbers of a printed text.
 ghost use Rattle.std.specs.Prelude.{◌≡◌, ◌<◌, ◌++◌, false, codes, decimal, length};
 ghost use Rattle.std.specs.Fmt.{digit_glyph};
-ghost use Rattle.ks_core.specs.Press.{Tells};
+ghost use Rattle.ks_core.specs.BufferedOut.{Writes};
 ghost use Rattle.ks_core.specs.Names.{hex_digits};
 ghost use Rattle.kx_print.specs.Phrases.{hexadecimal, quoted};
 
 use itoa::Buffer;
-use ks_core::{Out, Press, write_printed_name};
+use ks_core::{BufferedOut, Out, write_printed_name};
 
-/// Tells a number in decimal.
-pub fn tell_number<O: Out>(press: &mut Press, out: &mut O, number: u16)
-    ensures { Tells O.written O.failures out.old press.old out.new press.new (decimal number) }
+/// Writes a number in decimal.
+pub fn write_number<O: Out>(buffered: &mut BufferedOut, out: &mut O, number: u16)
+    ensures { Writes O.written O.failures out.old buffered.old out.new buffered.new (decimal number) }
 {
     let mut buffer = Buffer::new();
-    press.tell(out, buffer.format(number).as_bytes());
+    buffered.write(out, buffer.format(number).as_bytes());
 }
 
-/// Tells a name between quotes, as printed text writes it.
-pub fn tell_quoted<O: Out>(press: &mut Press, out: &mut O, name: &[u8])
-    ensures { Tells O.written O.failures out.old press.old out.new press.new (quoted name.now) }
+/// Writes a name between quotes, as printed text writes it.
+pub fn write_quoted<O: Out>(buffered: &mut BufferedOut, out: &mut O, name: &[u8])
+    ensures { Writes O.written O.failures out.old buffered.old out.new buffered.new (quoted name.now) }
 {
-    press.tell(out, b"\"");
-    write_printed_name(press, out, name);
-    press.tell(out, b"\"");
+    buffered.write(out, b"\"");
+    write_printed_name(buffered, out, name);
+    buffered.write(out, b"\"");
 }
 
-/// Tells a number in hexadecimal, behind `0x`.
-pub fn tell_hexadecimal<O: Out>(press: &mut Press, out: &mut O, number: u32)
-    ensures { Tells O.written O.failures out.old press.old out.new press.new (hexadecimal number) }
+/// Writes a number in hexadecimal, behind `0x`.
+pub fn write_hexadecimal<O: Out>(buffered: &mut BufferedOut, out: &mut O, number: u32)
+    ensures { Writes O.written O.failures out.old buffered.old out.new buffered.new (hexadecimal number) }
 {
-    press.tell(out, b"0x");
+    buffered.write(out, b"0x");
     if number == 0 {
-        press.tell(out, b"0");
+        buffered.write(out, b"0");
     } else {
-        tell_digits(press, out, number);
+        write_digits(buffered, out, number);
     }
 }
 
-/// Tells the hexadecimal digits of a number, none of 0.
-fn tell_digits<O: Out>(press: &mut Press, out: &mut O, number: u32)
-    ensures { Tells O.written O.failures out.old press.old out.new press.new (hex_digits false number) }
+/// Writes the hexadecimal digits of a number, none of 0.
+fn write_digits<O: Out>(buffered: &mut BufferedOut, out: &mut O, number: u32)
+    ensures { Writes O.written O.failures out.old buffered.old out.new buffered.new (hex_digits false number) }
 {
     if number > 0 {
-        tell_digits(press, out, number / 16);
-        press.tell(out, &[digit(number % 16)]);
+        write_digits(buffered, out, number / 16);
+        buffered.write(out, &[digit(number % 16)]);
     }
 }
 

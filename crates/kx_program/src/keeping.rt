@@ -30,6 +30,8 @@ impl<F: Feed> Kept<F> {
 impl<F: Feed> Feed for Kept<F> {
     ghost left = { λ s. F.left s.feed };
 
+    ghost taken = { λ s. F.taken s.feed };
+
     ghost failures = { λ s. F.failures s.feed };
 
     fn take(&mut self, buffer: &mut [u8]) -> io::Result<usize> {

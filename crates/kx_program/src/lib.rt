@@ -1,7 +1,6 @@
 //! What the program does: its words, the tasks that they ask for, and what a user sees where one ends early.
 #![tactic(auto)]
 
-mod failure;
 mod keeping;
 mod showing;
 mod tasks;
@@ -9,7 +8,7 @@ mod usage;
 mod words;
 mod writing;
 
-pub use failure::Failure;
+pub use kx_failure::Failure;
 pub use showing::Shown;
 pub use tasks::{run, run_words};
 pub use usage::{out_of_memory, word_that_is_not_text};

@@ -1,11 +1,11 @@
 //! What the program does.
-use crate::failure::Failure;
 use crate::keeping::Kept;
 use crate::showing::{Shown, place_of};
 use crate::usage::explain;
 use crate::words::{Included, Task, task_in};
 use crate::writing::write_whole;
 use ks_core::{Lent, NameTable, Notes};
+use kx_failure::Failure;
 use kx_image::{UpgradeFault, View, upgrade};
 use kx_lex::Fault;
 use kx_print::print;
@@ -102,14 +102,26 @@ fn compile_to<'a>(
 ) -> Result<(), Failure<'a>> {
     let names = read_names(rt, names)?;
     let source = read(rt, path)?;
+    compile_source(rt, &names, source.as_slice(), path, image, included)
+}
+
+/// Compiles a source that was read from a path.
+fn compile_source<'a>(
+    rt: &(impl FileSystem + Print + Eprint + AllocGlobal),
+    names: &NameTable,
+    source: &[u8],
+    path: &'a str,
+    image: &'a str,
+    included: &[Included<'a>],
+) -> Result<(), Failure<'a>> {
     let files = read_files(rt, included)?;
-    match compile(rt.alloc(), source.as_slice(), &files, &names) {
+    match compile(rt.alloc(), source, &files, names) {
         Ok((bytes, notes)) => {
             put_file(rt, image, bytes.as_slice())?;
             print_notes(rt, notes)
         }
         Err(fault) => {
-            show_fault(rt, fault, path, source.as_slice(), included);
+            show_fault(rt, fault, path, source, included);
             Err(Failure::Source(fault))
         }
     }

@@ -1,9 +1,9 @@
 //! What is said of words that ask for help, or that are wrong.
-use crate::failure::{DEVICE, Failure};
 use crate::words::not_text;
 use clap::Error;
 use clap::error::ErrorKind;
-use ks_core::{Lent, Press, write_printed_name};
+use ks_core::{BufferedOut, Lent, write_printed_name};
+use kx_failure::{DEVICE, Failure};
 use kx_lex::Fault;
 use std::alloc::{AllocError, Global};
 use std::env::{Env, FillError};
@@ -38,7 +38,7 @@ pub fn out_of_memory(rt: &impl Print) -> u8 {
 /// A word as printed text has it.
 fn printed(alloc: Global, word: &[u8]) -> Result<String, AllocError> {
     let mut out = Lent::new(Vec::new(alloc));
-    let mut press = Press::new();
+    let mut press = BufferedOut::new();
     write_printed_name(&mut press, &mut out, word);
     let _ = press.finish(&mut out);
     let text = str::from_utf8(out.device.as_slice()).unwrap_or("");

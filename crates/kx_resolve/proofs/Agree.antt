@@ -16,7 +16,7 @@ use Rattle.kx_levels.specs.Rows.{set_mask}
 use Rattle.kx_levels.specs.Selecting.{RealSet, consumed, level_selected}
 use Rattle.kx_masks.specs.Sets.{has, real_part}
 use Rattle.kx_mods.specs.Mods.{mask}
-use Rattle.kx_resolve.proofs.Fine.{cell_at, group_at, groups_length, type_at, type_used}
+use Rattle.kx_resolve.proofs.Bounded.{cell_at, group_at, groups_length, type_at, type_used}
 use Rattle.kx_levels.proofs.Bits.{has_set, same_masks, set_small}
 use Rattle.kx_resolve.specs.Bounds.{TypeHolds}
 use Rattle.kx_typing.specs.Given.{KeyGiven}
@@ -48,20 +48,20 @@ cut_mods w m small =
     small_is : (n : ℕ) → n < 2 ^ 8 → n ≡ n % 2 ^ 8
     small_is n less = omega (arith, less)
 
-module _ (t : ResolvedType) (fine : TypeIsValid t) where
+module _ (t : ResolvedType) (valid : TypeIsValid t) where
   chosen_level : (o : Option ResolvedEntry) → IfSome o (EntryIsValid t) → level_of o < t.levels
-  chosen_level None holds = omega (arith, fine.some_level)
+  chosen_level None holds = omega (arith, valid.some_level)
   chosen_level (Some e) holds = omega (arith, holds.level.some_level, holds.level.level_within)
 
   pub level_within : (w : ℕ) → level_of (entry_chosen t w) < t.levels
-  level_within w = chosen_level (entry_chosen t w) (find_holds (EntryIsValid t) (λ e. mask e.mods == bit_and w (mask t.mods)) t.entries fine.each_entry)
+  level_within w = chosen_level (entry_chosen t w) (find_holds (EntryIsValid t) (λ e. mask e.mods == bit_and w (mask t.mods)) t.entries valid.each_entry)
 
   pub consumed_small : (o : Option ResolvedEntry) → consumed_mods t o < 2 ^ 8
-  consumed_small None = fine.mods
-  consumed_small (Some e) = let less = and_le_l (mask t.mods) (255 - mask e.preserve) in omega (arith, less, fine.mods)
+  consumed_small None = valid.mods
+  consumed_small (Some e) = let less = and_le_l (mask t.mods) (255 - mask e.preserve) in omega (arith, less, valid.mods)
 
   pub chosen_same : (w : ℕ) → entry_chosen t w ≡ entry_chosen t (real_part w)
-  chosen_same w = ap (λ n. find (λ (e : ResolvedEntry). mask e.mods == n) t.entries) (cut_mods w (mask t.mods) fine.mods)
+  chosen_same w = ap (λ n. find (λ (e : ResolvedEntry). mask e.mods == n) t.entries) (cut_mods w (mask t.mods) valid.mods)
 
 module _ (real : ℕ → RealSet) (declared : List ℕ → Option Definition) where
   module _ (name : List ℕ) (holds : TypeHolds real declared name) (deeds : Deeds) (key : KeyGiven) (content : ℕ) where
@@ -77,10 +77,10 @@ module _ (real : ℕ → RealSet) (declared : List ℕ → Option Definition) wh
         let low = small_part w in
         let level : level_of entry ≡ level_selected real definition (has (real_part w)) - 1 = let is = holds.shows.levels_are name (real_part w) low in omega (arith, is) in
         let gone : consumed_mods type entry ≡ set_mask (consumed real definition (has (real_part w))) =
-        same_masks (consumed_mods type entry) (set_mask (consumed real definition (has (real_part w)))) (consumed_small type holds.fine entry) (set_small (consumed real definition (has (real_part w))))
+        same_masks (consumed_mods type entry) (set_mask (consumed real definition (has (real_part w)))) (consumed_small type holds.valid entry) (set_small (consumed real definition (has (real_part w))))
         (λ r within. holds.shows.consumed_are name (real_part w) r low within ∙ sym (has_set (consumed real definition (has (real_part w))) r within)) in
-        ap (λ o. shown_of_cell (consumed_mods type o) (slice_get (cells_of deeds key content type.levels) (level_of o))) (chosen_same type holds.fine w)
-        ∙ ap (shown_of_cell (consumed_mods type entry)) (cell_at deeds key content type.levels (level_of entry) (level_within type holds.fine (real_part w)))
+        ap (λ o. shown_of_cell (consumed_mods type o) (slice_get (cells_of deeds key content type.levels) (level_of o))) (chosen_same type holds.valid w)
+        ∙ ap (shown_of_cell (consumed_mods type entry)) (cell_at deeds key content type.levels (level_of entry) (level_within type holds.valid (real_part w)))
         ∙ (λ i. record { syms = unwrap_or (key.keysyms content (level i)) []; consumed = gone i; action = deeds content (level i) })
 
 -- ---- Keys by code

@@ -1,4 +1,4 @@
--- What was built is whole and fine, and its keymap is the one that is meant.
+-- What was built is whole and valid, and its keymap is the one that is meant.
 use Rattle.std.proofs.Common.{ℕ, ◌≡◌, ◌≤◌, All, List, Option, length, sym, subst}
 use Rattle.kx_builder.specs.Agreement.{ShowsSame}
 use Rattle.kx_builder.specs.Valid.{IsValid}
@@ -7,7 +7,7 @@ use Rattle.kx_builder.specs.Resolved.{Resolved, keymap_of_resolved}
 use Rattle.kx_builder.specs.Whole.{IsWhole}
 use Rattle.kx_levels.specs.Selecting.{RealSet}
 use Rattle.kx_resolve.proofs.Agree.{keymaps_agree}
-use Rattle.kx_resolve.proofs.Fine.{resolved_fine, resolved_whole}
+use Rattle.kx_resolve.proofs.Bounded.{resolved_valid, resolved_whole}
 use Rattle.kx_resolve.proofs.Lamps.{same_with}
 use Rattle.kx_resolve.proofs.Whole.{each_holds, same_trans}
 use Rattle.kx_resolve.specs.Bounds.{BoundsBelow, OneCode, TypeHolds}
@@ -26,8 +26,8 @@ module _ (real : ℕ → RealSet) (declared : List ℕ → Option Definition) (k
   pub built_whole : IsWhole built
   built_whole = subst IsWhole (sym is) (resolved_whole real declared keyed all_few all_hold bounds)
 
-  pub built_fine : OneCode keyed.name → IsValid built
-  built_fine one = subst IsValid (sym is) (resolved_fine real declared keyed all_few all_hold bounds one)
+  pub built_valid : OneCode keyed.name → IsValid built
+  built_valid one = subst IsValid (sym is) (resolved_valid real declared keyed all_few all_hold bounds one)
 
   pub built_agrees : (made : Keymap) (ds : List ResolvedIndicator) → ShowsSame made (keymap_with (keymap_of_resolved built) ds) → ShowsSame made (keymap_with (keymap_meant real declared keyed) ds)
   built_agrees made ds shows =

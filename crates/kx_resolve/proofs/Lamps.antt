@@ -23,7 +23,7 @@ use Rattle.kx_builder.specs.declared.fault.BuildFault.{BuildFault}
 use Rattle.kx_builder.specs.declared.fault.BuildFault.TheVariants as builds
 use Rattle.kx_builder.specs.declared.lamps.Indicator.{Indicator}
 use Rattle.kx_groups.specs.Names.{AreCut, name_at}
-use Rattle.kx_lamps.specs.Bounds.{AreFine}
+use Rattle.kx_lamps.specs.Bounds.{AreValid}
 use Rattle.kx_lamps.specs.Lamps.{Lamp}
 use Rattle.kx_lamps.specs.Meaning.{Indicators}
 use Rattle.kx_levels.specs.Selecting.{RealSet}
@@ -48,9 +48,9 @@ zip_at (x ∷ ks) (y ∷ vs) (suc i) k v at beside = zip_at ks vs i k v at besid
 pub pushed_is : (old : List Indicator) (made : Indicator) (is : ResolvedIndicator) → indicator_of made ≡ is → map indicator_of (old ++ made ∷ []) ≡ map indicator_of old ++ is ∷ []
 pushed_is old made is e = map-append indicator_of old (made ∷ []) ∙ ap (λ d. map indicator_of old ++ d ∷ []) e
 
-module _ (real : ℕ → RealSet) (is : Indicators) (fine : AreFine is) where
+module _ (real : ℕ → RealSet) (is : Indicators) (valid : AreValid is) where
   lit_length : length (indicators_of real is) ≡ length is.names
-  lit_length = omega (arith, length-map (zip is.names is.lamps) (λ (i : List ℕ × Lamp). indicator_lit real i.0 i.1), length-zip is.names is.lamps, fine.as_many)
+  lit_length = omega (arith, length-map (zip is.names is.lamps) (λ (i : List ℕ × Lamp). indicator_lit real i.0 i.1), length-zip is.names is.lamps, valid.as_many)
 
   lit_at : (number : ℕ) (name : List ℕ) (lamp : Lamp) → slice_get is.names number ≡ Some name → slice_get is.lamps number ≡ Some lamp → slice_get (indicators_of real is) number ≡ Some (indicator_lit real name lamp)
   lit_at number name lamp named lit = slice_get-map (λ (i : List ℕ × Lamp). indicator_lit real i.0 i.1) (zip is.names is.lamps) number ∙ ap (option_map (λ (i : List ℕ × Lamp). indicator_lit real i.0 i.1)) (zip_at is.names is.lamps number name lamp named lit)
@@ -61,7 +61,7 @@ module _ (real : ℕ → RealSet) (is : Indicators) (fine : AreFine is) where
       let name = get_or is.names number [] in
       let lamp = get_or is.lamps number none in
       let named : slice_get is.names number ≡ Some name = slice_get-get_or is.names number [] within in
-      let lit : slice_get is.lamps number ≡ Some lamp = slice_get-get_or is.lamps number none (omega (arith, within, fine.as_many)) in
+      let lit : slice_get is.lamps number ≡ Some lamp = slice_get-get_or is.lamps number none (omega (arith, within, valid.as_many)) in
       more name lamp named lit
       ∙ ap (λ ds. ds ++ indicator_lit real name lamp ∷ []) upto
       ∙ sym (taken_next (indicators_of real is) number (indicator_lit real name lamp) (lit_at number name lamp named lit))
@@ -105,11 +105,11 @@ last_named gs ends i [] at e =
     absurd (none-some [] (sym (ap (λ xs. slice_get xs i) none) ∙ at))
 last_named gs ends i (b ∷ bs) at e = omega arith
 
-pub lamps_fine : (real : ℕ → RealSet) (is : Indicators) (ds : List ResolvedIndicator) (names gs : List (List ℕ)) → AreFine is → ds ≡ indicators_of real is → All IndicatorIsValid ds → AreCut names → gs ≡ names → All GroupNameIsValid gs → LampsAreValid ds gs
-lamps_fine real is ds names gs fine lit each cut are named = record {
-  few_indicators = omega (arith, ap length lit, lit_length real is fine, fine.names.few);
+pub lamps_valid : (real : ℕ → RealSet) (is : Indicators) (ds : List ResolvedIndicator) (names gs : List (List ℕ)) → AreValid is → ds ≡ indicators_of real is → All IndicatorIsValid ds → AreCut names → gs ≡ names → All GroupNameIsValid gs → LampsAreValid ds gs
+lamps_valid real is ds names gs valid lit each cut are named = record {
+  few_indicators = omega (arith, ap length lit, lit_length real is valid, valid.names.few);
   each_indicator = each;
-  indicators_apart = named_apart ds is.names (ap (map (λ (d : ResolvedIndicator). d.name)) lit ∙ names_beside real is.names is.lamps fine.as_many) fine.names.apart;
+  indicators_apart = named_apart ds is.names (ap (map (λ (d : ResolvedIndicator). d.name)) lit ∙ names_beside real is.names is.lamps valid.as_many) valid.names.apart;
   few_groups = omega (arith, ap length are, cut.few);
   each_group = named;
   last = last_named gs (λ none. are ∙ cut.ends (ap (λ ns. name_at ns (length ns - 1)) (sym are) ∙ none));
@@ -137,7 +137,7 @@ lamps_fit r ds gs small lamps =
     few_group_bytes = omega (arith, lamps.few_groups, flat_length (λ (g : List ℕ). g) 255 gs (All-weaker GroupNameIsValid (λ (g : List ℕ). length g ≤ 255) (λ g holds. holds.name_fits) gs lamps.each_group))
 
 pub lamps_refused : (r : Resolved) (ds : List ResolvedIndicator) (gs : List (List ℕ)) (e : BuildFault) → IsWithinLimits r → LampsAreValid ds gs → IsCause e (LampsFit (content_of_resolved r) ds gs) ⊤ → e ≡ builds.Memory
-lamps_refused r ds gs e small fine cause = only_memory e (LampsFit (content_of_resolved r) ds gs) ⊤ cause (lamps_fit r ds gs small fine) tt
+lamps_refused r ds gs e small valid cause = only_memory e (LampsFit (content_of_resolved r) ds gs) ⊤ cause (lamps_fit r ds gs small valid) tt
 
 -- ---- Lamps beside keymaps
 

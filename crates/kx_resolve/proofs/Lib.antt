@@ -1,6 +1,6 @@
 mod Agree
 mod Ending
-mod Fine
+mod Bounded
 mod Gathering
 mod Growing
 mod Lamps

@@ -5,7 +5,7 @@ use Rattle.kx_basics.specs.KeyNames.{IsKeyName}
 use Rattle.kx_builder.specs.Pushes.{with_key}
 use Rattle.kx_builder.specs.Resolved.{Resolved}
 use Rattle.kx_resolve.proofs.Steps.{none_groups}
-use Rattle.kx_resolve.specs.Bounds.{GroupsAreFine, KeepsBounds}
+use Rattle.kx_resolve.specs.Bounds.{GroupsAreValid, KeepsBounds}
 use Rattle.kx_resolve.specs.Keys.{key_if_named, key_of}
 use Rattle.kx_bearing.specs.Deeds.{deeds_of}
 use Rattle.kx_choice.specs.Interpretations.{Interpretation}
@@ -23,7 +23,7 @@ module _ (declared : List ℕ → Option Definition) (real : ℕ → RealSet) (i
   abbrev Keeps : List ℕ → Option KeyContent → Type 0
   Keeps name key = KeepsBounds declared name modmap (deeds_of real interpretations modmap (given_in key)) (given_in key)
 
-  pub bounds_of : (of_code : Option (List ℕ)) (key found : Option KeyContent) (of_key : List ℕ) → Some of_key ≡ of_code → found ≡ key → IsKeyName of_key → RangeHolds (given_in found).range → GroupsAreFine declared (deeds_of real interpretations modmap (given_in found)) (given_in found) (group_count (given_in found)) → (name : List ℕ) → of_code ≡ Some name → KeepsBounds declared name modmap (deeds_of real interpretations modmap (given_in key)) (given_in key)
+  pub bounds_of : (of_code : Option (List ℕ)) (key found : Option KeyContent) (of_key : List ℕ) → Some of_key ≡ of_code → found ≡ key → IsKeyName of_key → RangeHolds (given_in found).range → GroupsAreValid declared (deeds_of real interpretations modmap (given_in found)) (given_in found) (group_count (given_in found)) → (name : List ℕ) → of_code ≡ Some name → KeepsBounds declared name modmap (deeds_of real interpretations modmap (given_in key)) (given_in key)
   bounds_of of_code key found of_key named at is range cells name also =
       subst (λ n. Keeps n key) (same_Some of_key name (named ∙ also))
       (subst (Keeps of_key) at (record { short = is.short; bytes = is.visible; mapped = fits; range = range; cells = cells }))

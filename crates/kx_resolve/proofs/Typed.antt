@@ -112,7 +112,7 @@ used_few types name key =
 
 module _ (real : ℕ → RealSet) (declared : List ℕ → Option Definition) where
   type_small : (name : List ℕ) → TypeHolds real declared name → TypeIsWithinLimits (type_of real declared name)
-  type_small name holds = record { few_entries = holds.fine.entries_fit; short_name = holds.fine.name_fits }
+  type_small name holds = record { few_entries = holds.valid.entries_fit; short_name = holds.valid.name_fits }
 
   types_small : (names : List (List ℕ)) → All (TypeHolds real declared) names → All TypeIsWithinLimits (map (type_of real declared) names)
   types_small [] all = All-nil TypeIsWithinLimits
@@ -121,8 +121,8 @@ module _ (real : ℕ → RealSet) (declared : List ℕ → Option Definition) wh
   pub tree_small : (names : List (List ℕ)) → length names ≤ 4097 → All (TypeHolds real declared) names → IsWithinLimits (record { types = map (type_of real declared) names; keys = [] })
   tree_small names few all = record { few_types = omega (arith, few, length-map names (type_of real declared)); small_types = types_small names all; few_keys = omega arith; small_keys = All-nil KeyIsWithinLimits }
 
-  pub types_fine : (names : List (List ℕ)) → All (TypeHolds real declared) names → All TypeIsValid (map (type_of real declared) names)
-  types_fine [] all = All-nil TypeIsValid
-  types_fine (name ∷ names) all =
+  pub types_valid : (names : List (List ℕ)) → All (TypeHolds real declared) names → All TypeIsValid (map (type_of real declared) names)
+  types_valid [] all = All-nil TypeIsValid
+  types_valid (name ∷ names) all =
       let one = All-head (TypeHolds real declared) name names all in
-      All-cons TypeIsValid (type_of real declared name) (map (type_of real declared) names) one.fine (types_fine names (All-tail (TypeHolds real declared) name names all))
+      All-cons TypeIsValid (type_of real declared name) (map (type_of real declared) names) one.valid (types_valid names (All-tail (TypeHolds real declared) name names all))

@@ -19,23 +19,23 @@ use Rattle.kx_types.specs.KeyTypes.{Definition}
 use Rattle.kx_basics.specs.declared.limits.TheConstants.{MOST_NAME_BYTES}
 
 -- the cells of a group's levels below a number
-abbrev pub CellsAreFine : Deeds → KeyGiven → ℕ → ℕ → Type 0
-CellsAreFine deeds key group n = (level : ℕ) → level < n → CellIsValid (cell_of deeds key group level)
+abbrev pub CellsAreValid : Deeds → KeyGiven → ℕ → ℕ → Type 0
+CellsAreValid deeds key group n = (level : ℕ) → level < n → CellIsValid (cell_of deeds key group level)
 
 module _ (declared : List ℕ → Option Definition) where
   abbrev pub levels_of_group : KeyGiven → ℕ → ℕ
   levels_of_group key group = (type_definition declared (group_type_name declared key group)).levels
 
   -- those of the groups below a number
-  abbrev pub GroupsAreFine : Deeds → KeyGiven → ℕ → Type 0
-  GroupsAreFine deeds key n = (group : ℕ) → group < n → CellsAreFine deeds key (content_group key group) (levels_of_group key group)
+  abbrev pub GroupsAreValid : Deeds → KeyGiven → ℕ → Type 0
+  GroupsAreValid deeds key n = (group : ℕ) → group < n → CellsAreValid deeds key (content_group key group) (levels_of_group key group)
 
   pub record KeepsBounds (name : List ℕ) (modmap : Mods) (deeds : Deeds) (key : KeyGiven) : Type 0 where
     pub short : length name ≤ MOST_NAME_BYTES
     pub bytes : All IsKeyByte name
     pub mapped : mask modmap < 2 ^ 8
     pub range : RangeHolds key.range
-    pub cells : GroupsAreFine deeds key (group_count key)
+    pub cells : GroupsAreValid deeds key (group_count key)
 
   -- each key of a code below a number does
   abbrev pub BoundsBelow : Keyed → ℕ → Type 0
@@ -51,7 +51,7 @@ module _ (real : ℕ → RealSet) (declared : List ℕ → Option Definition) wh
   -- its rows show what it gives, and keep the rules of tables
   pub record TypeHolds (name : List ℕ) : Type 0 where
     pub shows : RowsShow real (type_definition declared name) (type_of real declared name).mods (type_of real declared name).entries
-    pub fine : TypeIsValid (type_of real declared name)
+    pub valid : TypeIsValid (type_of real declared name)
 
 -- it is one of those declared, or ONE_LEVEL
 abbrev pub IsOneOf : List (List ℕ) → List ℕ → Type 0

@@ -13,6 +13,7 @@ use Rattle.kx_codes.specs.Codes.{Codes, name_of}
 use Rattle.kx_typing.specs.Given.{KeyGiven, given_in}
 use Rattle.kx_typing.specs.GroupTypes.{content_group, group_count, group_type_name, type_definition}
 use Rattle.kx_types.specs.KeyTypes.{Definition}
+use Rattle.kx_basics.specs.declared.limits.TheConstants.{CODES}
 
 -- ---- Types; `real` is what a set of modifiers stands for, `declared` are the types by name
 
@@ -40,9 +41,9 @@ module _ (declared : List ℕ → Option Definition) where
     type_names_below zero = []
     type_names_below (suc code) = type_names_below code ++ type_names_if (name code) (key code)
 
-    -- each once, in the order of first use; codes are at most 4,095
+    -- each once, in the order of first use
     unfoldable pub types_used : List (List ℕ)
-    types_used = with_names [] (type_names_below 4096)
+    types_used = with_names [] (type_names_below CODES)
 
 -- ---- Keys
 
@@ -100,7 +101,7 @@ module _ (real : ℕ → RealSet) (declared : List ℕ → Option Definition) (k
   unfoldable pub resolved_of : Resolved
   resolved_of = record {
     types = map (type_of real declared) (types_used declared keyed.name keyed.key);
-    keys = keys_below declared (types_used declared keyed.name keyed.key) keyed 4096;
+    keys = keys_below declared (types_used declared keyed.name keyed.key) keyed CODES;
   }
 
 -- ---- What was read of codes and keys

@@ -11,6 +11,7 @@ use Rattle.kx_tables.specs.Range.{in_range}
 use Rattle.kx_bearing.specs.Deeds.{Deeds}
 use Rattle.kx_resolve.specs.Keys.{Keyed}
 use Rattle.kx_types.specs.KeyTypes.{Definition}
+use Rattle.kx_basics.specs.declared.limits.TheConstants.{CODES}
 
 -- `real` is what a set of modifiers stands for, `declared` are the types by name
 module _ (real : ℕ → RealSet) (declared : List ℕ → Option Definition) where
@@ -29,9 +30,9 @@ module _ (real : ℕ → RealSet) (declared : List ℕ → Option Definition) wh
   abbrev pub shown_for : Deeds → KeyGiven → ℕ → ℕ → Shown
   shown_for deeds key group mods = if group_count key == 0 then nothing_shown else shown_in deeds key (in_range (pos group) (group_count key) key.range) mods
 
--- keycodes are at most 4,095
+-- of the keycodes
 abbrev pub name_within : (ℕ → Option (List ℕ)) → ℕ → Option (List ℕ)
-name_within name code = if nat_lt code 4096 then name code else None
+name_within name code = if nat_lt code CODES then name code else None
 
 module _ (name : ℕ → Option (List ℕ)) (key : ℕ → KeyGiven) where
   abbrev pub groups_if : Option (List ℕ) → ℕ → ℕ
@@ -50,7 +51,7 @@ module _ (real : ℕ → RealSet) (declared : List ℕ → Option Definition) (k
 
   abbrev pub keymap_meant : Keymap
   keymap_meant = record {
-    groups = max 1 (most_groups_below keyed.name keyed.key 4096);
+    groups = max 1 (most_groups_below keyed.name keyed.key CODES);
     known = λ code. is_some (name_within keyed.name code);
     shown = λ code group mods. shown_if (name_within keyed.name code) code group mods;
     lamps = [];

@@ -11,7 +11,7 @@ ghost use Rattle.kx_mapped.specs.Modmaps.{modmap_at};
 ghost use Rattle.kx_masks.specs.Sets.{real_of};
 ghost use Rattle.kx_masks.specs.Standing.{stands_for};
 ghost use Rattle.kx_mods.specs.Mods.{mask};
-ghost use Rattle.kx_resolve.specs.Bounds.{BoundsBelow, CellsAreFine, GroupsAreFine, KeepsBounds, last_cells, levels_of_group};
+ghost use Rattle.kx_resolve.specs.Bounds.{BoundsBelow, CellsAreValid, GroupsAreValid, KeepsBounds, last_cells, levels_of_group};
 ghost use Rattle.kx_bearing.specs.Deeds.{deeds_of};
 ghost use Rattle.kx_resolve.specs.Keys.{cell_of, cells_of, group_of, key_if_named, key_of, keyed_of, keys_below, type_place};
 ghost use Rattle.kx_symbols.specs.Keys.{key_at};
@@ -92,7 +92,7 @@ fn push_level(
     requires some { 0 < length (last_groups builder.old.keys) }
     requires own { key.own ≡ has_action (given key.key.now) }
     ensures pushed { OnOk result (builder.new ≡ with_cell builder.old (cell_of (deeds_of (real_of (stands_for key.entry.stands.now)) key.entry.interpretations.now key.entry.modmap (given key.entry.key.now)) (given key.entry.key.now) group level)) }
-    ensures fine { CellIsValid (cell_of (deeds_of (real_of (stands_for key.entry.stands.now)) key.entry.interpretations.now key.entry.modmap (given key.entry.key.now)) (given key.entry.key.now) group level) }
+    ensures valid { CellIsValid (cell_of (deeds_of (real_of (stands_for key.entry.stands.now)) key.entry.interpretations.now key.entry.modmap (given key.entry.key.now)) (given key.entry.key.now) group level) }
     ensures err { IfErr result (λ e. e ≡ Memory) }
 {
     builder
@@ -114,7 +114,7 @@ fn push_levels(
     requires few { levels ≤ MOST_LEVELS }
     requires own { key.own ≡ has_action (given key.key.now) }
     ensures pushed { OnOk result (builder.new ≡ fold with_cell builder.old (cells_of (deeds_of (real_of (stands_for key.entry.stands.now)) key.entry.interpretations.now key.entry.modmap (given key.entry.key.now)) (given key.entry.key.now) group levels)) }
-    ensures fine { OnOk result (CellsAreFine (deeds_of (real_of (stands_for key.entry.stands.now)) key.entry.interpretations.now key.entry.modmap (given key.entry.key.now)) (given key.entry.key.now) group levels) }
+    ensures valid { OnOk result (CellsAreValid (deeds_of (real_of (stands_for key.entry.stands.now)) key.entry.interpretations.now key.entry.modmap (given key.entry.key.now)) (given key.entry.key.now) group levels) }
     ensures small { OnOk result (IsWithinLimits builder.new) }
     ensures err { IfErr result (λ e. e ≡ Memory) }
 {
@@ -161,7 +161,7 @@ fn push_group(
     requires places { length used.now < 2 ^ 16 }
     requires own { key.own ≡ has_action (given key.key.now) }
     ensures pushed { OnOk result (builder.new ≡ with_group builder.old (group_of (type_named types.now) used.now (deeds_of (real_of (stands_for key.entry.stands.now)) key.entry.interpretations.now key.entry.modmap (given key.entry.key.now)) (given key.entry.key.now) group)) }
-    ensures fine { OnOk result (CellsAreFine (deeds_of (real_of (stands_for key.entry.stands.now)) key.entry.interpretations.now key.entry.modmap (given key.entry.key.now)) (given key.entry.key.now) (content_group (given key.entry.key.now) group) (levels_of_group (type_named types.now) (given key.entry.key.now) group)) }
+    ensures valid { OnOk result (CellsAreValid (deeds_of (real_of (stands_for key.entry.stands.now)) key.entry.interpretations.now key.entry.modmap (given key.entry.key.now)) (given key.entry.key.now) (content_group (given key.entry.key.now) group) (levels_of_group (type_named types.now) (given key.entry.key.now) group)) }
     ensures small { OnOk result (IsWithinLimits builder.new) }
     ensures err { IfErr result (λ e. e ≡ Memory) }
 {
@@ -223,7 +223,7 @@ fn push_key(
     requires places { length used.now < 2 ^ 16 }
     requires own { key.own ≡ has_action (given key.key.now) }
     ensures pushed { OnOk result (builder.new ≡ with_key builder.old (key_of (type_named types.now) used.now (deeds_of (real_of (stands_for key.entry.stands.now)) key.entry.interpretations.now key.entry.modmap (given key.entry.key.now)) (given key.entry.key.now) code name.now key.entry.modmap)) }
-    ensures fine { OnOk result (GroupsAreFine (type_named types.now) (deeds_of (real_of (stands_for key.entry.stands.now)) key.entry.interpretations.now key.entry.modmap (given key.entry.key.now)) (given key.entry.key.now) (group_count (given key.entry.key.now))) }
+    ensures valid { OnOk result (GroupsAreValid (type_named types.now) (deeds_of (real_of (stands_for key.entry.stands.now)) key.entry.interpretations.now key.entry.modmap (given key.entry.key.now)) (given key.entry.key.now) (group_count (given key.entry.key.now))) }
     ensures range { RangeHolds (given key.entry.key.now).range }
     ensures small { OnOk result (IsWithinLimits builder.new) }
     ensures err { IfErr result (λ e. e ≡ Memory) }

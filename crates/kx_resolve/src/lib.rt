@@ -7,5 +7,6 @@ mod read;
 mod resolving;
 mod using;
 
+pub use kx_tables::{Owned, Tables, wrap_group};
 pub use read::Read;
 pub use resolving::resolve;

@@ -9,7 +9,7 @@ ghost use Rattle.kx_builder.specs.Resolved.{keymap_of_resolved};
 ghost use Rattle.kx_builder.specs.WithinLimits.{IsWithinLimits};
 ghost use Rattle.kx_builder.specs.Whole.{IsWhole};
 ghost use Rattle.kx_groups.specs.Names.{AreCut};
-ghost use Rattle.kx_lamps.specs.Bounds.{AreFine};
+ghost use Rattle.kx_lamps.specs.Bounds.{AreValid};
 ghost use Rattle.kx_lamps.specs.Lamps.{Lamp as LampValue};
 ghost use Rattle.kx_levels.specs.Rows.{mods_of};
 ghost use Rattle.kx_lex.specs.declared.fault.Fault.TheVariants.{Memory};
@@ -18,7 +18,7 @@ ghost use Rattle.kx_masks.specs.Standing.{stands_for};
 ghost use Rattle.kx_mods.specs.Mods.{mask};
 ghost use Rattle.kx_resolve.specs.Lit.{indicator_lit, indicators_of};
 ghost use Rattle.kx_tables.specs.Keymap.{keymap_of};
-ghost use Rattle.kx_tables.specs.Parts.{content_of};
+ghost use Rattle.kx_tables.specs.RawTables.{content_of};
 ghost use Rattle.kx_tables.specs.Sound.{Sound};
 
 use crate::keys::refused;
@@ -28,7 +28,7 @@ use kx_lamps::{Indicators, Lamp};
 use kx_lex::Fault;
 use kx_masks::{NameSet, real_of as stood_for};
 use kx_mods::Mods;
-use kx_tables::Parts;
+use kx_tables::RawTables;
 use std::alloc::Global;
 
 /// The real modifiers that a set stands for.
@@ -43,7 +43,7 @@ fn real_mods(set: NameSet, stands: &[Mods]) -> Mods
 fn indicator<'n>(name: &'n [u8], lamp: &Lamp, stands: &[Mods]) -> Indicator<'n>
     requires { length name.now ≤ MOST_NAME_BYTES }
     ensures lit { indicator_of result ≡ indicator_lit (real_of (stands_for stands.now)) name.now lamp.now }
-    ensures fine { IndicatorIsValid (indicator_of result) }
+    ensures valid { IndicatorIsValid (indicator_of result) }
 {
     Indicator {
         name,
@@ -63,7 +63,7 @@ fn push_indicator<'a>(
 ) -> Result<(), Fault>
     requires { All (λ name. length name ≤ MOST_NAME_BYTES) indicators.now.names }
     ensures lit { OnOk result ((name : List ℕ) (lamp : LampValue) → slice_get indicators.now.names number ≡ Some name → slice_get indicators.now.lamps number ≡ Some lamp → map indicator_of lit.new.items ≡ map indicator_of lit.old.items ++ indicator_lit (real_of (stands_for stands.now)) name lamp ∷ []) }
-    ensures fine { OnOk result (All IndicatorIsValid (map indicator_of lit.old.items) → All IndicatorIsValid (map indicator_of lit.new.items)) }
+    ensures valid { OnOk result (All IndicatorIsValid (map indicator_of lit.old.items) → All IndicatorIsValid (map indicator_of lit.new.items)) }
     ensures err { IfErr result (λ e. e ≡ Memory) }
 {
     match (indicators.name(number), indicators.lamp(number)) {
@@ -83,8 +83,8 @@ fn indicators_lit<'a>(
     stands: &[Mods],
 ) -> Result<Vec<Indicator<'a>>, Fault>
     ensures lit { IfOk result (λ lit. map indicator_of lit.items ≡ indicators_of (real_of (stands_for stands.now)) indicators.now) }
-    ensures fine { IfOk result (λ lit. All IndicatorIsValid (map indicator_of lit.items)) }
-    ensures numbered { AreFine indicators.now }
+    ensures valid { IfOk result (λ lit. All IndicatorIsValid (map indicator_of lit.items)) }
+    ensures numbered { AreValid indicators.now }
     ensures err { IfErr result (λ e. e ≡ Memory) }
 {
     let mut lit = Vec::new(alloc);
@@ -98,7 +98,7 @@ fn indicators_lit<'a>(
 fn push_name<'a>(names: &mut Vec<&'a [u8]>, name: &'a [u8]) -> Result<(), Fault>
     requires { length name.now ≤ MOST_NAME_BYTES }
     ensures pushed { OnOk result (map (λ g. g.now) names.new.items ≡ map (λ g. g.now) names.old.items ++ name.now ∷ []) }
-    ensures fine { GroupNameIsValid name.now }
+    ensures valid { GroupNameIsValid name.now }
     ensures err { IfErr result (λ e. e ≡ Memory) }
 {
     names.push(name)?;
@@ -108,7 +108,7 @@ fn push_name<'a>(names: &mut Vec<&'a [u8]>, name: &'a [u8]) -> Result<(), Fault>
 /// The names of groups, in their order.
 fn names_in_order<'a>(alloc: Global, group_names: &'a GroupNames) -> Result<Vec<&'a [u8]>, Fault>
     ensures names { IfOk result (λ names. map (λ g. g.now) names.items ≡ group_names.now) }
-    ensures fine { IfOk result (λ names. All GroupNameIsValid (map (λ g. g.now) names.items)) }
+    ensures valid { IfOk result (λ names. All GroupNameIsValid (map (λ g. g.now) names.items)) }
     ensures cut { AreCut group_names.now }
     ensures err { IfErr result (λ e. e ≡ Memory) }
 {
@@ -121,9 +121,9 @@ fn names_in_order<'a>(alloc: Global, group_names: &'a GroupNames) -> Result<Vec<
 
 /// The tables of what is built, with these indicators and names of groups.
 #[tactic(auto, using(crate::proofs::Lamps::lamps_refused))]
-fn with_these(builder: Builder, lit: &[Indicator<'_>], names: &[&[u8]]) -> Result<Parts, Fault>
+fn with_these(builder: Builder, lit: &[Indicator<'_>], names: &[&[u8]]) -> Result<RawTables, Fault>
     requires small { IsWithinLimits builder }
-    requires fine { LampsAreValid (map indicator_of lit.now) (map (λ g. g.now) names.now) }
+    requires valid { LampsAreValid (map indicator_of lit.now) (map (λ g. g.now) names.now) }
     ensures content { IfOk result (λ parts. content_of parts ≡ with_lamps (content_of_resolved builder) (map indicator_of lit.now) (map (λ g. g.now) names.now)) }
     ensures agrees { IsWhole builder → IfOk result (λ parts. ShowsSame (keymap_of (content_of parts)) (keymap_with (keymap_of_resolved builder) (map indicator_of lit.now))) }
     ensures sound { IsValid builder → IfOk result (λ parts. Sound (content_of parts)) }
@@ -139,7 +139,7 @@ pub(crate) fn with_lamps(
     indicators: &Indicators,
     group_names: &GroupNames,
     stands: &[Mods],
-) -> Result<Parts, Fault>
+) -> Result<RawTables, Fault>
     requires small { IsWithinLimits builder }
     ensures content { IfOk result (λ parts. content_of parts ≡ with_lamps (content_of_resolved builder) (indicators_of (real_of (stands_for stands.now)) indicators.now) group_names.now) }
     ensures agrees { IsWhole builder → IfOk result (λ parts. ShowsSame (keymap_of (content_of parts)) (keymap_with (keymap_of_resolved builder) (indicators_of (real_of (stands_for stands.now)) indicators.now))) }

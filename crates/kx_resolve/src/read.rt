@@ -12,7 +12,7 @@ use kx_types::Types;
 #[derive(Clone, Copy)]
 pub struct Read<'a> {
     /// The keycodes and their names.
-    pub codes: &'a Codes,
+    pub codes: &'a Codes<'a>,
     /// What each virtual modifier stands for, by its number.
     pub stands: &'a [Mods],
     /// The key types by name.

@@ -13,7 +13,7 @@ ghost use Rattle.kx_resolve.specs.Keys.{keyed_of, resolved_of};
 ghost use Rattle.kx_resolve.specs.Lit.{indicators_of};
 ghost use Rattle.kx_resolve.specs.Shown.{keymap_meant};
 ghost use Rattle.kx_tables.specs.Keymap.{keymap_of};
-ghost use Rattle.kx_tables.specs.Parts.{content_of};
+ghost use Rattle.kx_tables.specs.RawTables.{content_of};
 ghost use Rattle.kx_tables.specs.Sound.{Sound};
 ghost use Rattle.kx_types.specs.Types.{type_named};
 
@@ -23,7 +23,7 @@ use crate::read::Read;
 use crate::using::{types_used, with_types};
 use ks_core::Notes;
 use kx_lex::Fault;
-use kx_tables::Parts;
+use kx_tables::RawTables;
 use std::alloc::Global;
 
 /// The tables of what is read of a keymap, and what was passed over: the keys that keycodes name, in the order of their
@@ -31,7 +31,7 @@ use std::alloc::Global;
 ///
 /// # Errors
 /// `Memory`.
-pub fn resolve(alloc: Global, read: Read) -> Result<(Parts, Notes), Fault>
+pub fn resolve(alloc: Global, read: Read) -> Result<(RawTables, Notes), Fault>
     ensures content { IfOk result (λ made. content_of made.0 ≡ with_lamps (content_of_resolved (resolved_of (real_of (stands_for read.entry.stands.now)) (type_named read.entry.types.now) (keyed_of (real_of (stands_for read.entry.stands.now)) read.entry.codes.now read.entry.keys.now (modmap_at read.entry.modmaps.now) read.entry.interpretations.now))) (indicators_of (real_of (stands_for read.entry.stands.now)) read.entry.indicators.now) read.entry.group_names.now) }
     ensures sound { OneCode (name_of read.entry.codes.now) → IfOk result (λ made. Sound (content_of made.0)) }
     ensures agrees { IfOk result (λ made. ShowsSame (keymap_of (content_of made.0)) (keymap_with (keymap_meant (real_of (stands_for read.entry.stands.now)) (type_named read.entry.types.now) (keyed_of (real_of (stands_for read.entry.stands.now)) read.entry.codes.now read.entry.keys.now (modmap_at read.entry.modmaps.now) read.entry.interpretations.now)) (indicators_of (real_of (stands_for read.entry.stands.now)) read.entry.indicators.now))) }

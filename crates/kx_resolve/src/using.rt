@@ -93,7 +93,7 @@ fn push_with(
     requires short { length name.now ≤ MOST_NAME_BYTES }
     ensures pushed { OnOk result (builder.new ≡ with_type builder.old (type_with (real_of (stands_for stands.now)) name.now key_type.now)) }
     ensures shows { OnOk result (RowsShow (real_of (stands_for stands.now)) key_type.now (mods_of (real_of (stands_for stands.now) key_type.now.modifiers)) (entry_rows (real_of (stands_for stands.now)) key_type.now.entries)) }
-    ensures fine { OnOk result (TypeIsValid (type_with (real_of (stands_for stands.now)) name.now key_type.now)) }
+    ensures valid { OnOk result (TypeIsValid (type_with (real_of (stands_for stands.now)) name.now key_type.now)) }
     ensures err { IfErr result (λ e. e ≡ Memory) }
 {
     let rows = TypeRows::of(alloc, key_type, stands)?;

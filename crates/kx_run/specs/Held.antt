@@ -9,6 +9,7 @@ use Rattle.kx_tables.specs.declared.rows.Action.TheVariants.{SetMods, LatchMods,
 use Rattle.kx_tables.specs.declared.rows.GroupChange.{GroupChange}
 use Rattle.kx_tables.specs.declared.rows.GroupChange.TheVariants.{Absolute, Relative}
 use Rattle.kx_run.specs.declared.held.HeldKey.{HeldKey}
+use Rattle.kx_basics.specs.declared.limits.TheConstants.{CODES, MOST_GROUPS}
 
 -- the modifiers that an action sets for as long as its key is down
 abbrev pub held_mods : Action → ℕ
@@ -85,6 +86,6 @@ action_size _ = 0
 -- what is true of the held keys after any number of events
 pub record AreSound (keys : List HeldKey) : Type 0 where
   pub distinct : AreDistinct keys
-  pub codes : All (λ key. key.code < 4096) keys
-  pub sizes : All (λ key. action_size key.action ≤ 32) keys
+  pub codes : All (λ key. key.code < CODES) keys
+  pub sizes : All (λ key. action_size key.action ≤ MOST_GROUPS) keys
   pub masks : All (λ key. held_mods key.action < 256) keys

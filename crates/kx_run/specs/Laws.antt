@@ -6,13 +6,14 @@ use Rattle.kx_run.specs.declared.direction.Direction.TheVariants.{Down, Up}
 use Rattle.kx_run.specs.declared.direction.Event.{Event}
 use Rattle.kx_run.specs.Held.{AreDistinct, base_group, base_mods, count_of}
 use Rattle.kx_run.specs.World.{World}
+use Rattle.kx_basics.specs.declared.limits.TheConstants.{CODES}
 
 -- no key is held twice; at most 4,096 keys are held, and at most as many set a modifier; the base group lies within
 -- 131,072 of 0
 pub record IsBounded (world : World) : Type 0 where
   pub distinct : AreDistinct world.held
-  pub few : length world.held ≤ 4096
-  pub counts : (bit : ℕ) → count_of bit world.held ≤ 4096
+  pub few : length world.held ≤ CODES
+  pub counts : (bit : ℕ) → count_of bit world.held ≤ CODES
   pub low : negsuc 131071 ≤ℤ base_group world.held
   pub high : base_group world.held ≤ℤ pos 131072
 

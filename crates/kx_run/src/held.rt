@@ -2,6 +2,7 @@
 ghost use Rattle.std.specs.Prelude.{◌≡◌, ℕ, ◌^◌, ◌<◌, ◌≤◌, ◌≤ℤ◌, false, List, [], ◌∷◌, ◌++◌, slice_index, map, IfOk, IfNone, pos, negsuc};
 ghost use Rattle.kx_mods.specs.Mods.{mask};
 ghost use Rattle.kx_run.specs.Held.{held_mods, base_mods, base_group, count_of, is_group_held, is_held, held_at, other_keys, disturbed, action_size, AreSound, AreAllDisturbed};
+ghost use Rattle.kx_basics.specs.declared.limits.TheConstants.{CODES, MOST_GROUPS};
 
 use crate::counts::{Counts, counted, counted_mods, uncounted};
 use crate::group::base_group_with;
@@ -91,7 +92,7 @@ impl HeldKeys {
 
     /// Whether a code's key is down.
     pub fn is_held(&self, code: u16) -> bool
-        requires { code < 4096 }
+        requires { code < CODES }
         ensures { result ≡ is_held code self.now }
     {
         self.keys.is_held(code)
@@ -107,8 +108,8 @@ impl HeldKeys {
 
     /// Adds a key that isn't held, where all others were told of its press.
     pub fn hold(&mut self, key: HeldKey)
-        requires code { key.code < 4096 }
-        requires size { action_size key.action ≤ 32 }
+        requires code { key.code < CODES }
+        requires size { action_size key.action ≤ MOST_GROUPS }
         requires new_code { is_held key.code self.old ≡ false }
         requires others { AreAllDisturbed self.old }
         ensures { self.new ≡ self.old ++ key ∷ [] }
@@ -122,7 +123,7 @@ impl HeldKeys {
 
     /// Lets go of a code's key, where it is held.
     pub fn take(&mut self, code: u16) -> Option<HeldKey>
-        requires { code < 4096 }
+        requires { code < CODES }
         ensures found { result ≡ held_at code self.old }
         ensures rest { self.new ≡ other_keys code self.old }
         ensures none { IfNone result (self.new ≡ self.old) }

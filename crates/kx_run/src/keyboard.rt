@@ -5,6 +5,7 @@ ghost use Rattle.kx_run.specs.Held.{is_held, action_size};
 ghost use Rattle.kx_run.specs.Laws.{IsBounded};
 ghost use Rattle.kx_run.specs.World.{opening, effective_mods, effective_group, press_effect, release_effect, is_moved, latch_mods, latch_group, recorded_mods, pressed, released, moved};
 ghost use Rattle.kx_run.specs.Replies.{status_of, told};
+ghost use Rattle.kx_basics.specs.declared.limits.TheConstants.{CODES, MOST_GROUPS};
 
 use crate::direction::Direction;
 use crate::group::{difference, effective, locked_after, number_of, sum};
@@ -88,7 +89,7 @@ impl Keyboard {
     /// Whether an event of a known key changes the held keys: a press of a held key and a release of one that is up
     /// change nothing.
     pub fn takes(&self, code: u16, direction: Direction) -> bool
-        requires { code < 4096 }
+        requires { code < CODES }
         ensures { result ≡ is_moved self.now code direction }
     {
         match direction {
@@ -100,8 +101,8 @@ impl Keyboard {
     /// Applies an event of a known key, whose action in this state is the one given.
     pub fn apply(&mut self, code: u16, direction: Direction, action: Action, groups: u8)
         requires some_group { 1 ≤ groups }
-        requires code { code < 4096 }
-        requires size { action_size action ≤ 32 }
+        requires code { code < CODES }
+        requires size { action_size action ≤ MOST_GROUPS }
         ensures { self.new ≡ moved groups self.old code direction action }
     {
         match direction {
@@ -117,8 +118,8 @@ impl Keyboard {
     /// Presses a key that is up, for which this action was found.
     fn press(&mut self, code: u16, action: Action, groups: u8)
         requires some_group { 1 ≤ groups }
-        requires code { code < 4096 }
-        requires size { action_size action ≤ 32 }
+        requires code { code < CODES }
+        requires size { action_size action ≤ MOST_GROUPS }
         requires new_code { is_held code self.old.held ≡ false }
         ensures { self.new ≡ pressed groups code action self.old }
     {
@@ -136,7 +137,7 @@ impl Keyboard {
     /// Releases a key, where it is held.
     fn release(&mut self, code: u16, groups: u8)
         requires some_group { 1 ≤ groups }
-        requires code { code < 4096 }
+        requires code { code < CODES }
         ensures { self.new ≡ released groups code self.old }
     {
         if let Some(key) = self.held.take(code) {

@@ -4,6 +4,7 @@ ghost use Rattle.kx_run.specs.Held.{action_size};
 ghost use Rattle.kx_run.specs.Laws.{Agree, IsBounded, IsLetGo, ReleasesAll};
 ghost use Rattle.kx_run.specs.Replies.{answer, answered, lit_in, run, status_in, told, unknown, world_after};
 ghost use Rattle.kx_run.specs.World.{moved, opening, step};
+ghost use Rattle.kx_basics.specs.declared.limits.TheConstants.{CODES, MOST_GROUPS};
 
 use crate::choices::Choices;
 use crate::direction::{Direction, Event};
@@ -156,8 +157,8 @@ impl<T: Tables + Drop> Player<T> {
 
     /// Applies an event of a known key, whose action in this state is the one given.
     fn apply(&mut self, code: u16, direction: Direction, action: Action)
-        requires code { code < 4096 }
-        requires size { action_size action ≤ 32 }
+        requires code { code < CODES }
+        requires size { action_size action ≤ MOST_GROUPS }
         ensures { self.new ≡ record self.old { world = moved (keymap_of self.old.content).groups self.old.world code direction action } }
     {
         self.keyboard.apply(code, direction, action, self.groups);

@@ -54,7 +54,7 @@ impl Presses {
 
     /// Whether a code's key is down.
     pub fn is_held(&self, code: u16) -> bool
-        requires { code < 4096 }
+        requires { code < CODES }
         ensures { result ≡ is_held code self.now }
     {
         self.places[usize::from(code)].is_some()
@@ -70,7 +70,7 @@ impl Presses {
 
     /// Adds a key that isn't held, where all others were told of its press.
     pub fn push(&mut self, key: HeldKey)
-        requires code { key.code < 4096 }
+        requires code { key.code < CODES }
         requires new_code { is_held key.code self.old ≡ false }
         requires others { AreAllDisturbed self.old }
         ensures { self.new ≡ self.old ++ key ∷ [] }
@@ -84,7 +84,7 @@ impl Presses {
 
     /// Lets go of a code's key, where it is held.
     pub fn take(&mut self, code: u16) -> Option<HeldKey>
-        requires { code < 4096 }
+        requires { code < CODES }
         ensures found { result ≡ held_at code self.old }
         ensures rest { self.new ≡ other_keys code self.old }
     {
@@ -160,7 +160,7 @@ fn group_with(entry: Option<HeldKey>, old: i32) -> i32
 /// Drops the empty entries where they outnumber the keys, of which there are so many, by far.
 fn make_room(entries: &mut Vec<Option<HeldKey>>, places: &mut [Option<u16>], count: usize)
     requires count { count ≡ length (keys_of entries.old.items) }
-    requires few { count ≤ 4096 }
+    requires few { count ≤ CODES }
     requires codes { All (λ key. key.code < length places.old) (keys_of entries.old.items) }
     requires placed { ArePlaced places.old entries.old.items }
     ensures keys { keys_of entries.new.items ≡ keys_of entries.old.items }
@@ -177,7 +177,7 @@ fn make_room(entries: &mut Vec<Option<HeldKey>>, places: &mut [Option<u16>], cou
 /// Drops the empty entries, and tells each code where its entry went.
 #[inline(never)]
 fn drop_empty(entries: &mut Vec<Option<HeldKey>>, places: &mut [Option<u16>])
-    requires few { length (keys_of entries.old.items) ≤ 4096 }
+    requires few { length (keys_of entries.old.items) ≤ CODES }
     requires codes { All (λ key. key.code < length places.old) (keys_of entries.old.items) }
     requires placed { ArePlaced places.old entries.old.items }
     ensures keys { keys_of entries.new.items ≡ keys_of entries.old.items }
@@ -192,7 +192,7 @@ fn drop_empty(entries: &mut Vec<Option<HeldKey>>, places: &mut [Option<u16>])
 
 /// Tells each code that has an entry where it is.
 fn place_all(entries: &[Option<HeldKey>], places: &mut [Option<u16>])
-    requires few { length entries.now ≤ 4096 }
+    requires few { length entries.now ≤ CODES }
     requires codes { All (λ key. key.code < length places.old) (keys_of entries.now) }
     ensures long { length places.new ≡ length places.old }
     ensures each { (code : ℕ) (d : Option ℕ) → get_or places.new code d ≡ option_or (place_of code entries.now) (get_or places.old code d) }

@@ -13,7 +13,7 @@ ghost use Rattle.kx_resolve.specs.Bounds.{OneCode};
 ghost use Rattle.kx_resolve.specs.Keys.{keyed_of};
 ghost use Rattle.kx_source.specs.Made.{IsInterpreted, IsLit, IsMade};
 ghost use Rattle.kx_source.specs.Source.{keys_faults, maps_faults, names_faults};
-ghost use Rattle.kx_tables.specs.Parts.{content_of};
+ghost use Rattle.kx_tables.specs.RawTables.{content_of};
 ghost use Rattle.kx_tables.specs.Sound.{Sound};
 
 use crate::keys::{MappedKeys, read_keys};
@@ -29,7 +29,7 @@ use kx_lex::Fault;
 use kx_masks::ModNames;
 use kx_mods::Mods;
 use kx_resolve::{Read, resolve};
-use kx_tables::Parts;
+use kx_tables::RawTables;
 use kx_types::Types;
 use std::alloc::Global;
 
@@ -44,7 +44,7 @@ fn lit_parts(
     mapped: &MappedKeys,
     interpretations: &Interpretations,
     stands: &[Mods],
-) -> Result<(Parts, Notes), Fault>
+) -> Result<(RawTables, Notes), Fault>
     ensures lit { IfOk result (λ made. IsLit modifiers.now.names (expanded_body bodies.now.compat) (expanded_body bodies.now.symbols) (real_of (stands_for stands.now)) types.now (keyed_of (real_of (stands_for stands.now)) codes.now mapped.now.keys (modmap_at mapped.now.modmaps) interpretations.now) (content_of made.0)) }
     ensures sound { OneCode (name_of codes.now) → IfOk result (λ made. Sound (content_of made.0)) }
     ensures faultless_names { OnOk result (names_faults (expanded_body bodies.now.symbols) ≡ []) }
@@ -78,7 +78,7 @@ fn standing_parts(
     mapped: &MappedKeys,
     interpretations: &Interpretations,
     passed: Notes,
-) -> Result<(Parts, Notes), Fault>
+) -> Result<(RawTables, Notes), Fault>
     ensures interpreted { (names : List Entry) → interpretations.now ≡ interpretations_of names modifiers.now.names (expanded_body bodies.now.compat) → IfOk result (λ made. IsInterpreted names modifiers.now (expanded_body bodies.now.compat) (expanded_body bodies.now.symbols) codes.now types.now mapped.now.keys (modmap_at mapped.now.modmaps) (content_of made.0)) }
     ensures sound { OneCode (name_of codes.now) → IfOk result (λ made. Sound (content_of made.0)) }
     ensures faultless_names { OnOk result (names_faults (expanded_body bodies.now.symbols) ≡ []) }
@@ -118,7 +118,7 @@ fn interpreted_parts(
     codes: &Codes,
     types: &Types,
     mapped: &MappedKeys,
-) -> Result<(Parts, Notes), Fault>
+) -> Result<(RawTables, Notes), Fault>
     ensures interpreted { IfOk result (λ made. IsInterpreted names.now modifiers.now (expanded_body bodies.now.compat) (expanded_body bodies.now.symbols) codes.now types.now mapped.now.keys (modmap_at mapped.now.modmaps) (content_of made.0)) }
     ensures sound { OneCode (name_of codes.now) → IfOk result (λ made. Sound (content_of made.0)) }
     ensures faultless_compat { OnOk result (compat_faults names.now modifiers.now.names (expanded_body bodies.now.compat) ≡ []) }
@@ -147,7 +147,7 @@ pub(crate) fn parts_of(
     modifiers: &ModNames,
     codes: &Codes,
     types: &Types,
-) -> Result<(Parts, Notes), Fault>
+) -> Result<(RawTables, Notes), Fault>
     ensures made { IfOk result (λ made. IsMade names.now modifiers.now (expanded_body bodies.now.compat) (expanded_body bodies.now.symbols) codes.now types.now (content_of made.0)) }
     ensures sound { OneCode (name_of codes.now) → IfOk result (λ made. Sound (content_of made.0)) }
     ensures faultless_keys { OnOk result (keys_faults codes.now names.now modifiers.now.names (expanded_body bodies.now.symbols) ≡ []) }

@@ -14,7 +14,7 @@ use crate::known::{Known, Reading};
 use ks_core::{NameTable, Notes};
 use kx_lex::Fault;
 use kx_lists::{Levels, group_for, put_list};
-use kx_parse::{Apart, Field, Index, KeyField, List as Listed, Setting, Value};
+use kx_parse::{Boxed, Field, Index, KeyField, List as Listed, Setting, Value};
 use std::alloc::Global;
 use std::marker::Model;
 
@@ -38,7 +38,7 @@ fn add_symbols(
     alloc: Global,
     names: &NameTable,
     reading: Reading,
-    index: &Option<Apart<Index>>,
+    index: &Option<Boxed<Index>>,
     list: &Listed,
     lists: &mut Vec<Option<Levels<Keysyms>>>,
     notes: &mut Notes,
@@ -58,7 +58,7 @@ fn add_actions(
     alloc: Global,
     known: &Known,
     reading: Reading,
-    index: &Option<Apart<Index>>,
+    index: &Option<Boxed<Index>>,
     list: &Listed,
     lists: &mut Vec<Option<Levels<LevelAction>>>,
     notes: &mut Notes,
@@ -79,7 +79,7 @@ fn add_list(
     known: &Known,
     reading: Reading,
     kind: ListKind,
-    index: &Option<Apart<Index>>,
+    index: &Option<Boxed<Index>>,
     list: &Listed,
     lists: &mut StatementLists,
     notes: &mut Notes,

@@ -36,7 +36,7 @@ use std::marker::Model;
 /// What key statements are read against.
 #[derive(Clone, Copy)]
 pub struct Context<'a> {
-    pub codes: &'a Codes,
+    pub codes: &'a Codes<'a>,
     pub names: &'a NameTable,
     pub modifiers: &'a ModNames,
 }
@@ -305,8 +305,8 @@ impl Keys {
 /// at what no field of lists takes, and at an index that is no group; `GroupRange` at a group outside of 1 to 32 and at a
 /// list for which none is left; `TooMany` at a statement whose name has over 255 bytes or with over eight keysyms in
 /// braces; `UnknownField` at a field or statement that a symbols section doesn't have; those of the arguments of actions
-/// and of what is said of keys besides; `Memory`. Declarations of virtual modifiers are passed over; modifier maps and names
-/// of groups aren't read yet, and are `UnknownField`.
+/// and of what is said of keys besides; `Memory`. Declarations of virtual modifiers, modifier maps and names of groups are
+/// passed over: those who read them answer for their faults.
 pub fn symbols(
     alloc: Global,
     expansion: &Expansion,

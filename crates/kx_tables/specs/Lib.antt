@@ -3,7 +3,7 @@ pub mod Content
 pub mod Fit
 pub mod Keymap
 pub mod Names
-pub mod Parts
+pub mod RawTables
 pub mod Range
 pub mod Sound
 pub mod SoFar

@@ -8,7 +8,7 @@ mod rows;
 mod tables;
 
 pub use check::{Broken, Part, check as check_tables};
-pub use owned::{Owned, Parts};
+pub use owned::{Owned, RawTables};
 pub use range::wrap_group;
 pub use rows::{
     Action, CellRow, EntryRow, GroupChange, GroupNameRow, GroupRow, IndicatorRow, KeyRow, Range,

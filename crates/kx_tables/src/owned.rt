@@ -1,7 +1,7 @@
 ghost use Rattle.std.specs.Prelude.{◌≡◌, ◌<◌, ◌↔◌, IsTrue, IfOk, IfErr, OnOk, OnErr};
 ghost use Rattle.kx_tables.specs.Broken.{Breaks};
 ghost use Rattle.kx_tables.specs.Fit.{CountsFit};
-ghost use Rattle.kx_tables.specs.Parts.{content_of};
+ghost use Rattle.kx_tables.specs.RawTables.{content_of};
 ghost use Rattle.kx_tables.specs.Sound.{Sound};
 
 use crate::check::{Broken, Part, check};
@@ -12,7 +12,7 @@ use std::marker::Model;
 
 /// Tables in vectors, sound or not.
 #[derive(Drop)]
-pub struct Parts {
+pub struct RawTables {
     pub types: Vec<TypeRow>,
     pub entries: Vec<EntryRow>,
     pub keys: Vec<KeyRow>,
@@ -26,7 +26,7 @@ pub struct Parts {
 }
 
 /// Whether counts fit the numbers in which they are told.
-fn counts_fit(parts: &Parts) -> bool
+fn counts_fit(parts: &RawTables) -> bool
     ensures { IsTrue result ↔ CountsFit (content_of parts.now) }
 {
     parts.types.len() < 1 << 16
@@ -41,7 +41,7 @@ fn counts_fit(parts: &Parts) -> bool
 }
 
 /// A record that breaks a rule, of tables whose counts don't fit.
-fn unfit(parts: &Parts) -> Broken
+fn unfit(parts: &RawTables) -> Broken
     requires { CountsFit (content_of parts.now) → ⊥ }
     ensures { Breaks (content_of parts.now) result.part result.index }
 {
@@ -75,7 +75,7 @@ fn unfit(parts: &Parts) -> Broken
 /// Tables whose counts fit.
 #[derive(Drop)]
 struct Counted {
-    parts: Parts,
+    parts: RawTables,
 }
 
 impl Model for Counted {
@@ -84,7 +84,7 @@ impl Model for Counted {
     ghost Value = { Content };
 
     ghost use Rattle.kx_tables.specs.Fit.{CountsFit};
-    ghost use Rattle.kx_tables.specs.Parts.{content_of};
+    ghost use Rattle.kx_tables.specs.RawTables.{content_of};
 
     ghost view = { λ t. content_of t.parts };
 
@@ -93,7 +93,7 @@ impl Model for Counted {
 
 impl Counted {
     /// The tables, where their counts fit; else a record that breaks a rule.
-    fn new(parts: Parts) -> Result<Counted, Broken>
+    fn new(parts: RawTables) -> Result<Counted, Broken>
         ensures value { IfOk result (λ t. t ≡ content_of parts) }
         ensures ok { OnOk result (CountsFit (content_of parts)) }
         ensures broken { IfErr result (λ b. Breaks (content_of parts) b.part b.index) }
@@ -183,7 +183,7 @@ impl Model for Owned {
 
 impl Owned {
     /// The tables, where they are sound; else a record that breaks a rule.
-    pub fn new(parts: Parts) -> Result<Owned, Broken>
+    pub fn new(parts: RawTables) -> Result<Owned, Broken>
         ensures value { IfOk result (λ o. o ≡ content_of parts) }
         ensures sound { OnOk result (Sound (content_of parts)) }
         ensures broken { IfErr result (λ b. Breaks (content_of parts) b.part b.index) }
@@ -196,7 +196,7 @@ impl Owned {
     }
 
     /// Tables that are known to be sound; nothing is checked again.
-    pub fn from_sound(parts: Parts) -> Owned
+    pub fn from_sound(parts: RawTables) -> Owned
         requires { Sound (content_of parts) }
         ensures { result ≡ content_of parts }
     {

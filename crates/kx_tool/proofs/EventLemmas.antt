@@ -8,7 +8,7 @@ use Rattle.std.specs.List.{list_all}
 use Rattle.std.specs.Str.{bytes_eq}
 use Rattle.kx_run.specs.declared.direction.Direction.TheVariants.{Down, Up}
 use Rattle.kx_run.specs.declared.direction.Event.{Event}
-use Rattle.kx_tool.specs.EventLines.{code_in, event_of, event_with, has_code_digits, is_fine}
+use Rattle.kx_tool.specs.EventLines.{code_in, event_of, event_with, has_code_digits, is_well_formed}
 
 both : (a b : Bool) → (a && b) ≡ true → (a ≡ true) × (b ≡ true)
 both true b h = (refl, h)
@@ -46,7 +46,7 @@ no_choice true b x y none other = none
 no_choice false true x y none other = other
 no_choice false false x y none other = refl
 
-pub long_is_other : (line : List ℕ) → 64 < length line → is_fine line ≡ false
+pub long_is_other : (line : List ℕ) → 64 < length line → is_well_formed line ≡ false
 unfolding event_of
 long_is_other line long =
     let first : code_in (drop 5 line) ≡ None = code_too_long (drop 5 line) (omega (arith, length-drop 5 line)) in

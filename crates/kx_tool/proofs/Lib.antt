@@ -6,3 +6,5 @@ pub mod Listings
 pub mod Reading
 pub mod ReadingSources
 pub mod SessionLemmas
+pub mod TailTexts
+pub mod Waits

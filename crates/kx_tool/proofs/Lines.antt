@@ -7,7 +7,7 @@ use Rattle.std.proofs.lemmas.List.Elements.{All-append, All-nil}
 use Rattle.std.proofs.lemmas.List.Splits.{slice_split_at, slice_split_none}
 use Rattle.std.proofs.lemmas.List.Sums.{take_while-cons}
 use Rattle.ks_core.specs.Lines.{lines_of}
-use Rattle.kx_tool.specs.EventLines.{fine_lines, is_fine}
+use Rattle.kx_tool.specs.EventLines.{well_formed_lines, is_well_formed}
 use Rattle.kx_tool.specs.Sources.{is_mark, source_of, lines_behind}
 
 -- the lines with a line feed behind each
@@ -39,6 +39,9 @@ all_of_one P x here (suc k) d within = absurd (omega arith)
 
 pub free_more : (line : List ℕ) (byte : ℕ) → Free line → (byte == 10) ≡ false → Free (line ++ byte ∷ [])
 free_more line byte free other = record { none = All-append (λ c. (c == 10) ≡ false) line (byte ∷ []) free.none (all_of_one (λ c. (c == 10) ≡ false) byte other) }
+
+pub free_part : (line part : List ℕ) → Free line → All (λ c. (c == 10) ≡ false) part → Free (line ++ part)
+free_part line part free more = record { none = All-append (λ c. (c == 10) ≡ false) line part free.none more }
 
 pub each_free_more : (lines : List (List ℕ)) (line : List ℕ) → EachFree lines → Free line → EachFree (lines ++ line ∷ [])
 each_free_more [] line free here = (here, tt)
@@ -82,19 +85,19 @@ lines_of-cut lines line rest free here =
 
 -- ---- Lines of events
 
-pub fine_lines-append : (lines rest : List (List ℕ)) → EachIs is_fine true lines → fine_lines (lines ++ rest) ≡ lines ++ fine_lines rest
-fine_lines-append [] rest fine = refl
-fine_lines-append (line ∷ lines) rest fine =
-    take_while-cons is_fine line (lines ++ rest) ∙ ap (λ b. cond b (line ∷ fine_lines (lines ++ rest)) []) fine.0 ∙ ap (λ ls. line ∷ ls) (fine_lines-append lines rest fine.1)
+pub well_formed_lines-append : (lines rest : List (List ℕ)) → EachIs is_well_formed true lines → well_formed_lines (lines ++ rest) ≡ lines ++ well_formed_lines rest
+well_formed_lines-append [] rest formed = refl
+well_formed_lines-append (line ∷ lines) rest formed =
+    take_while-cons is_well_formed line (lines ++ rest) ∙ ap (λ b. cond b (line ∷ well_formed_lines (lines ++ rest)) []) formed.0 ∙ ap (λ ls. line ∷ ls) (well_formed_lines-append lines rest formed.1)
 
-pub fine_lines-stop : (lines : List (List ℕ)) (line : List ℕ) (rest : List (List ℕ)) → EachIs is_fine true lines → is_fine line ≡ false → fine_lines (lines ++ line ∷ rest) ≡ lines
-fine_lines-stop lines line rest fine bad =
-    fine_lines-append lines (line ∷ rest) fine
-    ∙ ap (λ ls. lines ++ ls) (take_while-cons is_fine line rest ∙ ap (λ b. cond b (line ∷ fine_lines rest) []) bad)
+pub well_formed_lines-stop : (lines : List (List ℕ)) (line : List ℕ) (rest : List (List ℕ)) → EachIs is_well_formed true lines → is_well_formed line ≡ false → well_formed_lines (lines ++ line ∷ rest) ≡ lines
+well_formed_lines-stop lines line rest formed bad =
+    well_formed_lines-append lines (line ∷ rest) formed
+    ∙ ap (λ ls. lines ++ ls) (take_while-cons is_well_formed line rest ∙ ap (λ b. cond b (line ∷ well_formed_lines rest) []) bad)
     ∙ append-nil lines
 
-pub fine_lines-all : (lines : List (List ℕ)) → EachIs is_fine true lines → fine_lines lines ≡ lines
-fine_lines-all lines fine = ap fine_lines (sym (append-nil lines)) ∙ fine_lines-append lines [] fine ∙ append-nil lines
+pub well_formed_lines-all : (lines : List (List ℕ)) → EachIs is_well_formed true lines → well_formed_lines lines ≡ lines
+well_formed_lines-all lines formed = ap well_formed_lines (sym (append-nil lines)) ∙ well_formed_lines-append lines [] formed ∙ append-nil lines
 
 -- ---- Sources
 

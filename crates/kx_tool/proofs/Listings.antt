@@ -1,8 +1,8 @@
 -- Lists in a text, a piece at a time.
 use Rattle.std.proofs.Common.{◌≡◌, ℕ, zero, suc, ◌+◌, ◌%◌, ◌/◌, ◌==◌, cond, List, [], ◌∷◌, ◌++◌, Option, Some, IfSome, ◌<◌, ◌≤◌, drop, take, length, map, get_or, slice_get, arith, refl, sym, ap, ◌∙◌, subst, add-one, append_assoc, append-nil}
 use Rattle.std.proofs.lemmas.Grind.{flat_map-append}
-use Rattle.ks_core.specs.Press.{Gathered, Tells}
-use Rattle.ks_core.proofs.PressLemmas.{tells_then, tells_nothing}
+use Rattle.ks_core.specs.BufferedOut.{Gathered, Writes}
+use Rattle.ks_core.proofs.BufferedOutLemmas.{writes_then, writes_nothing}
 use Rattle.std.proofs.Math.ListN.{drop_of_length-le}
 use Rattle.std.proofs.lemmas.Bool.{eq-eqb, ne_eqb}
 use Rattle.std.proofs.lemmas.List.{map-append}
@@ -23,21 +23,21 @@ pub lead-more : (label mark : List ℕ) (pieces : List (List ℕ)) (piece : List
 lead-more label mark [] piece = refl
 lead-more label mark (first ∷ rest) piece = refl
 
--- pieces of a list were told, and the next one stands behind `before`
+-- pieces of a list were written, and the next one stands behind `before`
 module _ {D : Type 0} (written : D → Option (List ℕ)) (failures : D → ℕ) where
   pub record Listed (label mark : List ℕ) (d e : D) (p q : Gathered) (before : List ℕ) (pieces : List (List ℕ)) : Type 0 where
-    pub told : Tells written failures d p e q (listed label mark pieces)
+    pub told : Writes written failures d p e q (listed label mark pieces)
     pub before_is : before ≡ lead label mark pieces
 
   pub listed_nothing : (label mark : List ℕ) (d : D) (p : Gathered) → Listed label mark d d p p label []
-  listed_nothing label mark d p = record { told = tells_nothing written failures d p; before_is = refl }
+  listed_nothing label mark d p = record { told = writes_nothing written failures d p; before_is = refl }
 
   pub listed_more : (label mark : List ℕ) (d e f : D) (p q r : Gathered) (before : List ℕ) (pieces : List (List ℕ)) (piece : List ℕ) → Listed label mark d e p q before pieces
-      → Tells written failures e q f r (before ++ piece) → Listed label mark d f p r mark (pieces ++ piece ∷ [])
+      → Writes written failures e q f r (before ++ piece) → Listed label mark d f p r mark (pieces ++ piece ∷ [])
   listed_more label mark d e f p q r before pieces piece h here =
       record {
-        told = subst (λ t. Tells written failures d p f r t) (sym (listed-more label mark pieces piece ∙ ap (λ b. listed label mark pieces ++ (b ++ piece)) (sym h.before_is)))
-            (tells_then written failures d e f p q r (listed label mark pieces) (before ++ piece) h.told here);
+        told = subst (λ t. Writes written failures d p f r t) (sym (listed-more label mark pieces piece ∙ ap (λ b. listed label mark pieces ++ (b ++ piece)) (sym h.before_is)))
+            (writes_then written failures d e f p q r (listed label mark pieces) (before ++ piece) h.told here);
         before_is = sym (lead-more label mark pieces piece);
       }
 

@@ -1,8 +1,10 @@
 -- Bytes that come one at a time.
-use Rattle.std.proofs.Common.{◌≡◌, ℕ, List, [], ◌++◌, Option, None, Some, IfSome, ◌≤◌, inl, inr, length, refl, sym, ap, ◌∙◌, arith, append_assoc}
+use Rattle.std.proofs.Common.{◌≡◌, ℕ, ◌+◌, List, [], ◌++◌, Option, None, Some, IfSome, OnOk, Result, Ok, Err, ◌≤◌, inl, inr, length, refl, sym, ap, ◌∙◌, arith, append_assoc}
 use Rattle.std.proofs.lemmas.List.{length-append}
 use Rattle.std.specs.Io.KnownBytes.{Consumes, IsAtEnd}
-use Rattle.kx_tool.specs.Input.{Came, FailsToRead, IsOver, IsWithin}
+use Rattle.kx_tool.specs.EventLines.{Kept}
+use Rattle.kx_tool.specs.Input.{Came, FailsBehind, IsOver, IsWithin, Waiting, budget, coming}
+use Rattle.kx_tool.specs.LineParts.{MovesPart}
 
 Consumes-nothing : (a : Option (List ℕ)) → Consumes a a []
 Consumes-nothing None = tt
@@ -29,12 +31,22 @@ over_from None b m n bytes came over = tt
 over_from (Some xs) None m n bytes came over = absurd came.consumed
 over_from (Some xs) (Some ys) m n bytes came over = omega (arith, over, came.spent, ap length came.consumed, length-append bytes ys)
 
+-- bytes that waited are gone
+pub came_moved : (left : Option (List ℕ)) (w v : Waiting) (kept longer : Kept) (h : MovesPart w v kept longer) → Came (coming w left) (budget w) (coming v left) (budget v) h.part
+came_moved left w v kept longer h =
+    record { consumed = by left; spent = omega (arith, h.allowed, ap length h.moved, length-append h.part v.bytes) }
+  where
+    by : (left : Option (List ℕ)) → Consumes (coming w left) (coming v left) h.part
+    by None = tt
+    by (Some rest) = ap (λ bytes. bytes ++ rest) h.moved ∙ append_assoc h.part v.bytes rest
+
 -- a reader that fails later fails
-pub fails_from : (f g h : ℕ) (a b : Option (List ℕ)) (m n : ℕ) (bytes : List ℕ) → g ≡ f → Came a m b n bytes → FailsToRead g h b n → FailsToRead f h a m
-fails_from f g h a b m n bytes same came fails =
+pub fails_from : {R : Type 0} (left : R → Option (List ℕ)) (taken failures : R → ℕ) (f g h : R) (w v : Waiting) (bytes : List ℕ) → failures g ≡ failures f → taken g + v.allowance ≡ taken f + w.allowance
+    → Came (coming w (left f)) (budget w) (coming v (left g)) (budget v) bytes → FailsBehind left taken failures v g h → FailsBehind left taken failures w f h
+fails_from left taken failures f g h w v bytes same counted came fails =
     elim fails [
       | inl changed ↦ inl (λ still. changed (still ∙ sym same))
-      | inr over ↦ inr (over_from a b m n bytes came over)
+      | inr over ↦ inr (omega (arith, counted, over.0), over_from (coming w (left f)) (coming v (left g)) (budget w) (budget v) bytes came over.1)
     ]
 
 -- a reader that is at its end once bytes came has no more than these
@@ -48,3 +60,8 @@ pub within_from : (a b : Option (List ℕ)) (m n : ℕ) (bytes : List ℕ) → C
 within_from None b m n bytes came few = tt
 within_from (Some xs) None m n bytes came few = absurd came.consumed
 within_from (Some xs) (Some ys) m n bytes came few = omega (arith, few, came.spent, ap length came.consumed, length-append bytes ys)
+
+-- what holds whatever is answered holds of an Ok
+pub within_whatever : {A E P : Type 0} (r : Result A E) → P → OnOk r P
+within_whatever (Ok x) p = p
+within_whatever (Err e) p = tt

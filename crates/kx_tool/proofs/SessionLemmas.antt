@@ -11,28 +11,29 @@ use Rattle.kx_lex.specs.declared.fault.Fault.{Fault}
 use Rattle.kx_lex.specs.declared.fault.Fault.TheVariants.{Memory}
 use Rattle.kx_tables.specs.Content.{Content}
 use Rattle.kx_tool.specs.Compiled.{IsCompiled}
-use Rattle.kx_tool.specs.Input.{FailsToRead, IsOver, IsWithin, Waiting, budget, coming, nothing_read}
+use Rattle.kx_tool.specs.Input.{FailsBehind, FailsToRead, IsOver, IsWithin, Waiting, budget, coming, nothing_read}
 use Rattle.kx_tool.specs.Replay.{Answers, AnswersSession, Replays, known_lines}
 use Rattle.kx_tool.specs.Sources.{ReadsSource}
 use Rattle.kx_tool.specs.declared.fault.ReplayFault.{ReplayFault}
 use Rattle.kx_tool.specs.declared.fault.SessionFault.TheVariants.{Compile, Replay}
+use Rattle.kx_tool.specs.declared.input.TheConstants.{MOST_BYTES}
 
 over_all : (left : Option (List ℕ)) (most : ℕ) → IsOver (coming nothing_read left) most → IsOver left most
 over_all None most over = tt
 over_all (Some text) most over = over
 
 -- what is true of a reader with nothing taken yet is true of the reader
-pub fails_all : (f g : ℕ) (left : Option (List ℕ)) (input : Waiting) → input ≡ nothing_read → FailsToRead f g (coming input left) (budget input) → FailsToRead f g left 67108864
-fails_all f g left input is fails =
-    elim (subst (λ (w : Waiting). FailsToRead f g (coming w left) (budget w)) is fails) [
+pub fails_all : {R : Type 0} (left : R → Option (List ℕ)) (taken failures : R → ℕ) (f g : R) (input : Waiting) → input ≡ nothing_read → FailsBehind left taken failures input f g → FailsToRead left taken failures f g MOST_BYTES
+fails_all left taken failures f g input is fails =
+    elim (subst (λ (w : Waiting). FailsBehind left taken failures w f g) is fails) [
       | inl changed ↦ inl changed
-      | inr over ↦ inr (over_all left 67108864 over)
+      | inr over ↦ inr (over.0, over_all (left f) MOST_BYTES over.1)
     ]
 
-pub within_all : (left : Option (List ℕ)) (input : Waiting) → input ≡ nothing_read → IsWithin (coming input left) (budget input) → IsWithin left 67108864
+pub within_all : (left : Option (List ℕ)) (input : Waiting) → input ≡ nothing_read → IsWithin (coming input left) (budget input) → IsWithin left MOST_BYTES
 within_all left input is few = by left (subst (λ (w : Waiting). IsWithin (coming w left) (budget w)) is few)
   where
-    by : (left : Option (List ℕ)) → IsWithin (coming nothing_read left) 67108864 → IsWithin left 67108864
+    by : (left : Option (List ℕ)) → IsWithin (coming nothing_read left) MOST_BYTES → IsWithin left MOST_BYTES
     by None few = tt
     by (Some text) few = few
 

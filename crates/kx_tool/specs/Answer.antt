@@ -56,12 +56,18 @@ lit_name content row = printed_name (indicator_name content row)
 abbrev pub lit_text : Content → ℕ → List ℕ
 lit_text content lit = listed (codes " lit=") (codes ",") (chosen lit (map (lit_name content) content.indicators))
 
+-- the end of an answer: the modifiers, the group and the lit indicators
+abbrev pub tail_text : Content → Answer → List ℕ
+tail_text content answer =
+    all_mods_text answer.look.consumed answer.state ++ (group_text answer.state ++ (lit_text content answer.lit ++ 10 ∷ []))
+
+-- the same where no indicator is lit
+abbrev pub unlit_tail : ℕ → Status → List ℕ
+unlit_tail consumed state = all_mods_text consumed state ++ (group_text state ++ 10 ∷ [])
+
 -- the line that answers an event
 unfoldable pub answer_line : Content → List Entry → Event → Answer → List ℕ
-answer_line content names event answer =
-    event_text event
-    ++ (keysyms_text names answer.look
-    ++ (all_mods_text answer.look.consumed answer.state ++ (group_text answer.state ++ (lit_text content answer.lit ++ 10 ∷ []))))
+answer_line content names event answer = event_text event ++ (keysyms_text names answer.look ++ tail_text content answer)
 
 -- a line for each event with its reply
 abbrev pub lines_with : Content → List Entry → List Event → List Answer → List ℕ

@@ -30,12 +30,12 @@ event_of line =
     else None
 
 -- an empty line, or one of an event
-abbrev pub is_fine : List ℕ → Bool
-is_fine line = (length line == 0) || is_some (event_of line)
+abbrev pub is_well_formed : List ℕ → Bool
+is_well_formed line = (length line == 0) || is_some (event_of line)
 
 -- the lines before the first that is neither
-abbrev pub fine_lines : List (List ℕ) → List (List ℕ)
-fine_lines lines = take_while is_fine lines
+abbrev pub well_formed_lines : List (List ℕ) → List (List ℕ)
+well_formed_lines lines = take_while is_well_formed lines
 
 abbrev pub events_in : List (List ℕ) → List Event
 events_in lines = filter_map event_of lines
@@ -43,7 +43,7 @@ events_in lines = filter_map event_of lines
 abbrev pub Says : List ℕ → Said → Type 0
 Says line said.Nothing = line ≡ []
 Says line (said.Event event) = event_of line ≡ Some event
-Says line said.Other = is_fine line ≡ false
+Says line said.Other = is_well_formed line ≡ false
 
 -- what is kept of a line: its bytes, or that it has too many
 pub record Kept : Type 0 where

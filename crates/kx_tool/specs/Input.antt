@@ -1,6 +1,7 @@
 -- What is read: bytes that were taken from a reader and wait, and how many more may be taken.
 use Rattle.std.specs.Prelude.{◌≡◌, ◌≢◌, ◌+◌, ◌<◌, ◌≤◌, ◌⊎◌, ℕ, List, [], Option, length, IfSome}
 use Rattle.std.specs.Io.KnownBytes.{Consumes, prepend_known}
+use Rattle.kx_tool.specs.declared.input.TheConstants.{MOST_BYTES}
 
 pub record Waiting : Type 0 where
   pub bytes : List ℕ
@@ -27,10 +28,17 @@ IsOver bytes most = IfSome bytes (λ known. most < length known)
 abbrev pub IsWithin : Option (List ℕ) → ℕ → Type 0
 IsWithin bytes most = IfSome bytes (λ known. length known ≤ most)
 
--- a reader, of this count of failures before and after, failed or had more bytes than may come
-abbrev pub FailsToRead : ℕ → ℕ → Option (List ℕ) → ℕ → Type 0
-FailsToRead old new bytes most = (new ≢ old) ⊎ IsOver bytes most
-
--- 67,108,864 bytes may come
+-- as many bytes may come as a reader may give
 abbrev pub nothing_read : Waiting
-nothing_read = record { bytes = []; allowance = 67108864 }
+nothing_read = record { bytes = []; allowance = MOST_BYTES }
+
+-- of a reader, `left` reads the bytes that it has left, where they are known, `taken` how many it gave, and `failures` its count of
+-- failures
+module _ {R : Type 0} (left : R → Option (List ℕ)) (taken failures : R → ℕ) where
+  -- the reader failed, or gave more than so many bytes; then its known bytes are more, too
+  abbrev pub FailsToRead : R → R → ℕ → Type 0
+  FailsToRead old new most = (failures new ≢ failures old) ⊎ ((taken old + most < taken new) × IsOver (left old) most)
+
+  -- the same of a reader some of whose bytes wait already
+  abbrev pub FailsBehind : Waiting → R → R → Type 0
+  FailsBehind w old new = (failures new ≢ failures old) ⊎ ((taken old + w.allowance < taken new) × IsOver (coming w (left old)) (budget w))

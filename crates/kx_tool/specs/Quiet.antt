@@ -7,15 +7,16 @@ use Rattle.kx_source.specs.Source.{HasFault}
 use Rattle.kx_tool.specs.declared.fault.ReplayFault.TheVariants.{Write}
 use Rattle.kx_tool.specs.declared.fault.SessionFault.{SessionFault}
 use Rattle.kx_tool.specs.declared.fault.SessionFault.TheVariants.{Compile, Replay}
+use Rattle.kx_tool.specs.declared.input.TheConstants.{MOST_BYTES}
 
 -- where the source is refused nothing was written
 abbrev pub KeepsQuiet : {D : Type 0} → D → D → SessionFault → Type 0
 KeepsQuiet old new (Compile fault) = new ≡ old
 KeepsQuiet old new (Replay fault) = Unit {0}
 
--- a source that is refused is one of at most 67,108,864 bytes and has the fault, or memory was refused
+-- a source that is refused is one of no more bytes than a reader may give and has the fault, or memory was refused
 abbrev pub RefusesSource : Handed → List Entry → SessionFault → Type 0
-RefusesSource files names (Compile fault) = (fault ≡ Memory) ⊎ ((source : List ℕ) × (length source ≤ 67108864) × HasFault source files names fault)
+RefusesSource files names (Compile fault) = (fault ≡ Memory) ⊎ ((source : List ℕ) × (length source ≤ MOST_BYTES) × HasFault source files names fault)
 RefusesSource files names (Replay fault) = Unit {0}
 
 -- the writer's count of failures changed where its failure is the fault, and else is as before

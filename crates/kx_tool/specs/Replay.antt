@@ -14,7 +14,7 @@ use Rattle.kx_source.specs.Source.{HasFault as HasSourceFault}
 use Rattle.kx_lex.specs.declared.fault.Fault.TheVariants.{Memory}
 use Rattle.kx_tool.specs.Answer.{answers_from}
 use Rattle.kx_tool.specs.Compiled.{IsCompiled}
-use Rattle.kx_tool.specs.EventLines.{events_in, fine_lines}
+use Rattle.kx_tool.specs.EventLines.{events_in, well_formed_lines}
 use Rattle.kx_tool.specs.Sources.{lines_in, source_in}
 use Rattle.kx_tool.specs.declared.fault.ReplayFault.{ReplayFault}
 use Rattle.kx_tool.specs.declared.fault.ReplayFault.TheVariants as faults
@@ -27,7 +27,7 @@ known_lines bytes = option_map lines_of bytes
 
 -- the answers to the lines before the first that is neither empty nor an event
 abbrev pub answers_to : Content → List Entry → List (List ℕ) → List ℕ
-answers_to content names lines = answers_from content names opening (events_in (fine_lines lines))
+answers_to content names lines = answers_from content names opening (events_in (well_formed_lines lines))
 
 -- the bytes are no image, for this fault, and nothing is written
 pub record RefusesImage {A D : Type 0} (bytes : List ℕ) (d e : D) (r : Result A ReplayFault) : Type 0 where
@@ -42,12 +42,12 @@ module _ {D : Type 0} (written : D → Option (List ℕ)) (failures : D → ℕ)
   -- empty nor an event, which is named by its number from 1; or a beginning of the answers, where a device failed.
   abbrev pub Replays : {A : Type 0} → Content → List Entry → Option (List (List ℕ)) → D → D → Result A ReplayFault → Type 0
   Replays content names lines d e (Ok x) =
-      IfSome lines (λ all. (fine_lines all ≡ all) × Appends (written d) (written e) (answers_to content names all))
+      IfSome lines (λ all. (well_formed_lines all ≡ all) × Appends (written d) (written e) (answers_to content names all))
       × (failures e ≡ failures d)
   Replays content names lines d e (Err faults.Memory) = e ≡ d
   Replays content names lines d e (Err (faults.Image fault)) = ⊥
   Replays content names lines d e (Err (faults.Line number)) =
-      IfSome lines (λ all. (number ≡ length (fine_lines all) + 1) × (number ≤ length all) × Appends (written d) (written e) (answers_to content names all))
+      IfSome lines (λ all. (number ≡ length (well_formed_lines all) + 1) × (number ≤ length all) × Appends (written d) (written e) (answers_to content names all))
       × (failures e ≡ failures d)
   Replays content names lines d e (Err faults.Read) =
       IfSome lines (λ all. Begins (written d) (written e) (answers_to content names all)) × (failures e ≡ failures d)

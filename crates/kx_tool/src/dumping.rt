@@ -1,10 +1,10 @@
 //! Bytes as hexadecimal text.
 ghost use Rattle.std.specs.Prelude.{◌≡◌, ◌+◌, ◌*◌, ◌/◌, ◌<◌, ◌≤◌, length};
 ghost use Rattle.ks_core.specs.Device.{Puts};
-ghost use Rattle.ks_core.specs.Press.{Tells};
+ghost use Rattle.ks_core.specs.BufferedOut.{Writes};
 ghost use Rattle.kx_tool.specs.Dump.{dumped, row_at, row_text};
 
-use ks_core::{Out, Press};
+use ks_core::{BufferedOut, Out};
 use std::io;
 
 /// How many bytes a line shows.
@@ -15,16 +15,16 @@ const ROW: usize = 32;
 pub fn dump<O: Out>(bytes: &[u8], out: &mut O) -> io::Result<()>
     ensures { Puts O.written O.failures out.old out.new result (dumped bytes.now) }
 {
-    let mut press = Press::new();
-    tell_rows(&mut press, out, bytes);
-    press.finish(out)
+    let mut buffered = BufferedOut::new();
+    write_rows(&mut buffered, out, bytes);
+    buffered.finish(out)
 }
 
-fn tell_rows<O: Out>(press: &mut Press, out: &mut O, bytes: &[u8])
-    ensures { Tells O.written O.failures out.old press.old out.new press.new (dumped bytes.now) }
+fn write_rows<O: Out>(buffered: &mut BufferedOut, out: &mut O, bytes: &[u8])
+    ensures { Writes O.written O.failures out.old buffered.old out.new buffered.new (dumped bytes.now) }
 {
     for index in 0..bytes.len().div_ceil(ROW) {
-        tell_row(press, out, row(bytes, index));
+        write_row(buffered, out, row(bytes, index));
     }
 }
 
@@ -38,15 +38,15 @@ fn row(bytes: &[u8], index: usize) -> &[u8]
     &rest[..rest.len().min(ROW)]
 }
 
-fn tell_row<O: Out>(press: &mut Press, out: &mut O, row: &[u8])
+fn write_row<O: Out>(buffered: &mut BufferedOut, out: &mut O, row: &[u8])
     requires { length row.now ≤ 32 }
-    ensures { Tells O.written O.failures out.old press.old out.new press.new (row_text row.now) }
+    ensures { Writes O.written O.failures out.old buffered.old out.new buffered.new (row_text row.now) }
 {
     let mut text = [0; 2 * ROW];
     let digits = &mut text[..2 * row.len()];
     match hex::encode_to_slice(row, digits) {
-        Ok(()) => press.tell(out, digits),
+        Ok(()) => buffered.write(out, digits),
         Err(_) => unreachable!(),
     }
-    press.tell(out, b"\n");
+    buffered.write(out, b"\n");
 }

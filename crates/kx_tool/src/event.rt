@@ -60,6 +60,15 @@ impl Line {
         }
     }
 
+    /// Reads the next bytes of the line.
+    pub fn push_all(&mut self, part: &[u8])
+        ensures { (line : List ℕ) → KeepsLine self.old line → KeepsLine self.new (line ++ part.now) }
+    {
+        if self.bytes.try_extend_from_slice(part).is_err() {
+            self.too_long = true;
+        }
+    }
+
     /// Forgets what was read.
     pub fn clear(&mut self)
         ensures { KeepsLine self.new [] }

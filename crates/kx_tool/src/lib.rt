@@ -12,10 +12,13 @@ mod locating;
 mod replaying;
 mod sessions;
 mod source;
+mod state_text;
+mod tails;
 
 pub use compiler::compile;
 pub use dumping::dump;
 pub use fault::{ReplayFault, SessionFault};
+pub use input::MOST_BYTES;
 pub use kx_include::Files;
 pub use locating::{Position, locate};
 pub use replaying::replay;

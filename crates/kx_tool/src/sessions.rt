@@ -1,9 +1,10 @@
 //! A source and lines of events, read from one reader.
-ghost use Rattle.std.specs.Prelude.{◌≡◌, IfErr, IfSome, MatchResult, OnOk};
+ghost use Rattle.std.specs.Prelude.{◌≡◌, ◌+◌, ◌≤◌, IfErr, IfSome, MatchResult, OnOk};
 ghost use Rattle.kx_tool.specs.Input.{FailsToRead, IsWithin};
 ghost use Rattle.kx_tool.specs.Quiet.{BlamesWriter, KeepsQuiet, RefusesSource};
 ghost use Rattle.kx_tool.specs.Replay.{AnswersSession};
 ghost use Rattle.kx_tool.specs.declared.fault.ReplayFault.TheVariants.{Read};
+ghost use Rattle.kx_tool.specs.declared.input.TheConstants.{MOST_BYTES};
 
 use crate::compiler::compile;
 use crate::fault::{ReplayFault, SessionFault};
@@ -21,7 +22,7 @@ use std::alloc::Global;
 /// # Errors
 /// `Compile` where the source is refused; then nothing was written. `Replay` with `Line` at the first line that is
 /// neither empty nor an event, after the answers to the lines before it; with `Read` and `Write` where a device fails,
-/// after a beginning of the answers; with `Memory`.
+/// after a beginning of the answers, and with `Read` too where the reader gives more than `MOST_BYTES`; with `Memory`.
 pub fn session<F: Feed, O: Out>(
     alloc: Global,
     feed: &mut F,
@@ -32,9 +33,10 @@ pub fn session<F: Feed, O: Out>(
     ensures quiet { IfErr result (KeepsQuiet out.old out.new) }
     ensures refused { IfErr result (RefusesSource files.now names.now) }
     ensures written { MatchResult result (λ _. O.failures out.new ≡ O.failures out.old) (BlamesWriter (O.failures out.old) (O.failures out.new)) }
-    ensures whole { OnOk result (IsWithin (F.left feed.old) 67108864) }
+    ensures whole { OnOk result (IsWithin (F.left feed.old) MOST_BYTES) }
+    ensures few { OnOk result (F.taken feed.new ≤ F.taken feed.old + MOST_BYTES) }
     ensures answers { IfSome (F.left feed.old) (λ text. AnswersSession O.written O.failures text files.now names.now out.old out.new result) }
-    ensures read { IfErr result (λ fault. fault ≡ SessionFault.Replay Read → FailsToRead (F.failures feed.old) (F.failures feed.new) (F.left feed.old) 67108864) }
+    ensures read { IfErr result (λ fault. fault ≡ SessionFault.Replay Read → FailsToRead F.left F.taken F.failures feed.old feed.new MOST_BYTES) }
 {
     let mut input = Input::new();
     let source = read_source(alloc, &mut input, feed)?;

@@ -1,6 +1,6 @@
 //! The source at the front of what a session reads.
-ghost use Rattle.std.specs.Prelude.{◌≡◌, ◌≤◌, ◌⊎◌, ◌++◌, ◌∷◌, [], IfErr, IfOk, OnOk, drop, length, take, vec_len};
-ghost use Rattle.kx_tool.specs.Input.{Came, FailsToRead, budget, coming};
+ghost use Rattle.std.specs.Prelude.{◌≡◌, ◌+◌, ◌≤◌, ◌⊎◌, ◌++◌, ◌∷◌, [], IfErr, IfOk, OnOk, drop, length, take, vec_len};
+ghost use Rattle.kx_tool.specs.Input.{Came, FailsBehind, budget, coming};
 ghost use Rattle.kx_tool.specs.Sources.{ReadsSource, is_mark};
 ghost use Rattle.kx_tool.specs.declared.fault.ReplayFault.TheVariants.{Read};
 
@@ -56,9 +56,10 @@ pub fn read_source<F: Feed>(
 ) -> Result<Source, SessionFault>
     ensures source { IfOk result (λ source. ReadsSource (coming input.old (F.left feed.old)) (budget input.old) (coming input.new (F.left feed.new)) (budget input.new) source.text.items source.has_lines) }
     ensures counted { OnOk result (F.failures feed.new ≡ F.failures feed.old) }
+    ensures taken { OnOk result (F.taken feed.new + input.new.allowance ≡ F.taken feed.old + input.old.allowance) }
     ensures few { IfOk result (λ source. length source.text.items ≤ budget input.old) }
     ensures fault { IfErr result (λ fault. (fault ≡ SessionFault.Compile Fault.Memory)
-        ⊎ ((fault ≡ SessionFault.Replay Read) × FailsToRead (F.failures feed.old) (F.failures feed.new) (coming input.old (F.left feed.old)) (budget input.old))) }
+        ⊎ ((fault ≡ SessionFault.Replay Read) × FailsBehind F.left F.taken F.failures input.old feed.old feed.new)) }
 {
     let mut text = Vec::new(alloc);
     let mut line_start = 0;

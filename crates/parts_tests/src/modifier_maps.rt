@@ -24,7 +24,7 @@ const NAME: Frame = Frame {
 
 const MAP: &[u8] = b"xkb_symbols { modifier_map Mod1 { <A>, a }; };";
 
-fn codes_of(alloc: Global, bodies: &Bodies) -> Result<Box<Codes>, Fault> {
+fn codes_of<'l>(alloc: Global, bodies: &Bodies<'l>) -> Result<Box<Codes<'l>>, Fault> {
     Ok(Box::new(alloc, codes(alloc, &bodies.keycodes)?)?)
 }
 

@@ -1,31 +1,14 @@
 use crate::sources::{bodies_of, enclosed, files_of, library_of};
 use kx_codes::{Codes, codes};
-use kx_include::Library;
+use kx_include::{Files, Library};
 use kx_lex::Fault;
 use std::alloc::Global;
 use std::process::Abort;
 use std::test::Fail;
 
-fn codes_in(alloc: Global, library: &Library) -> Result<Box<Codes>, Fault> {
+fn codes_in<'l>(alloc: Global, library: &'l Library) -> Result<Box<Codes<'l>>, Fault> {
     let bodies = bodies_of(alloc, library)?;
     Ok(Box::new(alloc, codes(alloc, &bodies.keycodes)?)?)
-}
-
-/// The codes of these items, which begin at byte 28, over these files.
-fn codes_over(
-    rt: &impl AllocGlobal,
-    items: &[u8],
-    given: &[(&[u8], &[u8])],
-) -> Result<Box<Codes>, Fault> {
-    let text = enclosed(
-        rt.alloc(),
-        b"xkb_keymap { xkb_keycodes { ",
-        items,
-        b" }; };",
-    )?;
-    let files = files_of(rt.alloc(), given)?;
-    let library = library_of(rt.alloc(), text.as_slice(), &files)?;
-    codes_in(rt.alloc(), &library)
 }
 
 /// The codes of A, B and C, and the names of 38 and 39.
@@ -40,18 +23,42 @@ fn shown(rt: &(impl Abort + AllocGlobal), codes: &Codes) -> Result<String, Fail>
     Ok(format!(in rt.alloc(); "{a} {b} {c} {first} {second}")?)
 }
 
+/// A source of these items, which begin at byte 28, over these files.
+fn library_over<'f>(
+    rt: &impl AllocGlobal,
+    items: &[u8],
+    files: &'f Files,
+) -> Result<Box<Library<'f>>, Fault> {
+    let text = enclosed(
+        rt.alloc(),
+        b"xkb_keymap { xkb_keycodes { ",
+        items,
+        b" }; };",
+    )?;
+    library_of(rt.alloc(), text.as_slice(), files)
+}
+
 /// Fails where the codes of a row's items over these files are shown otherwise than is wanted.
 fn check(
     rt: &(impl Abort + AllocGlobal),
     rows: &[(&[u8], &str)],
     given: &[(&[u8], &[u8])],
 ) -> Result<(), Fail> {
+    let files = files_of(rt.alloc(), given)?;
     for (items, wanted) in rows {
-        let codes = codes_over(rt, items, given)?;
+        let library = library_over(rt, items, &files)?;
+        let codes = codes_in(rt.alloc(), &library)?;
         let text = shown(rt, &codes)?;
         assert_eq!(rt; text.as_str(), *wanted, "{:?}", items);
     }
     Ok(())
+}
+
+/// One more than the greatest code with a name of some items over these files.
+fn end_over(rt: &impl AllocGlobal, items: &[u8], given: &[(&[u8], &[u8])]) -> Result<u16, Fault> {
+    let files = files_of(rt.alloc(), given)?;
+    let library = library_over(rt, items, &files)?;
+    Ok(codes_in(rt.alloc(), &library)?.end())
 }
 
 /// The line of the fault of some items over these files, or `ok`.
@@ -60,7 +67,7 @@ fn verdict_over(
     items: &[u8],
     given: &[(&[u8], &[u8])],
 ) -> Result<String, Fail> {
-    match codes_over(rt, items, given) {
+    match end_over(rt, items, given) {
         Ok(_) => Ok(String::from_str(rt.alloc(), "ok")?),
         Err(fault) => Ok(format!(in rt.alloc(); "{fault}")?),
     }
@@ -163,10 +170,6 @@ fn long_names_are_refused(rt: HostRuntime) -> Result<(), Fail> {
     Ok(())
 }
 
-fn end_of(rt: &(impl Abort + AllocGlobal), items: &[u8]) -> Result<u16, Fault> {
-    Ok(codes_over(rt, items, [].as_slice())?.end())
-}
-
 #[test]
 fn codes_end_behind_the_greatest_with_a_name(rt: HostRuntime) -> Result<(), Fail> {
     let rows: [(&[u8], u16); 4] = [
@@ -176,7 +179,7 @@ fn codes_end_behind_the_greatest_with_a_name(rt: HostRuntime) -> Result<(), Fail
         (b"<A>=4095;", 4096),
     ];
     for (items, wanted) in rows {
-        assert_eq!(rt; end_of(&rt, items)?, wanted, "{:?}", items);
+        assert_eq!(rt; end_over(&rt, items, [].as_slice())?, wanted, "{:?}", items);
     }
     Ok(())
 }

@@ -1,8 +1,8 @@
 use kx_builder::{BuildFault, Builder, Indicator};
 use kx_mods::Mods;
 use kx_tables::{
-    Action, CellRow, EntryRow, GroupNameRow, GroupRow, IndicatorRow, KeyRow, Owned, Parts, Range,
-    Rows, States, TypeRow,
+    Action, CellRow, EntryRow, GroupNameRow, GroupRow, IndicatorRow, KeyRow, Owned, Range,
+    RawTables, Rows, States, TypeRow,
 };
 use std::alloc::Global;
 use std::test::Fail;
@@ -32,7 +32,7 @@ fn built(alloc: Global) -> Result<Builder, Fail> {
 }
 
 /// The tables of what was built. In a box, tests that hold it are proved much sooner.
-fn built_parts(alloc: Global) -> Result<Box<Parts>, Fail> {
+fn built_parts(alloc: Global) -> Result<Box<RawTables>, Fail> {
     Ok(Box::new(alloc, built(alloc)?.into_parts())?)
 }
 
@@ -166,7 +166,7 @@ fn refuses_what_does_not_fit(rt: HostRuntime) -> Result<(), Fail> {
 }
 
 /// The same with an indicator and two groups' names.
-fn with_lamps(alloc: Global) -> Result<Box<Parts>, Fail> {
+fn with_lamps(alloc: Global) -> Result<Box<RawTables>, Fail> {
     let caps = Indicator {
         name: b"Caps",
         mods: Mods::LOCK,

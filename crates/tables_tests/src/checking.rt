@@ -21,7 +21,7 @@ fn wraps_groups(rt: HostRuntime) {
 }
 
 /// The tables of one key `<A>` with this code, whose one level has the keysym a.
-fn one_key(alloc: Global, code: u16) -> Result<Parts, AllocError> {
+fn one_key(alloc: Global, code: u16) -> Result<RawTables, AllocError> {
     let key_type = TypeRow {
         mods: Mods::NONE,
         levels: 1,
@@ -48,7 +48,7 @@ fn one_key(alloc: Global, code: u16) -> Result<Parts, AllocError> {
         action: Action::None,
         first_keysym: 0,
     };
-    Ok(Parts {
+    Ok(RawTables {
         types: vec![in alloc; key_type]?,
         entries: Vec::new(alloc),
         keys: vec![in alloc; key]?,
@@ -92,7 +92,7 @@ fn refuses_unsound_tables(rt: HostRuntime) -> Result<(), Fail> {
 }
 
 /// The tables of one key, with so many indicators.
-fn with_indicators(alloc: Global, count: u32) -> Result<Parts, AllocError> {
+fn with_indicators(alloc: Global, count: u32) -> Result<RawTables, AllocError> {
     let mut parts = Box::new(alloc, one_key(alloc, 38)?)?;
     for _ in 0..count {
         parts.indicators.push(IndicatorRow {

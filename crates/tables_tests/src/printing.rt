@@ -4,7 +4,7 @@ use kx_builder::{BuildFault, Builder, Indicator};
 use kx_image::{View, write};
 use kx_mods::Mods;
 use kx_print::print;
-use kx_tables::{Action, EntryRow, GroupChange, Owned, Parts, Range, States, Tables};
+use kx_tables::{Action, EntryRow, GroupChange, Owned, Range, RawTables, States, Tables};
 use std::alloc::Global;
 use std::test::Fail;
 
@@ -155,7 +155,7 @@ fn push_redirect(builder: &mut Builder) -> Result<(), BuildFault> {
     builder.push_key(4095, b"NONE", Mods::LOCK, Range::Wrap)
 }
 
-fn full(alloc: Global) -> Result<Parts, BuildFault> {
+fn full(alloc: Global) -> Result<RawTables, BuildFault> {
     let mut builder = Builder::new(alloc);
     push_types(&mut builder)?;
     push_clamp(&mut builder)?;
@@ -172,7 +172,7 @@ fn full(alloc: Global) -> Result<Parts, BuildFault> {
 }
 
 /// The tables of a key whose nine levels have these actions.
-fn acting(alloc: Global, actions: [Action; 9]) -> Result<Parts, BuildFault> {
+fn acting(alloc: Global, actions: [Action; 9]) -> Result<RawTables, BuildFault> {
     let mut builder = Builder::new(alloc);
     builder.push_type(b"T", Mods::NONE, 9, [].as_slice())?;
     builder.push_key(9, b"K", Mods::NONE, Range::Wrap)?;
@@ -183,7 +183,7 @@ fn acting(alloc: Global, actions: [Action; 9]) -> Result<Parts, BuildFault> {
     Ok(builder.into_parts())
 }
 
-fn owned(parts: Parts) -> Result<Owned, Fail> {
+fn owned(parts: RawTables) -> Result<Owned, Fail> {
     Ok(Owned::new(parts).ok().ok_or("unsound")?)
 }
 

@@ -1,4 +1,4 @@
-use ks_core::{Feed, Lent, MemFeed, MemOut, Out, Press, put_all};
+use ks_core::{BufferedOut, Feed, Lent, MemFeed, MemOut, Out, put_all};
 use std::io;
 use std::io::{ErrorKind, Write};
 use std::process::Abort;
@@ -96,15 +96,15 @@ fn lends_readers_and_writers(rt: HostRuntime) -> Result<(), Fail> {
 fn presses_pieces(rt: HostRuntime) -> Result<(), Fail> {
     let mut room = [0u8; 10000];
     let mut out = MemOut::new(&mut room).with_most(3000);
-    let mut press = Press::new();
+    let mut press = BufferedOut::new();
     let long = [b'x'; 5000];
-    press.tell(&mut out, b"ab");
+    press.write(&mut out, b"ab");
     assert_eq!(rt; out.written().len(), 0);
     press.flush(&mut out);
     assert_eq!(rt; out.written(), b"ab".as_slice());
-    press.tell(&mut out, b"c");
-    press.tell(&mut out, &long);
-    press.tell(&mut out, b"d");
+    press.write(&mut out, b"c");
+    press.write(&mut out, &long);
+    press.write(&mut out, b"d");
     press.finish(&mut out)?;
     let written = out.written();
     assert_eq!(rt; written.len(), 5004);
@@ -117,10 +117,10 @@ fn presses_pieces(rt: HostRuntime) -> Result<(), Fail> {
 fn remembers_a_fault(rt: HostRuntime) {
     let mut room = [0u8; 10];
     let mut out = MemOut::new(&mut room).failing_after(3);
-    let mut press = Press::new();
-    press.tell(&mut out, b"abcd");
+    let mut press = BufferedOut::new();
+    press.write(&mut out, b"abcd");
     press.flush(&mut out);
-    press.tell(&mut out, b"efgh");
+    press.write(&mut out, b"efgh");
     assert!(rt; press.finish(&mut out).is_err());
     assert_eq!(rt; out.written(), b"abc".as_slice());
 }

@@ -8,7 +8,7 @@ use kx_lex::tokens::{
     read_key_name, read_keyword, read_mark, read_number, read_text, read_word, span_between,
     syntax,
 };
-use kx_lex::{Apart, Bytes, Fault, KeyName, Keyword, Name, Row, Span, Token, TokenKind, lex};
+use kx_lex::{Boxed, Bytes, Fault, KeyName, Keyword, Name, Row, Span, Token, TokenKind, lex};
 use std::alloc::Global;
 use std::process::Abort;
 use std::test::Fail;
@@ -153,7 +153,7 @@ fn bytes_are_kept_whole(rt: HostRuntime) -> Result<(), Fail> {
 
 #[test]
 fn a_value_stands_apart(rt: HostRuntime) -> Result<(), Fail> {
-    let apart = Apart::of(rt.alloc(), 7u8)?;
+    let apart = Boxed::of(rt.alloc(), 7u8)?;
     assert_eq!(rt; *apart.get(), 7);
     Ok(())
 }

@@ -3,14 +3,14 @@ use crate::sources::builtin;
 use ks_core::{Lent, MemFeed, MemOut};
 use kx_image::write;
 use kx_mods::Mods;
-use kx_tables::{IndicatorRow, Owned, Parts, States};
+use kx_tables::{IndicatorRow, Owned, RawTables, States};
 use kx_tool::replay;
 use std::alloc::Global;
 use std::process::Abort;
 use std::test::Fail;
 
-/// The image of a keymap with no key, whose indicators have these names and are always lit.
-fn image_of(alloc: Global, names: &[&[u8]]) -> Result<Vec<u8>, Fail> {
+/// Indicators of these names that are always lit, and the bytes of the names.
+fn indicators_of(alloc: Global, names: &[&[u8]]) -> Result<(Vec<IndicatorRow>, Vec<u8>), Fail> {
     let mut indicators = Vec::new(alloc);
     let mut all = Vec::new(alloc);
     for name in names {
@@ -24,7 +24,16 @@ fn image_of(alloc: Global, names: &[&[u8]]) -> Result<Vec<u8>, Fail> {
         })?;
         all.extend_from_slice(name)?;
     }
-    let tables = Owned::new(Parts {
+    Ok((indicators, all))
+}
+
+/// Tables of no key, with these indicators.
+fn tables_of(
+    alloc: Global,
+    indicators: Vec<IndicatorRow>,
+    names: Vec<u8>,
+) -> Result<Box<Owned>, Fail> {
+    let tables = Owned::new(RawTables {
         types: Vec::new(alloc),
         entries: Vec::new(alloc),
         keys: Vec::new(alloc),
@@ -33,9 +42,15 @@ fn image_of(alloc: Global, names: &[&[u8]]) -> Result<Vec<u8>, Fail> {
         keysyms: Vec::new(alloc),
         indicators,
         group_names: Vec::new(alloc),
-        names: all,
+        names,
     });
-    let tables = Box::new(alloc, tables.ok().ok_or("unsound tables")?)?;
+    Ok(Box::new(alloc, tables.ok().ok_or("unsound tables")?)?)
+}
+
+/// The image of a keymap with no key, whose indicators have these names and are always lit.
+fn image_of(alloc: Global, names: &[&[u8]]) -> Result<Vec<u8>, Fail> {
+    let (indicators, all) = indicators_of(alloc, names)?;
+    let tables = tables_of(alloc, indicators, all)?;
     let mut out = Lent::new(Vec::new(alloc));
     write(tables.as_ref(), &mut out)?;
     Ok(out.device)

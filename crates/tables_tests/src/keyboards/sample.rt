@@ -2,8 +2,8 @@
 
 use kx_mods::Mods;
 use kx_tables::{
-    Action, CellRow, EntryRow, GroupChange, GroupRow, IndicatorRow, KeyRow, Owned, Parts, Range,
-    States, TypeRow,
+    Action, CellRow, EntryRow, GroupChange, GroupRow, IndicatorRow, KeyRow, Owned, Range,
+    RawTables, States, TypeRow,
 };
 use std::alloc::Global;
 use std::test::Fail;
@@ -38,14 +38,14 @@ pub const NEXT_GROUP: u32 = 0xfe08;
 #[derive(Drop)]
 pub struct Built {
     alloc: Global,
-    parts: Parts,
+    parts: RawTables,
 }
 
 impl Built {
     pub fn new(alloc: Global) -> Built {
         Built {
             alloc,
-            parts: Parts {
+            parts: RawTables {
                 types: Vec::new(alloc),
                 entries: Vec::new(alloc),
                 keys: Vec::new(alloc),

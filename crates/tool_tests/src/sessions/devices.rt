@@ -22,16 +22,24 @@ const LINES: &[u8] = b"down 38\n\nup 38\ndown 9";
 const ANSWERS: &[u8] =
     b"38 down a consumed=none base=none latched=none locked=none group=1\n38 up a consumed=none base=none latched=none locked=none group=1\n9 down ? consumed=none base=none latched=none locked=none group=1\n";
 
-/// A reader that gives line feeds and never ends.
+/// A reader that gives line feeds, and ends only where they can't be counted.
 #[derive(Drop)]
-struct Endless;
+struct Endless {
+    taken: u64,
+}
 
 impl Feed for Endless {
     ghost left = { λ s. None };
 
+    ghost taken = { λ s. s.taken };
+
     ghost failures = { λ s. 0 };
 
     fn take(&mut self, buffer: &mut [u8]) -> io::Result<usize> {
+        let Some(taken) = self.taken.checked_add(buffer.len() as u64) else {
+            return Ok(0);
+        };
+        self.taken = taken;
         buffer.fill(b'\n');
         Ok(buffer.len())
     }
@@ -122,7 +130,13 @@ fn a_reader_without_end_is_refused(rt: HostRuntime) -> Result<(), Fail> {
     let names = builtin(rt.alloc())?;
     let mut room = [0u8; 16];
     let mut out = MemOut::new(&mut room);
-    let ended = replay(rt.alloc(), &mut Endless, &IMAGE, &names, &mut out);
+    let ended = replay(
+        rt.alloc(),
+        &mut Endless { taken: 0 },
+        &IMAGE,
+        &names,
+        &mut out,
+    );
     assert_eq!(rt; ended, Err(ReplayFault::Read));
     assert!(rt; out.written().is_empty());
     Ok(())

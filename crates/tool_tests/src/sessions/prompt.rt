@@ -34,12 +34,15 @@ struct Looking<'a> {
     /// How many lines have to be put before each call.
     wanted: &'a [usize],
     calls: usize,
+    taken: u64,
     lines: &'a Cell<usize>,
     is_late: bool,
 }
 
 impl Feed for Looking<'_> {
     ghost left = { λ s. None };
+
+    ghost taken = { λ s. s.taken };
 
     ghost failures = { λ s. 0 };
 
@@ -55,6 +58,10 @@ impl Feed for Looking<'_> {
             return Ok(0);
         };
         let count = piece.len().min(buffer.len());
+        let Some(taken) = self.taken.checked_add(count as u64) else {
+            return Ok(0);
+        };
+        self.taken = taken;
         buffer[..count].copy_from_slice(&piece[..count]);
         Ok(count)
     }
@@ -74,6 +81,7 @@ fn answers_are_put_before_more_is_read(rt: HostRuntime) -> Result<(), Fail> {
         ],
         wanted: &[0, 0, 0, 1, 3, 3, 4],
         calls: 0,
+        taken: 0,
         lines: &lines,
         is_late: false,
     };

@@ -33,9 +33,9 @@ loop-left-preserved c =
     let parted : shown c.loop-left.left ≡ c.first_line.result.0.now ∷ shown c.first_line.result.1 = ap shown c.in-Some.is ∙ c.first_line.ensures.lines in
     let read = subst (ReadSoFar (lines_of c.args.lines.now) c.loop-left.number c.loop-left.given) parted c.loop-left.invariant.read in
     let given = c.in_ok-read.ensures.given in
-    let fine = c.in_ok-read.ensures.fine in
+    let valid = c.in_ok-read.ensures.valid in
     record {
-      read = rw given (ReadSoFar-next _ _ _ _ _ read fine);
+      read = rw given (ReadSoFar-next _ _ _ _ _ read valid);
       few = omega (arith, size-shorter c.first_line.result.1 (length c.in-Some.text.now) c.first_line.ensures.shorter, ap size c.in-Some.is, c.loop-left.invariant.few);
-      sound = rw given (sound_after c.loop-left.given (c.loop-left.number + 1) c.first_line.result.0.now c.loop-left.invariant.sound fine);
+      sound = rw given (sound_after c.loop-left.given (c.loop-left.number + 1) c.first_line.result.0.now c.loop-left.invariant.sound valid);
     }

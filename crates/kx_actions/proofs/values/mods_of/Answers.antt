@@ -1,5 +1,5 @@
 use Rattle.std.proofs.Common.{sym, ◌∙◌}
-use Rattle.kx_actions.proofs.Fine.{mask_given, none_given}
+use Rattle.kx_actions.proofs.Faultless.{mask_given, none_given}
 use Rattle.kx_actions.proofs.values.mods_of.Goals as goal
 
 pub returns-in-Ok-clause-value : goal.returns-in-Ok-clause-value

@@ -1,7 +1,7 @@
 use Rattle.std.proofs.Common.{Bor, List, ℕ}
 use Rattle.kx_builder.proofs.Lighting.{cause_passed, groups_length, name_fits, names_step, no_group_names}
 use Rattle.kx_builder.proofs.lamps.push_group_names.Goals as goal
-use Rattle.kx_tables.specs.Parts.{content_of}
+use Rattle.kx_tables.specs.RawTables.{content_of}
 
 pub names-init : goal.names-init
 names-init c = no_group_names (content_of c.args.parts.now) c.requires

@@ -1,6 +1,6 @@
 use Rattle.std.proofs.Common.{◌≡◌, map, take}
 use Rattle.kx_builder.specs.Lamps.{with_group_names}
-use Rattle.kx_tables.specs.Parts.{content_of}
+use Rattle.kx_tables.specs.RawTables.{content_of}
 use Rattle.kx_builder.proofs.lamps.push_group_names.Given as goal
 
 abbrev pub invariant-names : goal.invariant-names

@@ -1,7 +1,7 @@
 use Rattle.kx_builder.proofs.Lighting.{cause_passed, indicators_length, indicators_step, name_fits, no_indicators}
 use Rattle.kx_builder.proofs.lamps.push_indicators.Goals as goal
 use Rattle.kx_builder.specs.declared.lamps.Indicator.{Indicator}
-use Rattle.kx_tables.specs.Parts.{content_of}
+use Rattle.kx_tables.specs.RawTables.{content_of}
 
 pub indicators-init : goal.indicators-init
 indicators-init c = no_indicators (content_of c.args.parts.now) c.requires

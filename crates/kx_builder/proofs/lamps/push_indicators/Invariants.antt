@@ -1,6 +1,6 @@
 use Rattle.std.proofs.Common.{◌≡◌, map, take}
 use Rattle.kx_builder.specs.Lamps.{indicator_of, with_indicators}
-use Rattle.kx_tables.specs.Parts.{content_of}
+use Rattle.kx_tables.specs.RawTables.{content_of}
 use Rattle.kx_builder.proofs.lamps.push_indicators.Given as goal
 
 abbrev pub invariant-indicators : goal.invariant-indicators

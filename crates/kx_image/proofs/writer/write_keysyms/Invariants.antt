@@ -1,8 +1,8 @@
 use Rattle.std.proofs.Common.{take}
 use Rattle.std.specs.List.{flat_map}
-use Rattle.ks_core.specs.Press.{Tells}
+use Rattle.ks_core.specs.BufferedOut.{Writes}
 use Rattle.kx_image.specs.Records.{keysym_bytes}
 use Rattle.kx_image.proofs.writer.write_keysyms.Given as goal
 
 abbrev pub invariant-loop-index : goal.invariant-loop-index
-invariant-loop-index g l = Tells g.O.Out.written g.O.Out.failures l.fn.out l.fn.press l.out l.press (flat_map keysym_bytes (take l.index (g.T.Rows.content l.tables).keysyms))
+invariant-loop-index g l = Writes g.O.Out.written g.O.Out.failures l.fn.out l.fn.buffered l.out l.buffered (flat_map keysym_bytes (take l.index (g.T.Rows.content l.tables).keysyms))

@@ -18,10 +18,10 @@ use Rattle.kx_typing.specs.Given.{given_in}
 use Rattle.kx_resolve.proofs.keys.push_code.Goals as goal
 
 pub push_key-requires-clause-short : goal.push_key-requires-clause-short
-push_key-requires-clause-short c = c.in-Some-Some.ensures.fine.short
+push_key-requires-clause-short c = c.in-Some-Some.ensures.valid.short
 
 pub push_bare_key-requires-clause-short : goal.push_bare_key-requires-clause-short
-push_bare_key-requires-clause-short c = c.in-Some-None.ensures.fine.short
+push_bare_key-requires-clause-short c = c.in-Some-None.ensures.valid.short
 
 pub returns-in_ok-push_key-in-Some-Some-clause-pushed : goal.returns-in_ok-push_key-in-Some-Some-clause-pushed
 returns-in_ok-push_key-in-Some-Some-clause-pushed c =
@@ -34,15 +34,15 @@ returns-in_ok-push_bare_key-in-Some-None-clause-pushed c =
 pub returns-in_ok-push_key-in-Some-Some-clause-bounds : goal.returns-in_ok-push_key-in-Some-Some-clause-bounds
 returns-in_ok-push_key-in-Some-Some-clause-bounds c = λ name is.
     subst (λ (modmap : Mods). KeepsBounds (type_named c.args.read.types.now) name modmap (deeds_of (real_of (stands_for c.args.read.stands.now)) c.args.read.interpretations.now modmap (given_in (key_at c.args.read.keys.now c.args.code))) (given_in (key_at c.args.read.keys.now c.args.code))) c.key_mods-modmap.ensures.value
-    (bounds_of (type_named c.args.read.types.now) (real_of (stands_for c.args.read.stands.now)) c.args.read.interpretations.now c.key_mods-modmap.result c.key_mods-modmap.ensures.fits (name_of c.args.read.codes.now c.args.code) (key_at c.args.read.keys.now c.args.code) (Some c.in-Some-Some.key.now) c.in-Some-Some.name.now c.in-Some-Some.ensures.value c.in-Some-Some.ensures' c.in-Some-Some.ensures.fine c.in_ok-push_key-in-Some-Some.ensures.range c.in_ok-push_key-in-Some-Some.ensures.fine name is)
+    (bounds_of (type_named c.args.read.types.now) (real_of (stands_for c.args.read.stands.now)) c.args.read.interpretations.now c.key_mods-modmap.result c.key_mods-modmap.ensures.fits (name_of c.args.read.codes.now c.args.code) (key_at c.args.read.keys.now c.args.code) (Some c.in-Some-Some.key.now) c.in-Some-Some.name.now c.in-Some-Some.ensures.value c.in-Some-Some.ensures' c.in-Some-Some.ensures.valid c.in_ok-push_key-in-Some-Some.ensures.range c.in_ok-push_key-in-Some-Some.ensures.valid name is)
 
 pub returns-in_ok-push_bare_key-in-Some-None-clause-bounds : goal.returns-in_ok-push_bare_key-in-Some-None-clause-bounds
 returns-in_ok-push_bare_key-in-Some-None-clause-bounds c = λ name is.
     subst (λ (modmap : Mods). KeepsBounds (type_named c.args.read.types.now) name modmap (deeds_of (real_of (stands_for c.args.read.stands.now)) c.args.read.interpretations.now modmap (given_in (key_at c.args.read.keys.now c.args.code))) (given_in (key_at c.args.read.keys.now c.args.code))) c.key_mods-modmap.ensures.value
-    (bounds_of (type_named c.args.read.types.now) (real_of (stands_for c.args.read.stands.now)) c.args.read.interpretations.now c.key_mods-modmap.result c.key_mods-modmap.ensures.fits (name_of c.args.read.codes.now c.args.code) (key_at c.args.read.keys.now c.args.code) None c.in-Some-None.name.now c.in-Some-None.ensures.value c.in-Some-None.ensures' c.in-Some-None.ensures.fine tt (λ group less. absurd (omega (arith, less, none_count))) name is)
+    (bounds_of (type_named c.args.read.types.now) (real_of (stands_for c.args.read.stands.now)) c.args.read.interpretations.now c.key_mods-modmap.result c.key_mods-modmap.ensures.fits (name_of c.args.read.codes.now c.args.code) (key_at c.args.read.keys.now c.args.code) None c.in-Some-None.name.now c.in-Some-None.ensures.value c.in-Some-None.ensures' c.in-Some-None.ensures.valid tt (λ group less. absurd (omega (arith, less, none_count))) name is)
 
 pub returns-in_ok-push_bare_key-in-Some-None-clause-small : goal.returns-in_ok-push_bare_key-in-Some-None-clause-small
 returns-in_ok-push_bare_key-in-Some-None-clause-small c =
     subst IsWithinLimits (sym c.in_ok-push_bare_key-in-Some-None.ensures.pushed)
     (small_with_key c.args.builder.now (record { code = c.args.code; name = c.in-Some-None.name.now; modmap = c.key_mods-modmap.result; range = Wrap; groups = [] }) c.requires.small c.requires.few
-    (record { short_name = c.in-Some-None.ensures.fine.short; few_groups = omega arith; small_groups = All-nil GroupIsWithinLimits }))
+    (record { short_name = c.in-Some-None.ensures.valid.short; few_groups = omega arith; small_groups = All-nil GroupIsWithinLimits }))

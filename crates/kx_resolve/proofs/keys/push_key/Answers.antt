@@ -9,7 +9,7 @@ use Rattle.kx_masks.specs.Sets.{real_of}
 use Rattle.kx_masks.specs.Standing.{stands_for}
 use Rattle.kx_resolve.proofs.Growing.{bare_groups, change_length, groups_grow, key_then_groups, small_with_key}
 use Rattle.kx_resolve.proofs.Steps.{groups_next, groups_none}
-use Rattle.kx_resolve.specs.Bounds.{CellsAreFine, GroupsAreFine, levels_of_group}
+use Rattle.kx_resolve.specs.Bounds.{CellsAreValid, GroupsAreValid, levels_of_group}
 use Rattle.kx_typing.specs.Given.{given}
 use Rattle.kx_typing.specs.GroupTypes.{content_group, group_count}
 use Rattle.kx_bearing.specs.Deeds.{deeds_of}
@@ -49,14 +49,14 @@ groups-preserved c =
       c.in_ok-push_group.ensures.small,
       omega (arith, still, c.groups.invariant.2),
       omega (arith, grown, c.groups.invariant.3, length-append (last_groups c.groups.builder.keys) (g ∷ [])),
-      fine group c.groups.invariant.4 c.in_ok-push_group.ensures.fine,
+      valid group c.groups.invariant.4 c.in_ok-push_group.ensures.valid,
     )
   where
     FineAt : ℕ → Type 0
-    FineAt group = CellsAreFine (deeds_of (real_of (stands_for c.args.key.stands.now)) c.args.key.interpretations.now c.args.key.modmap (given c.args.key.key.now)) (given c.args.key.key.now) (content_group (given c.args.key.key.now) group) (levels_of_group (type_named c.args.types.now) (given c.args.key.key.now) group)
+    FineAt group = CellsAreValid (deeds_of (real_of (stands_for c.args.key.stands.now)) c.args.key.interpretations.now c.args.key.modmap (given c.args.key.key.now)) (given c.args.key.key.now) (content_group (given c.args.key.key.now) group) (levels_of_group (type_named c.args.types.now) (given c.args.key.key.now) group)
 
-    fine : (group : ℕ) → GroupsAreFine (type_named c.args.types.now) (deeds_of (real_of (stands_for c.args.key.stands.now)) c.args.key.interpretations.now c.args.key.modmap (given c.args.key.key.now)) (given c.args.key.key.now) group → FineAt group → GroupsAreFine (type_named c.args.types.now) (deeds_of (real_of (stands_for c.args.key.stands.now)) c.args.key.interpretations.now c.args.key.modmap (given c.args.key.key.now)) (given c.args.key.key.now) (group + 1)
-    fine group before here = λ h less.
+    valid : (group : ℕ) → GroupsAreValid (type_named c.args.types.now) (deeds_of (real_of (stands_for c.args.key.stands.now)) c.args.key.interpretations.now c.args.key.modmap (given c.args.key.key.now)) (given c.args.key.key.now) group → FineAt group → GroupsAreValid (type_named c.args.types.now) (deeds_of (real_of (stands_for c.args.key.stands.now)) c.args.key.interpretations.now c.args.key.modmap (given c.args.key.key.now)) (given c.args.key.key.now) (group + 1)
+    valid group before here = λ h less.
         let upto : h ≤ group = omega (arith, less) in
         elim (eq-or-lt_of_le upto) [
           | inl same ↦ subst FineAt (sym same) here
@@ -87,5 +87,5 @@ returns-clause-pushed c =
 pub returns-clause-small : goal.returns-clause-small
 returns-clause-small c = c.groups.invariant.1
 
-pub returns-clause-fine : goal.returns-clause-fine
-returns-clause-fine c = λ group less. c.groups.invariant.4 group (omega (arith, less, c.groups-test.false, c.group_count-group-end.ensures.value))
+pub returns-clause-valid : goal.returns-clause-valid
+returns-clause-valid c = λ group less. c.groups.invariant.4 group (omega (arith, less, c.groups-test.false, c.group_count-group-end.ensures.value))

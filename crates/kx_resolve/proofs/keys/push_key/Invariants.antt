@@ -3,7 +3,7 @@ use Rattle.kx_builder.specs.Pushes.{last_groups, with_group, with_key}
 use Rattle.kx_builder.specs.WithinLimits.{IsWithinLimits}
 use Rattle.kx_masks.specs.Sets.{real_of}
 use Rattle.kx_masks.specs.Standing.{stands_for}
-use Rattle.kx_resolve.specs.Bounds.{GroupsAreFine}
+use Rattle.kx_resolve.specs.Bounds.{GroupsAreValid}
 use Rattle.kx_typing.specs.Given.{given}
 use Rattle.kx_bearing.specs.Deeds.{deeds_of}
 use Rattle.kx_resolve.specs.Keys.{groups_of, key_of}
@@ -16,4 +16,4 @@ invariant-groups l =
     × IsWithinLimits l.builder
     × (0 < length l.builder.keys)
     × (length (last_groups l.builder.keys) ≡ l.group)
-    × GroupsAreFine (type_named l.types) (deeds_of (real_of (stands_for l.key.stands.now)) l.key.interpretations.now l.key.modmap (given l.key.key.now)) (given l.key.key.now) l.group
+    × GroupsAreValid (type_named l.types) (deeds_of (real_of (stands_for l.key.stands.now)) l.key.interpretations.now l.key.modmap (given l.key.key.now)) (given l.key.key.now) l.group

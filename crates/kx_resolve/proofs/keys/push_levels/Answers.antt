@@ -9,7 +9,7 @@ use Rattle.kx_masks.specs.Sets.{real_of}
 use Rattle.kx_masks.specs.Standing.{stands_for}
 use Rattle.kx_resolve.proofs.Growing.{cells_grow, groups_count, small_with_cell}
 use Rattle.kx_resolve.proofs.Steps.{cells_next, cells_none}
-use Rattle.kx_resolve.specs.Bounds.{CellsAreFine, last_cells}
+use Rattle.kx_resolve.specs.Bounds.{CellsAreValid, last_cells}
 use Rattle.kx_typing.specs.Given.{given}
 use Rattle.kx_bearing.specs.Deeds.{deeds_of}
 use Rattle.kx_resolve.specs.Keys.{cell_of, cells_of}
@@ -38,14 +38,14 @@ levels-preserved c =
     let more : length (last_cells c.push_level.new.builder.keys) ≡ length (last_cells c.levels.builder.keys ++ d ∷ []) = ap (λ (r : Resolved). length (last_cells r.keys)) pushed ∙ ap length (cells_grow d c.levels.builder.keys some) in
     let still : length (last_groups c.push_level.new.builder.keys) ≡ length (last_groups c.levels.builder.keys) = ap (λ (r : Resolved). length (last_groups r.keys)) pushed ∙ groups_count d c.levels.builder.keys in (
       pushed ∙ ap (λ r. with_cell r d) c.levels.invariant.0 ∙ sym (fold-append with_cell c.args.builder.now (cells_of deeds key group level) (d ∷ [])) ∙ ap (fold with_cell c.args.builder.now) (sym (cells_next key deeds group level)),
-      subst IsWithinLimits (sym pushed) (small_with_cell c.levels.builder d small c.in_ok-push_level.ensures.fine.few (omega (arith, count, c.levels-test.true, c.requires.few))),
+      subst IsWithinLimits (sym pushed) (small_with_cell c.levels.builder d small c.in_ok-push_level.ensures.valid.few (omega (arith, count, c.levels-test.true, c.requires.few))),
       omega (arith, still, some),
       omega (arith, more, count, length-append (last_cells c.levels.builder.keys) (d ∷ [])),
-      fine level c.levels.invariant.4 c.in_ok-push_level.ensures.fine,
+      valid level c.levels.invariant.4 c.in_ok-push_level.ensures.valid,
     )
   where
-    fine : (level : ℕ) → CellsAreFine (deeds_of (real_of (stands_for c.args.key.stands.now)) c.args.key.interpretations.now c.args.key.modmap (given c.args.key.key.now)) (given c.args.key.key.now) c.args.group level → CellIsValid (cell_of (deeds_of (real_of (stands_for c.args.key.stands.now)) c.args.key.interpretations.now c.args.key.modmap (given c.args.key.key.now)) (given c.args.key.key.now) c.args.group level) → CellsAreFine (deeds_of (real_of (stands_for c.args.key.stands.now)) c.args.key.interpretations.now c.args.key.modmap (given c.args.key.key.now)) (given c.args.key.key.now) c.args.group (level + 1)
-    fine level before here = λ l less.
+    valid : (level : ℕ) → CellsAreValid (deeds_of (real_of (stands_for c.args.key.stands.now)) c.args.key.interpretations.now c.args.key.modmap (given c.args.key.key.now)) (given c.args.key.key.now) c.args.group level → CellIsValid (cell_of (deeds_of (real_of (stands_for c.args.key.stands.now)) c.args.key.interpretations.now c.args.key.modmap (given c.args.key.key.now)) (given c.args.key.key.now) c.args.group level) → CellsAreValid (deeds_of (real_of (stands_for c.args.key.stands.now)) c.args.key.interpretations.now c.args.key.modmap (given c.args.key.key.now)) (given c.args.key.key.now) c.args.group (level + 1)
+    valid level before here = λ l less.
         let upto : l ≤ level = omega (arith, less) in
         elim (eq-or-lt_of_le upto) [
           | inl same ↦ subst (λ n. CellIsValid (cell_of (deeds_of (real_of (stands_for c.args.key.stands.now)) c.args.key.interpretations.now c.args.key.modmap (given c.args.key.key.now)) (given c.args.key.key.now) c.args.group n)) (sym same) here

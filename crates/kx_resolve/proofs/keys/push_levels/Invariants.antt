@@ -3,7 +3,7 @@ use Rattle.kx_builder.specs.Pushes.{last_groups, with_cell}
 use Rattle.kx_builder.specs.WithinLimits.{IsWithinLimits}
 use Rattle.kx_masks.specs.Sets.{real_of}
 use Rattle.kx_masks.specs.Standing.{stands_for}
-use Rattle.kx_resolve.specs.Bounds.{CellsAreFine, last_cells}
+use Rattle.kx_resolve.specs.Bounds.{CellsAreValid, last_cells}
 use Rattle.kx_typing.specs.Given.{given}
 use Rattle.kx_bearing.specs.Deeds.{deeds_of}
 use Rattle.kx_resolve.specs.Keys.{cells_of}
@@ -15,4 +15,4 @@ invariant-levels l =
     × IsWithinLimits l.builder
     × (0 < length (last_groups l.builder.keys))
     × (length (last_cells l.builder.keys) ≡ l.level)
-    × CellsAreFine (deeds_of (real_of (stands_for l.key.stands.now)) l.key.interpretations.now l.key.modmap (given l.key.key.now)) (given l.key.key.now) l.group l.level
+    × CellsAreValid (deeds_of (real_of (stands_for l.key.stands.now)) l.key.interpretations.now l.key.modmap (given l.key.key.now)) (given l.key.key.now) l.group l.level

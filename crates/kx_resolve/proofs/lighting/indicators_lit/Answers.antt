@@ -10,10 +10,10 @@ indicators-preserved c =
     let real = real_of (stands_for c.args.stands.now) in
     let now = map indicator_of c.indicators.lit.items in
     let new = map indicator_of c.push_indicator.new.lit.items in (
-      lit_next real c.args.indicators.now c.len-number-end.ensures.fine c.indicators.number now new (omega (arith, c.indicators-test.true, c.len-number-end.ensures.value)) c.indicators.invariant.0 c.in_ok-push_indicator.ensures.lit,
-      c.in_ok-push_indicator.ensures.fine c.indicators.invariant.1,
+      lit_next real c.args.indicators.now c.len-number-end.ensures.valid c.indicators.number now new (omega (arith, c.indicators-test.true, c.len-number-end.ensures.value)) c.indicators.invariant.0 c.in_ok-push_indicator.ensures.lit,
+      c.in_ok-push_indicator.ensures.valid c.indicators.invariant.1,
     )
 
 pub returns-clause-lit : goal.returns-clause-lit
 returns-clause-lit c =
-    lit_all (real_of (stands_for c.args.stands.now)) c.args.indicators.now c.len-number-end.ensures.fine c.indicators.number (map indicator_of c.indicators.lit.items) (omega (arith, c.indicators-test.false, c.len-number-end.ensures.value)) c.indicators.invariant.0
+    lit_all (real_of (stands_for c.args.stands.now)) c.args.indicators.now c.len-number-end.ensures.valid c.indicators.number (map indicator_of c.indicators.lit.items) (omega (arith, c.indicators-test.false, c.len-number-end.ensures.value)) c.indicators.invariant.0

@@ -11,5 +11,5 @@ groups-preserved c =
     let name = c.name.result.now in
     let more = taken_next names group name (name_is names group name (omega (arith, c.groups-test.true, c.len-group-end.ensures.value)) c.name.ensures.value) in (
       c.in_ok-push_name.ensures.pushed ∙ ap (λ ns. ns ++ name ∷ []) c.groups.invariant.0 ∙ sym more,
-      subst (All GroupNameIsValid) (sym more) (All-push GroupNameIsValid (take group names) name c.groups.invariant.1 c.in_ok-push_name.ensures.fine),
+      subst (All GroupNameIsValid) (sym more) (All-push GroupNameIsValid (take group names) name c.groups.invariant.1 c.in_ok-push_name.ensures.valid),
     )

@@ -8,14 +8,14 @@ use Rattle.kx_levels.specs.Selecting.{RealSet}
 use Rattle.kx_mapped.specs.Modmaps.{modmap_at}
 use Rattle.kx_masks.specs.Sets.{real_of}
 use Rattle.kx_masks.specs.Standing.{stands_for}
-use Rattle.kx_resolve.proofs.Ending.{built_agrees, built_fine, built_whole}
+use Rattle.kx_resolve.proofs.Ending.{built_agrees, built_valid, built_whole}
 use Rattle.kx_resolve.proofs.Typed.{IsUsable, used_usable}
 use Rattle.kx_resolve.proofs.Whole.{tree_whole}
 use Rattle.kx_resolve.specs.Keys.{Keyed, keyed_of, types_used}
 use Rattle.kx_resolve.specs.Lit.{indicators_of}
 use Rattle.kx_symbols.specs.Keys.{key_at}
 use Rattle.kx_tables.specs.Keymap.{keymap_of}
-use Rattle.kx_tables.specs.Parts.{content_of}
+use Rattle.kx_tables.specs.RawTables.{content_of}
 use Rattle.kx_types.specs.KeyTypes.{Definition}
 use Rattle.kx_types.specs.Types.{type_named}
 use Rattle.kx_typing.specs.Given.{given_in}
@@ -61,4 +61,4 @@ returns-clause-sound c =
     let declared : List ℕ → Option Definition = type_named c.args.read.types.now in
     let keyed : Keyed = keyed_of (real_of (stands_for c.args.read.stands.now)) c.args.read.codes.now c.args.read.keys.now (modmap_at c.args.read.modmaps.now) c.args.read.interpretations.now in
     let built = tree_whole real declared c.in_ok-used.used keyed c.in_ok-used.ensures.used c.in_ok-builder.builder c.push_keys.new.builder c.in_ok-builder.ensures.types c.in_ok-push_keys.ensures.pushed in
-    λ one. c.in_ok-parts.ensures.sound (built_fine real declared keyed c.in_ok-used.used c.in_ok-used.ensures.used c.in_ok-used.ensures.few c.in_ok-builder.ensures.hold c.in_ok-push_keys.ensures.bounds c.push_keys.new.builder built one)
+    λ one. c.in_ok-parts.ensures.sound (built_valid real declared keyed c.in_ok-used.used c.in_ok-used.ensures.used c.in_ok-used.ensures.few c.in_ok-builder.ensures.hold c.in_ok-push_keys.ensures.bounds c.push_keys.new.builder built one)

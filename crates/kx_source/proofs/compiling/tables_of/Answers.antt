@@ -12,7 +12,7 @@ use Rattle.kx_source.proofs.Names.{one_code}
 use Rattle.kx_source.proofs.Refusals.{all_faultless, keycodes_refused, modifiers_refused, parts_refused, passed, types_refused}
 use Rattle.kx_source.specs.Source.{HasFaultIn, HoldsAll, names_faults}
 use Rattle.kx_tables.specs.Keymap.{keymap_of}
-use Rattle.kx_tables.specs.Parts.{content_of}
+use Rattle.kx_tables.specs.RawTables.{content_of}
 use Rattle.kx_types.specs.Types.{types_faults}
 use Rattle.kx_source.proofs.compiling.tables_of.Goals as goal
 

@@ -1,6 +1,6 @@
 use Rattle.std.specs.Prelude.{refl}
 use Rattle.std.proofs.Common.{arith}
-use Rattle.kx_tables.specs.Parts.{content_of}
+use Rattle.kx_tables.specs.RawTables.{content_of}
 use Rattle.kx_tables.specs.Sound.{IndicatorHolds, GroupNameHolds}
 use Rattle.kx_tables.proofs.Fitting.{counts_unfit, row_past, row_read}
 use Rattle.kx_tables.proofs.Growing.{each_more}

@@ -1,10 +1,10 @@
-use Rattle.std.proofs.Common.{◌≡◌, ◌⊎◌, IfErr, OnOk, refl, sym, subst, ◌∙◌}
+use Rattle.std.proofs.Common.{◌≡◌, ◌≤◌, ◌+◌, ◌⊎◌, IfErr, OnOk, arith, refl, sym, ap, subst, ◌∙◌}
 use Rattle.kx_image.specs.Image.{IsImage}
 use Rattle.kx_source.specs.Source.{HasFault}
 use Rattle.kx_lex.specs.declared.fault.Fault.TheVariants.{Memory}
 use Rattle.kx_tables.specs.Content.{Content}
 use Rattle.kx_tool.specs.Compiled.{IsCompiled}
-use Rattle.kx_tool.specs.Input.{FailsToRead, IsWithin, budget, coming}
+use Rattle.kx_tool.specs.Input.{FailsBehind, IsWithin, Waiting, budget, coming}
 use Rattle.kx_tool.specs.Sources.{ReadsSource}
 use Rattle.kx_tool.specs.declared.fault.ReplayFault.{ReplayFault}
 use Rattle.kx_tool.specs.declared.fault.ReplayFault.TheVariants.{Read}
@@ -45,11 +45,11 @@ returns-clause-read g c = λ is.
     let came = read.came refl in
     elim c.match-open.branch [
       | in-Ok-open w ↦
-          let late = subst (λ r. IfErr r (λ (fault : ReplayFault). fault ≡ Read → FailsToRead (g.F.Feed.failures c.read_source.new.feed) (g.F.Feed.failures w.answer_lines-answered.new.feed) (coming c.read_source.new.input (g.F.Feed.left c.read_source.new.feed)) (budget c.read_source.new.input)))
+          let late = subst (λ r. IfErr r (λ (fault : ReplayFault). fault ≡ Read → FailsBehind g.F.Feed.left g.F.Feed.taken g.F.Feed.failures c.read_source.new.input c.read_source.new.feed w.answer_lines-answered.new.feed))
           (sym w.answered-is ∙ c.in-Err-answered.is) w.answer_lines-answered.ensures.read in
           rw w.feed-is
-          (fails_all (g.F.Feed.failures c.args.feed.now) (g.F.Feed.failures w.answer_lines-answered.new.feed) (g.F.Feed.left c.args.feed.now) c.new-input.result c.new-input.ensures
-          (fails_from (g.F.Feed.failures c.args.feed.now) (g.F.Feed.failures c.read_source.new.feed) (g.F.Feed.failures w.answer_lines-answered.new.feed) _ _ _ _ _ c.in_ok-source.ensures.counted came.1 (late (cc))))
+          (fails_all g.F.Feed.left g.F.Feed.taken g.F.Feed.failures c.args.feed.now w.answer_lines-answered.new.feed c.new-input.result c.new-input.ensures
+          (fails_from g.F.Feed.left g.F.Feed.taken g.F.Feed.failures c.args.feed.now c.read_source.new.feed w.answer_lines-answered.new.feed _ _ _ c.in_ok-source.ensures.counted c.in_ok-source.ensures.taken came.1 (late (cc))))
       | in-Err-open w ↦
           let image = c.in-Ok.ensures.image in
           absurd (w.in-Err-open.ensures.only image.0 (subst (λ b. IsImage image.0 b) (sym c.as_slice-2.ensures.value) image.1.image))
@@ -74,5 +74,15 @@ returns-in-Ok-answered-clause-whole g c =
       | in-Ok-open w ↦
           let rest = subst (λ r. OnOk r (IsWithin (coming c.read_source.new.input (g.F.Feed.left c.read_source.new.feed)) (budget c.read_source.new.input))) (sym w.answered-is ∙ c.in-Ok-answered.is) w.answer_lines-answered.ensures.whole in
           within_all (g.F.Feed.left c.args.feed.now) c.new-input.result c.new-input.ensures (within_from _ _ _ _ _ came.1 rest)
+      | in-Err-open w ↦ let one = w.answered-is in let other = c.in-Ok-answered.is in absurd (cc (sym one ∙ other))
+    ]
+
+pub returns-in-Ok-answered-clause-few : goal.returns-in-Ok-answered-clause-few
+returns-in-Ok-answered-clause-few g c =
+    let fresh = ap (λ (w : Waiting). w.allowance) c.new-input.ensures in
+    elim c.match-open.branch [
+      | in-Ok-open w ↦
+          let rest = subst (λ r. OnOk r (g.F.Feed.taken w.answer_lines-answered.new.feed ≤ g.F.Feed.taken c.read_source.new.feed + c.read_source.new.input.allowance)) (sym w.answered-is ∙ c.in-Ok-answered.is) w.answer_lines-answered.ensures.few in
+          rw w.feed-is (omega (arith, rest, c.in_ok-source.ensures.taken, fresh))
       | in-Err-open w ↦ let one = w.answered-is in let other = c.in-Ok-answered.is in absurd (cc (sym one ∙ other))
     ]

@@ -51,6 +51,7 @@ loop-byte-preserved-in-Some-eq10-2 g c =
           (subst (λ t. SourceSoFar (coming c.args.input.now (g.F.Feed.left c.args.feed.now)) (budget c.args.input.now) (coming c.next_byte.new.self (g.F.Feed.left c.next_byte.new.feed)) (budget c.next_byte.new.self) t (length t))
           (sym c.in_ok-push-in-Some-eq10-2.ensures.pushed) whole);
       counted = c.in-Ok.ensures.counted ∙ c.loop-byte.invariant.counted;
+      taken = c.in-Ok.ensures.taken ∙ c.loop-byte.invariant.taken;
     }
 
 pub loop-byte-preserved : goal.loop-byte-preserved
@@ -64,4 +65,5 @@ loop-byte-preserved g c =
       read = subst (λ t. SourceSoFar (coming c.args.input.now (g.F.Feed.left c.args.feed.now)) (budget c.args.input.now) (coming c.next_byte.new.self (g.F.Feed.left c.next_byte.new.feed)) (budget c.next_byte.new.self) t c.loop-byte.line_start)
           (sym c.in_ok-push-in-Some.ensures.pushed) (source_byte _ _ _ _ _ _ _ _ c.in-Some.byte h came (ne_eqb c.in-Some.byte 10 other));
       counted = c.in-Ok.ensures.counted ∙ c.loop-byte.invariant.counted;
+      taken = c.in-Ok.ensures.taken ∙ c.loop-byte.invariant.taken;
     }

@@ -1,4 +1,4 @@
-use Rattle.std.proofs.Common.{◌≡◌}
+use Rattle.std.proofs.Common.{◌≡◌, ◌+◌}
 use Rattle.kx_tool.specs.Input.{budget, coming}
 use Rattle.kx_tool.proofs.ReadingSources.{SourceSoFar}
 use Rattle.kx_tool.proofs.source.read_source.Given as goal
@@ -7,6 +7,7 @@ abbrev pub invariant-loop-byte : goal.invariant-loop-byte
 invariant-loop-byte g l = record {
   read : SourceSoFar (coming l.fn.input (g.F.Feed.left l.fn.feed)) (budget l.fn.input) (coming l.input (g.F.Feed.left l.feed)) (budget l.input) l.text.items l.line_start;
   counted : g.F.Feed.failures l.feed ≡ g.F.Feed.failures l.fn.feed;
+  taken : g.F.Feed.taken l.feed + l.input.allowance ≡ g.F.Feed.taken l.fn.feed + l.fn.input.allowance;
 }
 
 abbrev pub decreases-loop-byte : goal.decreases-loop-byte

@@ -4,7 +4,7 @@ use Rattle.kx_builder.specs.Added.{last_count}
 use Rattle.kx_builder.specs.Placed.{content_of_resolved}
 use Rattle.kx_builder.specs.Pushes.{last_groups, with_cell}
 use Rattle.kx_builder.specs.Resolved.{ResolvedCell}
-use Rattle.kx_tables.specs.Parts.{content_of}
+use Rattle.kx_tables.specs.RawTables.{content_of}
 use Rattle.kx_builder.proofs.builder.Builder.push_cell.Goals as goal
 use Rattle.kx_builder.proofs.builder.Builder.push_cell.Goals.{After-add_cell}
 

@@ -4,7 +4,7 @@ use Rattle.kx_builder.specs.Added.{next_group}
 use Rattle.kx_builder.specs.Placed.{content_of_resolved}
 use Rattle.kx_builder.specs.Pushes.{with_group}
 use Rattle.kx_builder.specs.Resolved.{ResolvedGroup}
-use Rattle.kx_tables.specs.Parts.{content_of}
+use Rattle.kx_tables.specs.RawTables.{content_of}
 use Rattle.kx_tables.specs.declared.rows.GroupRow.{GroupRow}
 use Rattle.kx_builder.proofs.builder.Builder.push_group.Goals as goal
 use Rattle.kx_builder.proofs.builder.Builder.push_group.Goals.{After-add_group}

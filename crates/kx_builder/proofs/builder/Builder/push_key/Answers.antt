@@ -3,7 +3,7 @@ use Rattle.kx_builder.proofs.Pushing.{key_grown, push_kept, push_seen}
 use Rattle.kx_builder.specs.Placed.{content_of_resolved}
 use Rattle.kx_builder.specs.Pushes.{with_key}
 use Rattle.kx_builder.specs.Resolved.{ResolvedKey}
-use Rattle.kx_tables.specs.Parts.{content_of}
+use Rattle.kx_tables.specs.RawTables.{content_of}
 use Rattle.kx_builder.proofs.builder.Builder.push_key.Goals as goal
 use Rattle.kx_builder.proofs.builder.Builder.push_key.Goals.{After-add_key}
 

@@ -3,7 +3,7 @@ use Rattle.kx_builder.proofs.Pushing.{push_kept, push_seen, type_grown}
 use Rattle.kx_builder.specs.Placed.{content_of_resolved}
 use Rattle.kx_builder.specs.Pushes.{with_type}
 use Rattle.kx_builder.specs.Resolved.{ResolvedType}
-use Rattle.kx_tables.specs.Parts.{content_of}
+use Rattle.kx_tables.specs.RawTables.{content_of}
 use Rattle.kx_builder.proofs.builder.Builder.push_type.Goals as goal
 use Rattle.kx_builder.proofs.builder.Builder.push_type.Goals.{After-add_type}
 

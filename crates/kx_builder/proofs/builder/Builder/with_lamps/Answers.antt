@@ -7,7 +7,7 @@ use Rattle.kx_builder.specs.Lamps.{indicator_of, keymap_with, with_group_names, 
 use Rattle.kx_builder.specs.Placed.{content_of_resolved}
 use Rattle.kx_builder.specs.Resolved.{keymap_of_resolved}
 use Rattle.kx_tables.specs.Keymap.{keymap_of}
-use Rattle.kx_tables.specs.Parts.{content_of}
+use Rattle.kx_tables.specs.RawTables.{content_of}
 use Rattle.kx_tables.specs.Sound.{Sound}
 
 pub returns-in_err-push_indicators-clause-fault : goal.returns-in_err-push_indicators-clause-fault
@@ -38,6 +38,6 @@ returns-clause-agrees c = λ whole.
     (lamps_agree (content_of_resolved c.args.self) c.args.self (map indicator_of c.args.indicators.now) (map (λ (g : Bor (List ℕ)). g.now) c.args.group_names.now) refl whole)
 
 pub returns-clause-sound : goal.returns-clause-sound
-returns-clause-sound c = λ fine lamps.
+returns-clause-sound c = λ valid lamps.
     subst Sound (sym (lit c))
-    (tables_sound_with (content_of_resolved c.args.self) c.args.self (map indicator_of c.args.indicators.now) (map (λ (g : Bor (List ℕ)). g.now) c.args.group_names.now) refl fine lamps)
+    (tables_sound_with (content_of_resolved c.args.self) c.args.self (map indicator_of c.args.indicators.now) (map (λ (g : Bor (List ℕ)). g.now) c.args.group_names.now) refl valid lamps)

@@ -5,10 +5,10 @@ use Rattle.kx_codes.specs.Pairs.{Pair}
 use Rattle.kx_codes.proofs.Standing.{put_new, put_over, same_pair}
 use Rattle.kx_codes.proofs.pairs.Pairs.take.Goals as goal
 
-pub returns-then-not-has_sharing-clause-took : goal.returns-then-not-has_sharing-clause-took
-returns-then-not-has_sharing-clause-took c = λ ps s.
+pub returns-then-eq-2-clause-took : goal.returns-then-eq-2-clause-took
+returns-then-eq-2-clause-took c = λ ps s.
     let p : Pair = record { name = c.args.name.now; code = c.args.code } in
-    put_new c.args.mode c.insert.new.self ps p (sym (c.has_sharing.ensures ps s) ∙ c.if-not-has_sharing.true) (c.in_ok-insert.ensures.inserted ps s (sym (c.has_sharing.ensures ps s) ∙ c.if-not-has_sharing.true))
+    put_new c.args.mode c.insert.new.self ps p (sym (c.has_sharing.ensures ps s) ∙ c.if-has_sharing.false) (c.in_ok-insert.ensures.inserted ps s (sym (c.has_sharing.ensures ps s) ∙ c.if-has_sharing.false))
 
 pub returns-clause-took : goal.returns-clause-took
 returns-clause-took c = λ ps s.

@@ -12,4 +12,4 @@ returns-clause-found c =
     let same = c.new-layout.ensures in
     let groups_are = sym (ap (λ h. h.groups) form.header) ∙ c.if-header-from.false ∙ c.from.ensures ∙ c.most_groups-most_groups.ensures ∙ ap (λ (d : Content). greatest_groups d.keys) same in
     subst (λ (d : Content). IsImage d c.args.bytes.now) (sym same)
-    (image_found c.args.bytes.now (λ i. omega (arith, c.type_inv.bytes i)) form.whole form.end c.in_ok-records_tell.ensures.ok groups_are (subst Sound same checked.ok))
+    (image_found c.args.bytes.now (λ i. omega (arith, c.type_inv.bytes i)) form.whole form.end c.in_ok-check_records.ensures.ok groups_are (subst Sound same checked.ok))

@@ -1,5 +1,5 @@
 use Rattle.kx_tables.proofs.Fits.{sound_fits}
-use Rattle.kx_tables.specs.Parts.{content_of}
+use Rattle.kx_tables.specs.RawTables.{content_of}
 use Rattle.kx_tables.proofs.owned.Owned.from_sound.Goals as goal
 
 pub invariant_of-rows : goal.invariant_of-rows

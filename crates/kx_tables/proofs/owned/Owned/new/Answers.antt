@@ -1,5 +1,5 @@
 use Rattle.std.proofs.Common.{rules}
-use Rattle.kx_tables.specs.Parts.{content_of}
+use Rattle.kx_tables.specs.RawTables.{content_of}
 use Rattle.kx_tables.proofs.Fitting.{refusal_unsound}
 use Rattle.kx_tables.proofs.owned.Owned.new.Goals as goal
 

@@ -1,0 +1,5 @@
+use Rattle.kx_print.proofs.Writing.{◌⨟◌}
+use Rattle.kx_print.proofs.actions.write_latch_mods.Goals as goal
+
+pub returns : goal.returns
+returns g c = c.write.ensures ⨟ (c.write_mods.ensures ⨟ c.write_clear_locks.ensures ⨟ c.write_latch_to_lock.ensures) ⨟ c.write-2.ensures

@@ -1,0 +1,5 @@
+use Rattle.kx_print.proofs.Writing.{◌⨟◌}
+use Rattle.kx_print.proofs.actions.write_set_group.Goals as goal
+
+pub returns : goal.returns
+returns g c = c.write.ensures ⨟ (c.write_change.ensures ⨟ c.write_clear_locks.ensures) ⨟ c.write-2.ensures

@@ -1,5 +1,0 @@
-use Rattle.kx_print.proofs.Telling.{◌⨟◌}
-use Rattle.kx_print.proofs.fields.tell_actions_field.Goals as goal
-
-pub returns : goal.returns
-returns g c = c.tell.ensures ⨟ c.tell_number.ensures ⨟ c.tell-2.ensures ⨟ c.tell_actions.ensures

@@ -1,5 +1,0 @@
-use Rattle.kx_print.proofs.Telling.{◌⨟◌}
-use Rattle.kx_print.proofs.indicators.tell_indicator.Goals as goal
-
-pub returns : goal.returns
-returns g c = c.tell.ensures ⨟ c.tell_quoted.ensures ⨟ c.tell-2.ensures ⨟ c.tell_lamp.ensures ⨟ c.tell-3.ensures

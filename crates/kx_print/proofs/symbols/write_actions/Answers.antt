@@ -1,0 +1,5 @@
+use Rattle.kx_print.proofs.Writing.{◌⨟◌}
+use Rattle.kx_print.proofs.symbols.write_actions.Goals as goal
+
+pub returns : goal.returns
+returns g c = c.write.ensures ⨟ c.write_each_action.ensures ⨟ c.write-2.ensures

@@ -1,0 +1,8 @@
+use Rattle.std.proofs.Common.{take}
+use Rattle.std.specs.List.{flat_map}
+use Rattle.ks_core.specs.BufferedOut.{Writes}
+use Rattle.kx_print.specs.Printed.{entries_of, entry_lines}
+use Rattle.kx_print.proofs.types.write_entries.Given as goal
+
+abbrev pub invariant-loop-index : goal.invariant-loop-index
+invariant-loop-index g l = Writes g.O.Out.written g.O.Out.failures l.fn.out l.fn.buffered l.out l.buffered (flat_map entry_lines (take l.index (entries_of (g.T.Rows.content l.tables) l.row)))

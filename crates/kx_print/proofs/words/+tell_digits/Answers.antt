@@ -1,8 +1,0 @@
-use Rattle.std.proofs.Common.{◌∷◌, [], false, ap, arith, sym}
-use Rattle.ks_core.proofs.DigitsLemmas.{hex_digits-step}
-use Rattle.kx_print.proofs.Telling.{◌⨟◌, retell}
-use Rattle.kx_print.proofs.words.+tell_digits.Goals as goal
-
-pub returns-then-number-gt0 : goal.returns-then-number-gt0
-returns-then-number-gt0 g t c =
-    retell (sym (hex_digits-step false c.args.number (omega arith))) (c.tell_digits.ensures ⨟ retell (ap (λ d. d ∷ []) c.digit.ensures) c.tell.ensures)
