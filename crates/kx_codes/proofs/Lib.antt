@@ -4,6 +4,8 @@ pub mod Ends
 mod Entries
 mod Faultless
 mod Given
+mod Left
 mod Matching
+mod Places
 mod Standing
 pub mod Targets

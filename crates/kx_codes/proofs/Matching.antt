@@ -57,9 +57,6 @@ module _ {A B : Type 0} (f : Pair → A) (g : Pair → B) (eqA : A → A → Boo
   symA : (x y : A) → eqA x y ≡ eqA y x
   symA x y = bool_same (eqA x y) (eqA y x) (λ h. (dA y x).1 (sym ((dA x y).0 h))) (λ h. (dA x y).1 (sym ((dA y x).0 h)))
 
-  symB : (x y : B) → eqB x y ≡ eqB y x
-  symB x y = bool_same (eqB x y) (eqB y x) (λ h. (dB y x).1 (sym ((dB x y).0 h))) (λ h. (dB x y).1 (sym ((dB y x).0 h)))
-
   pub any_look : (ps : List Pair) (a : A) → list_any (λ q. eqA a (f q)) ps ≡ is_some (L ps a)
   any_look [] a = refl
   any_look (q ∷ qs) a = by (eqA a (f q)) (any_look qs a)

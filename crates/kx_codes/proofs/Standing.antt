@@ -13,8 +13,8 @@ use Rattle.std.proofs.lemmas.Bool.{false≢true}
 use Rattle.std.proofs.lemmas.Slice.Eq.{bytes_eq-Decides}
 use Rattle.kx_parse.specs.declared.tree.Mode.{Mode}
 use Rattle.kx_parse.specs.declared.tree.Mode.TheVariants.{Augment, Override, Replace}
-use Rattle.kx_codes.proofs.Distinct.{both_of, no_first, no_second, first_of, second_of, kept_distinct, none_left, taken_distinct, all_distinct, code_of_name, name_of_code, pushed}
-use Rattle.kx_codes.proofs.Matching.{Apart, look, unless, over, any_look, look_without, took_over, took_under, all_over, all_under, gone_some, gone_none, last_put, stays, option_same, some_same}
+use Rattle.kx_codes.proofs.Distinct.{both_of, no_first, no_second, first_of, second_of, taken_distinct, all_distinct, code_of_name, name_of_code, pushed}
+use Rattle.kx_codes.proofs.Matching.{Apart, unless, over, any_look, took_over, took_under, all_over, all_under, last_put, stays, option_same, some_same}
 use Rattle.kx_codes.specs.Indexed.{Indexed, Stands, distinct}
 use Rattle.kx_codes.specs.Pairs.{Pair, shares, without, taken, all_taken, code_in, name_in}
 
@@ -23,12 +23,6 @@ n-of p = p.name
 
 abbrev c-of : Pair → ℕ
 c-of p = p.code
-
-code-look : (ps : List Pair) (name : List ℕ) → code_in ps name ≡ look n-of c-of bytes_eq ps name
-code-look ps name = refl
-
-name-look : (ps : List Pair) (code : ℕ) → name_in ps code ≡ look c-of n-of nat_eq ps code
-name-look ps code = refl
 
 pub shares-split : (p : Pair) (ps : List Pair) → list_any (shares p) ps ≡ (list_any (λ q. bytes_eq p.name q.name) ps || list_any (λ q. nat_eq p.code q.code) ps)
 shares-split p [] = refl
@@ -40,13 +34,13 @@ shares-split p (q ∷ qs) = by (bytes_eq p.name q.name) (nat_eq p.code q.code) (
     by false true false y r e = refl
     by false false x y r e = e
 
-apart : (ps : List Pair) → distinct ps ≡ true → Apart n-of c-of bytes_eq nat_eq ps
+pub apart : (ps : List Pair) → distinct ps ≡ true → Apart n-of c-of bytes_eq nat_eq ps
 apart [] h = tt
 apart (p ∷ ps) h =
     let none = sym (shares-split p ps) ∙ no_first (list_any (shares p) ps) (distinct ps) h in
     (first_of (list_any (λ q. bytes_eq p.name q.name) ps) (list_any (λ q. nat_eq p.code q.code) ps) none, second_of (list_any (λ q. bytes_eq p.name q.name) ps) (list_any (λ q. nat_eq p.code q.code) ps) none, apart ps (no_second (list_any (shares p) ps) (distinct ps) h))
 
-apart-back : (ps : List Pair) → distinct ps ≡ true → Apart c-of n-of nat_eq bytes_eq ps
+pub apart-back : (ps : List Pair) → distinct ps ≡ true → Apart c-of n-of nat_eq bytes_eq ps
 apart-back [] h = tt
 apart-back (p ∷ ps) h =
     let none = sym (shares-split p ps) ∙ no_first (list_any (shares p) ps) (distinct ps) h in
@@ -77,16 +71,16 @@ filter-swap s t (q ∷ qs) = by (s q) (t q) (filter (λ r. not (s r || t r)) qs)
     by false true xs e = e
     by false false xs e = ap (λ ys. q ∷ ys) e
 
-abbrev over-step : List Pair → Pair → List Pair
+abbrev pub over-step : List Pair → Pair → List Pair
 over-step ps p = without p ps ++ p ∷ []
 
 abbrev under-step : List Pair → Pair → List Pair
 under-step ps p = cond (list_any (shares p) ps) ps (ps ++ p ∷ [])
 
-over-codes : (ps : List Pair) (p : Pair) (name : List ℕ) → distinct ps ≡ true → code_in (over-step ps p) name ≡ cond (bytes_eq name p.name) (Some p.code) (unless (nat_eq p.code) (code_in ps name))
+pub over-codes : (ps : List Pair) (p : Pair) (name : List ℕ) → distinct ps ≡ true → code_in (over-step ps p) name ≡ cond (bytes_eq name p.name) (Some p.code) (unless (nat_eq p.code) (code_in ps name))
 over-codes ps p name h = took_over n-of c-of bytes_eq nat_eq bytes_eq-Decides unsigned_Decides ps (without p ps) p name (filter-swap (λ q. bytes_eq p.name q.name) (λ q. nat_eq p.code q.code) ps) (apart ps h)
 
-over-names : (ps : List Pair) (p : Pair) (code : ℕ) → distinct ps ≡ true → name_in (over-step ps p) code ≡ cond (nat_eq code p.code) (Some p.name) (unless (bytes_eq p.name) (name_in ps code))
+pub over-names : (ps : List Pair) (p : Pair) (code : ℕ) → distinct ps ≡ true → name_in (over-step ps p) code ≡ cond (nat_eq code p.code) (Some p.name) (unless (bytes_eq p.name) (name_in ps code))
 over-names ps p code h = took_over c-of n-of nat_eq bytes_eq unsigned_Decides bytes_eq-Decides ps (without p ps) p code (filter-both (λ q. bytes_eq p.name q.name) (λ q. nat_eq p.code q.code) ps) (apart-back ps h)
 
 or-flip : (a b : Bool) → (a || b) ≡ (b || a)
@@ -155,42 +149,6 @@ pub sharing : (x : Indexed) (ps : List Pair) (name : List ℕ) (code : ℕ) → 
 sharing x ps name code s = any-either ps (record { name = name; code = code }) ∙ sym (λ i. is_some (s.codes_are name i) || is_some (s.names_are code i))
 
 module _ (x y : Indexed) where
-  pub name_removed : (name : List ℕ) (code : ℕ) → code_in x.by_name name ≡ Some code → ((n : List ℕ) → code_in y.by_name n ≡ cond (bytes_eq name n) None (code_in x.by_name n)) → ((c : ℕ) → name_in y.by_code c ≡ cond (nat_eq code c) None (name_in x.by_code c))
-      → (ps : List Pair) → Stands x ps → Stands y (filter (λ q. not (bytes_eq name q.name)) ps)
-  name_removed name code is codes names ps s = record {
-    distinct_are = kept_distinct (λ q. not (bytes_eq name q.name)) ps s.distinct_are;
-    codes_are = λ n. codes n ∙ ap (cond (bytes_eq name n) None) (s.codes_are n) ∙ sym (look_without n-of c-of bytes_eq nat_eq bytes_eq-Decides unsigned_Decides ps name n);
-    names_are = λ c. names c ∙ ap (cond (nat_eq code c) None) (s.names_are c)
-        ∙ gone_some n-of c-of bytes_eq nat_eq bytes_eq-Decides unsigned_Decides ps (apart-back ps s.distinct_are) (λ a b h. name_of_code ps b a s.distinct_are h) (λ a b h. code_of_name ps b a s.distinct_are h) name code c (sym (s.codes_are name) ∙ is);
-  }
-
-  pub name_unknown : (name : List ℕ) → code_in x.by_name name ≡ None → ((n : List ℕ) → code_in y.by_name n ≡ cond (bytes_eq name n) None (code_in x.by_name n)) → ((c : ℕ) → name_in y.by_code c ≡ name_in x.by_code c)
-      → (ps : List Pair) → Stands x ps → Stands y (filter (λ q. not (bytes_eq name q.name)) ps)
-  name_unknown name is codes names ps s = record {
-    distinct_are = kept_distinct (λ q. not (bytes_eq name q.name)) ps s.distinct_are;
-    codes_are = λ n. codes n ∙ ap (cond (bytes_eq name n) None) (s.codes_are n) ∙ sym (look_without n-of c-of bytes_eq nat_eq bytes_eq-Decides unsigned_Decides ps name n);
-    names_are = λ c. names c ∙ s.names_are c
-        ∙ gone_none n-of c-of bytes_eq nat_eq bytes_eq-Decides unsigned_Decides ps (apart-back ps s.distinct_are) (λ a b h. name_of_code ps b a s.distinct_are h) (λ a b h. code_of_name ps b a s.distinct_are h) name c (sym (s.codes_are name) ∙ is);
-  }
-
-  pub code_removed : (code : ℕ) (name : List ℕ) → name_in x.by_code code ≡ Some name → ((c : ℕ) → name_in y.by_code c ≡ cond (nat_eq code c) None (name_in x.by_code c)) → ((n : List ℕ) → code_in y.by_name n ≡ cond (bytes_eq name n) None (code_in x.by_name n))
-      → (ps : List Pair) → Stands x ps → Stands y (filter (λ q. not (nat_eq code q.code)) ps)
-  code_removed code name is names codes ps s = record {
-    distinct_are = kept_distinct (λ q. not (nat_eq code q.code)) ps s.distinct_are;
-    names_are = λ c. names c ∙ ap (cond (nat_eq code c) None) (s.names_are c) ∙ sym (look_without c-of n-of nat_eq bytes_eq unsigned_Decides bytes_eq-Decides ps code c);
-    codes_are = λ n. codes n ∙ ap (cond (bytes_eq name n) None) (s.codes_are n)
-        ∙ gone_some c-of n-of nat_eq bytes_eq unsigned_Decides bytes_eq-Decides ps (apart ps s.distinct_are) (λ a b h. code_of_name ps a b s.distinct_are h) (λ a b h. name_of_code ps a b s.distinct_are h) code name n (sym (s.names_are code) ∙ is);
-  }
-
-  pub code_unknown : (code : ℕ) → name_in x.by_code code ≡ None → ((c : ℕ) → name_in y.by_code c ≡ cond (nat_eq code c) None (name_in x.by_code c)) → ((n : List ℕ) → code_in y.by_name n ≡ code_in x.by_name n)
-      → (ps : List Pair) → Stands x ps → Stands y (filter (λ q. not (nat_eq code q.code)) ps)
-  code_unknown code is names codes ps s = record {
-    distinct_are = kept_distinct (λ q. not (nat_eq code q.code)) ps s.distinct_are;
-    names_are = λ c. names c ∙ ap (cond (nat_eq code c) None) (s.names_are c) ∙ sym (look_without c-of n-of nat_eq bytes_eq unsigned_Decides bytes_eq-Decides ps code c);
-    codes_are = λ n. codes n ∙ s.codes_are n
-        ∙ gone_none c-of n-of nat_eq bytes_eq unsigned_Decides bytes_eq-Decides ps (apart ps s.distinct_are) (λ a b h. code_of_name ps a b s.distinct_are h) (λ a b h. name_of_code ps a b s.distinct_are h) code n (sym (s.names_are code) ∙ is);
-  }
-
   pub inserted : (name : List ℕ) (code : ℕ) → ((n : List ℕ) → code_in y.by_name n ≡ cond (bytes_eq name n) (Some code) (code_in x.by_name n)) → ((c : ℕ) → name_in y.by_code c ≡ cond (nat_eq code c) (Some name) (name_in x.by_code c))
       → (ps : List Pair) → Stands x ps → list_any (shares (record { name = name; code = code })) ps ≡ false → Stands y (ps ++ record { name = name; code = code } ∷ [])
   inserted name code codes names ps s none =
@@ -203,13 +161,6 @@ module _ (x y : Indexed) where
         names_are = λ c. names c ∙ ap (cond (nat_eq code c) (Some name)) (s.names_are c)
             ∙ last_put c-of n-of nat_eq bytes_eq unsigned_Decides bytes_eq-Decides ps p c (second_of (list_any (λ q. bytes_eq name q.name) ps) (list_any (λ q. nat_eq code q.code) ps) neither);
       }
-
--- under override and replace
-pub put_over : (mode : Mode) (x y : Indexed) (ps : List Pair) (p : Pair) → (mode ≡ Augment → ⊥)
-    → Stands x (filter (λ q. not (nat_eq p.code q.code)) (filter (λ q. not (bytes_eq p.name q.name)) ps)) → ((qs : List Pair) → Stands x qs → list_any (shares p) qs ≡ false → Stands y (qs ++ p ∷ [])) → Stands y (taken mode ps p)
-put_over Augment x y ps p other s put = absurd (other refl)
-put_over Override x y ps p other s put = put (without p ps) (subst (Stands x) (sym (filter-both (λ q. bytes_eq p.name q.name) (λ q. nat_eq p.code q.code) ps)) s) (none_left p ps)
-put_over Replace x y ps p other s put = put (without p ps) (subst (Stands x) (sym (filter-both (λ q. bytes_eq p.name q.name) (λ q. nat_eq p.code q.code) ps)) s) (none_left p ps)
 
 -- under augment, where one shares something
 pub kept_under : (mode : Mode) (x : Indexed) (ps : List Pair) (p : Pair) → mode ≡ Augment → list_any (shares p) ps ≡ true → Stands x ps → Stands x (taken mode ps p)

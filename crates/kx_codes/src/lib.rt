@@ -4,6 +4,7 @@
 mod alias_name;
 mod aliases;
 mod checks;
+mod laws;
 mod name;
 mod pairs;
 mod reader;
@@ -11,5 +12,6 @@ mod statements;
 mod table;
 mod walking;
 
+pub use laws::pairs_are_left;
 pub use reader::codes;
 pub use table::Codes;

@@ -1,9 +1,10 @@
-ghost use Rattle.std.specs.Prelude.{◌≡◌, ◌++◌, ◌∷◌, [], ◌≤◌, ◌<◌, ◌+◌, ℕ, false, not, nat_eq, filter, slice_get, IfErr, IfSome, IsSome, OnOk, List, Some};
+ghost use Rattle.std.specs.Prelude.{◌≡◌, if◌then◌else◌, [], ◌≤◌, ◌<◌, ◌+◌, ℕ, nat_eq, slice_get, IfErr, IfOk, IfSome, IsSome, OnOk, List, None, Some};
 ghost use Rattle.std.specs.List.{list_any};
 ghost use Rattle.std.specs.Option.{option_map};
 ghost use Rattle.std.specs.Str.{bytes_eq};
 ghost use Rattle.kx_lex.specs.declared.fault.Fault.TheVariants.{Memory};
 ghost use Rattle.kx_codes.specs.Indexed.{Stands};
+ghost use Rattle.kx_parse.specs.declared.tree.Mode.TheVariants.{Augment, Override};
 ghost use Rattle.kx_basics.specs.KeyNames.{IsKeyName};
 ghost use Rattle.kx_basics.specs.declared.limits.TheConstants.{CODES};
 ghost use Rattle.kx_codes.specs.Codes.{IsEnd};
@@ -93,30 +94,76 @@ impl<'l> Pairs<'l> {
         self.codes.contains_key(name) || self.names.contains_key(&code)
     }
 
-    fn remove_name(&mut self, name: &[u8])
-        ensures { (ps : List PairValue) → Stands self.old ps → Stands self.new (filter (λ q. not (bytes_eq name.now q.name)) ps) }
+    /// Gives a name this code; answers its code before.
+    fn put_code(&mut self, name: &'l [u8], code: u16) -> Result<Option<u16>, Fault>
+        ensures before { IfOk result (λ before. before ≡ code_in self.old.by_name name.now) }
+        ensures put { OnOk result ((n : List ℕ) → code_in self.new.by_name n ≡ (if bytes_eq name.now n then Some code else code_in self.old.by_name n)) }
+        ensures names { OnOk result (self.new.by_code ≡ self.old.by_code) }
+        ensures err { IfErr result (λ e. e ≡ Memory) }
     {
-        if let Some(code) = self.codes.swap_remove(name) {
-            let _ = self.names.swap_remove(&code);
-        }
+        Ok(self.codes.insert(name, code)?)
     }
 
-    fn remove_code(&mut self, code: u16)
-        ensures { (ps : List PairValue) → Stands self.old ps → Stands self.new (filter (λ q. not (nat_eq code q.code)) ps) }
+    /// Gives a code this name; answers its name before.
+    fn put_name(&mut self, code: u16, name: &'l [u8]) -> Result<Option<LentName<'l>>, Fault>
+        requires { IsKeyName name.now }
+        ensures before { IfOk result (λ before. before ≡ name_in self.old.by_code code) }
+        ensures put { OnOk result ((c : ℕ) → name_in self.new.by_code c ≡ (if nat_eq code c then Some name.now else name_in self.old.by_code c)) }
+        ensures codes { OnOk result (self.new.by_name ≡ self.old.by_name) }
+        ensures err { IfErr result (λ e. e ≡ Memory) }
     {
-        if let Some(name) = self.names.swap_remove(&code) {
+        Ok(self.names.insert(code, LentName::of(name))?)
+    }
+
+    /// Leaves a name, if there is one, without a code.
+    fn drop_code(&mut self, name: Option<LentName>)
+        ensures dropped { IfSome name.entry (λ m. (n : List ℕ) → code_in self.new.by_name n ≡ (if bytes_eq m n then None else code_in self.old.by_name n)) }
+        ensures same { name.entry ≡ None → self.new ≡ self.old }
+        ensures names { self.new.by_code ≡ self.old.by_code }
+    {
+        if let Some(name) = name {
             let _ = self.codes.swap_remove(name.as_slice());
         }
     }
 
-    /// Puts in a pair that shares nothing with another.
-    fn insert(&mut self, name: &'l [u8], code: u16) -> Result<(), Fault>
+    /// Leaves a code, if there is one, without a name.
+    fn drop_name(&mut self, code: Option<u16>)
+        ensures dropped { IfSome code (λ d. (c : ℕ) → name_in self.new.by_code c ≡ (if nat_eq d c then None else name_in self.old.by_code c)) }
+        ensures same { code ≡ None → self.new ≡ self.old }
+        ensures codes { self.new.by_name ≡ self.old.by_name }
+    {
+        if let Some(code) = code {
+            let _ = self.names.swap_remove(&code);
+        }
+    }
+
+    /// Takes a pair under augment: it is dropped where one shares its name or its code.
+    fn take_under(&mut self, name: &'l [u8], code: u16) -> Result<(), Fault>
         requires { IsKeyName name.now }
-        ensures inserted { OnOk result ((ps : List PairValue) → Stands self.old ps → list_any (shares (record { name = name.now; code = code })) ps ≡ false → Stands self.new (ps ++ record { name = name.now; code = code } ∷ [])) }
+        ensures took { OnOk result ((ps : List PairValue) → Stands self.old ps → Stands self.new (taken Augment ps (record { name = name.now; code = code }))) }
         ensures err { IfErr result (λ e. e ≡ Memory) }
     {
-        self.codes.insert(name, code)?;
-        self.names.insert(code, LentName::of(name))?;
+        if self.has_sharing(name, code) {
+            return Ok(());
+        }
+        let _ = self.put_code(name, code)?;
+        let _ = self.put_name(code, name)?;
+        Ok(())
+    }
+
+    /// Takes a pair under override or replace: those that share its name or its code are removed.
+    fn take_over(&mut self, name: &'l [u8], code: u16) -> Result<(), Fault>
+        requires { IsKeyName name.now }
+        ensures took { OnOk result ((ps : List PairValue) → Stands self.old ps → Stands self.new (taken Override ps (record { name = name.now; code = code }))) }
+        ensures err { IfErr result (λ e. e ≡ Memory) }
+    {
+        let before = self.put_code(name, code)?;
+        if before == Some(code) {
+            return Ok(());
+        }
+        self.drop_name(before);
+        let other = self.put_name(code, name)?;
+        self.drop_code(other);
         Ok(())
     }
 
@@ -127,20 +174,10 @@ impl<'l> Pairs<'l> {
         ensures took { OnOk result ((ps : List PairValue) → Stands self.old ps → Stands self.new (taken mode ps (record { name = name.now; code = code }))) }
         ensures err { IfErr result (λ e. e ≡ Memory) }
     {
-        if self.code_of(name) == Some(code) {
-            return Ok(());
+        match mode {
+            Mode::Augment => self.take_under(name, code),
+            Mode::Override | Mode::Replace => self.take_over(name, code),
         }
-        if mode == Mode::Augment {
-            if self.has_sharing(name, code) {
-                return Ok(());
-            }
-            self.insert(name, code)?;
-            return Ok(());
-        }
-        self.remove_name(name);
-        self.remove_code(code);
-        self.insert(name, code)?;
-        Ok(())
     }
 
     /// Takes the pair at a place of others.

@@ -1,5 +1,7 @@
 //! Why a task ends early.
-ghost use Rattle.std.specs.Prelude.{◌≡◌, ◌⊎◌};
+ghost use Rattle.std.specs.IoError.{error_kind};
+ghost use Rattle.std.specs.Prelude.{◌≡◌, ◌≢◌};
+ghost use Rattle.std.specs.declared.io.ErrorKind.TheVariants.{OutOfMemory};
 ghost use Rattle.kx_lex.specs.declared.fault.Fault.TheVariants.{Memory};
 ghost use Rattle.kx_failure.specs.Status.{failure_of, status_of};
 
@@ -41,12 +43,12 @@ impl Failure<'_> {
 
     /// A file at a path can't be used, or there is no memory for it.
     pub fn of_file<'a>(fault: &io::Error, path: &'a str) -> Failure<'a>
-        ensures { (result ≡ Failure.File path.entry) ⊎ (result ≡ Failure.Source Memory) }
+        ensures memory { error_kind fault.now ≡ OutOfMemory → result ≡ Failure.Source Memory }
+        ensures file { error_kind fault.now ≢ OutOfMemory → result ≡ Failure.File path.entry }
     {
-        if fault.kind() == io::ErrorKind::OutOfMemory {
-            Failure::Source(Fault::Memory)
-        } else {
-            Failure::File(path)
+        match fault.kind() {
+            io::ErrorKind::OutOfMemory => Failure::Source(Fault::Memory),
+            _ => Failure::File(path),
         }
     }
 
