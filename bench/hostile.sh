@@ -77,6 +77,10 @@ for step in 0 1; do
     awk -v step="$step" 'BEGIN { print "default xkb_keycodes {"; for (i = 0; i < 4096; i++) printf "<%d>=%d;\n", i, (i + step) % 4096; print "};" }' > "$work/codes$step"
 done
 run 'two files of keycodes with each other'"'"'s names, in turn' a="$work/codes0" b="$work/codes1"
+for step in 0 1; do
+    awk -v step="$step" 'BEGIN { for (i = 0; i < 236; i++) long = long "x"; print "default xkb_keycodes {"; for (i = 0; i < 4096; i++) printf "<%s%04d>=%d;\n", long, i, (i + step) % 4096; print "};" }' > "$work/codes$step"
+done
+run 'the same, with names of 240 bytes' a="$work/codes0" b="$work/codes1"
 including symbols a 4000
 run 'a file of 1 MB of keys, included 4,000 times' a="$work/keys"
 including symbols a+a+a+a 1000
