@@ -23,7 +23,7 @@ either-way false false true d f g h = absurd (false≢true (f refl))
 either-way false false false true f g h = absurd (false≢true (g refl))
 either-way false false false false f g h = refl
 
-shares_sym : (p q : Pair) → shares p q ≡ false → shares q p ≡ false
+pub shares_sym : (p q : Pair) → shares p q ≡ false → shares q p ≡ false
 shares_sym p q = either-way (bytes_eq p.name q.name) (p.code == q.code) (bytes_eq q.name p.name) (q.code == p.code)
     (λ h. (bytes_eq-Decides p.name q.name).1 (sym ((bytes_eq-Decides q.name p.name).0 h)))
     (λ h. (unsigned_Decides p.code q.code).1 (sym ((unsigned_Decides q.code p.code).0 h)))

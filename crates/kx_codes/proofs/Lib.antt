@@ -6,6 +6,10 @@ mod Faultless
 mod Given
 mod Left
 mod Matching
+mod Names
+mod Naming
+mod Numbered
+mod Numbering
 mod Places
 mod Standing
 pub mod Targets

@@ -233,6 +233,20 @@ all_stand es u mode x g is ps qs dp s at =
     (λ c h. code_of_name (coded es) c name dv (names c ∙ name_of_code qs c name s.distinct_are h)) in
     order_stands ps (coded es) qs dv s.distinct_are codes names mode x dp (subst (λ vs. Stands x (all_taken mode ps vs)) (sym is) at)
 
+-- the entries of a map are what it stands for by itself
+pub own_stands : (es : List (ℕ × List ℕ)) → IsDistinct nat_eq (keys_of es) → (x : Indexed) → coded es ≡ x.by_code → (qs : List Pair) → Stands x qs → Stands x x.by_code
+own_stands es u x is qs s =
+    let names = λ (code : ℕ). ap (λ vs. name_in vs code) is ∙ s.names_are code in
+    let dv = keys-distinct es u (λ c d n h k. some_same c d (sym (code_of_name qs c n s.distinct_are (sym (names c) ∙ h)) ∙ code_of_name qs d n s.distinct_are (sym (names d) ∙ k))) in
+    let codes = λ (name : List ℕ). option_same (code_in (coded es) name) (code_in qs name)
+    (λ c h. code_of_name qs c name s.distinct_are (sym (names c) ∙ name_of_code (coded es) c name dv h))
+    (λ c h. code_of_name (coded es) c name dv (names c ∙ name_of_code qs c name s.distinct_are h)) in
+    subst (Stands x) is (record {
+      distinct_are = dv;
+      codes_are = λ name. s.codes_are name ∙ sym (codes name);
+      names_are = λ code. ap (λ vs. name_in vs code) (sym is);
+    })
+
 pub within_at : (vs : List Pair) (i : ℕ) (p : Pair) → slice_get vs i ≡ Some p → i < length vs
 within_at [] i p h = absurd (false≢true (ap is_some h))
 within_at (v ∷ vs) zero p h = omega arith

@@ -6,6 +6,8 @@ mod aliases;
 mod checks;
 mod laws;
 mod name;
+mod named;
+mod numbers;
 mod pairs;
 mod reader;
 mod statements;

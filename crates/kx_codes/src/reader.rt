@@ -5,6 +5,8 @@ ghost use Rattle.kx_codes.specs.CodeFaults.{faults_of};
 ghost use Rattle.kx_codes.specs.Codes.{CodesShow, name_of, paired};
 
 use crate::aliases::Alias;
+use crate::named::NamedPairs;
+use crate::numbers::Names;
 use crate::table::Codes;
 use crate::walking::gather;
 use kx_include::Expansion;
@@ -23,7 +25,9 @@ pub fn codes<'l>(alloc: Global, expansion: &Expansion<'l>) -> Result<Codes<'l>, 
     ensures faultless { OnOk result (faults_of (expanded_body expansion.now) ≡ []) }
     ensures fault { IfErr result (λ e. Contains (Memory ∷ faults_of (expanded_body expansion.now)) e) }
 {
-    let pairs = gather(alloc, expansion)?;
+    let mut names = Names::new(alloc);
+    let gathered = gather(alloc, &mut names, expansion)?;
+    let pairs = NamedPairs::of(alloc, &names, &gathered)?;
     let merged = merge::<(), Alias>(alloc, &(), expansion)?;
     Ok(Codes::of(pairs, merged.records))
 }

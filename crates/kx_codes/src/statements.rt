@@ -1,10 +1,11 @@
 ghost use Rattle.std.specs.Prelude.{◌≡◌, ◌∷◌, [], Contains, IfErr, List, OnOk};
 ghost use Rattle.kx_lex.specs.declared.fault.Fault.TheVariants.{Memory};
 ghost use Rattle.kx_codes.specs.CodeFaults.{own_faults, said_faults};
-ghost use Rattle.kx_codes.specs.Indexed.{Stands};
+ghost use Rattle.kx_codes.specs.Numbers.{Grows, IsOnce, StandsIn};
 ghost use Rattle.kx_codes.specs.Pairs.{Pair, own_pairs, said_pairs};
 
 use crate::checks::{check_code, check_name, is_limit};
+use crate::numbers::Names;
 use crate::pairs::Pairs;
 use kx_include::Place;
 use kx_lex::{At, Fault, Span};
@@ -12,11 +13,13 @@ use kx_parse::{Item, Mode, Statement};
 
 /// Takes what an item says; an include brings nothing here.
 pub(crate) fn take_item<'l>(
-    pairs: &mut Pairs<'l>,
+    names: &mut Names<'l>,
+    pairs: &mut Pairs,
     place: Place,
     item: &'l Item,
 ) -> Result<(), Fault>
-    ensures took { OnOk result ((ps : List Pair) → Stands pairs.old ps → Stands pairs.new (own_pairs item.now ps)) }
+    ensures took { OnOk result ((ps : List Pair) → StandsIn names.old pairs.old ps → StandsIn names.new pairs.new (own_pairs item.now ps)) }
+    ensures grows { IsOnce names.old → Grows names.old names.new }
     ensures faultless { OnOk result (own_faults place.file item.now ≡ []) }
     ensures fault { IfErr result (λ e. Contains (Memory ∷ own_faults place.file item.now) e) }
 {
@@ -26,21 +29,23 @@ pub(crate) fn take_item<'l>(
             statement,
             first,
             span,
-        } => take_said(pairs, place.file, *mode, statement, *first, *span),
+        } => take_said(names, pairs, place.file, *mode, statement, *first, *span),
         Item::Include { .. } => Ok(()),
     }
 }
 
 /// Takes what a statement says; `whole` is all of it, and `first` its first token.
 fn take_said<'l>(
-    pairs: &mut Pairs<'l>,
+    names: &mut Names<'l>,
+    pairs: &mut Pairs,
     file: u32,
     mode: Mode,
     statement: &'l Statement,
     first: Span,
     whole: Span,
 ) -> Result<(), Fault>
-    ensures took { OnOk result ((ps : List Pair) → Stands pairs.old ps → Stands pairs.new (said_pairs mode statement.now ps)) }
+    ensures took { OnOk result ((ps : List Pair) → StandsIn names.old pairs.old ps → StandsIn names.new pairs.new (said_pairs mode statement.now ps)) }
+    ensures grows { IsOnce names.old → Grows names.old names.new }
     ensures faultless { OnOk result (said_faults file statement.now first whole ≡ []) }
     ensures fault { IfErr result (λ e. Contains (Memory ∷ said_faults file statement.now first whole) e) }
 {
@@ -48,7 +53,8 @@ fn take_said<'l>(
         Statement::Keycode { name, code } => {
             let name = check_name(file, whole, name)?;
             let code = check_code(file, *code)?;
-            pairs.take(mode, name, code)
+            let number = names.number(name)?;
+            pairs.take(mode, number, code)
         }
         Statement::Alias { name, target } => {
             check_name(file, whole, name)?;

@@ -7,7 +7,7 @@ ghost use Rattle.kx_codes.specs.Records.{shown_alias};
 
 use crate::alias_name::AliasName;
 use crate::aliases::Alias;
-use crate::pairs::Pairs;
+use crate::named::NamedPairs;
 use indexmap::IndexMap;
 use std::marker::Model;
 
@@ -15,7 +15,7 @@ use std::marker::Model;
 /// trees of the source.
 #[derive(Drop)]
 pub struct Codes<'l> {
-    pairs: Pairs<'l>,
+    pairs: NamedPairs<'l>,
     aliases: IndexMap<AliasName, Alias>,
 }
 
@@ -30,7 +30,7 @@ impl<'l> Model for Codes<'l> {
 }
 
 impl<'l> Codes<'l> {
-    pub(crate) fn of(pairs: Pairs<'l>, aliases: IndexMap<AliasName, Alias>) -> Codes<'l>
+    pub(crate) fn of(pairs: NamedPairs<'l>, aliases: IndexMap<AliasName, Alias>) -> Codes<'l>
         ensures { result ≡ record { by_name = pairs.entry.by_name; by_code = pairs.entry.by_code; aliases = map shown_alias aliases.entries } }
     {
         Codes { pairs, aliases }

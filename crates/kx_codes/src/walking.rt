@@ -1,8 +1,10 @@
-ghost use Rattle.std.specs.Prelude.{◌∷◌, [], IfErr, List, None, OnOk};
+ghost use Rattle.std.specs.Prelude.{◌≡◌, ◌∷◌, [], ℕ, IfErr, List, None, OnOk};
 ghost use Rattle.kx_include.specs.Expansion.{Body, End, Inc};
 ghost use Rattle.kx_include.specs.Shared.{entries_body, expanded_body, links_body, shared_body, shared_sections};
 ghost use Rattle.kx_codes.specs.Gathering.{AreGathered, Blames, IsGathered, Took};
+ghost use Rattle.kx_codes.specs.Numbers.{Grows, IsOnce};
 
+use crate::numbers::Names;
 use crate::pairs::Pairs;
 use crate::statements::take_item;
 use kx_include::{Entry, Expansion, Link, Map, Place};
@@ -10,30 +12,37 @@ use kx_lex::Fault;
 use kx_parse::Mode;
 use std::alloc::Global;
 
-/// What the keycodes of a source leave.
-pub(crate) fn gather<'l>(alloc: Global, expansion: &Expansion<'l>) -> Result<Pairs<'l>, Fault>
-    ensures { IsGathered (expanded_body expansion.now) result }
+/// What the keycodes of a source leave, by the numbers that their names are given.
+pub(crate) fn gather<'l>(
+    alloc: Global,
+    names: &mut Names<'l>,
+    expansion: &Expansion<'l>,
+) -> Result<Pairs, Fault>
+    ensures gathered { IsOnce names.old → IsGathered names.new (expanded_body expansion.now) result }
+    ensures grows { IsOnce names.old → Grows names.old names.new }
 {
     // A fault in a map is one of the source only where the map is included, and is answered there.
     let mut done = Vec::new(alloc);
     'maps: for map in expansion.maps.as_slice() {
-        let gathered = gather_map(alloc, done.as_slice(), map);
+        let gathered = gather_map(alloc, done.as_slice(), names, map);
         done.push(gathered)?;
     }
-    gather_sections(alloc, done.as_slice(), expansion.sections.as_slice())
+    gather_sections(alloc, done.as_slice(), names, expansion.sections.as_slice())
 }
 
 /// What the source's sections leave together, where `done` is what each map leaves.
 fn gather_sections<'l>(
     alloc: Global,
-    done: &[Result<Pairs<'l>, Fault>],
+    done: &[Result<Pairs, Fault>],
+    names: &mut Names<'l>,
     sections: &[Map<'l>],
-) -> Result<Pairs<'l>, Fault>
-    ensures { (bodies : List Body) → AreGathered done.now bodies → IsGathered (shared_sections bodies sections.now) result }
+) -> Result<Pairs, Fault>
+    ensures gathered { (bodies : List Body) → AreGathered names.old done.now bodies → IsGathered names.new (shared_sections bodies sections.now) result }
+    ensures grows { IsOnce names.old → Grows names.old names.new }
 {
     let mut gathered = Pairs::new(alloc);
     'sections: for section in sections {
-        gather_section(alloc, done, section, &mut gathered)?;
+        gather_section(alloc, done, names, section, &mut gathered)?;
     }
     Ok(gathered)
 }
@@ -41,28 +50,32 @@ fn gather_sections<'l>(
 /// What a map leaves.
 fn gather_map<'l>(
     alloc: Global,
-    done: &[Result<Pairs<'l>, Fault>],
+    done: &[Result<Pairs, Fault>],
+    names: &mut Names<'l>,
     map: &Map<'l>,
-) -> Result<Pairs<'l>, Fault>
-    ensures { (bodies : List Body) → AreGathered done.now bodies → IsGathered (shared_body bodies map.now End) result }
+) -> Result<Pairs, Fault>
+    ensures gathered { (bodies : List Body) → AreGathered names.old done.now bodies → IsGathered names.new (shared_body bodies map.now End) result }
+    ensures grows { IsOnce names.old → Grows names.old names.new }
 {
     let mut gathered = Pairs::new(alloc);
-    gather_section(alloc, done, map, &mut gathered)?;
+    gather_section(alloc, done, names, map, &mut gathered)?;
     Ok(gathered)
 }
 
 /// Takes what the items of a section say.
 fn gather_section<'l>(
     alloc: Global,
-    done: &[Result<Pairs<'l>, Fault>],
+    done: &[Result<Pairs, Fault>],
+    names: &mut Names<'l>,
     section: &Map<'l>,
-    gathered: &mut Pairs<'l>,
+    gathered: &mut Pairs,
 ) -> Result<(), Fault>
-    ensures took { OnOk result ((bodies : List Body) → AreGathered done.now bodies → Took gathered.old gathered.new (shared_body bodies section.now End)) }
-    ensures fault { IfErr result (λ e. (bodies : List Body) → AreGathered done.now bodies → Blames (shared_body bodies section.now End) e) }
+    ensures took { OnOk result ((bodies : List Body) → AreGathered names.old done.now bodies → Took names.old names.new gathered.old gathered.new (shared_body bodies section.now End)) }
+    ensures fault { IfErr result (λ e. (bodies : List Body) → AreGathered names.old done.now bodies → Blames (shared_body bodies section.now End) e) }
+    ensures grows { IsOnce names.old → Grows names.old names.new }
 {
     'entries: for entry in section.entries.as_slice() {
-        gather_entry(alloc, done, section.place, entry, gathered)?;
+        gather_entry(alloc, done, names, section.place, entry, gathered)?;
     }
     Ok(())
 }
@@ -70,16 +83,18 @@ fn gather_section<'l>(
 /// Takes what an item says.
 fn gather_entry<'l>(
     alloc: Global,
-    done: &[Result<Pairs<'l>, Fault>],
+    done: &[Result<Pairs, Fault>],
+    names: &mut Names<'l>,
     place: Place,
     entry: &Entry<'l>,
-    gathered: &mut Pairs<'l>,
+    gathered: &mut Pairs,
 ) -> Result<(), Fault>
-    ensures took { OnOk result ((bodies : List Body) → AreGathered done.now bodies → Took gathered.old gathered.new (entries_body bodies place (entry.now ∷ []) End)) }
-    ensures fault { IfErr result (λ e. (bodies : List Body) → AreGathered done.now bodies → Blames (entries_body bodies place (entry.now ∷ []) End) e) }
+    ensures took { OnOk result ((bodies : List Body) → AreGathered names.old done.now bodies → Took names.old names.new gathered.old gathered.new (entries_body bodies place (entry.now ∷ []) End)) }
+    ensures fault { IfErr result (λ e. (bodies : List Body) → AreGathered names.old done.now bodies → Blames (entries_body bodies place (entry.now ∷ []) End) e) }
+    ensures grows { IsOnce names.old → Grows names.old names.new }
 {
     match entry {
-        Entry::Own(item) => take_item(gathered, place, item),
+        Entry::Own(item) => take_item(names, gathered, place, item),
         Entry::Include { mode, links } => {
             gather_include(alloc, done, *mode, links.as_slice(), gathered)
         }
@@ -87,15 +102,15 @@ fn gather_entry<'l>(
 }
 
 /// Takes what the parts of an include's text bring together, under the include's mode.
-fn gather_include<'l>(
+fn gather_include(
     alloc: Global,
-    done: &[Result<Pairs<'l>, Fault>],
+    done: &[Result<Pairs, Fault>],
     mode: Mode,
     links: &[Link],
-    gathered: &mut Pairs<'l>,
+    gathered: &mut Pairs,
 ) -> Result<(), Fault>
-    ensures took { OnOk result ((bodies : List Body) → AreGathered done.now bodies → Took gathered.old gathered.new (Inc mode None (links_body bodies links.now) End)) }
-    ensures fault { IfErr result (λ e. (bodies : List Body) → AreGathered done.now bodies → Blames (Inc mode None (links_body bodies links.now) End) e) }
+    ensures took { OnOk result ((names : List (List ℕ)) (bodies : List Body) → AreGathered names done.now bodies → Took names names gathered.old gathered.new (Inc mode None (links_body bodies links.now) End)) }
+    ensures fault { IfErr result (λ e. (names : List (List ℕ)) (bodies : List Body) → AreGathered names done.now bodies → Blames (Inc mode None (links_body bodies links.now) End) e) }
 {
     // What a map leaves names nothing twice, so that a single part need not be joined first.
     if let [link] = links {
@@ -109,12 +124,12 @@ fn gather_include<'l>(
 }
 
 /// What the parts of an include's text leave together.
-fn gather_links<'l>(
+fn gather_links(
     alloc: Global,
-    done: &[Result<Pairs<'l>, Fault>],
+    done: &[Result<Pairs, Fault>],
     links: &[Link],
-) -> Result<Pairs<'l>, Fault>
-    ensures { (bodies : List Body) → AreGathered done.now bodies → IsGathered (links_body bodies links.now) result }
+) -> Result<Pairs, Fault>
+    ensures { (names : List (List ℕ)) (bodies : List Body) → AreGathered names done.now bodies → IsGathered names (links_body bodies links.now) result }
 {
     let mut joined = Pairs::new(alloc);
     'links: for link in links {
@@ -124,13 +139,9 @@ fn gather_links<'l>(
 }
 
 /// Takes what a part of an include's text brings; nothing where there is no such map.
-fn gather_link<'l>(
-    done: &[Result<Pairs<'l>, Fault>],
-    link: Link,
-    gathered: &mut Pairs<'l>,
-) -> Result<(), Fault>
-    ensures took { OnOk result ((bodies : List Body) → AreGathered done.now bodies → Took gathered.old gathered.new (links_body bodies (link ∷ []))) }
-    ensures fault { IfErr result (λ e. (bodies : List Body) → AreGathered done.now bodies → Blames (links_body bodies (link ∷ [])) e) }
+fn gather_link(done: &[Result<Pairs, Fault>], link: Link, gathered: &mut Pairs) -> Result<(), Fault>
+    ensures took { OnOk result ((names : List (List ℕ)) (bodies : List Body) → AreGathered names done.now bodies → Took names names gathered.old gathered.new (links_body bodies (link ∷ []))) }
+    ensures fault { IfErr result (λ e. (names : List (List ℕ)) (bodies : List Body) → AreGathered names done.now bodies → Blames (links_body bodies (link ∷ [])) e) }
 {
     match done.get(link.map) {
         None => Ok(()),

@@ -1,17 +1,34 @@
 use Rattle.kx_include.specs.Shared.{expanded_body}
 use Rattle.kx_codes.specs.Codes.{name_of, paired}
+use Rattle.kx_codes.specs.Gathering.{Blames}
+use Rattle.kx_codes.specs.Pairs.{pairs_of}
+use Rattle.kx_codes.proofs.Behind.{err_passed, memory_blamed}
 use Rattle.kx_codes.proofs.Distinct.{joined}
 use Rattle.kx_codes.proofs.Faultless.{refused}
+use Rattle.kx_codes.proofs.Numbering.{once_none}
 use Rattle.kx_codes.proofs.Targets.{codes_show}
 use Rattle.kx_codes.proofs.reader.codes.Goals as goal
 
+pub returns-in_err-pairs-clause-fault : goal.returns-in_err-pairs-clause-fault
+returns-in_err-pairs-clause-fault c = err_passed c.from_residual-in_err-pairs.result (Blames (expanded_body c.args.expansion.now)) c.in_err-pairs.field-0.0 c.from_residual-in_err-pairs.ensures.1 (memory_blamed (expanded_body c.args.expansion.now) c.in_err-pairs.field-0.0 c.in_err-pairs.ensures.err)
+
 pub returns-in_err-merged-clause-fault : goal.returns-in_err-merged-clause-fault
-returns-in_err-merged-clause-fault c = refused c.from_residual-in_err-merged.result (expanded_body c.args.expansion.now) c.in_err-merged.field-0.0 c.from_residual-in_err-merged.ensures.1 c.in_ok-pairs.ensures.faultless c.in_err-merged.ensures.fault
+returns-in_err-merged-clause-fault c =
+    let once = once_none c.new-names.result c.new-names.ensures.none in
+    refused c.from_residual-in_err-merged.result (expanded_body c.args.expansion.now) c.in_err-merged.field-0.0 c.from_residual-in_err-merged.ensures.1 (c.in_ok-gathered.ensures.gathered once).faultless c.in_err-merged.ensures.fault
 
 pub returns-clause-shows : goal.returns-clause-shows
-returns-clause-shows c = codes_show c.of.result c.in_ok-pairs.pairs c.in_ok-merged.merged.records (expanded_body c.args.expansion.now) c.of.ensures c.in_ok-pairs.ensures.pairs_are c.in_ok-merged.ensures.shows
+returns-clause-shows c =
+    let once = once_none c.new-names.result c.new-names.ensures.none in
+    let stands = c.in_ok-pairs.ensures.named (c.in_ok-gathered.ensures.grows once).once (pairs_of (expanded_body c.args.expansion.now)) (c.in_ok-gathered.ensures.gathered once).pairs_are in
+    codes_show c.of-2.result c.in_ok-pairs.pairs c.in_ok-merged.merged.records (expanded_body c.args.expansion.now) c.of-2.ensures stands c.in_ok-merged.ensures.shows
 
 pub returns-clause-joined : goal.returns-clause-joined
-returns-clause-joined c = joined (expanded_body c.args.expansion.now) (name_of c.of.result) (paired c.of.result)
-    (codes_show c.of.result c.in_ok-pairs.pairs c.in_ok-merged.merged.records (expanded_body c.args.expansion.now) c.of.ensures c.in_ok-pairs.ensures.pairs_are c.in_ok-merged.ensures.shows).names_are
-    (codes_show c.of.result c.in_ok-pairs.pairs c.in_ok-merged.merged.records (expanded_body c.args.expansion.now) c.of.ensures c.in_ok-pairs.ensures.pairs_are c.in_ok-merged.ensures.shows).codes_are
+returns-clause-joined c =
+    let once = once_none c.new-names.result c.new-names.ensures.none in
+    let stands = c.in_ok-pairs.ensures.named (c.in_ok-gathered.ensures.grows once).once (pairs_of (expanded_body c.args.expansion.now)) (c.in_ok-gathered.ensures.gathered once).pairs_are in
+    let shows = codes_show c.of-2.result c.in_ok-pairs.pairs c.in_ok-merged.merged.records (expanded_body c.args.expansion.now) c.of-2.ensures stands c.in_ok-merged.ensures.shows in
+    joined (expanded_body c.args.expansion.now) (name_of c.of-2.result) (paired c.of-2.result) shows.names_are shows.codes_are
+
+pub returns-clause-faultless : goal.returns-clause-faultless
+returns-clause-faultless c = (c.in_ok-gathered.ensures.gathered (once_none c.new-names.result c.new-names.ensures.none)).faultless

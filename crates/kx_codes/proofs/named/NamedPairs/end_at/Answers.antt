@@ -4,7 +4,7 @@ use Rattle.kx_codes.proofs.Entries.{name_coded}
 use Rattle.kx_codes.proofs.Matching.{some_same}
 use Rattle.kx_codes.proofs.Standing.{coded_at, none_at}
 use Rattle.kx_codes.specs.Pairs.{Pair, name_in}
-use Rattle.kx_codes.proofs.pairs.Pairs.end_at.Goals as goal
+use Rattle.kx_codes.proofs.named.NamedPairs.end_at.Goals as goal
 
 pub returns-in-Some-2-clause-named : goal.returns-in-Some-2-clause-named
 returns-in-Some-2-clause-named c = λ code e.

@@ -1,7 +1,7 @@
 use Rattle.std.proofs.Common.{Some, sym, ap, ◌∙◌}
 use Rattle.kx_codes.specs.Pairs.{name_in}
 use Rattle.kx_codes.proofs.Entries.{name_coded}
-use Rattle.kx_codes.proofs.pairs.Pairs.name_of.Goals as goal
+use Rattle.kx_codes.proofs.named.NamedPairs.name_of.Goals as goal
 
 pub returns-in-None-clause-value : goal.returns-in-None-clause-value
 returns-in-None-clause-value c = c.in-None.ensures.value ∙ sym (name_coded c.self.inside.names.entries c.args.code) ∙ ap (λ m. name_in m.by_code c.args.code) c.self.view_is

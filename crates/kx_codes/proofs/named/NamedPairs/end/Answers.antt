@@ -1,7 +1,7 @@
 use Rattle.std.proofs.Common.{◌≤◌, length, take_all, sym, ap, subst, ◌∙◌}
 use Rattle.kx_codes.proofs.Ends.{Reached, all_reached}
 use Rattle.kx_codes.proofs.Standing.{length-coded}
-use Rattle.kx_codes.proofs.pairs.Pairs.end.Goals as goal
+use Rattle.kx_codes.proofs.named.NamedPairs.end.Goals as goal
 
 pub returns : goal.returns
 returns c =

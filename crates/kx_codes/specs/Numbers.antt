@@ -1,0 +1,36 @@
+-- Names that are numbered, and pairs of a number and a keycode that stand for pairs of a name and a keycode.
+use Rattle.std.specs.Prelude.{◌≡◌, ℕ, List, [], ◌∷◌, Some, slice_get, ⊤}
+use Rattle.kx_codes.specs.Indexed.{Indexed, Stands}
+use Rattle.kx_codes.specs.Pairs.{Pair}
+
+-- no name has two numbers
+abbrev pub IsOnce : List (List ℕ) → Type 0
+IsOnce names = (n m : ℕ) (name : List ℕ) → slice_get names n ≡ Some name → slice_get names m ≡ Some name → n ≡ m
+
+-- names keep their numbers where more are numbered
+pub record Grows (old new : List (List ℕ)) : Type 0 where
+  pub once : IsOnce new
+  pub kept : (n : ℕ) (name : List ℕ) → slice_get old n ≡ Some name → slice_get new n ≡ Some name
+
+-- a number, in the place of a name
+abbrev pub number : ℕ → List ℕ
+number n = n ∷ []
+
+-- a pair of a number stands for the pair of its name
+pub record Numbers (names : List (List ℕ)) (q p : Pair) : Type 0 where
+  pub place : ℕ
+  pub number_is : q.name ≡ number place
+  pub name_is : slice_get names place ≡ Some p.name
+  pub code_is : q.code ≡ p.code
+
+abbrev pub Numbered : List (List ℕ) → List Pair → List Pair → Type 0
+Numbered names [] [] = ⊤
+Numbered names [] (p ∷ ps) = ⊥
+Numbered names (q ∷ qs) [] = ⊥
+Numbered names (q ∷ qs) (p ∷ ps) = Numbers names q p × Numbered names qs ps
+
+-- what is gathered by numbers stands for pairs of names
+pub record StandsIn (names : List (List ℕ)) (x : Indexed) (ps : List Pair) : Type 0 where
+  pub numbered : List Pair
+  pub stands : Stands x numbered
+  pub are : Numbered names numbered ps

@@ -1,0 +1,131 @@
+ghost use Rattle.std.specs.Prelude.{◌≡◌, [], ◌∷◌, ◌++◌, ◌≤◌, ◌<◌, ◌+◌, ℕ, slice_get, IfErr, IfOk, IfSome, IsSome, OnOk, List, Some, false};
+ghost use Rattle.std.specs.List.{list_any};
+ghost use Rattle.std.specs.Option.{option_map};
+ghost use Rattle.kx_lex.specs.declared.fault.Fault.TheVariants.{Memory};
+ghost use Rattle.kx_basics.specs.KeyNames.{IsKeyName};
+ghost use Rattle.kx_basics.specs.declared.limits.TheConstants.{CODES};
+ghost use Rattle.kx_codes.specs.Codes.{IsEnd};
+ghost use Rattle.kx_codes.specs.Indexed.{Stands};
+ghost use Rattle.kx_codes.specs.Numbers.{IsOnce, StandsIn, number};
+ghost use Rattle.kx_codes.specs.Pairs.{Pair as PairValue, shares, code_in, name_in};
+
+use crate::name::LentName;
+use crate::numbers::Names;
+use crate::pairs::Pairs;
+use indexmap::IndexMap;
+use kx_basics::CODES;
+use kx_lex::Fault;
+use std::alloc::Global;
+use std::marker::Model;
+
+/// Pairs of a name and a keycode, of which no two share either, by the bytes of their names, which the statements lend.
+#[derive(Drop)]
+pub(crate) struct NamedPairs<'l> {
+    codes: IndexMap<&'l [u8], u16>,
+    names: IndexMap<u16, LentName<'l>>,
+}
+
+impl<'l> Model for NamedPairs<'l> {
+    ghost use Rattle.kx_codes.specs.Codes.{named, coded};
+    ghost use Rattle.kx_codes.specs.Indexed.{Indexed};
+
+    ghost Value = { Indexed };
+
+    ghost view = { λ p. record { by_name = named (λ k. k.now) p.codes.entries; by_code = coded p.names.entries } };
+}
+
+impl<'l> NamedPairs<'l> {
+    fn new(alloc: Global) -> NamedPairs<'l>
+        ensures { Stands result [] }
+    {
+        NamedPairs {
+            codes: IndexMap::new(alloc),
+            names: IndexMap::new(alloc),
+        }
+    }
+
+    /// Puts a pair that shares nothing with those that are there.
+    fn put(&mut self, name: &'l [u8], code: u16) -> Result<(), Fault>
+        requires { IsKeyName name.now }
+        ensures put { OnOk result ((ps : List PairValue) → Stands self.old ps → list_any (shares (record { name = name.now; code = code })) ps ≡ false → Stands self.new (ps ++ record { name = name.now; code = code } ∷ [])) }
+        ensures err { IfErr result (λ e. e ≡ Memory) }
+    {
+        self.codes.insert(name, code)?;
+        self.names.insert(code, LentName::of(name))?;
+        Ok(())
+    }
+
+    /// Puts the pair that stands for the one at a place of those of numbers, which shares nothing with those that are there.
+    fn put_at(&mut self, names: &Names<'l>, pairs: &Pairs, place: usize) -> Result<(), Fault>
+        ensures put { OnOk result ((n code : ℕ) (name : List ℕ) (ps : List PairValue) → slice_get pairs.now.by_code place ≡ Some (record { name = number n; code = code }) → slice_get names.now n ≡ Some name → Stands self.old ps → list_any (shares (record { name = name; code = code })) ps ≡ false → Stands self.new (ps ++ record { name = name; code = code } ∷ [])) }
+        ensures err { IfErr result (λ e. e ≡ Memory) }
+    {
+        let Some((code, number)) = pairs.at(place) else {
+            return Ok(());
+        };
+        match names.name(number) {
+            None => Ok(()),
+            Some(name) => self.put(name, code),
+        }
+    }
+
+    /// The pairs that stand for those of numbers.
+    pub(crate) fn of(
+        alloc: Global,
+        names: &Names<'l>,
+        pairs: &Pairs,
+    ) -> Result<NamedPairs<'l>, Fault>
+        ensures named { IfOk result (λ named. IsOnce names.now → (ps : List PairValue) → StandsIn names.now pairs.now ps → Stands named ps) }
+        ensures err { IfErr result (λ e. e ≡ Memory) }
+    {
+        let mut named = NamedPairs::new(alloc);
+        let count = pairs.len();
+        'pairs: for place in 0..count {
+            named.put_at(names, pairs, place)?;
+        }
+        Ok(named)
+    }
+
+    pub(crate) fn code_of(&self, name: &[u8]) -> Option<u16>
+        ensures { result ≡ code_in self.now.by_name name.now }
+    {
+        self.codes.get(name).copied()
+    }
+
+    pub(crate) fn name_of(&self, code: u16) -> Option<&[u8]>
+        ensures value { option_map (λ n. n.now) result ≡ name_in self.now.by_code code }
+        ensures valid { IfSome result (λ name. IsKeyName name.now) }
+    {
+        match self.names.get(&code) {
+            Some(name) => Some(name.as_slice()),
+            None => None,
+        }
+    }
+
+    /// One more than the keycode of the pair at a place, where it is a keycode, else 0.
+    fn end_at(&self, place: usize) -> u16
+        ensures within { result ≤ CODES }
+        ensures above { (p : PairValue) → slice_get self.now.by_code place ≡ Some p → p.code < CODES → p.code < result }
+        ensures named { (code : ℕ) → result ≡ code + 1 → IsSome (name_in self.now.by_code code) }
+    {
+        match self.names.get_index(place) {
+            None => 0,
+            Some((code, _)) if *code >= CODES => 0,
+            Some((code, _)) => *code + 1,
+        }
+    }
+
+    /// One more than the greatest keycode that has a name, or 0 where none has one.
+    pub(crate) fn end(&self) -> u16
+        ensures { IsEnd result (name_in self.now.by_code) }
+    {
+        let mut end = 0;
+        'places: for place in 0..self.names.len() {
+            let behind = self.end_at(place);
+            if end < behind {
+                end = behind;
+            }
+        }
+        end
+    }
+}

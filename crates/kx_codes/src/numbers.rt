@@ -1,0 +1,57 @@
+ghost use Rattle.std.specs.Prelude.{◌≡◌, [], IfErr, IfOk, IfSome, OnOk, Some, slice_get};
+ghost use Rattle.std.specs.Option.{option_map};
+ghost use Rattle.kx_basics.specs.KeyNames.{IsKeyName};
+ghost use Rattle.kx_codes.specs.Numbers.{Grows, IsOnce};
+ghost use Rattle.kx_lex.specs.declared.fault.Fault.TheVariants.{Memory};
+
+use indexmap::IndexSet;
+use kx_lex::Fault;
+use std::alloc::Global;
+use std::marker::Model;
+
+/// The names that keycodes statements give codes, each once, numbered from 0 in the order of first appearance. Pairs are
+/// taken by these numbers, so that a name's bytes are looked at once for each statement, however often it is included.
+#[derive(Drop)]
+pub(crate) struct Names<'l> {
+    names: IndexSet<&'l [u8]>,
+}
+
+impl<'l> Model for Names<'l> {
+    ghost use Rattle.std.specs.Prelude.{List, map, ℕ, All};
+    ghost use Rattle.kx_basics.specs.KeyNames.{IsKeyName};
+
+    ghost Value = { List (List ℕ) };
+
+    ghost view = { λ n. map (λ k. k.now) n.names.keys };
+
+    ghost invariant = { λ n. All (λ k. IsKeyName k.now) n.names.keys };
+}
+
+impl<'l> Names<'l> {
+    pub(crate) fn new(alloc: Global) -> Names<'l>
+        ensures none { result ≡ [] }
+    {
+        Names {
+            names: IndexSet::new(alloc),
+        }
+    }
+
+    /// The number of a name, which is given one if it has none.
+    pub(crate) fn number(&mut self, name: &'l [u8]) -> Result<usize, Fault>
+        requires { IsKeyName name.now }
+        ensures name { IfOk result (λ n. slice_get self.new n ≡ Some name.now) }
+        ensures grows { Grows self.old self.new }
+        ensures err { IfErr result (λ e. e ≡ Memory) }
+    {
+        let (number, _) = self.names.insert_full(name)?;
+        Ok(number)
+    }
+
+    /// The name of a number.
+    pub(crate) fn name(&self, number: usize) -> Option<&'l [u8]>
+        ensures value { option_map (λ n. n.now) result ≡ slice_get self.now number }
+        ensures valid { IfSome result (λ name. IsKeyName name.now) }
+    {
+        self.names.get_index(number).copied()
+    }
+}
