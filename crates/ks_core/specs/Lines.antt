@@ -28,18 +28,18 @@ abbrev pub is_blank : ℕ → Bool
 is_blank c = (c == 32) || (c == 9) || (c == 11) || (c == 12) || (c == 13)
 
 -- where the first byte that passes the test stands, or the length
-abbrev pub place_of : (ℕ → Bool) → List ℕ → ℕ
-place_of test bytes = unwrap_or (position test bytes) (length bytes)
+abbrev pub first_or_end : (ℕ → Bool) → List ℕ → ℕ
+first_or_end test bytes = unwrap_or (position test bytes) (length bytes)
 
 -- the bytes before the first blank
 unfoldable pub name_part : List ℕ → List ℕ
-name_part line = take (place_of is_blank line) line
+name_part line = take (first_or_end is_blank line) line
 
 -- the bytes after the blanks that follow the name
 unfoldable pub value_part : List ℕ → List ℕ
 value_part line =
-    let rest = drop (place_of is_blank line) line in
-    drop (place_of (λ c. not (is_blank c)) rest) rest
+    let rest = drop (first_or_end is_blank line) line in
+    drop (first_or_end (λ c. not (is_blank c)) rest) rest
 
 -- an identifier of 1 to 63 bytes, and not of the U form
 unfoldable pub is_given_name : List ℕ → Bool

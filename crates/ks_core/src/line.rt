@@ -5,7 +5,7 @@ ghost use Rattle.std.specs.Char.{is_ascii_digit};
 ghost use Rattle.std.specs.Option.{option_map};
 ghost use Rattle.std.specs.Str.Parse.{AllDigits};
 ghost use Rattle.ks_core.specs.Digits.{in_32_bits};
-ghost use Rattle.ks_core.specs.Lines.{lines_of, lines_left, is_skipped, is_blank, place_of, is_given_name, is_number, number_in, name_part, value_part, entry_of, own_fault};
+ghost use Rattle.ks_core.specs.Lines.{lines_of, lines_left, is_skipped, is_blank, first_or_end, is_given_name, is_number, number_in, name_part, value_part, entry_of, own_fault};
 ghost use Rattle.ks_core.specs.Name.{is_word, is_word_start, is_word_byte, is_u_form, is_hex_form, is_decimal};
 ghost use Rattle.kx_basics.specs.Keysyms.{is_keysym};
 
@@ -78,7 +78,7 @@ fn parts(line: &[u8]) -> (&[u8], &[u8])
 
 /// Where the first blank stands, or the length.
 fn blank_at(bytes: &[u8]) -> usize
-    ensures index { result ≡ place_of is_blank bytes.now }
+    ensures index { result ≡ first_or_end is_blank bytes.now }
     ensures within { result ≤ length bytes.now }
 {
     find_blank(bytes).unwrap_or(bytes.len())
@@ -93,7 +93,7 @@ fn find_blank(bytes: &[u8]) -> Option<usize>
 
 /// Where the first byte stands that is no blank, or the length.
 fn other_at(bytes: &[u8]) -> usize
-    ensures index { result ≡ place_of (λ c. not (is_blank c)) bytes.now }
+    ensures index { result ≡ first_or_end (λ c. not (is_blank c)) bytes.now }
     ensures within { result ≤ length bytes.now }
 {
     find_other(bytes).unwrap_or(bytes.len())

@@ -137,7 +137,7 @@ fn change_written(value: &Expression) -> Option<Option<ActionGroup>>
     }
 }
 
-fn group_of(file: u32, value: &Expression) -> Result<ActionGroup, Fault>
+fn read_action_group(file: u32, value: &Expression) -> Result<ActionGroup, Fault>
     ensures value { result_ok result ≡ option_and_then change_of (written value.now) }
     ensures faultless { OnOk result (written_faults file value.now.span (written value.now) ≡ []) }
     ensures fault { IfErr result (λ e. Contains (written_faults file value.now.span (written value.now)) e) }
@@ -165,7 +165,7 @@ pub(crate) fn value_given(
 {
     match field {
         ActionField::Modifiers => Ok(Given::Modifiers(mods_of(names, file, value)?)),
-        ActionField::Group => Ok(Given::Group(group_of(file, value)?)),
+        ActionField::Group => Ok(Given::Group(read_action_group(file, value)?)),
         ActionField::Affect => Ok(Given::Affect(affect_of(file, value)?)),
         ActionField::ClearLocks => Ok(Given::ClearLocks(truth_of(file, value)?)),
         ActionField::LatchToLock => Ok(Given::LatchToLock(truth_of(file, value)?)),

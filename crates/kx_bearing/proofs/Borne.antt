@@ -1,7 +1,7 @@
 -- What keys bear.
 use Rattle.std.proofs.Common.{◌≡◌, ◌&&◌, ◌||◌, ◌+◌, ℕ, zero, suc, Bool, true, false, List, Option, None, is_some, refl, ap, ◌∙◌}
 use Rattle.std.specs.Option.{option_map_or}
-use Rattle.kx_bearing.specs.Bearing.{Reading, bears, brings, gives, interpretation_at, is_given}
+use Rattle.kx_bearing.specs.Bearing.{ReadKeymap, bears, brings, gives, interpretation_at, is_given}
 use Rattle.kx_choice.specs.Interpretations.{Interpretation}
 use Rattle.kx_masks.specs.Sets.{any_below, has, has_virtual}
 use Rattle.kx_mods.specs.Mods.{mask}
@@ -40,14 +40,14 @@ or_false : (b : Bool) → (b || false) ≡ b
 or_false true = refl
 or_false false = refl
 
-pub absent_brings : (r : Reading) (number real code : ℕ) → r.key code ≡ given_in None → brings r number real code ≡ false
+pub absent_brings : (r : ReadKeymap) (number real code : ℕ) → r.key code ≡ given_in None → brings r number real code ≡ false
 absent_brings r number real code absent =
     ap (λ key. is_some (r.name code) && (bears r.interpretations (r.modmap code) key r.declared number && has (mask (r.modmap code)) real)) absent
     ∙ ap (λ b. is_some (r.name code) && (b && has (mask (r.modmap code)) real)) (none_bears r.interpretations (r.modmap code) r.declared number)
     ∙ and_false (is_some (r.name code))
 
 -- a code without a name brings nothing
-pub unnamed_brings : (r : Reading) (number real code : ℕ) → r.name code ≡ None → any_below (code + 1) (brings r number real) ≡ any_below code (brings r number real)
+pub unnamed_brings : (r : ReadKeymap) (number real code : ℕ) → r.name code ≡ None → any_below (code + 1) (brings r number real) ≡ any_below code (brings r number real)
 unnamed_brings r number real code none =
     any_next (brings r number real) code
     ∙ ap (λ o. any_below code (brings r number real) || (is_some o && (bears r.interpretations (r.modmap code) (r.key code) r.declared number && has (mask (r.modmap code)) real))) none

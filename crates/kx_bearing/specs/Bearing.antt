@@ -51,7 +51,7 @@ module _ (interpretations : List Interpretation) (modmap : Mods) (key : KeyGiven
 
 -- what is read of a keymap: the names and keys of codes, what keys are mapped to, the types by name, the interpretations in
 -- order, and the masks that are declared for virtual modifiers
-pub record Reading : Type 0 where
+pub record ReadKeymap : Type 0 where
   pub name : ℕ → Option (List ℕ)
   pub key : ℕ → KeyGiven
   pub modmap : ℕ → Mods
@@ -59,7 +59,7 @@ pub record Reading : Type 0 where
   pub interpretations : List Interpretation
   pub masks : ℕ → RealSet
 
-module _ (r : Reading) where
+module _ (r : ReadKeymap) where
   -- the key of a code bears it and is mapped to a real modifier
   abbrev pub brings : ℕ → ℕ → ℕ → Bool
   brings number real code = is_some (r.name code) && (bears r.interpretations (r.modmap code) (r.key code) r.declared number && has (mask (r.modmap code)) real)

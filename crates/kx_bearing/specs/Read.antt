@@ -1,6 +1,6 @@
 -- What is read of codes, keys, types, modifier maps, interpretations and declared masks.
 use Rattle.std.specs.Prelude.{ℕ, List}
-use Rattle.kx_bearing.specs.Bearing.{Reading}
+use Rattle.kx_bearing.specs.Bearing.{ReadKeymap}
 use Rattle.kx_choice.specs.Interpretations.{Interpretation}
 use Rattle.kx_codes.specs.Codes.{Codes, name_of}
 use Rattle.kx_masks.specs.Standing.{stands_for}
@@ -10,7 +10,7 @@ use Rattle.kx_types.specs.Types.{NamedTypes, type_named}
 use Rattle.kx_typing.specs.Given.{given_in}
 
 -- `modmap` are the modifiers that the keys of codes are mapped to, `declared` the masks of virtual modifiers by number
-abbrev pub reading_of : Codes → NamedTypes → List (ℕ × KeyContent) → (ℕ → Mods) → List Interpretation → List Mods → Reading
+abbrev pub reading_of : Codes → NamedTypes → List (ℕ × KeyContent) → (ℕ → Mods) → List Interpretation → List Mods → ReadKeymap
 reading_of codes types keys modmap interpretations declared = record {
   name = name_of codes;
   key = λ code. given_in (key_at keys code);

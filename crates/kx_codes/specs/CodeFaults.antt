@@ -9,7 +9,7 @@ use Rattle.kx_parse.specs.declared.tree.Item.{Item}
 use Rattle.kx_parse.specs.declared.tree.Item.TheVariants.{Include, Statement}
 use Rattle.kx_lex.specs.declared.name.Name.{Name}
 use Rattle.kx_lex.specs.declared.name.Number.{Number}
-use Rattle.kx_parse.specs.declared.tree.Place.{Place as FieldPlace}
+use Rattle.kx_parse.specs.declared.tree.FieldPlace.{FieldPlace}
 use Rattle.kx_parse.specs.declared.tree.Statement.{Statement as Said}
 use Rattle.kx_parse.specs.declared.tree.Statement.TheVariants.{Keycode, Alias, IndicatorName, Field}
 use Rattle.kx_include.specs.Expansion.{Body, End, Begin, Own, Inc}

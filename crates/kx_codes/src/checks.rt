@@ -5,7 +5,7 @@ ghost use Rattle.kx_basics.specs.KeyNames.{IsKeyName};
 
 use kx_basics::{GREATEST_CODE, MOST_NAME_BYTES};
 use kx_lex::{At, Fault, Span};
-use kx_parse::{KeyName, Number, Place};
+use kx_parse::{FieldPlace, KeyName, Number};
 
 /// The bytes of a name; `whole` is the statement in which it stands.
 pub(crate) fn check_name(file: u32, whole: Span, name: &KeyName) -> Result<&[u8], Fault>
@@ -36,7 +36,7 @@ pub(crate) fn check_code(file: u32, code: Number) -> Result<u16, Fault>
 }
 
 /// Whether a field is one that is read and not used.
-pub(crate) fn is_limit(place: &Place) -> bool
+pub(crate) fn is_limit(place: &FieldPlace) -> bool
     ensures { result ≡ is_limit place.now }
 {
     if place.member.is_some() {

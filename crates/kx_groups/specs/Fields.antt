@@ -13,7 +13,7 @@ use Rattle.kx_parse.specs.declared.tree.Index.{Index}
 use Rattle.kx_parse.specs.declared.tree.Item.{Item}
 use Rattle.kx_parse.specs.declared.tree.Item.TheVariants.{Include, Statement}
 use Rattle.kx_parse.specs.declared.tree.Operation.{Operation}
-use Rattle.kx_parse.specs.declared.tree.Place.{Place}
+use Rattle.kx_parse.specs.declared.tree.FieldPlace.{FieldPlace}
 use Rattle.kx_parse.specs.declared.tree.Setting.{Setting}
 use Rattle.kx_parse.specs.declared.tree.Setting.TheVariants.{Off, On, To}
 use Rattle.kx_parse.specs.declared.tree.Statement.{Statement as Said}
@@ -21,10 +21,10 @@ use Rattle.kx_parse.specs.declared.tree.Statement.TheVariants as said
 use Rattle.kx_parse.specs.declared.tree.Term.{Term}
 use Rattle.kx_parse.specs.declared.tree.Term.TheVariants.{Text}
 use Rattle.kx_parse.specs.declared.tree.Value.TheVariants as values
-use Rattle.kx_settings.specs.Groups.{group_of, is_group}
+use Rattle.kx_settings.specs.Groups.{group_named, is_group}
 
 -- the word of the field is read without regard to case
-abbrev pub is_name : Place → Bool
+abbrev pub is_name : FieldPlace → Bool
 is_name place = not (is_some place.member) && str_eq_ignore_ascii_case place.word.bytes (codes "name")
 
 abbrev pub name_in : Said → Option Field
@@ -38,7 +38,7 @@ known_group (Some n) = if is_group n then Some n else None
 
 abbrev pub indexed_group : Option Index → Option ℕ
 indexed_group None = None
-indexed_group (Some index) = known_group (group_of index.value)
+indexed_group (Some index) = known_group (group_named index.value)
 
 abbrev pub term_text : Term → Option (List ℕ)
 term_text (Text text) = Some text.bytes
@@ -64,7 +64,7 @@ module _ (file : ℕ) where
 
   abbrev pub index_faults : Name → Option Index → List Fault
   index_faults word None = UnknownField (at file word.span) ∷ []
-  index_faults word (Some index) = group_faults index.value.span (group_of index.value)
+  index_faults word (Some index) = group_faults index.value.span (group_named index.value)
 
   -- a name has at most 255 bytes; `whole` is the statement
   abbrev pub text_faults : Span → Span → Option (List ℕ) → List Fault

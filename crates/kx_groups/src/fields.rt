@@ -3,14 +3,14 @@ ghost use Rattle.std.specs.Prelude.{◌≡◌, ◌≤◌, ◌++◌, ◌^◌, [],
 ghost use Rattle.std.specs.Option.{option_map};
 ghost use Rattle.kx_basics.specs.declared.limits.TheConstants.{MOST_NAME_BYTES};
 ghost use Rattle.kx_groups.specs.Fields.{field_faults, group_faults, index_faults, indexed_group, is_name, known_group, name_in, set_text, setting_faults, term_text, text_faults, text_of};
-ghost use Rattle.kx_settings.specs.Groups.{group_of as group_named, is_group};
+ghost use Rattle.kx_settings.specs.Groups.{group_named, is_group};
 
 use kx_basics::{MOST_GROUPS, MOST_NAME_BYTES};
 use kx_lex::{At, Boxed, Fault, Name, Span};
-use kx_parse::{Expression, Field, Index, Place, Setting, Statement, Term, Value};
-use kx_settings::group_of;
+use kx_parse::{Expression, Field, FieldPlace, Index, Setting, Statement, Term, Value};
+use kx_settings::group_named;
 
-fn is_name(place: &Place) -> bool
+fn is_name(place: &FieldPlace) -> bool
     ensures { result ≡ is_name place.now }
 {
     place.member.is_none() && place.word.bytes.as_slice().eq_ignore_ascii_case(b"name")
@@ -67,7 +67,7 @@ fn valued_group(file: u32, value: &Expression) -> Result<u8, Fault>
     ensures faultless { OnOk result (group_faults file value.now.span (group_named value.now) ≡ []) }
     ensures fault { IfErr result (λ e. Contains (group_faults file value.now.span (group_named value.now)) e) }
 {
-    match group_of(value) {
+    match group_named(value) {
         None => Err(Fault::BadValue(At {
             file,
             span: value.span,

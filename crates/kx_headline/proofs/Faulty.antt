@@ -3,7 +3,7 @@ use Rattle.std.proofs.Common.{ℕ, [], ◌≡◌, inl, inr, ◌<◌, ◌≤◌, 
 use Rattle.std.proofs.lemmas.Option.{slice_get_within}
 use Rattle.ks_core.specs.Entry.{Entry}
 use Rattle.kx_headline.proofs.Texts.{Laws, library-one, read-has_tree}
-use Rattle.kx_include.specs.IncludeFaults.{IsWhole, HasFault as HasIncludeFault}
+use Rattle.kx_include.specs.IncludeFaults.{IsWhole, HasIncludeFault}
 use Rattle.kx_include.specs.Library.{Library}
 use Rattle.kx_include.specs.Source.{Handed}
 use Rattle.kx_lex.specs.declared.fault.Fault.{Fault}

@@ -1,6 +1,6 @@
 -- A source and its files are read as one library at most, and those of which one has no tree as none.
 use Rattle.std.proofs.Common.{◌≡◌, ℕ, ◌+◌, List, drop, Ok, Err, inl, inr, ap, subst, sym, refl, ◌∙◌, arith}
-use Rattle.kx_lex.specs.Reading.{Stops, bad_byte, open_string, open_key_name, past_gap, past_token, place_of, IsReading, StopsWith}
+use Rattle.kx_lex.specs.Reading.{Stops, bad_byte, open_string, open_key_name, past_gap, past_token, at_offset, IsReading, StopsWith}
 use Rattle.kx_lex.specs.declared.fault.Fault.{Fault}
 use Rattle.kx_lex.specs.declared.fault.Fault.TheVariants as fault
 use Rattle.kx_lex.specs.declared.token.Token.{Token}
@@ -21,13 +21,13 @@ stops-one (bad_byte e) (open_key_name m s) = cc
 stops-one (bad_byte e) (past_gap m s r) = cc
 stops-one (bad_byte e) (past_token k m s r) = cc
 stops-one (open_string n e) (bad_byte s) = cc
-stops-one {offset} (open_string n e) (open_string m s) = let same : n ≡ m = cc in ap (λ (k : ℕ). fault.OpenString (place_of offset k)) same
+stops-one {offset} (open_string n e) (open_string m s) = let same : n ≡ m = cc in ap (λ (k : ℕ). fault.OpenString (at_offset offset k)) same
 stops-one (open_string n e) (open_key_name m s) = cc
 stops-one (open_string n e) (past_gap m s r) = cc
 stops-one (open_string n e) (past_token k m s r) = cc
 stops-one (open_key_name n e) (bad_byte s) = cc
 stops-one (open_key_name n e) (open_string m s) = cc
-stops-one {offset} (open_key_name n e) (open_key_name m s) = let same : n ≡ m = cc in ap (λ (k : ℕ). fault.OpenKeyName (place_of offset k)) same
+stops-one {offset} (open_key_name n e) (open_key_name m s) = let same : n ≡ m = cc in ap (λ (k : ℕ). fault.OpenKeyName (at_offset offset k)) same
 stops-one (open_key_name n e) (past_gap m s r) = cc
 stops-one (open_key_name n e) (past_token k m s r) = cc
 stops-one (past_gap n e r) (bad_byte s) = cc

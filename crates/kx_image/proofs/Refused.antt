@@ -13,8 +13,8 @@ use Rattle.kx_tables.proofs.Fits.{sound_fits, groups_fit}
 use Rattle.kx_basics.specs.Keysyms.{IsKeysym}
 use Rattle.kx_tables.specs.Sound.{Sound, TypeHolds, KeyHolds, GroupHolds, CellHolds, IndicatorHolds, GroupNameHolds}
 use Rattle.kx_tables.specs.Unsound.{breaks_unsound}
-use Rattle.kx_tables.specs.declared.check.Part.{Part}
-use Rattle.kx_tables.specs.declared.check.Part.TheVariants as parts
+use Rattle.kx_tables.specs.declared.check.RecordKind.{RecordKind}
+use Rattle.kx_tables.specs.declared.check.RecordKind.TheVariants as parts
 use Rattle.kx_tables.specs.declared.rows.CellRow.{CellRow}
 use Rattle.kx_tables.specs.declared.rows.EntryRow.{EntryRow}
 use Rattle.kx_tables.specs.declared.rows.GroupNameRow.{GroupNameRow}
@@ -23,7 +23,7 @@ use Rattle.kx_tables.specs.declared.rows.IndicatorRow.{IndicatorRow}
 use Rattle.kx_tables.specs.declared.rows.KeyRow.{KeyRow}
 use Rattle.kx_tables.specs.declared.rows.TypeRow.{TypeRow}
 use Rattle.kx_image.specs.Cut.{rows_at, record_at}
-use Rattle.kx_image.specs.Image.{IsImage, IsExpressible, IsCanonical, Garbled, RecordGarbled, HasFault, body, content_in, header_for, image}
+use Rattle.kx_image.specs.Image.{IsImage, IsExpressible, IsCanonical, Garbled, RecordGarbled, HasImageFault, body, content_in, header_for, image}
 use Rattle.kx_image.specs.Records.{type_bytes, type_of, entry_bytes, entry_of, key_bytes, key_of, group_bytes, group_of, cell_bytes, cell_of, keysym_bytes, keysym_of, indicator_bytes, indicator_of, group_name_bytes, group_name_of}
 use Rattle.kx_image.specs.Shape.{front_fault, length_fault, shape_fault, called_for, header_bytes, header_of, header_size, entries_start, keys_start, groups_start, cells_start, keysyms_start, indicators_start, group_names_start, names_start, group_count}
 use Rattle.kx_image.specs.declared.fault.ImageFault.{ImageFault}
@@ -229,7 +229,7 @@ ungarbled bytes_of of size xs start s rest read again i bad =
       | inr past ↦ absurd (let low = bad.below in let h = past.0 in omega arith)
     ]
 
-no_garbled : (c : Content) (e : Edition) (s : List ℕ) → Sound c → Told c e s → (part : Part) (i : ℕ) → RecordGarbled s part i → ⊥
+no_garbled : (c : Content) (e : Edition) (s : List ℕ) → Sound c → Told c e s → (part : RecordKind) (i : ℕ) → RecordGarbled s part i → ⊥
 no_garbled c e s sound told parts.Header i bad = bad.1 (ap (λ (h : Header). h.groups) told.header ∙ sym (ap (λ (d : Content). greatest_groups d.keys) told.content))
 no_garbled c e s sound told parts.KeyType i bad = ungarbled type_bytes type_of 16 c.types (header_size e) s _ told.whole.types (type_rereads c sound) i (subst (λ (h : Header). Garbled type_bytes type_of 16 h.types (header_size h.edition) s i) told.header bad)
 no_garbled c e s sound told parts.Entry i bad = ungarbled entry_bytes entry_of 4 c.entries (entries_start (header_for e c)) s _ told.whole.entries (λ j x at. (refl, entry_again x)) i (subst (λ (h : Header). Garbled entry_bytes entry_of 4 h.entries (entries_start h) s i) told.header bad)
@@ -246,7 +246,7 @@ no_garbled c e s sound told parts.GroupName i bad = ungarbled group_name_bytes g
     (subst (λ (n : ℕ). Garbled group_name_bytes group_name_of 8 (length c.group_names) (group_names_start (header_for e c) n) s i) told.counted (subst (λ (h : Header). Garbled group_name_bytes group_name_of 8 h.group_names (group_names_start h (group_count (header_of s) s)) s i) told.header bad))
 no_garbled c e s sound told parts.Name i bad = bad
 
-pub fault_refuses : (s : List ℕ) (f : ImageFault) → HasFault s f → (c : Content) → IsImage c s → ⊥
+pub fault_refuses : (s : List ℕ) (f : ImageFault) → HasImageFault s f → (c : Content) → IsImage c s → ⊥
 fault_refuses s Truncated has c img = let told = told_of c s img in let form = told.form in cc (has, form)
 fault_refuses s Magic has c img = let told = told_of c s img in let form = told.form in cc (has, form)
 fault_refuses s Version has c img = let told = told_of c s img in let form = told.form in cc (has, form)
@@ -258,7 +258,7 @@ fault_refuses s (BadRecord part i) has c img =
       | inr bad ↦ breaks_unsound (content_in s) part i bad (subst Sound (sym told.content) img.sound)
     ]
 
-pub refusal_only : {A : Type 0} (s : List ℕ) (r : Result A ImageFault) → IfErr r (HasFault s) → OnErr r ((c : Content) → IsImage c s → ⊥)
+pub refusal_only : {A : Type 0} (s : List ℕ) (r : Result A ImageFault) → IfErr r (HasImageFault s) → OnErr r ((c : Content) → IsImage c s → ⊥)
 refusal_only s (Ok x) has = tt
 refusal_only s (Err f) has = fault_refuses s f has
 

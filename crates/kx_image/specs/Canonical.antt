@@ -1,6 +1,6 @@
 -- Tables whose records are all the bytes of their rows.
 use Rattle.std.specs.Prelude.{ℕ, List, ◌≡◌, ◌<◌}
-use Rattle.kx_tables.specs.declared.check.Part.{Part}
+use Rattle.kx_tables.specs.declared.check.RecordKind.{RecordKind}
 use Rattle.kx_image.specs.Cut.{record_at}
 use Rattle.kx_image.specs.Image.{IsCanonical}
 use Rattle.kx_image.specs.Records.{type_bytes, type_of, entry_bytes, entry_of, key_bytes, key_of, group_bytes, group_of, cell_bytes, cell_of, keysym_bytes, keysym_of, indicator_bytes, indicator_of, group_name_bytes, group_name_of}
@@ -13,7 +13,7 @@ pub record IsCanonicalTable (is_canonical : List ℕ → Type 0) (size count sta
   pub each : (i : ℕ) → i < count → is_canonical (record_at s start size i)
 
 -- a fault that names a record which isn't canonical
-pub record NamesGarbled (is_canonical : List ℕ → Type 0) (part : Part) (size count start : ℕ) (s : List ℕ) (f : ImageFault) : Type 0 where
+pub record NamesGarbled (is_canonical : List ℕ → Type 0) (part : RecordKind) (size count start : ℕ) (s : List ℕ) (f : ImageFault) : Type 0 where
   pub index : ℕ
   pub is : f ≡ BadRecord part index
   pub below : index < count

@@ -4,8 +4,8 @@ use Rattle.std.specs.List.{flat_map}
 use Rattle.kx_tables.specs.Broken.{Breaks}
 use Rattle.kx_tables.specs.Content.{Content, greatest_groups, part}
 use Rattle.kx_tables.specs.Sound.{Sound}
-use Rattle.kx_tables.specs.declared.check.Part.{Part}
-use Rattle.kx_tables.specs.declared.check.Part.TheVariants as parts
+use Rattle.kx_tables.specs.declared.check.RecordKind.{RecordKind}
+use Rattle.kx_tables.specs.declared.check.RecordKind.TheVariants as parts
 use Rattle.kx_image.specs.Cut.{rows_at, record_at}
 use Rattle.kx_image.specs.Records.{type_bytes, type_of, entry_bytes, entry_of, key_bytes, key_of, group_bytes, group_of, cell_bytes, cell_of, keysym_bytes, keysym_of, indicator_bytes, indicator_of, group_name_bytes, group_name_of}
 use Rattle.kx_image.specs.Shape.{header_bytes, header_of, header_size, entries_start, keys_start, groups_start, cells_start, keysyms_start, indicators_start, group_names_start, names_start, group_count, shape_fault}
@@ -75,7 +75,7 @@ pub record Garbled {X : Type 0} (bytes_of : X → List ℕ) (of : List ℕ → X
   pub below : i < count
   pub garbled : IsCanonical bytes_of of (record_at s start size i) → ⊥
 
-abbrev pub RecordGarbled : List ℕ → Part → ℕ → Type 0
+abbrev pub RecordGarbled : List ℕ → RecordKind → ℕ → Type 0
 RecordGarbled s parts.Header i = (i ≡ 0) × ((header_of s).groups ≡ greatest_groups (content_in s).keys → ⊥)
 RecordGarbled s parts.KeyType i = Garbled type_bytes type_of 16 (header_of s).types (header_size (header_of s).edition) s i
 RecordGarbled s parts.Entry i = Garbled entry_bytes entry_of 4 (header_of s).entries (entries_start (header_of s)) s i
@@ -89,9 +89,9 @@ RecordGarbled s parts.Name i = ⊥
 
 -- A fault that the bytes have: the first one of their form, or, where their form has none, a record that breaks a rule
 -- by its bytes or by the row that they tell.
-abbrev pub HasFault : List ℕ → ImageFault → Type 0
-HasFault s Truncated = shape_fault s ≡ Some Truncated
-HasFault s Magic = shape_fault s ≡ Some Magic
-HasFault s Version = shape_fault s ≡ Some Version
-HasFault s Length = shape_fault s ≡ Some Length
-HasFault s (BadRecord part i) = (shape_fault s ≡ None) × (RecordGarbled s part i ⊎ Breaks (content_in s) part i)
+abbrev pub HasImageFault : List ℕ → ImageFault → Type 0
+HasImageFault s Truncated = shape_fault s ≡ Some Truncated
+HasImageFault s Magic = shape_fault s ≡ Some Magic
+HasImageFault s Version = shape_fault s ≡ Some Version
+HasImageFault s Length = shape_fault s ≡ Some Length
+HasImageFault s (BadRecord part i) = (shape_fault s ≡ None) × (RecordGarbled s part i ⊎ Breaks (content_in s) part i)

@@ -3,7 +3,7 @@ use Rattle.std.specs.Prelude.{ℕ, List, ◌≡◌, ◌≢◌, Option, Result, O
 use Rattle.std.specs.Io.KnownBytes.{Appends}
 use Rattle.ks_core.specs.Device.{Begins}
 use Rattle.kx_tables.specs.Content.{Content}
-use Rattle.kx_image.specs.Image.{IsImage, HasFault, image}
+use Rattle.kx_image.specs.Image.{IsImage, HasImageFault, image}
 use Rattle.kx_image.specs.declared.header.Edition.TheVariants.{Two}
 use Rattle.kx_image.specs.declared.upgrading.UpgradeFault.{UpgradeFault}
 use Rattle.kx_image.specs.declared.upgrading.UpgradeFault.TheVariants as faults
@@ -25,5 +25,5 @@ module _ {D : Type 0} (written : D → Option (List ℕ)) (failures : D → ℕ)
 
   abbrev pub Upgrades : {A : Type 0} → List ℕ → D → D → Result A UpgradeFault → Type 0
   Upgrades s d e (Ok x) = Done s d e
-  Upgrades s d e (Err (faults.Image f)) = HasFault s f × (e ≡ d)
+  Upgrades s d e (Err (faults.Image f)) = HasImageFault s f × (e ≡ d)
   Upgrades s d e (Err faults.Write) = Broke s d e

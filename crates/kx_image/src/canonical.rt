@@ -1,7 +1,7 @@
 //! Whether records are canonical: each row, written again, gives its bytes.
 ghost use Rattle.std.specs.Prelude.{◌≡◌, ◌+◌, ◌*◌, ◌≤◌, ◌↔◌, ℕ, List, IsTrue, OnOk, IfErr, length};
 ghost use Rattle.kx_image.specs.Cut.{record_at};
-ghost use Rattle.kx_image.specs.Image.{IsCanonical, HasFault};
+ghost use Rattle.kx_image.specs.Image.{IsCanonical, HasImageFault};
 ghost use Rattle.kx_image.specs.Records as spec;
 ghost use Rattle.kx_image.specs.Shape.{header_of, header_size, entries_start, keys_start, groups_start, cells_start, keysyms_start, indicators_start, group_names_start, group_count};
 ghost use Rattle.kx_image.specs.Starts.{IsShape};
@@ -16,7 +16,9 @@ use crate::records::{
     type_at, type_bytes,
 };
 use crate::shape::Starts;
-use kx_tables::{CellRow, EntryRow, GroupNameRow, GroupRow, IndicatorRow, KeyRow, Part, TypeRow};
+use kx_tables::{
+    CellRow, EntryRow, GroupNameRow, GroupRow, IndicatorRow, KeyRow, RecordKind, TypeRow,
+};
 
 /// A kind of record.
 trait Record {
@@ -116,7 +118,7 @@ fn check_table<R: Record>(
     start: usize,
     size: usize,
     count: u32,
-    part: Part,
+    part: RecordKind,
 ) -> Result<(), ImageFault>
     requires size { size ≡ R.size }
     requires within { start + size * count ≤ length bytes.now }
@@ -135,7 +137,7 @@ fn check_table<R: Record>(
 fn check_types(bytes: &[u8], header: Header, groups: u32) -> Result<(), ImageFault>
     requires { IsShape bytes.now header groups }
     ensures ok { OnOk result (IsCanonicalTable (IsCanonical spec.type_bytes spec.type_of) 16 (header_of bytes.now).types (header_size (header_of bytes.now).edition) bytes.now) }
-    ensures fault { IfErr result (HasFault bytes.now) }
+    ensures fault { IfErr result (HasImageFault bytes.now) }
 {
     let start = Starts::of(header, groups).types;
     check_table::<TypeRow>(
@@ -143,59 +145,71 @@ fn check_types(bytes: &[u8], header: Header, groups: u32) -> Result<(), ImageFau
         start,
         TYPE_SIZE,
         u32::from(header.types),
-        Part::KeyType,
+        RecordKind::KeyType,
     )
 }
 
 fn check_entries(bytes: &[u8], header: Header, groups: u32) -> Result<(), ImageFault>
     requires { IsShape bytes.now header groups }
     ensures ok { OnOk result (IsCanonicalTable (IsCanonical spec.entry_bytes spec.entry_of) 4 (header_of bytes.now).entries (entries_start (header_of bytes.now)) bytes.now) }
-    ensures fault { IfErr result (HasFault bytes.now) }
+    ensures fault { IfErr result (HasImageFault bytes.now) }
 {
     let start = Starts::of(header, groups).entries;
-    check_table::<EntryRow>(bytes, start, ENTRY_SIZE, header.entries, Part::Entry)
+    check_table::<EntryRow>(bytes, start, ENTRY_SIZE, header.entries, RecordKind::Entry)
 }
 
 fn check_keys(bytes: &[u8], header: Header, groups: u32) -> Result<(), ImageFault>
     requires { IsShape bytes.now header groups }
     ensures ok { OnOk result (IsCanonicalTable (IsCanonical spec.key_bytes spec.key_of) 16 (header_of bytes.now).keys (keys_start (header_of bytes.now)) bytes.now) }
-    ensures fault { IfErr result (HasFault bytes.now) }
+    ensures fault { IfErr result (HasImageFault bytes.now) }
 {
     let start = Starts::of(header, groups).keys;
-    check_table::<KeyRow>(bytes, start, KEY_SIZE, u32::from(header.keys), Part::Key)
+    check_table::<KeyRow>(
+        bytes,
+        start,
+        KEY_SIZE,
+        u32::from(header.keys),
+        RecordKind::Key,
+    )
 }
 
 fn check_groups(bytes: &[u8], header: Header, groups: u32) -> Result<(), ImageFault>
     requires { IsShape bytes.now header groups }
     ensures ok { OnOk result (IsCanonicalTable (IsCanonical spec.group_bytes spec.group_of) 8 (group_count (header_of bytes.now) bytes.now) (groups_start (header_of bytes.now)) bytes.now) }
-    ensures fault { IfErr result (HasFault bytes.now) }
+    ensures fault { IfErr result (HasImageFault bytes.now) }
 {
     let start = Starts::of(header, groups).groups;
-    check_table::<GroupRow>(bytes, start, GROUP_SIZE, groups, Part::Group)
+    check_table::<GroupRow>(bytes, start, GROUP_SIZE, groups, RecordKind::Group)
 }
 
 fn check_cells(bytes: &[u8], header: Header, groups: u32) -> Result<(), ImageFault>
     requires { IsShape bytes.now header groups }
     ensures ok { OnOk result (IsCanonicalTable (IsCanonical spec.cell_bytes spec.cell_of) 12 (header_of bytes.now).cells (cells_start (header_of bytes.now) (group_count (header_of bytes.now) bytes.now)) bytes.now) }
-    ensures fault { IfErr result (HasFault bytes.now) }
+    ensures fault { IfErr result (HasImageFault bytes.now) }
 {
     let start = Starts::of(header, groups).cells;
-    check_table::<CellRow>(bytes, start, CELL_SIZE, header.cells, Part::Cell)
+    check_table::<CellRow>(bytes, start, CELL_SIZE, header.cells, RecordKind::Cell)
 }
 
 fn check_keysyms(bytes: &[u8], header: Header, groups: u32) -> Result<(), ImageFault>
     requires { IsShape bytes.now header groups }
     ensures ok { OnOk result (IsCanonicalTable (IsCanonical spec.keysym_bytes spec.keysym_of) 4 (header_of bytes.now).keysyms (keysyms_start (header_of bytes.now) (group_count (header_of bytes.now) bytes.now)) bytes.now) }
-    ensures fault { IfErr result (HasFault bytes.now) }
+    ensures fault { IfErr result (HasImageFault bytes.now) }
 {
     let start = Starts::of(header, groups).keysyms;
-    check_table::<u32>(bytes, start, KEYSYM_SIZE, header.keysyms, Part::Keysym)
+    check_table::<u32>(
+        bytes,
+        start,
+        KEYSYM_SIZE,
+        header.keysyms,
+        RecordKind::Keysym,
+    )
 }
 
 fn check_indicators(bytes: &[u8], header: Header, groups: u32) -> Result<(), ImageFault>
     requires { IsShape bytes.now header groups }
     ensures ok { OnOk result (IsCanonicalTable (IsCanonical spec.indicator_bytes spec.indicator_of) 16 (header_of bytes.now).indicators (indicators_start (header_of bytes.now) (group_count (header_of bytes.now) bytes.now)) bytes.now) }
-    ensures fault { IfErr result (HasFault bytes.now) }
+    ensures fault { IfErr result (HasImageFault bytes.now) }
 {
     let start = Starts::of(header, groups).indicators;
     check_table::<IndicatorRow>(
@@ -203,14 +217,14 @@ fn check_indicators(bytes: &[u8], header: Header, groups: u32) -> Result<(), Ima
         start,
         INDICATOR_SIZE,
         u32::from(header.indicators),
-        Part::Indicator,
+        RecordKind::Indicator,
     )
 }
 
 fn check_group_names(bytes: &[u8], header: Header, groups: u32) -> Result<(), ImageFault>
     requires { IsShape bytes.now header groups }
     ensures ok { OnOk result (IsCanonicalTable (IsCanonical spec.group_name_bytes spec.group_name_of) 8 (header_of bytes.now).group_names (group_names_start (header_of bytes.now) (group_count (header_of bytes.now) bytes.now)) bytes.now) }
-    ensures fault { IfErr result (HasFault bytes.now) }
+    ensures fault { IfErr result (HasImageFault bytes.now) }
 {
     let start = Starts::of(header, groups).group_names;
     check_table::<GroupNameRow>(
@@ -218,7 +232,7 @@ fn check_group_names(bytes: &[u8], header: Header, groups: u32) -> Result<(), Im
         start,
         GROUP_NAME_SIZE,
         u32::from(header.group_names),
-        Part::GroupName,
+        RecordKind::GroupName,
     )
 }
 
@@ -226,7 +240,7 @@ fn check_group_names(bytes: &[u8], header: Header, groups: u32) -> Result<(), Im
 pub fn check_records(bytes: &[u8], header: Header, groups: u32) -> Result<(), ImageFault>
     requires { IsShape bytes.now header groups }
     ensures ok { OnOk result (AreCanonical bytes.now) }
-    ensures fault { IfErr result (HasFault bytes.now) }
+    ensures fault { IfErr result (HasImageFault bytes.now) }
 {
     check_types(bytes, header, groups)?;
     check_entries(bytes, header, groups)?;

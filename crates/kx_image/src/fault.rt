@@ -1,4 +1,4 @@
-use kx_tables::Part;
+use kx_tables::RecordKind;
 use thiserror::Error;
 
 /// Why bytes are no image. The faults of form, `Truncated` to `Length`, are tried in this order.
@@ -18,5 +18,5 @@ pub enum ImageFault {
     Length,
     /// A record that breaks a rule: its kind, and its index counted from 0.
     #[error("I5 BadRecord {0} {1}")]
-    BadRecord(Part, u32),
+    BadRecord(RecordKind, u32),
 }

@@ -1,6 +1,6 @@
 //! The tables that an image shows.
 ghost use Rattle.std.specs.Prelude.{◌≡◌, ◌<◌, ℕ, List, IfOk, IfErr, IfSome, OnErr, length, slice_get};
-ghost use Rattle.kx_image.specs.Image.{IsImage, HasFault};
+ghost use Rattle.kx_image.specs.Image.{IsImage, HasImageFault};
 ghost use Rattle.kx_tables.specs.Content.{Content, key_name, type_name};
 
 use crate::canonical::check_records;
@@ -8,8 +8,8 @@ use crate::fault::ImageFault;
 use crate::layout::Layout;
 use crate::shape::shape;
 use kx_tables::{
-    CellRow, Counts, EntryRow, GroupNameRow, GroupRow, IndicatorRow, KeyRow, Part, Rows, Tables,
-    TypeRow, check_tables, most_groups,
+    CellRow, Counts, EntryRow, GroupNameRow, GroupRow, IndicatorRow, KeyRow, RecordKind, Rows,
+    Tables, TypeRow, check_tables, most_groups,
 };
 use std::marker::Model;
 
@@ -39,7 +39,7 @@ impl<'a> View<'a> {
     pub fn open(bytes: &'a [u8]) -> Result<View<'a>, ImageFault>
         ensures found { IfOk result (λ v. IsImage v bytes.now) }
         ensures only { OnErr result ((c : Content) → IsImage c bytes.now → ⊥) }
-        ensures fault { IfErr result (HasFault bytes.now) }
+        ensures fault { IfErr result (HasImageFault bytes.now) }
     {
         View::checked(bytes)
     }
@@ -47,7 +47,7 @@ impl<'a> View<'a> {
     /// Checks the form, then each record's bytes, then the rules of the rows.
     fn checked(bytes: &'a [u8]) -> Result<View<'a>, ImageFault>
         ensures found { IfOk result (λ v. IsImage v bytes.now) }
-        ensures fault { IfErr result (HasFault bytes.now) }
+        ensures fault { IfErr result (HasImageFault bytes.now) }
     {
         let (header, groups) = shape(bytes)?;
         check_records(bytes, header, groups)?;
@@ -57,7 +57,7 @@ impl<'a> View<'a> {
         }
         let most_groups = most_groups(&layout);
         if header.groups != u16::from(most_groups) {
-            return Err(ImageFault::BadRecord(Part::Header, 0));
+            return Err(ImageFault::BadRecord(RecordKind::Header, 0));
         }
         Ok(View {
             layout,

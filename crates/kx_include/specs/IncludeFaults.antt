@@ -89,8 +89,8 @@ abbrev pub HasFaultFrom : ℕ → Findings → Fault → Type 0
 HasFaultFrom n a e = Contains a.faults e ⊎ ((place : At) × (slice_get a.visits (most_parts - n) ≡ Some place) × (e ≡ fault.TooMany place))
 
 -- a fault of a keymap's includes
-abbrev pub HasFault : Library → Fault → Type 0
-HasFault library e = HasFaultFrom 0 (findings library) e
+abbrev pub HasIncludeFault : Library → Fault → Type 0
+HasIncludeFault library e = HasFaultFrom 0 (findings library) e
 
 -- none has a fault, and there are not too many parts
 abbrev pub IsWhole : Library → Type 0

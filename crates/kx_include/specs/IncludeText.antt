@@ -31,13 +31,13 @@ abbrev pub is_number : List ℕ → Bool
 is_number bs = nat_le 1 (length bs) && list_all is_ascii_digit bs
 
 -- a group of a key, counted from 1, in decimal; leading zeros don't count
-unfoldable pub group_of : List ℕ → Option ℕ
-group_of bs = if is_number bs then in_groups (digits_value 10 bs) else None
+unfoldable pub group_number : List ℕ → Option ℕ
+group_number bs = if is_number bs then in_groups (digits_value 10 bs) else None
 
 -- what may stand behind the names of a file and a map: nothing, or a colon and a group
 unfoldable pub ending : Mode → List ℕ → Option (List ℕ) → List ℕ → Option Part
 ending mode file map [] = Some (record { mode = mode; file = file; map = map; group = None })
-ending mode file map (b ∷ bs) = if b == 58 then option_map (λ n. record { mode = mode; file = file; map = map; group = Some n }) (group_of bs) else None
+ending mode file map (b ∷ bs) = if b == 58 then option_map (λ n. record { mode = mode; file = file; map = map; group = Some n }) (group_number bs) else None
 
 -- a map's name and its closing parenthesis, and what stands behind
 unfoldable pub closing : Mode → List ℕ → List ℕ → List ℕ → Option Part

@@ -2,7 +2,7 @@ ghost use Rattle.std.specs.Prelude.{◌≡◌, ◌+◌, ◌≤◌, ◌∷◌, []
 ghost use Rattle.std.specs.Option.{option_map};
 ghost use Rattle.kx_include.specs.Bodies.{AreBodies, expansion_of};
 ghost use Rattle.kx_include.specs.Complete.{LeavesNothingOut};
-ghost use Rattle.kx_include.specs.IncludeFaults.{all_of, in_depth, in_file, in_include, in_item, in_map, in_part, HasFault, IsWhole};
+ghost use Rattle.kx_include.specs.IncludeFaults.{all_of, in_depth, in_file, in_include, in_item, in_map, in_part, HasIncludeFault, IsWhole};
 ghost use Rattle.kx_include.specs.IncludeText.{parts_of};
 ghost use Rattle.kx_include.specs.Library.{items_in, place_in};
 ghost use Rattle.kx_include.specs.Limits.{most_depth, most_parts};
@@ -62,7 +62,7 @@ impl<'a> Library<'a> {
         ensures whole { OnOk result (IsWhole self.now) }
         ensures bodies { IfOk result (λ bodies. AreBodies self.now bodies) }
         ensures complete { IsWhole self.now → LeavesNothingOut self.now }
-        ensures fault { IfErr result (λ e. (e ≡ Memory) ⊎ HasFault self.now e) }
+        ensures fault { IfErr result (λ e. (e ≡ Memory) ⊎ HasIncludeFault self.now e) }
     {
         let mut bodies = Bodies::new(alloc);
         let mut left = self.sections_in(0);

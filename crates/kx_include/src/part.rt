@@ -1,6 +1,6 @@
 ghost use Rattle.std.specs.Prelude.{◌≡◌, ◌<◌, ◌≤◌, length, IfOk, IfSome};
 ghost use Rattle.std.specs.Option.{option_map};
-ghost use Rattle.kx_include.specs.IncludeText.{is_name_byte, is_number, name_len, group_of, ending, closing, behind_file, part_of, join_of, split, parts_of};
+ghost use Rattle.kx_include.specs.IncludeText.{is_name_byte, is_number, name_len, group_number, ending, closing, behind_file, part_of, join_of, split, parts_of};
 ghost use Rattle.kx_include.specs.Splits.{is_inner, cut_at};
 ghost use Rattle.std.specs.Char.{is_ascii_digit};
 ghost use Rattle.std.specs.List.{list_all, prefix_len};
@@ -84,9 +84,9 @@ fn is_number(bytes: &[u8]) -> bool
     !bytes.is_empty() && are_digits(bytes)
 }
 
-#[tactic(auto, unfolding(crate::specs::IncludeText::group_of))]
-fn group_of(bytes: &[u8]) -> Option<u8>
-    ensures { result ≡ group_of bytes.now }
+#[tactic(auto, unfolding(crate::specs::IncludeText::group_number))]
+fn group_number(bytes: &[u8]) -> Option<u8>
+    ensures { result ≡ group_number bytes.now }
 {
     if !is_number(bytes) {
         return None;
@@ -111,7 +111,7 @@ fn ending<'a>(mode: Mode, file: &'a [u8], map: Option<&'a [u8]>, bytes: &[u8]) -
             group: None,
         }),
         Some((b':', digits)) => {
-            let group = group_of(digits)?;
+            let group = group_number(digits)?;
             Some(Part {
                 mode,
                 file,

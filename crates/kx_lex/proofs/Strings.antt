@@ -2,7 +2,7 @@
 use Rattle.std.proofs.Common.{ℕ, Bool, true, false, List, [], ◌∷◌, ◌≡◌, ◌==◌, ◌||◌, if◌then◌else◌, ap, refl}
 use Rattle.std.specs.List.{list_any}
 use Rattle.kx_lex.specs.Strings.{text_value}
-use Rattle.kx_lex.specs.declared.string.Reading.TheVariants.{Plain, Escaped}
+use Rattle.kx_lex.specs.declared.string.EscapeState.TheVariants.{Plain, Escaped}
 
 pub text_value-plain : (bytes : List ℕ) → list_any (λ b. b == 92) bytes ≡ false → text_value Plain bytes ≡ bytes
 text_value-plain [] h = refl

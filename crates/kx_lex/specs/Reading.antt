@@ -14,8 +14,8 @@ abbrev pub span_of : ℕ → ℕ → Span
 span_of offset n = record { start = offset; stop = offset + n }
 
 -- the same, in the text that is being read
-abbrev pub place_of : ℕ → ℕ → At
-place_of offset n = record { file = 0; span = span_of offset n }
+abbrev pub at_offset : ℕ → ℕ → At
+at_offset offset n = record { file = 0; span = span_of offset n }
 
 abbrev pub token_of : TokenKind → ℕ → ℕ → Token
 token_of kind offset n = record { kind = kind; span = span_of offset n }
@@ -28,9 +28,9 @@ pub data Reads : ℕ → List ℕ → List Token → Type 0 where
 
 -- the bytes, from an offset on, are read up to what begins no token
 pub data Stops : ℕ → List ℕ → Fault → Type 0 where
-  bad_byte : {offset : ℕ} {bs : List ℕ} → piece bs ≡ begins.BadByte → Stops offset bs (fault.BadByte (place_of offset 1))
-  open_string : {offset : ℕ} {bs : List ℕ} (n : ℕ) → piece bs ≡ begins.OpenString n → Stops offset bs (fault.OpenString (place_of offset n))
-  open_key_name : {offset : ℕ} {bs : List ℕ} (n : ℕ) → piece bs ≡ begins.OpenKeyName n → Stops offset bs (fault.OpenKeyName (place_of offset n))
+  bad_byte : {offset : ℕ} {bs : List ℕ} → piece bs ≡ begins.BadByte → Stops offset bs (fault.BadByte (at_offset offset 1))
+  open_string : {offset : ℕ} {bs : List ℕ} (n : ℕ) → piece bs ≡ begins.OpenString n → Stops offset bs (fault.OpenString (at_offset offset n))
+  open_key_name : {offset : ℕ} {bs : List ℕ} (n : ℕ) → piece bs ≡ begins.OpenKeyName n → Stops offset bs (fault.OpenKeyName (at_offset offset n))
   past_gap : {offset : ℕ} {bs : List ℕ} {f : Fault} (n : ℕ) → piece bs ≡ begins.Gap n → Stops (offset + n) (drop n bs) f → Stops offset bs f
   past_token : {offset : ℕ} {bs : List ℕ} {f : Fault} (kind : TokenKind) (n : ℕ) → piece bs ≡ begins.Lexeme kind n → Stops (offset + n) (drop n bs) f → Stops offset bs f
 

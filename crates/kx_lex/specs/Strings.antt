@@ -1,8 +1,8 @@
 -- What text between quotes stands for: a backslash and n, t, r, b, f, v or e is a control byte; a backslash and one to
 -- three octal digits, as many as keep the value within a byte, is that byte; a backslash and another byte is that byte.
 use Rattle.std.specs.Prelude.{ℕ, Bool, List, [], ◌∷◌, ◌+◌, ◌*◌, ◌-◌, ◌==◌, ◌&&◌, nat_le, nat_lt, if◌then◌else◌}
-use Rattle.kx_lex.specs.declared.string.Reading.{Reading}
-use Rattle.kx_lex.specs.declared.string.Reading.TheVariants.{Plain, Escaped, Octal}
+use Rattle.kx_lex.specs.declared.string.EscapeState.{EscapeState}
+use Rattle.kx_lex.specs.declared.string.EscapeState.TheVariants.{Plain, Escaped, Octal}
 
 abbrev pub escaped_byte : ℕ → ℕ
 escaped_byte b = if b == 110 then 10 else (if b == 116 then 9 else (if b == 114 then 13 else (if b == 98 then 8 else (if b == 102 then 12 else (if b == 118 then 11 else (if b == 101 then 27 else b))))))
@@ -15,7 +15,7 @@ abbrev pub octal_goes_on : ℕ → ℕ → ℕ → Bool
 octal_goes_on value count b = (is_octal b && nat_lt count 3) && nat_lt (value * 8 + (b - 48)) 256
 
 -- behind bytes of a state, what the text stands for
-abbrev pub text_value : Reading → List ℕ → List ℕ
+abbrev pub text_value : EscapeState → List ℕ → List ℕ
 text_value Plain [] = []
 text_value Plain (b ∷ bs) = if b == 92 then text_value Escaped bs else b ∷ text_value Plain bs
 text_value Escaped [] = []

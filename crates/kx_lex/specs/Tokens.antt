@@ -3,7 +3,7 @@ use Rattle.std.specs.Prelude.{ℕ, List, ◌^◌, nat_lt, Result, Ok, Err, if◌
 use Rattle.std.specs.List.{list_all}
 use Rattle.kx_basics.specs.KeyNames.{is_key_byte}
 use Rattle.kx_lex.specs.Strings.{text_value}
-use Rattle.kx_lex.specs.declared.string.Reading.TheVariants.{Plain}
+use Rattle.kx_lex.specs.declared.string.EscapeState.TheVariants.{Plain}
 use Rattle.kx_lex.specs.declared.keyword.Keyword.{Keyword}
 use Rattle.kx_lex.specs.declared.token.Token.{Token}
 use Rattle.kx_lex.specs.declared.token.Span.{Span}

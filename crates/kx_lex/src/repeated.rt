@@ -10,7 +10,7 @@ ghost use Rattle.kx_lex.specs.Lists.{put_before, after_comma_read, sequence_read
 use crate::fault::Fault;
 use crate::name::Row;
 use crate::token::Token;
-use crate::tokens::{Reading, front_is_mark, is_mark, read_mark};
+use crate::tokens::{Parsed, front_is_mark, is_mark, read_mark};
 use std::alloc::Global;
 use std::marker::PhantomData;
 
@@ -31,7 +31,7 @@ pub trait Repeated {
     ///
     /// # Errors
     /// The fault of what may not stand there, and [`Fault::Memory`] where a growth is refused.
-    fn read_next<'a>(alloc: Global, text: &[u8], tokens: &'a [Token]) -> Reading<'a, Self::Value>
+    fn read_next<'a>(alloc: Global, text: &[u8], tokens: &'a [Token]) -> Parsed<'a, Self::Value>
         ensures read { Gives result (reading text.now tokens.now) }
         ensures shorter { IfOk result (λ r. length r.1.now < length tokens.now) };
 }
@@ -42,7 +42,7 @@ fn read_behind<'a, R: Repeated>(
     alloc: Global,
     text: &[u8],
     tokens: &'a [Token],
-) -> Reading<'a, Row<R::Value>>
+) -> Parsed<'a, Row<R::Value>>
     ensures { Gives result (put_before start.items (many_read (R.test text.now) (R.reading text.now) (suc (length tokens.now)) tokens.now)) }
 {
     let mut items = start;
@@ -64,7 +64,7 @@ pub fn read_many<'a, R: Repeated>(
     alloc: Global,
     text: &[u8],
     tokens: &'a [Token],
-) -> Reading<'a, Row<R::Value>>
+) -> Parsed<'a, Row<R::Value>>
     ensures { Gives result (many_read (R.test text.now) (R.reading text.now) (suc (length tokens.now)) tokens.now) }
 {
     read_behind::<R>(Vec::new(alloc), alloc, text, tokens)
@@ -84,7 +84,7 @@ impl<R: Repeated> Repeated for AfterComma<R> {
         front_is_mark(b',', tokens)
     }
 
-    fn read_next<'a>(alloc: Global, text: &[u8], tokens: &'a [Token]) -> Reading<'a, R::Value> {
+    fn read_next<'a>(alloc: Global, text: &[u8], tokens: &'a [Token]) -> Parsed<'a, R::Value> {
         let (_, rest) = read_mark(text, b',', tokens)?;
         R::read_next(alloc, text, rest)
     }
@@ -99,7 +99,7 @@ pub fn read_sequence<'a, R: Repeated>(
     alloc: Global,
     text: &[u8],
     tokens: &'a [Token],
-) -> Reading<'a, Row<R::Value>>
+) -> Parsed<'a, Row<R::Value>>
     ensures { Gives result (sequence_read text.now (R.reading text.now) tokens.now) }
 {
     let (first, rest) = R::read_next(alloc, text, tokens)?;
@@ -118,7 +118,7 @@ pub fn read_listed<'a, R: Repeated>(
     text: &[u8],
     close: u8,
     tokens: &'a [Token],
-) -> Reading<'a, Row<R::Value>>
+) -> Parsed<'a, Row<R::Value>>
     ensures { Gives result (listed_read text.now close (R.reading text.now) tokens.now) }
 {
     if !is_before_mark(close, tokens) {

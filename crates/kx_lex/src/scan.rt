@@ -5,7 +5,7 @@ ghost use Rattle.kx_basics.specs.KeyNames.{is_key_byte};
 ghost use Rattle.kx_lex.specs.Bytes.{is_word_byte, is_blank, is_not_line_feed};
 ghost use Rattle.kx_lex.specs.Kinds.{inner_of, is_key_name};
 ghost use Rattle.kx_lex.specs.Pieces.{extent, extent_len, piece_len, string_piece, key_name_piece, number_piece, begins_hex, piece, word_piece};
-ghost use Rattle.kx_lex.specs.Reading.{IsReading, StopsWith, mark_len, whole_of, place_of};
+ghost use Rattle.kx_lex.specs.Reading.{IsReading, StopsWith, mark_len, whole_of, at_offset};
 ghost use Rattle.std.specs.Char.{is_ascii_digit, is_ascii_hexdigit};
 ghost use Rattle.kx_lex.specs.declared.fault.Fault.TheVariants.{Memory, TooLong};
 ghost use Rattle.kx_lex.specs.declared.scan.Piece.TheVariants.{End};
@@ -264,7 +264,7 @@ fn mark_len(text: &[u8]) -> usize
 
 fn place(offset: u32, len: usize) -> At
     requires { offset + len < 2 ^ 32 }
-    ensures { result ≡ place_of offset len }
+    ensures { result ≡ at_offset offset len }
 {
     At {
         file: 0,

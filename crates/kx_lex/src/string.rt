@@ -1,12 +1,12 @@
 ghost use Rattle.std.specs.Prelude.{◌≡◌, ℕ, List, ◌∷◌, ◌++◌, IfOk};
 ghost use Rattle.kx_lex.specs.Strings.{text_value, escaped_byte, is_octal, octal_goes_on};
-ghost use Rattle.kx_lex.specs.declared.string.Reading.TheVariants.{Plain, Escaped, Octal};
+ghost use Rattle.kx_lex.specs.declared.string.EscapeState.TheVariants.{Plain, Escaped, Octal};
 
 use std::alloc::{AllocError, Global};
 
 /// What stands before a byte of text between quotes.
 #[derive(Clone, Copy, Debug, PartialEq, Eq)]
-pub enum Reading {
+pub enum EscapeState {
     /// Nothing that changes the byte.
     Plain,
     /// A backslash.
@@ -42,43 +42,43 @@ fn octal_goes_on(value: u8, count: u8, byte: u8) -> bool
     is_octal(byte) && count < 3 && u32::from(value) * 8 + (u32::from(byte) - 48) < 256
 }
 
-fn read_plain(out: &mut Vec<u8>, byte: u8) -> Result<Reading, AllocError>
+fn read_plain(out: &mut Vec<u8>, byte: u8) -> Result<EscapeState, AllocError>
     ensures { IfOk result (λ next. (rest : List ℕ) → out.old.items ++ text_value Plain (byte ∷ rest) ≡ out.new.items ++ text_value next rest) }
 {
     if byte == b'\\' {
-        return Ok(Reading::Escaped);
+        return Ok(EscapeState::Escaped);
     }
     out.push(byte)?;
-    Ok(Reading::Plain)
+    Ok(EscapeState::Plain)
 }
 
-fn read_escaped(out: &mut Vec<u8>, byte: u8) -> Result<Reading, AllocError>
+fn read_escaped(out: &mut Vec<u8>, byte: u8) -> Result<EscapeState, AllocError>
     ensures { IfOk result (λ next. (rest : List ℕ) → out.old.items ++ text_value Escaped (byte ∷ rest) ≡ out.new.items ++ text_value next rest) }
 {
     if is_octal(byte) {
-        return Ok(Reading::Octal(byte - b'0', 1));
+        return Ok(EscapeState::Octal(byte - b'0', 1));
     }
     out.push(escaped_byte(byte))?;
-    Ok(Reading::Plain)
+    Ok(EscapeState::Plain)
 }
 
-fn read_octal(out: &mut Vec<u8>, value: u8, count: u8, byte: u8) -> Result<Reading, AllocError>
+fn read_octal(out: &mut Vec<u8>, value: u8, count: u8, byte: u8) -> Result<EscapeState, AllocError>
     ensures { IfOk result (λ next. (rest : List ℕ) → out.old.items ++ text_value (Octal value count) (byte ∷ rest) ≡ out.new.items ++ text_value next rest) }
 {
     if octal_goes_on(value, count, byte) {
-        return Ok(Reading::Octal(value * 8 + (byte - b'0'), count + 1));
+        return Ok(EscapeState::Octal(value * 8 + (byte - b'0'), count + 1));
     }
     out.push(value)?;
     read_plain(out, byte)
 }
 
-fn read_byte(out: &mut Vec<u8>, state: Reading, byte: u8) -> Result<Reading, AllocError>
+fn read_byte(out: &mut Vec<u8>, state: EscapeState, byte: u8) -> Result<EscapeState, AllocError>
     ensures { IfOk result (λ next. (rest : List ℕ) → out.old.items ++ text_value state (byte ∷ rest) ≡ out.new.items ++ text_value next rest) }
 {
     match state {
-        Reading::Plain => read_plain(out, byte),
-        Reading::Escaped => read_escaped(out, byte),
-        Reading::Octal(value, count) => read_octal(out, value, count, byte),
+        EscapeState::Plain => read_plain(out, byte),
+        EscapeState::Escaped => read_escaped(out, byte),
+        EscapeState::Octal(value, count) => read_octal(out, value, count, byte),
     }
 }
 
@@ -94,11 +94,11 @@ pub fn text_bytes(alloc: Global, text: &[u8]) -> Result<Vec<u8>, AllocError>
         return Vec::from_slice(alloc, text);
     }
     let mut out = Vec::new(alloc);
-    let mut state = Reading::Plain;
+    let mut state = EscapeState::Plain;
     for byte in text {
         state = read_byte(&mut out, state, *byte)?;
     }
-    if let Reading::Octal(value, _) = state {
+    if let EscapeState::Octal(value, _) = state {
         out.push(value)?;
     }
     Ok(out)

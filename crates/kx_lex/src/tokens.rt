@@ -2,7 +2,7 @@
 ghost use Rattle.std.specs.Prelude.{◌≡◌, ◌<◌, ◌^◌, ◌-◌, ◌⊎◌, Err, List, IfErr, IfOk, Ok, ◌≤◌, slice_range, drop};
 ghost use Rattle.kx_lex.specs.declared.fault.Fault.TheVariants.{Memory};
 ghost use Rattle.kx_lex.specs.Strings.{text_value};
-ghost use Rattle.kx_lex.specs.declared.string.Reading.TheVariants.{Plain};
+ghost use Rattle.kx_lex.specs.declared.string.EscapeState.TheVariants.{Plain};
 ghost use Rattle.kx_lex.specs.Gives.{Gives};
 ghost use Rattle.kx_lex.specs.Production.{syntax_of, front_span, span_between};
 ghost use Rattle.kx_lex.specs.Kinds.{slice_of, inner_of, is_word, is_number, is_key_name, is_text, is_mark, is_keyword, front, second, number_value};
@@ -19,7 +19,7 @@ use kx_basics::digits_value;
 use std::alloc::{AllocError, Global};
 
 /// A value with the tokens that are left behind it, or why there is none.
-pub type Reading<'a, T> = Result<(T, &'a [Token]), Fault>;
+pub type Parsed<'a, T> = Result<(T, &'a [Token]), Fault>;
 
 fn range(text: &[u8], start: usize, stop: usize) -> &[u8]
     ensures { result.now ≡ slice_range text.now start stop }
@@ -122,7 +122,7 @@ pub fn syntax(text: &[u8], tokens: &[Token]) -> Fault
 /// [`Fault::Syntax`] where another token or none stands.
 #[inline(always)]
 #[tactic(auto, unfolding(crate::specs::Tokens::mark))]
-pub fn read_mark<'a>(text: &[u8], byte: u8, tokens: &'a [Token]) -> Reading<'a, Token>
+pub fn read_mark<'a>(text: &[u8], byte: u8, tokens: &'a [Token]) -> Parsed<'a, Token>
     ensures { Gives result ((mark text.now byte).read tokens.now) }
 {
     match tokens.split_first() {
@@ -137,7 +137,7 @@ pub fn read_mark<'a>(text: &[u8], byte: u8, tokens: &'a [Token]) -> Reading<'a, 
 /// [`Fault::Syntax`] where another token or none stands.
 #[inline(always)]
 #[tactic(auto, unfolding(crate::specs::Tokens::keyword))]
-pub fn read_keyword<'a>(text: &[u8], wanted: Keyword, tokens: &'a [Token]) -> Reading<'a, Token>
+pub fn read_keyword<'a>(text: &[u8], wanted: Keyword, tokens: &'a [Token]) -> Parsed<'a, Token>
     ensures { Gives result ((keyword text.now wanted).read tokens.now) }
 {
     match tokens.split_first() {
@@ -187,7 +187,7 @@ fn key_name_of(alloc: Global, text: &[u8], token: &Token) -> Result<KeyName, Fau
 /// [`Fault::Syntax`] where another token or none stands, and [`Fault::Memory`] where a growth is refused.
 #[inline(always)]
 #[tactic(auto, unfolding(crate::specs::Tokens::word))]
-pub fn read_word<'a>(alloc: Global, text: &[u8], tokens: &'a [Token]) -> Reading<'a, Name>
+pub fn read_word<'a>(alloc: Global, text: &[u8], tokens: &'a [Token]) -> Parsed<'a, Name>
     ensures { Gives result ((word text.now).read tokens.now) }
 {
     match tokens.split_first() {
@@ -201,7 +201,7 @@ pub fn read_word<'a>(alloc: Global, text: &[u8], tokens: &'a [Token]) -> Reading
 /// # Errors
 /// [`Fault::Syntax`] where another token or none stands, and [`Fault::Memory`] where a growth is refused.
 #[tactic(auto, unfolding(crate::specs::Tokens::key_name))]
-pub fn read_key_name<'a>(alloc: Global, text: &[u8], tokens: &'a [Token]) -> Reading<'a, KeyName>
+pub fn read_key_name<'a>(alloc: Global, text: &[u8], tokens: &'a [Token]) -> Parsed<'a, KeyName>
     ensures { Gives result ((key_name text.now).read tokens.now) }
 {
     match tokens.split_first() {
@@ -227,7 +227,7 @@ fn unescaped(alloc: Global, text: &[u8]) -> Result<Bytes, AllocError>
 /// # Errors
 /// [`Fault::Syntax`] where another token or none stands, and [`Fault::Memory`] where a growth is refused.
 #[tactic(auto, unfolding(crate::specs::Tokens::text_name))]
-pub fn read_text<'a>(alloc: Global, text: &[u8], tokens: &'a [Token]) -> Reading<'a, Name>
+pub fn read_text<'a>(alloc: Global, text: &[u8], tokens: &'a [Token]) -> Parsed<'a, Name>
     ensures { Gives result ((text_name text.now).read tokens.now) }
 {
     match tokens.split_first() {
@@ -269,7 +269,7 @@ fn number_value(digits: &[u8]) -> u64
 /// [`Fault::Syntax`] where another token or none stands, and [`Fault::NumberTooBig`] above
 /// 4,294,967,295.
 #[tactic(auto, unfolding(crate::specs::Tokens::number))]
-pub fn read_number<'a>(text: &[u8], tokens: &'a [Token]) -> Reading<'a, Number>
+pub fn read_number<'a>(text: &[u8], tokens: &'a [Token]) -> Parsed<'a, Number>
     ensures { Gives result ((number text.now).read tokens.now) }
 {
     match tokens.split_first() {

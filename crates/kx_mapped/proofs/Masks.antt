@@ -14,7 +14,7 @@ use Rattle.kx_mods.specs.Mods.{mask}
 use Rattle.kx_mods.specs.declared.mods.Mods.{Mods}
 use Rattle.kx_mapped.specs.Finding.{Firsts}
 use Rattle.kx_mapped.specs.Mapping.{Mapping, first_place, is_at, modmap_of}
-use Rattle.kx_mapped.specs.declared.places.Place.{Place}
+use Rattle.kx_mapped.specs.declared.places.LevelPlace.{LevelPlace}
 
 max_bits : (a b : ℕ) → a < 2 → b < 2 → (max a b == 1) ≡ ((a == 1) || (b == 1))
 max_bits zero zero low small = refl
@@ -57,7 +57,7 @@ module _ (code : ℕ) (old new : ℕ → Option Mods) (before mods all : Mods) w
 
 -- ---- The first places of all keysyms that are named
 
-module _ (test : Option Place → ℕ → Bool) (found : Firsts) (first : ℕ → Option Place) where
+module _ (test : Option LevelPlace → ℕ → Bool) (found : Firsts) (first : ℕ → Option LevelPlace) where
   abbrev names : List (ℕ × ℕ) → ℕ → Bool
   names es k = list_any (λ (e : ℕ × ℕ). e.0 == k) es
 

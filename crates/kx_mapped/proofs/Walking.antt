@@ -10,19 +10,19 @@ use Rattle.kx_mapped.proofs.Order.{first_is_first}
 use Rattle.kx_mapped.proofs.Steps.{below_next, first_is, groups_next, levels_next}
 use Rattle.kx_mapped.specs.Finding.{Firsts, IsFirstOrNone, Visits}
 use Rattle.kx_mapped.specs.Mapping.{Mapping, earlier, first_place, group_places, key_places, level_places, place_at, places_below}
-use Rattle.kx_mapped.specs.declared.places.Place.{Place}
+use Rattle.kx_mapped.specs.declared.places.LevelPlace.{LevelPlace}
 
 module _ (old now new : Firsts) where
   module _ (key : KeyGiven) (code group : ℕ) where
-    abbrev place_of : ℕ → Place
-    place_of level = record { group = group; level = level; code = code }
+    abbrev level_place : ℕ → LevelPlace
+    level_place level = record { group = group; level = level; code = code }
 
     pub visits_level : (level : ℕ) (keysyms : List ℕ) → keysyms ≡ level_keysyms key (content_group key group) level
         → Visits (λ k. level_places k key code group level) old now
         → Visits (λ k. if is_member nat_eq keysyms k then record { group = group; level = level; code = code } ∷ [] else []) now new
         → Visits (λ k. level_places k key code group (level + 1)) old new
     visits_level level keysyms are before visited =
-        let here : Visits (λ k. place_at k key code group level) now new = visits_alike now (λ k. if is_member nat_eq keysyms k then place_of level ∷ [] else []) (λ k. place_at k key code group level) new visited (λ k. ap (λ ks. if is_member nat_eq ks k then place_of level ∷ [] else []) are) in
+        let here : Visits (λ k. place_at k key code group level) now new = visits_alike now (λ k. if is_member nat_eq keysyms k then level_place level ∷ [] else []) (λ k. place_at k key code group level) new visited (λ k. ap (λ ks. if is_member nat_eq ks k then level_place level ∷ [] else []) are) in
         visits_alike old (λ k. level_places k key code group level ++ place_at k key code group level) (λ k. level_places k key code group (level + 1)) new
         (visits_both old (λ k. level_places k key code group level) (λ k. place_at k key code group level) now new before here)
         (λ k. sym (levels_next k key code group level))

@@ -10,7 +10,7 @@ use Rattle.kx_mods.specs.declared.mods.Mods.{Mods}
 use Rattle.kx_types.specs.KeyTypes.{Definition}
 use Rattle.kx_typing.specs.Given.{KeyGiven}
 use Rattle.kx_typing.specs.GroupTypes.{content_group, group_count, group_levels, level_keysyms}
-use Rattle.kx_mapped.specs.declared.places.Place.{Place}
+use Rattle.kx_mapped.specs.declared.places.LevelPlace.{LevelPlace}
 use Rattle.kx_basics.specs.declared.limits.TheConstants.{CODES}
 
 -- what is read of a keymap: the names and keys of codes, the types by name, and what modifier maps give the keys of codes and,
@@ -25,51 +25,51 @@ pub record Mapping : Type 0 where
 -- ---- The first of places
 
 -- a lesser group comes first, in one group a lesser level, at one level a lesser keycode
-abbrev pub is_before : Place → Place → Bool
+abbrev pub is_before : LevelPlace → LevelPlace → Bool
 is_before one other =
     nat_lt one.group other.group
     || one.group == other.group && (nat_lt one.level other.level || one.level == other.level && nat_lt one.code other.code)
 
-abbrev pub earlier : Option Place → Place → Option Place
+abbrev pub earlier : Option LevelPlace → LevelPlace → Option LevelPlace
 earlier None place = Some place
 earlier (Some first) place = Some (if is_before place first then place else first)
 
-abbrev pub first_of : List Place → Option Place
+abbrev pub first_of : List LevelPlace → Option LevelPlace
 first_of places = fold earlier None places
 
 -- ---- Where a keysym stands, alone or with others
 
 module _ (keysym : ℕ) where
-  abbrev pub place_at : KeyGiven → ℕ → ℕ → ℕ → List Place
+  abbrev pub place_at : KeyGiven → ℕ → ℕ → ℕ → List LevelPlace
   place_at key code group level = if is_member nat_eq (level_keysyms key (content_group key group) level) keysym then record { group = group; level = level; code = code } ∷ [] else []
 
   -- on the levels of a group below a number
-  unfoldable pub level_places : KeyGiven → ℕ → ℕ → ℕ → List Place
+  unfoldable pub level_places : KeyGiven → ℕ → ℕ → ℕ → List LevelPlace
   level_places key code group zero = []
   level_places key code group (suc level) = level_places key code group level ++ place_at key code group level
 
   module _ (declared : List ℕ → Option Definition) where
     -- on the groups of a key below a number: keysyms behind the levels of a group aren't kept
-    unfoldable pub group_places : KeyGiven → ℕ → ℕ → List Place
+    unfoldable pub group_places : KeyGiven → ℕ → ℕ → List LevelPlace
     group_places key code zero = []
     group_places key code (suc group) = group_places key code group ++ level_places key code group (group_levels declared key group)
 
-    abbrev pub key_places : ℕ → Option (List ℕ) → KeyGiven → List Place
+    abbrev pub key_places : ℕ → Option (List ℕ) → KeyGiven → List LevelPlace
     key_places code None key = []
     key_places code (Some name) key = group_places key code (group_count key)
 
   module _ (m : Mapping) where
     -- on the keys of the codes below a number
-    unfoldable pub places_below : ℕ → List Place
+    unfoldable pub places_below : ℕ → List LevelPlace
     places_below zero = []
     places_below (suc code) = places_below code ++ key_places m.declared code (m.name code) (m.key code)
 
-    unfoldable pub first_place : Option Place
+    unfoldable pub first_place : Option LevelPlace
     first_place = first_of (places_below CODES)
 
 -- ---- What a key is mapped to
 
-abbrev pub is_at : ℕ → Option Place → Bool
+abbrev pub is_at : ℕ → Option LevelPlace → Bool
 is_at code None = false
 is_at code (Some place) = place.code == code
 

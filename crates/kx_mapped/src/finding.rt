@@ -15,7 +15,7 @@ ghost use Rattle.kx_mapped.specs.Finding.{IsFirstOrNone, Visits};
 ghost use Rattle.kx_mapped.specs.Mapping.{first_place, group_places, key_places, level_places, places_below};
 ghost use Rattle.kx_mapped.specs.Read.{mapping_of};
 
-use crate::places::Place;
+use crate::places::LevelPlace;
 use indexmap::IndexMap;
 use kx_codes::Codes;
 use kx_lex::Fault;
@@ -26,10 +26,10 @@ use kx_typing::{content_group, group_count, group_levels, keysyms_at};
 use std::alloc::Global;
 
 /// The first places of the keysyms that are looked for, by the keysyms' numbers; none where none is found.
-pub(crate) type FirstPlaces = IndexMap<u32, Option<Place>>;
+pub(crate) type FirstPlaces = IndexMap<u32, Option<LevelPlace>>;
 
 /// Visits a place of a keysym, which counts where the keysym is looked for.
-fn visit_keysym(firsts: &mut FirstPlaces, keysym: u32, place: Place)
+fn visit_keysym(firsts: &mut FirstPlaces, keysym: u32, place: LevelPlace)
     ensures { Visits (λ k. if nat_eq keysym k then place ∷ [] else []) (get nat_eq firsts.old) (get nat_eq firsts.new) }
 {
     if let Some(first) = firsts.get_mut(&keysym) {
@@ -38,7 +38,7 @@ fn visit_keysym(firsts: &mut FirstPlaces, keysym: u32, place: Place)
 }
 
 /// Visits the keysyms of a level, at its place.
-fn visit_level(firsts: &mut FirstPlaces, keysyms: &[u32], place: Place)
+fn visit_level(firsts: &mut FirstPlaces, keysyms: &[u32], place: LevelPlace)
     ensures { Visits (λ k. if is_member nat_eq keysyms.now k then place ∷ [] else []) (get nat_eq firsts.old) (get nat_eq firsts.new) }
 {
     'keysyms: for keysym in keysyms {
@@ -52,7 +52,7 @@ fn visit_group(firsts: &mut FirstPlaces, key: &KeyRecord, code: u16, group: usiz
 {
     let content = content_group(key, group);
     'levels: for level in 0..levels {
-        let place = Place { group, level, code };
+        let place = LevelPlace { group, level, code };
         visit_level(firsts, keysyms_at(key, content, level), place);
     }
 }

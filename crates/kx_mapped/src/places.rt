@@ -2,7 +2,7 @@
 
 /// A level of a group of a key.
 #[derive(Clone, Copy)]
-pub struct Place {
+pub struct LevelPlace {
     /// The group, counted from 0.
     pub group: usize,
     /// The level, counted from 0.
@@ -11,12 +11,12 @@ pub struct Place {
     pub code: u16,
 }
 
-impl Place {
+impl LevelPlace {
     ghost use Rattle.std.specs.Prelude.{◌≡◌, Some};
     ghost use Rattle.kx_mapped.specs.Mapping.{earlier, is_before};
 
     /// Whether this place comes before another: by its group, then by its level, then by its code.
-    pub(crate) fn is_before(self, other: Place) -> bool
+    pub(crate) fn is_before(self, other: LevelPlace) -> bool
         ensures { result ≡ is_before self other }
     {
         self.group < other.group
@@ -25,7 +25,7 @@ impl Place {
     }
 
     /// The earlier of the first place so far, where there is one, and this one.
-    pub(crate) fn earlier(self, first: Option<Place>) -> Place
+    pub(crate) fn earlier(self, first: Option<LevelPlace>) -> LevelPlace
         ensures { Some result ≡ earlier first self }
     {
         match first {

@@ -31,7 +31,7 @@ pub struct Context<'a> {
 
 /// Where a statement stands.
 #[derive(Clone, Copy, Debug)]
-pub(crate) struct Reading {
+pub(crate) struct StatementSite {
     pub file: u32,
     /// All of the statement.
     pub whole: Span,
@@ -100,18 +100,18 @@ pub(crate) fn read_word(modifiers: &ModNames, file: u32, word: &Name) -> Result<
 /// The key of a name, where it has a keycode; else that is noted.
 fn key_target(
     codes: &Codes,
-    reading: Reading,
+    site: StatementSite,
     name: &KeyName,
     notes: &mut Notes,
 ) -> Result<Option<Target>, Fault>
     ensures value { IfOk result (λ target. target ≡ option_map (λ code. Key code) (code_of codes.now name.now.bytes)) }
-    ensures faultless { OnOk result (name_faults reading.file reading.whole name.now ≡ []) }
-    ensures fault { IfErr result (λ e. Contains (Memory ∷ name_faults reading.file reading.whole name.now) e) }
+    ensures faultless { OnOk result (name_faults site.file site.whole name.now ≡ []) }
+    ensures fault { IfErr result (λ e. Contains (Memory ∷ name_faults site.file site.whole name.now) e) }
 {
     if name.as_slice().len() > MOST_NAME_BYTES {
         return Err(Fault::TooMany(At {
-            file: reading.file,
-            span: reading.whole,
+            file: site.file,
+            span: site.whole,
         }));
     }
     match codes.code_of(name.as_slice()) {
@@ -127,17 +127,17 @@ fn key_target(
 fn read_entry(
     codes: &Codes,
     names: &NameTable,
-    reading: Reading,
+    site: StatementSite,
     entry: &Entry,
     notes: &mut Notes,
 ) -> Result<Option<Target>, Fault>
     ensures value { IfOk result (λ target. target ≡ entry_target codes.now names.now entry.now) }
-    ensures faultless { OnOk result (entry_faults reading.file reading.whole entry.now ≡ []) }
-    ensures fault { IfErr result (λ e. Contains (Memory ∷ entry_faults reading.file reading.whole entry.now) e) }
+    ensures faultless { OnOk result (entry_faults site.file site.whole entry.now ≡ []) }
+    ensures fault { IfErr result (λ e. Contains (Memory ∷ entry_faults site.file site.whole entry.now) e) }
 {
     match entry {
-        Entry::KeyName(name) => key_target(codes, reading, name, notes),
-        Entry::Symbol(symbol) => match symbol_keysym(names, reading.file, symbol, notes)? {
+        Entry::KeyName(name) => key_target(codes, site, name, notes),
+        Entry::Symbol(symbol) => match symbol_keysym(names, site.file, symbol, notes)? {
             None => Ok(None),
             Some(keysym) => Ok(Some(Target::Keysym(keysym))),
         },
@@ -160,17 +160,17 @@ pub(crate) fn read_targets(
     alloc: Global,
     codes: &Codes,
     names: &NameTable,
-    reading: Reading,
+    site: StatementSite,
     entries: &[Entry],
     notes: &mut Notes,
 ) -> Result<IndexSet<Target>, Fault>
     ensures value { IfOk result (λ targets. targets.keys ≡ targets_of codes.now names.now entries.now) }
-    ensures faultless { OnOk result (flat_map (entry_faults reading.file reading.whole) entries.now ≡ []) }
-    ensures fault { IfErr result (λ e. Contains (Memory ∷ flat_map (entry_faults reading.file reading.whole) entries.now) e) }
+    ensures faultless { OnOk result (flat_map (entry_faults site.file site.whole) entries.now ≡ []) }
+    ensures fault { IfErr result (λ e. Contains (Memory ∷ flat_map (entry_faults site.file site.whole) entries.now) e) }
 {
     let mut targets = IndexSet::new(alloc);
     'entries: for entry in entries {
-        let target = read_entry(codes, names, reading, entry, notes)?;
+        let target = read_entry(codes, names, site, entry, notes)?;
         add_target(&mut targets, target)?;
     }
     Ok(targets)

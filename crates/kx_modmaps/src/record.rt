@@ -11,7 +11,7 @@ ghost use Rattle.kx_mods.specs.Mods.{mask};
 ghost use Rattle.kx_modmaps.specs.Entries.{entry_faults, item_faults, targets_of, word_faults, word_mask};
 ghost use Rattle.kx_modmaps.specs.Maps.{assigned_cell, assigned_width, given, item_offers, map_moves, map_offer, map_rules, offers_to, present};
 
-use crate::entries::{Context, Reading, map_in, read_targets, read_word};
+use crate::entries::{Context, StatementSite, map_in, read_targets, read_word};
 use crate::target::Target;
 use ks_core::{NameTable, Notes};
 use kx_codes::Codes;
@@ -111,17 +111,17 @@ fn read_map(
     codes: &Codes,
     names: &NameTable,
     modifiers: &ModNames,
-    reading: Reading,
+    site: StatementSite,
     word: &Name,
     entries: &[Entry],
     notes: &mut Notes,
 ) -> Result<Vec<(Target, Assigned)>, Fault>
     ensures records { (mode : ModeValue) → IfOk result (λ records. AreOffered mode (assigned_cell) (assigned_width) records.items (offers_to mode (word_mask word.now.bytes) (targets_of codes.now names.now entries.now))) }
-    ensures faultless { OnOk result (word_faults reading.file modifiers.now.names word.now ++ flat_map (entry_faults reading.file reading.whole) entries.now ≡ []) }
-    ensures fault { IfErr result (λ e. Contains (Memory ∷ (word_faults reading.file modifiers.now.names word.now ++ flat_map (entry_faults reading.file reading.whole) entries.now)) e) }
+    ensures faultless { OnOk result (word_faults site.file modifiers.now.names word.now ++ flat_map (entry_faults site.file site.whole) entries.now ≡ []) }
+    ensures fault { IfErr result (λ e. Contains (Memory ∷ (word_faults site.file modifiers.now.names word.now ++ flat_map (entry_faults site.file site.whole) entries.now)) e) }
 {
-    let mods = read_word(modifiers, reading.file, word)?;
-    let targets = read_targets(alloc, codes, names, reading, entries, notes)?;
+    let mods = read_word(modifiers, site.file, word)?;
+    let targets = read_targets(alloc, codes, names, site, entries, notes)?;
     records_for(alloc, targets.as_slice(), mods)
 }
 
@@ -154,13 +154,13 @@ fn read_item(
         } => match map_in(statement) {
             None => Ok(no_records(alloc)),
             Some((word, entries)) => {
-                let reading = Reading { file, whole: *span };
+                let site = StatementSite { file, whole: *span };
                 read_map(
                     alloc,
                     codes,
                     names,
                     modifiers,
-                    reading,
+                    site,
                     word,
                     entries.as_slice(),
                     notes,

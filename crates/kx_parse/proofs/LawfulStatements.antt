@@ -11,7 +11,7 @@ use Rattle.kx_lex.proofs.Others.{word-before, key_name-before, mark-before, keyw
 use Rattle.kx_lex.proofs.TokenLaws.{mark-lawful, mark-front, keyword-lawful, keyword-front, keyword-behind, word-lawful, word-front, key_name-lawful, key_name-front, text_name-lawful, text_name-front, number-lawful, number-front}
 use Rattle.kx_parse.specs.Values.{symbol}
 use Rattle.kx_parse.specs.Statements.{setting, off_field, on_field, bare_field, field, block_field, block, key_field, declared_mask, declaration, predicate, entry, begins, keycode, alias, indicator_name, virtual_indicator, virtual_modifiers, key_type, wanted_modifiers, optional_modifiers, interpretation, indicator, group, key, mapped_entries, modifier_map, field_statement, keycodes_statement, types_statement, symbols_statement, statement}
-use Rattle.kx_parse.specs.declared.tree.Place.{Place}
+use Rattle.kx_parse.specs.declared.tree.FieldPlace.{FieldPlace}
 use Rattle.kx_parse.specs.declared.tree.Setting.{Setting}
 use Rattle.kx_parse.specs.declared.tree.Statement.{Statement}
 use Rattle.kx_parse.proofs.LawfulValues.{sequence-lawful, listed-lawful, symbol-lawful, expression-lawful, place-lawful, place-front, value-lawful, call-lawful, call-begins, list-lawful, list-front, or_true}
@@ -73,7 +73,7 @@ pub field-starts : (text : List ℕ) → Admits starts (field text)
 unfolding field
 field-starts text ts x rest s = go s.0.0 s.2.0
   where
-    go : (f : Place × Setting) → (bare_field text).spells ts f s.1 → starts ts ≡ true
+    go : (f : FieldPlace × Setting) → (bare_field text).spells ts f s.1 → starts ts ≡ true
     go f (inl o) = rw (mark-front text bang ts o.1.0 o.1.1 o.1.2, or_true) refl
     go f (inr o) = word-starts ts (place-front text ts o.1.0 o.1.1 o.1.2)
 

@@ -7,7 +7,7 @@ use Rattle.kx_lex.specs.Production.{Production, ◌>>=◌, give, many, either, o
 use Rattle.kx_lex.specs.Kinds.{is_word, is_number, is_key_name, is_text, is_mark, is_keyword, front, second, before_mark}
 use Rattle.kx_lex.specs.Tokens.{mark, keyword, word, key_name, text_name, number, open_brace, close_brace, open_bracket, semicolon, equals, plus, bang}
 use Rattle.kx_parse.specs.Values.{sequence, listed, symbol, expression, place, value, call, list, begins_call}
-use Rattle.kx_parse.specs.declared.tree.Place.{Place}
+use Rattle.kx_parse.specs.declared.tree.FieldPlace.{FieldPlace}
 use Rattle.kx_parse.specs.declared.tree.Expression.{Expression}
 use Rattle.kx_parse.specs.declared.tree.Setting.{Setting}
 use Rattle.kx_parse.specs.declared.tree.Setting.TheVariants as settings
@@ -30,19 +30,19 @@ setting text = either (front (is_mark equals))
       give (settings.To v))
     (give settings.On)
 
-abbrev pub off_field : List ℕ → Production (Place × Setting)
+abbrev pub off_field : List ℕ → Production (FieldPlace × Setting)
 off_field text = do
   _ ← mark text bang
   p ← place text
   give (p, settings.Off)
 
-abbrev pub on_field : List ℕ → Production (Place × Setting)
+abbrev pub on_field : List ℕ → Production (FieldPlace × Setting)
 on_field text = do
   p ← place text
   s ← setting text
   give (p, s)
 
-abbrev pub bare_field : List ℕ → Production (Place × Setting)
+abbrev pub bare_field : List ℕ → Production (FieldPlace × Setting)
 bare_field text = either (front (is_mark bang)) (off_field text) (on_field text)
 
 unfoldable pub field : List ℕ → Production Field

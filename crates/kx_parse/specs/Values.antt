@@ -17,13 +17,13 @@ use Rattle.kx_parse.specs.declared.tree.Term.TheVariants as terms
 use Rattle.kx_parse.specs.declared.tree.Operation.{Operation}
 use Rattle.kx_parse.specs.declared.tree.Expression.{Expression}
 use Rattle.kx_parse.specs.declared.tree.Index.{Index}
-use Rattle.kx_parse.specs.declared.tree.Place.{Place}
+use Rattle.kx_parse.specs.declared.tree.FieldPlace.{FieldPlace}
 use Rattle.kx_parse.specs.declared.tree.Argument.{Argument}
 use Rattle.kx_parse.specs.declared.tree.Argument.TheVariants as arguments
 use Rattle.kx_parse.specs.declared.tree.PlacedArgument.{PlacedArgument}
 use Rattle.kx_parse.specs.declared.tree.Call.{Call}
-use Rattle.kx_parse.specs.declared.tree.Part.{Part}
-use Rattle.kx_parse.specs.declared.tree.Part.TheVariants as parts
+use Rattle.kx_parse.specs.declared.tree.BracePart.{BracePart}
+use Rattle.kx_parse.specs.declared.tree.BracePart.TheVariants as parts
 use Rattle.kx_parse.specs.declared.tree.Braces.{Braces}
 use Rattle.kx_parse.specs.declared.tree.Element.{Element}
 use Rattle.kx_parse.specs.declared.tree.Element.TheVariants as elements
@@ -132,7 +132,7 @@ member text = do
 abbrev pub optional_member : List ℕ → Production (Option Name)
 optional_member text = optional (front (is_mark point)) (member text)
 
-unfoldable pub place : List ℕ → Production Place
+unfoldable pub place : List ℕ → Production FieldPlace
 place text = do
   w ← word text
   m ← optional_member text
@@ -183,7 +183,7 @@ call text = do
     give (w, xs))
   give (record { word = c.0.0; arguments = c.0.1; span = c.1 })
 
-unfoldable pub part : List ℕ → Production Part
+unfoldable pub part : List ℕ → Production BracePart
 part text = either begins_call
     (do
       c ← call text

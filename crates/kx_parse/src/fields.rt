@@ -4,19 +4,21 @@ ghost use Rattle.kx_parse.specs.Statements.{setting, bare_field, field, block_fi
 ghost use Rattle.kx_lex.specs.Kinds.{before_mark};
 ghost use Rattle.kx_lex.specs.Tokens.{close_brace};
 
-use crate::tree::{Declaration, Entry, Expression, Field, KeyField, Place, Predicate, Setting};
+use crate::tree::{
+    Declaration, Entry, Expression, Field, FieldPlace, KeyField, Predicate, Setting,
+};
 use crate::values::{
     begins_call, read_call, read_expression, read_list, read_place, read_symbol, read_value,
 };
 use kx_lex::repeated::{Repeated, is_before_mark, read_many};
 use kx_lex::tokens::{
-    Reading, front_is_key_name, front_is_mark, read_key_name, read_mark, read_word, span_between,
+    Parsed, front_is_key_name, front_is_mark, read_key_name, read_mark, read_word, span_between,
 };
 use kx_lex::{Boxed, Fault, Row, Token};
 use std::alloc::Global;
 
 #[tactic(auto, unfolding(crate::specs::Statements::setting))]
-fn read_setting<'a>(alloc: Global, text: &[u8], tokens: &'a [Token]) -> Reading<'a, Setting>
+fn read_setting<'a>(alloc: Global, text: &[u8], tokens: &'a [Token]) -> Parsed<'a, Setting>
     ensures { Gives result ((setting text.now).read tokens.now) }
 {
     if !front_is_mark(b'=', tokens) {
@@ -31,7 +33,7 @@ fn read_bare_field<'a>(
     alloc: Global,
     text: &[u8],
     tokens: &'a [Token],
-) -> Reading<'a, (Place, Setting)>
+) -> Parsed<'a, (FieldPlace, Setting)>
     ensures { Gives result ((bare_field text.now).read tokens.now) }
 {
     if front_is_mark(b'!', tokens) {
@@ -46,7 +48,7 @@ fn read_bare_field<'a>(
 
 /// Takes a field without its `;`.
 #[tactic(auto, unfolding(crate::specs::Statements::field))]
-pub fn read_field<'a>(alloc: Global, text: &[u8], tokens: &'a [Token]) -> Reading<'a, Field>
+pub fn read_field<'a>(alloc: Global, text: &[u8], tokens: &'a [Token]) -> Parsed<'a, Field>
     ensures { Gives result ((field text.now).read tokens.now) }
 {
     let ((place, setting), rest) = read_bare_field(alloc, text, tokens)?;
@@ -62,7 +64,7 @@ pub fn read_field<'a>(alloc: Global, text: &[u8], tokens: &'a [Token]) -> Readin
 }
 
 #[tactic(auto, unfolding(crate::specs::Statements::block_field))]
-fn read_block_field<'a>(alloc: Global, text: &[u8], tokens: &'a [Token]) -> Reading<'a, Field>
+fn read_block_field<'a>(alloc: Global, text: &[u8], tokens: &'a [Token]) -> Parsed<'a, Field>
     ensures { Gives result ((block_field text.now).read tokens.now) }
 {
     let (field, rest) = read_field(alloc, text, tokens)?;
@@ -83,14 +85,14 @@ impl Repeated for BlockFields {
         is_before_mark(b'}', tokens)
     }
 
-    fn read_next<'a>(alloc: Global, text: &[u8], tokens: &'a [Token]) -> Reading<'a, Field> {
+    fn read_next<'a>(alloc: Global, text: &[u8], tokens: &'a [Token]) -> Parsed<'a, Field> {
         read_block_field(alloc, text, tokens)
     }
 }
 
 /// Takes the fields between braces, each with its `;`.
 #[tactic(auto, unfolding(crate::specs::Statements::block))]
-pub fn read_block<'a>(alloc: Global, text: &[u8], tokens: &'a [Token]) -> Reading<'a, Row<Field>>
+pub fn read_block<'a>(alloc: Global, text: &[u8], tokens: &'a [Token]) -> Parsed<'a, Row<Field>>
     ensures { Gives result ((block text.now).read tokens.now) }
 {
     let (_, rest) = read_mark(text, b'{', tokens)?;
@@ -100,7 +102,7 @@ pub fn read_block<'a>(alloc: Global, text: &[u8], tokens: &'a [Token]) -> Readin
 }
 
 #[tactic(auto, unfolding(crate::specs::Statements::key_field))]
-fn read_key_field<'a>(alloc: Global, text: &[u8], tokens: &'a [Token]) -> Reading<'a, KeyField>
+fn read_key_field<'a>(alloc: Global, text: &[u8], tokens: &'a [Token]) -> Parsed<'a, KeyField>
     ensures { Gives result ((key_field text.now).read tokens.now) }
 {
     if front_is_mark(b'[', tokens) {
@@ -125,7 +127,7 @@ impl Repeated for KeyFields {
         true
     }
 
-    fn read_next<'a>(alloc: Global, text: &[u8], tokens: &'a [Token]) -> Reading<'a, KeyField> {
+    fn read_next<'a>(alloc: Global, text: &[u8], tokens: &'a [Token]) -> Parsed<'a, KeyField> {
         read_key_field(alloc, text, tokens)
     }
 }
@@ -134,7 +136,7 @@ fn read_declared_mask<'a>(
     alloc: Global,
     text: &[u8],
     tokens: &'a [Token],
-) -> Reading<'a, Option<Expression>>
+) -> Parsed<'a, Option<Expression>>
     ensures { Gives result ((declared_mask text.now).read tokens.now) }
 {
     if !front_is_mark(b'=', tokens) {
@@ -146,7 +148,7 @@ fn read_declared_mask<'a>(
 }
 
 #[tactic(auto, unfolding(crate::specs::Statements::declaration))]
-fn read_declaration<'a>(alloc: Global, text: &[u8], tokens: &'a [Token]) -> Reading<'a, Declaration>
+fn read_declaration<'a>(alloc: Global, text: &[u8], tokens: &'a [Token]) -> Parsed<'a, Declaration>
     ensures { Gives result ((declaration text.now).read tokens.now) }
 {
     let (word, rest) = read_word(alloc, text, tokens)?;
@@ -168,14 +170,14 @@ impl Repeated for Declarations {
         true
     }
 
-    fn read_next<'a>(alloc: Global, text: &[u8], tokens: &'a [Token]) -> Reading<'a, Declaration> {
+    fn read_next<'a>(alloc: Global, text: &[u8], tokens: &'a [Token]) -> Parsed<'a, Declaration> {
         read_declaration(alloc, text, tokens)
     }
 }
 
 /// Takes the predicate of an interpretation: a call or a mask.
 #[tactic(auto, unfolding(crate::specs::Statements::predicate))]
-pub fn read_predicate<'a>(alloc: Global, text: &[u8], tokens: &'a [Token]) -> Reading<'a, Predicate>
+pub fn read_predicate<'a>(alloc: Global, text: &[u8], tokens: &'a [Token]) -> Parsed<'a, Predicate>
     ensures { Gives result ((predicate text.now).read tokens.now) }
 {
     if begins_call(tokens) {
@@ -187,7 +189,7 @@ pub fn read_predicate<'a>(alloc: Global, text: &[u8], tokens: &'a [Token]) -> Re
 }
 
 #[tactic(auto, unfolding(crate::specs::Statements::entry))]
-fn read_entry<'a>(alloc: Global, text: &[u8], tokens: &'a [Token]) -> Reading<'a, Entry>
+fn read_entry<'a>(alloc: Global, text: &[u8], tokens: &'a [Token]) -> Parsed<'a, Entry>
     ensures { Gives result ((entry text.now).read tokens.now) }
 {
     if front_is_key_name(tokens) {
@@ -212,7 +214,7 @@ impl Repeated for Entries {
         true
     }
 
-    fn read_next<'a>(alloc: Global, text: &[u8], tokens: &'a [Token]) -> Reading<'a, Entry> {
+    fn read_next<'a>(alloc: Global, text: &[u8], tokens: &'a [Token]) -> Parsed<'a, Entry> {
         read_entry(alloc, text, tokens)
     }
 }

@@ -10,7 +10,7 @@ mod values;
 pub use kx_lex::{Boxed, Bytes, KeyName, Name, Number, Row};
 pub use sections::{one_stop, one_tree, parse, parse_file, stops};
 pub use tree::{
-    Argument, Braces, Call, Declaration, Element, Entry, Expression, Field, Flag, Index, Item,
-    KeyField, Kind, List, Mode, Operation, Part, Place, PlacedArgument, Predicate, Section,
+    Argument, BracePart, Braces, Call, Declaration, Element, Entry, Expression, Field, FieldPlace,
+    Flag, Index, Item, KeyField, Kind, List, Mode, Operation, PlacedArgument, Predicate, Section,
     Setting, Sign, Signed, Statement, Symbol, Term, Tree, Value,
 };

@@ -17,7 +17,7 @@ use crate::statements::read_statement;
 use crate::tree::{Flag, Item, Kind, Mode, Section, Statement, Tree};
 use kx_lex::repeated::{Repeated, is_before_mark, read_many};
 use kx_lex::tokens::{
-    Reading, behind_front, front_is_key_name, front_is_keyword, front_is_mark, front_is_text,
+    Parsed, behind_front, front_is_key_name, front_is_keyword, front_is_mark, front_is_text,
     front_is_word, front_span, is_keyword, is_mark, read_keyword, read_mark, read_text,
     span_between, syntax,
 };
@@ -75,7 +75,7 @@ fn begins_moded(tokens: &[Token]) -> bool
 }
 
 #[tactic(auto, unfolding(crate::specs::Sections::join))]
-fn read_join<'a>(text: &[u8], tokens: &'a [Token]) -> Reading<'a, Mode>
+fn read_join<'a>(text: &[u8], tokens: &'a [Token]) -> Parsed<'a, Mode>
     ensures { Gives result ((join text.now).read tokens.now) }
 {
     match tokens.split_first() {
@@ -88,7 +88,7 @@ fn read_join<'a>(text: &[u8], tokens: &'a [Token]) -> Reading<'a, Mode>
 }
 
 #[tactic(auto, unfolding(crate::specs::Sections::mode))]
-fn read_mode<'a>(text: &[u8], tokens: &'a [Token]) -> Reading<'a, Mode>
+fn read_mode<'a>(text: &[u8], tokens: &'a [Token]) -> Parsed<'a, Mode>
     ensures { Gives result ((mode text.now).read tokens.now) }
 {
     match tokens.split_first() {
@@ -101,7 +101,7 @@ fn read_mode<'a>(text: &[u8], tokens: &'a [Token]) -> Reading<'a, Mode>
 }
 
 #[tactic(auto, unfolding(crate::specs::Sections::include))]
-fn read_include<'a>(alloc: Global, text: &[u8], tokens: &'a [Token]) -> Reading<'a, Item>
+fn read_include<'a>(alloc: Global, text: &[u8], tokens: &'a [Token]) -> Parsed<'a, Item>
     ensures { Gives result ((include text.now).read tokens.now) }
 {
     let (mode, rest) = read_join(text, tokens)?;
@@ -123,7 +123,7 @@ fn read_moded<'a>(
     text: &[u8],
     mode: Mode,
     tokens: &'a [Token],
-) -> Reading<'a, (Mode, Statement, Span)>
+) -> Parsed<'a, (Mode, Statement, Span)>
     ensures { Gives result ((moded text.now mode).read tokens.now) }
 {
     let first = front_span(tokens);
@@ -137,7 +137,7 @@ fn read_modal<'a>(
     alloc: Global,
     text: &[u8],
     tokens: &'a [Token],
-) -> Reading<'a, (Mode, Statement, Span)>
+) -> Parsed<'a, (Mode, Statement, Span)>
     ensures { Gives result ((modal text.now).read tokens.now) }
 {
     let (mode, rest) = read_mode(text, tokens)?;
@@ -145,7 +145,7 @@ fn read_modal<'a>(
 }
 
 #[tactic(auto, unfolding(crate::specs::Sections::own))]
-fn read_own<'a>(alloc: Global, text: &[u8], tokens: &'a [Token]) -> Reading<'a, Item>
+fn read_own<'a>(alloc: Global, text: &[u8], tokens: &'a [Token]) -> Parsed<'a, Item>
     ensures { Gives result ((own text.now).read tokens.now) }
 {
     let ((mode, statement, first), rest) = if begins_moded(tokens) {
@@ -166,7 +166,7 @@ fn read_own<'a>(alloc: Global, text: &[u8], tokens: &'a [Token]) -> Reading<'a, 
 }
 
 #[tactic(auto, unfolding(crate::specs::Sections::item))]
-fn read_item<'a>(alloc: Global, text: &[u8], tokens: &'a [Token]) -> Reading<'a, Item>
+fn read_item<'a>(alloc: Global, text: &[u8], tokens: &'a [Token]) -> Parsed<'a, Item>
     ensures { Gives result ((item text.now).read tokens.now) }
 {
     if begins_include(tokens) {
@@ -188,7 +188,7 @@ impl Repeated for Items {
         is_before_mark(b'}', tokens)
     }
 
-    fn read_next<'a>(alloc: Global, text: &[u8], tokens: &'a [Token]) -> Reading<'a, Item> {
+    fn read_next<'a>(alloc: Global, text: &[u8], tokens: &'a [Token]) -> Parsed<'a, Item> {
         read_item(alloc, text, tokens)
     }
 }
@@ -242,7 +242,7 @@ fn flag_of(token: &Token) -> Option<Flag>
 }
 
 #[tactic(auto, unfolding(crate::specs::Sections::kind))]
-fn read_kind<'a>(text: &[u8], tokens: &'a [Token]) -> Reading<'a, Kind>
+fn read_kind<'a>(text: &[u8], tokens: &'a [Token]) -> Parsed<'a, Kind>
     ensures { Gives result ((kind text.now).read tokens.now) }
 {
     match tokens.split_first() {
@@ -255,7 +255,7 @@ fn read_kind<'a>(text: &[u8], tokens: &'a [Token]) -> Reading<'a, Kind>
 }
 
 #[tactic(auto, unfolding(crate::specs::Sections::flag))]
-fn read_flag<'a>(text: &[u8], tokens: &'a [Token]) -> Reading<'a, Flag>
+fn read_flag<'a>(text: &[u8], tokens: &'a [Token]) -> Parsed<'a, Flag>
     ensures { Gives result ((flag text.now).read tokens.now) }
 {
     match tokens.split_first() {
@@ -283,13 +283,13 @@ impl Repeated for Flags {
         }
     }
 
-    fn read_next<'a>(alloc: Global, text: &[u8], tokens: &'a [Token]) -> Reading<'a, Flag> {
+    fn read_next<'a>(alloc: Global, text: &[u8], tokens: &'a [Token]) -> Parsed<'a, Flag> {
         read_flag(text, tokens)
     }
 }
 
 #[tactic(auto, unfolding(crate::specs::Sections::flags))]
-fn read_flags<'a>(alloc: Global, text: &[u8], tokens: &'a [Token]) -> Reading<'a, Row<Flag>>
+fn read_flags<'a>(alloc: Global, text: &[u8], tokens: &'a [Token]) -> Parsed<'a, Row<Flag>>
     ensures { Gives result ((flags text.now).read tokens.now) }
 {
     read_many::<Flags>(alloc, text, tokens)
@@ -300,7 +300,7 @@ fn read_optional_text<'a>(
     alloc: Global,
     text: &[u8],
     tokens: &'a [Token],
-) -> Reading<'a, Option<Name>>
+) -> Parsed<'a, Option<Name>>
     ensures { Gives result ((optional_text text.now).read tokens.now) }
 {
     if !front_is_text(tokens) {
@@ -311,7 +311,7 @@ fn read_optional_text<'a>(
 }
 
 #[tactic(auto, unfolding(crate::specs::Sections::held_items))]
-fn read_held_items<'a>(alloc: Global, text: &[u8], tokens: &'a [Token]) -> Reading<'a, Row<Item>>
+fn read_held_items<'a>(alloc: Global, text: &[u8], tokens: &'a [Token]) -> Parsed<'a, Row<Item>>
     ensures { Gives result ((held_items text.now).read tokens.now) }
 {
     let (_, rest) = read_mark(text, b'{', tokens)?;
@@ -326,7 +326,7 @@ fn read_plain_section<'a>(
     text: &[u8],
     flags: Row<Flag>,
     tokens: &'a [Token],
-) -> Reading<'a, Section>
+) -> Parsed<'a, Section>
     ensures { Gives result ((plain_section text.now flags).read tokens.now) }
 {
     let (kind, rest) = read_kind(text, tokens)?;
@@ -345,7 +345,7 @@ fn read_plain_section<'a>(
 
 /// Passes over geometry, up to the brace that closes it; braces are counted.
 #[tactic(auto, unfolding(crate::specs::Geometry::geometry))]
-fn read_geometry<'a>(text: &[u8], tokens: &'a [Token]) -> Reading<'a, ()>
+fn read_geometry<'a>(text: &[u8], tokens: &'a [Token]) -> Parsed<'a, ()>
     ensures { Gives result ((geometry text.now).read tokens.now) }
 {
     let mut depth: usize = 0;
@@ -363,7 +363,7 @@ fn read_geometry<'a>(text: &[u8], tokens: &'a [Token]) -> Reading<'a, ()>
 }
 
 #[tactic(auto, unfolding(crate::specs::Sections::geometry_body))]
-fn read_geometry_body<'a>(text: &[u8], tokens: &'a [Token]) -> Reading<'a, ()>
+fn read_geometry_body<'a>(text: &[u8], tokens: &'a [Token]) -> Parsed<'a, ()>
     ensures { Gives result ((geometry_body text.now).read tokens.now) }
 {
     let (_, rest) = read_mark(text, b'{', tokens)?;
@@ -378,7 +378,7 @@ fn read_geometry_section<'a>(
     text: &[u8],
     flags: Row<Flag>,
     tokens: &'a [Token],
-) -> Reading<'a, Section>
+) -> Parsed<'a, Section>
     ensures { Gives result ((geometry_section text.now flags).read tokens.now) }
 {
     let (_, rest) = read_keyword(text, Keyword::XkbGeometry, tokens)?;
@@ -401,7 +401,7 @@ fn read_flagged<'a>(
     text: &[u8],
     flags: Row<Flag>,
     tokens: &'a [Token],
-) -> Reading<'a, Section>
+) -> Parsed<'a, Section>
     ensures { Gives result ((flagged text.now flags).read tokens.now) }
 {
     if front_is_keyword(Keyword::XkbGeometry, tokens) {
@@ -411,7 +411,7 @@ fn read_flagged<'a>(
 }
 
 #[tactic(auto, unfolding(crate::specs::Sections::section))]
-fn read_section<'a>(alloc: Global, text: &[u8], tokens: &'a [Token]) -> Reading<'a, Section>
+fn read_section<'a>(alloc: Global, text: &[u8], tokens: &'a [Token]) -> Parsed<'a, Section>
     ensures { Gives result ((section text.now).read tokens.now) }
 {
     let (flags, rest) = read_flags(alloc, text, tokens)?;
@@ -433,7 +433,7 @@ impl Repeated for HeldSections {
         is_before_mark(b'}', tokens)
     }
 
-    fn read_next<'a>(alloc: Global, text: &[u8], tokens: &'a [Token]) -> Reading<'a, Section> {
+    fn read_next<'a>(alloc: Global, text: &[u8], tokens: &'a [Token]) -> Parsed<'a, Section> {
         read_section(alloc, text, tokens)
     }
 }
@@ -451,7 +451,7 @@ impl Repeated for FileSections {
         !tokens.is_empty()
     }
 
-    fn read_next<'a>(alloc: Global, text: &[u8], tokens: &'a [Token]) -> Reading<'a, Section> {
+    fn read_next<'a>(alloc: Global, text: &[u8], tokens: &'a [Token]) -> Parsed<'a, Section> {
         read_section(alloc, text, tokens)
     }
 }
@@ -461,7 +461,7 @@ fn read_held_sections<'a>(
     alloc: Global,
     text: &[u8],
     tokens: &'a [Token],
-) -> Reading<'a, Row<Section>>
+) -> Parsed<'a, Row<Section>>
     ensures { Gives result ((held_sections text.now).read tokens.now) }
 {
     let (_, rest) = read_mark(text, b'{', tokens)?;
@@ -470,7 +470,7 @@ fn read_held_sections<'a>(
     Ok((sections, rest))
 }
 
-fn read_end<'a>(text: &[u8], tokens: &'a [Token]) -> Reading<'a, ()>
+fn read_end<'a>(text: &[u8], tokens: &'a [Token]) -> Parsed<'a, ()>
     ensures { Gives result (at_end.read tokens.now) }
 {
     if tokens.is_empty() {
@@ -481,7 +481,7 @@ fn read_end<'a>(text: &[u8], tokens: &'a [Token]) -> Reading<'a, ()>
 }
 
 #[tactic(auto, unfolding(crate::specs::Sections::source))]
-fn read_source<'a>(alloc: Global, text: &[u8], tokens: &'a [Token]) -> Reading<'a, Tree>
+fn read_source<'a>(alloc: Global, text: &[u8], tokens: &'a [Token]) -> Parsed<'a, Tree>
     ensures { Gives result ((source text.now).read tokens.now) }
 {
     let (_, rest) = read_flags(alloc, text, tokens)?;
@@ -494,7 +494,7 @@ fn read_source<'a>(alloc: Global, text: &[u8], tokens: &'a [Token]) -> Reading<'
 }
 
 #[tactic(auto, unfolding(crate::specs::Sections::file))]
-fn read_file<'a>(alloc: Global, text: &[u8], tokens: &'a [Token]) -> Reading<'a, Tree>
+fn read_file<'a>(alloc: Global, text: &[u8], tokens: &'a [Token]) -> Parsed<'a, Tree>
     ensures { Gives result ((file text.now).read tokens.now) }
 {
     let (sections, rest) = read_many::<FileSections>(alloc, text, tokens)?;

@@ -8,7 +8,7 @@ use crate::tree::{Entry, Predicate, Statement};
 use crate::values::{read_expression, read_symbol};
 use kx_lex::repeated::{read_listed, read_sequence};
 use kx_lex::tokens::{
-    Reading, behind_front, front_is_key_name, front_is_keyword, front_is_mark, front_is_number,
+    Parsed, behind_front, front_is_key_name, front_is_keyword, front_is_mark, front_is_number,
     front_is_text, front_is_word, is_number, is_word, read_key_name, read_keyword, read_mark,
     read_number, read_text, read_word,
 };
@@ -16,7 +16,7 @@ use kx_lex::{Boxed, Fault, Keyword, Row, Token};
 use std::alloc::Global;
 
 #[tactic(auto, unfolding(crate::specs::Statements::keycode))]
-fn read_keycode<'a>(alloc: Global, text: &[u8], tokens: &'a [Token]) -> Reading<'a, Statement>
+fn read_keycode<'a>(alloc: Global, text: &[u8], tokens: &'a [Token]) -> Parsed<'a, Statement>
     ensures { Gives result ((keycode text.now).read tokens.now) }
 {
     let (name, rest) = read_key_name(alloc, text, tokens)?;
@@ -26,7 +26,7 @@ fn read_keycode<'a>(alloc: Global, text: &[u8], tokens: &'a [Token]) -> Reading<
 }
 
 #[tactic(auto, unfolding(crate::specs::Statements::alias))]
-fn read_alias<'a>(alloc: Global, text: &[u8], tokens: &'a [Token]) -> Reading<'a, Statement>
+fn read_alias<'a>(alloc: Global, text: &[u8], tokens: &'a [Token]) -> Parsed<'a, Statement>
     ensures { Gives result ((alias text.now).read tokens.now) }
 {
     let (_, rest) = read_keyword(text, Keyword::Alias, tokens)?;
@@ -37,11 +37,7 @@ fn read_alias<'a>(alloc: Global, text: &[u8], tokens: &'a [Token]) -> Reading<'a
 }
 
 #[tactic(auto, unfolding(crate::specs::Statements::indicator_name))]
-fn read_indicator_name<'a>(
-    alloc: Global,
-    text: &[u8],
-    tokens: &'a [Token],
-) -> Reading<'a, Statement>
+fn read_indicator_name<'a>(alloc: Global, text: &[u8], tokens: &'a [Token]) -> Parsed<'a, Statement>
     ensures { Gives result ((indicator_name text.now).read tokens.now) }
 {
     let (_, rest) = read_keyword(text, Keyword::Indicator, tokens)?;
@@ -56,7 +52,7 @@ fn read_virtual_indicator<'a>(
     alloc: Global,
     text: &[u8],
     tokens: &'a [Token],
-) -> Reading<'a, Statement>
+) -> Parsed<'a, Statement>
     ensures { Gives result ((virtual_indicator text.now).read tokens.now) }
 {
     let (_, rest) = read_keyword(text, Keyword::Virtual, tokens)?;
@@ -68,7 +64,7 @@ fn read_virtual_modifiers<'a>(
     alloc: Global,
     text: &[u8],
     tokens: &'a [Token],
-) -> Reading<'a, Statement>
+) -> Parsed<'a, Statement>
     ensures { Gives result ((virtual_modifiers text.now).read tokens.now) }
 {
     let (_, rest) = read_keyword(text, Keyword::VirtualModifiers, tokens)?;
@@ -77,7 +73,7 @@ fn read_virtual_modifiers<'a>(
 }
 
 #[tactic(auto, unfolding(crate::specs::Statements::key_type))]
-fn read_key_type<'a>(alloc: Global, text: &[u8], tokens: &'a [Token]) -> Reading<'a, Statement>
+fn read_key_type<'a>(alloc: Global, text: &[u8], tokens: &'a [Token]) -> Parsed<'a, Statement>
     ensures { Gives result ((key_type text.now).read tokens.now) }
 {
     let (_, rest) = read_keyword(text, Keyword::Type, tokens)?;
@@ -91,7 +87,7 @@ fn read_wanted_modifiers<'a>(
     alloc: Global,
     text: &[u8],
     tokens: &'a [Token],
-) -> Reading<'a, Option<Boxed<Predicate>>>
+) -> Parsed<'a, Option<Boxed<Predicate>>>
     ensures { Gives result ((optional_modifiers text.now).read tokens.now) }
 {
     if !front_is_mark(b'+', tokens) {
@@ -103,11 +99,7 @@ fn read_wanted_modifiers<'a>(
 }
 
 #[tactic(auto, unfolding(crate::specs::Statements::interpretation))]
-fn read_interpretation<'a>(
-    alloc: Global,
-    text: &[u8],
-    tokens: &'a [Token],
-) -> Reading<'a, Statement>
+fn read_interpretation<'a>(alloc: Global, text: &[u8], tokens: &'a [Token]) -> Parsed<'a, Statement>
     ensures { Gives result ((interpretation text.now).read tokens.now) }
 {
     let (_, rest) = read_keyword(text, Keyword::Interpret, tokens)?;
@@ -125,7 +117,7 @@ fn read_interpretation<'a>(
 }
 
 #[tactic(auto, unfolding(crate::specs::Statements::indicator))]
-fn read_indicator<'a>(alloc: Global, text: &[u8], tokens: &'a [Token]) -> Reading<'a, Statement>
+fn read_indicator<'a>(alloc: Global, text: &[u8], tokens: &'a [Token]) -> Parsed<'a, Statement>
     ensures { Gives result ((indicator text.now).read tokens.now) }
 {
     let (_, rest) = read_keyword(text, Keyword::Indicator, tokens)?;
@@ -135,7 +127,7 @@ fn read_indicator<'a>(alloc: Global, text: &[u8], tokens: &'a [Token]) -> Readin
 }
 
 #[tactic(auto, unfolding(crate::specs::Statements::group))]
-fn read_group<'a>(alloc: Global, text: &[u8], tokens: &'a [Token]) -> Reading<'a, Statement>
+fn read_group<'a>(alloc: Global, text: &[u8], tokens: &'a [Token]) -> Parsed<'a, Statement>
     ensures { Gives result ((group text.now).read tokens.now) }
 {
     let (_, rest) = read_keyword(text, Keyword::Group, tokens)?;
@@ -147,7 +139,7 @@ fn read_group<'a>(alloc: Global, text: &[u8], tokens: &'a [Token]) -> Reading<'a
 }
 
 #[tactic(auto, unfolding(crate::specs::Statements::key))]
-fn read_key<'a>(alloc: Global, text: &[u8], tokens: &'a [Token]) -> Reading<'a, Statement>
+fn read_key<'a>(alloc: Global, text: &[u8], tokens: &'a [Token]) -> Parsed<'a, Statement>
     ensures { Gives result ((key text.now).read tokens.now) }
 {
     let (_, rest) = read_keyword(text, Keyword::Key, tokens)?;
@@ -163,14 +155,14 @@ fn read_mapped_entries<'a>(
     alloc: Global,
     text: &[u8],
     tokens: &'a [Token],
-) -> Reading<'a, Row<Entry>>
+) -> Parsed<'a, Row<Entry>>
     ensures { Gives result ((mapped_entries text.now).read tokens.now) }
 {
     read_sequence::<Entries>(alloc, text, tokens)
 }
 
 #[tactic(auto, unfolding(crate::specs::Statements::modifier_map))]
-fn read_modifier_map<'a>(alloc: Global, text: &[u8], tokens: &'a [Token]) -> Reading<'a, Statement>
+fn read_modifier_map<'a>(alloc: Global, text: &[u8], tokens: &'a [Token]) -> Parsed<'a, Statement>
     ensures { Gives result ((modifier_map text.now).read tokens.now) }
 {
     let (_, rest) = read_keyword(text, Keyword::ModifierMap, tokens)?;
@@ -186,7 +178,7 @@ fn read_field_statement<'a>(
     alloc: Global,
     text: &[u8],
     tokens: &'a [Token],
-) -> Reading<'a, Statement>
+) -> Parsed<'a, Statement>
     ensures { Gives result ((field_statement text.now).read tokens.now) }
 {
     let (field, rest) = read_field(alloc, text, tokens)?;
@@ -206,7 +198,7 @@ fn read_symbols_statement<'a>(
     alloc: Global,
     text: &[u8],
     tokens: &'a [Token],
-) -> Reading<'a, Statement>
+) -> Parsed<'a, Statement>
     ensures { Gives result ((symbols_statement text.now).read tokens.now) }
 {
     let behind = behind_front(tokens);
@@ -233,7 +225,7 @@ fn read_types_statement<'a>(
     alloc: Global,
     text: &[u8],
     tokens: &'a [Token],
-) -> Reading<'a, Statement>
+) -> Parsed<'a, Statement>
     ensures { Gives result ((types_statement text.now (symbols_statement text.now)).read tokens.now) }
 {
     let behind = behind_front(tokens);
@@ -257,7 +249,7 @@ fn read_types_statement<'a>(
 
 /// Takes a statement without its mode and its `;`.
 #[tactic(auto, unfolding(crate::specs::Statements::statement, crate::specs::Statements::keycodes_statement))]
-pub fn read_statement<'a>(alloc: Global, text: &[u8], tokens: &'a [Token]) -> Reading<'a, Statement>
+pub fn read_statement<'a>(alloc: Global, text: &[u8], tokens: &'a [Token]) -> Parsed<'a, Statement>
     ensures { Gives result ((statement text.now).read tokens.now) }
 {
     let behind = behind_front(tokens);

@@ -56,7 +56,7 @@ pub struct Index {
 
 /// What a field sets: a word, or a word of another's defaults, with an index or without.
 #[derive(Debug, Drop)]
-pub struct Place {
+pub struct FieldPlace {
     pub word: Name,
     pub member: Option<Boxed<Name>>,
     pub index: Option<Boxed<Index>>,
@@ -94,7 +94,7 @@ pub struct Call {
 
 /// What stands in braces of a list.
 #[derive(Debug, Drop)]
-pub enum Part {
+pub enum BracePart {
     Symbol(Symbol),
     Call(Call),
 }
@@ -110,7 +110,7 @@ pub enum Element {
 /// Parts in braces, with the braces.
 #[derive(Debug, Drop)]
 pub struct Braces {
-    pub parts: Row<Part>,
+    pub parts: Row<BracePart>,
     pub span: Span,
 }
 
@@ -143,7 +143,7 @@ pub enum Setting {
 /// A field, from its first token to its last; a `;` behind it does not count.
 #[derive(Debug, Drop)]
 pub struct Field {
-    pub place: Place,
+    pub place: FieldPlace,
     pub setting: Setting,
     pub span: Span,
 }

@@ -4,12 +4,12 @@ ghost use Rattle.kx_lex.specs.Kinds.{front};
 ghost use Rattle.kx_parse.specs.Values.{symbol, sign_of, is_sign, sign, signed_read, term, operation, bare_argument, expression, optional_index, index, optional_member, place, begins_set, set_argument, off_argument, argument, begins_call, call, part, braces, element, list, value};
 
 use crate::tree::{
-    Argument, Braces, Call, Element, Expression, Index, List, Operation, Part, Place,
+    Argument, BracePart, Braces, Call, Element, Expression, FieldPlace, Index, List, Operation,
     PlacedArgument, Sign, Signed, Symbol, Term, Value,
 };
 use kx_lex::repeated::{Repeated, read_listed, read_many};
 use kx_lex::tokens::{
-    Reading, behind_front, front_is_key_name, front_is_mark, front_is_number, front_is_text,
+    Parsed, behind_front, front_is_key_name, front_is_mark, front_is_number, front_is_text,
     front_is_word, is_mark, read_key_name, read_mark, read_number, read_text, read_word,
     span_between, syntax,
 };
@@ -18,7 +18,7 @@ use std::alloc::Global;
 
 /// Takes a keysym as it is written.
 #[tactic(auto, unfolding(crate::specs::Values::symbol))]
-pub fn read_symbol<'a>(alloc: Global, text: &[u8], tokens: &'a [Token]) -> Reading<'a, Symbol>
+pub fn read_symbol<'a>(alloc: Global, text: &[u8], tokens: &'a [Token]) -> Parsed<'a, Symbol>
     ensures { Gives result ((symbol text.now).read tokens.now) }
 {
     if front_is_number(tokens) {
@@ -51,7 +51,7 @@ fn front_is_sign(tokens: &[Token]) -> bool
 }
 
 #[tactic(auto, unfolding(crate::specs::Values::sign))]
-fn read_sign<'a>(text: &[u8], tokens: &'a [Token]) -> Reading<'a, Sign>
+fn read_sign<'a>(text: &[u8], tokens: &'a [Token]) -> Parsed<'a, Sign>
     ensures { Gives result ((sign text.now).read tokens.now) }
 {
     match tokens.split_first() {
@@ -63,7 +63,7 @@ fn read_sign<'a>(text: &[u8], tokens: &'a [Token]) -> Reading<'a, Sign>
     }
 }
 
-fn read_signed<'a>(text: &[u8], tokens: &'a [Token]) -> Reading<'a, Signed>
+fn read_signed<'a>(text: &[u8], tokens: &'a [Token]) -> Parsed<'a, Signed>
     ensures { Gives result (signed_read text.now tokens.now) }
 {
     let (sign, rest) = read_sign(text, tokens)?;
@@ -73,7 +73,7 @@ fn read_signed<'a>(text: &[u8], tokens: &'a [Token]) -> Reading<'a, Signed>
 }
 
 #[tactic(auto, unfolding(crate::specs::Values::term))]
-fn read_term<'a>(alloc: Global, text: &[u8], tokens: &'a [Token]) -> Reading<'a, Term>
+fn read_term<'a>(alloc: Global, text: &[u8], tokens: &'a [Token]) -> Parsed<'a, Term>
     ensures { Gives result ((term text.now).read tokens.now) }
 {
     if front_is_sign(tokens) {
@@ -97,7 +97,7 @@ fn read_term<'a>(alloc: Global, text: &[u8], tokens: &'a [Token]) -> Reading<'a,
 }
 
 #[tactic(auto, unfolding(crate::specs::Values::operation))]
-fn read_operation<'a>(alloc: Global, text: &[u8], tokens: &'a [Token]) -> Reading<'a, Operation>
+fn read_operation<'a>(alloc: Global, text: &[u8], tokens: &'a [Token]) -> Parsed<'a, Operation>
     ensures { Gives result ((operation text.now).read tokens.now) }
 {
     let (sign, rest) = read_sign(text, tokens)?;
@@ -118,7 +118,7 @@ impl Repeated for Operations {
         front_is_sign(tokens)
     }
 
-    fn read_next<'a>(alloc: Global, text: &[u8], tokens: &'a [Token]) -> Reading<'a, Operation> {
+    fn read_next<'a>(alloc: Global, text: &[u8], tokens: &'a [Token]) -> Parsed<'a, Operation> {
         read_operation(alloc, text, tokens)
     }
 }
@@ -129,7 +129,7 @@ pub fn read_expression<'a>(
     alloc: Global,
     text: &[u8],
     tokens: &'a [Token],
-) -> Reading<'a, Expression>
+) -> Parsed<'a, Expression>
     ensures { Gives result ((expression text.now).read tokens.now) }
 {
     let (first, rest) = read_term(alloc, text, tokens)?;
@@ -146,7 +146,7 @@ pub fn read_expression<'a>(
 }
 
 #[tactic(auto, unfolding(crate::specs::Values::index))]
-fn read_index<'a>(alloc: Global, text: &[u8], tokens: &'a [Token]) -> Reading<'a, Index>
+fn read_index<'a>(alloc: Global, text: &[u8], tokens: &'a [Token]) -> Parsed<'a, Index>
     ensures { Gives result ((index text.now).read tokens.now) }
 {
     let (_, rest) = read_mark(text, b'[', tokens)?;
@@ -160,7 +160,7 @@ fn read_optional_index<'a>(
     alloc: Global,
     text: &[u8],
     tokens: &'a [Token],
-) -> Reading<'a, Option<Boxed<Index>>>
+) -> Parsed<'a, Option<Boxed<Index>>>
     ensures { Gives result ((optional_index text.now).read tokens.now) }
 {
     if !front_is_mark(b'[', tokens) {
@@ -175,7 +175,7 @@ fn read_optional_member<'a>(
     alloc: Global,
     text: &[u8],
     tokens: &'a [Token],
-) -> Reading<'a, Option<Boxed<Name>>>
+) -> Parsed<'a, Option<Boxed<Name>>>
     ensures { Gives result ((optional_member text.now).read tokens.now) }
 {
     if !front_is_mark(b'.', tokens) {
@@ -188,14 +188,14 @@ fn read_optional_member<'a>(
 
 /// Takes what a field sets, without its value.
 #[tactic(auto, unfolding(crate::specs::Values::place))]
-pub fn read_place<'a>(alloc: Global, text: &[u8], tokens: &'a [Token]) -> Reading<'a, Place>
+pub fn read_place<'a>(alloc: Global, text: &[u8], tokens: &'a [Token]) -> Parsed<'a, FieldPlace>
     ensures { Gives result ((place text.now).read tokens.now) }
 {
     let (word, rest) = read_word(alloc, text, tokens)?;
     let (member, rest) = read_optional_member(alloc, text, rest)?;
     let (index, rest) = read_optional_index(alloc, text, rest)?;
     Ok((
-        Place {
+        FieldPlace {
             word,
             member,
             index,
@@ -212,7 +212,7 @@ fn begins_set(tokens: &[Token]) -> bool
 }
 
 #[tactic(auto, unfolding(crate::specs::Values::set_argument))]
-fn read_set_argument<'a>(alloc: Global, text: &[u8], tokens: &'a [Token]) -> Reading<'a, Argument>
+fn read_set_argument<'a>(alloc: Global, text: &[u8], tokens: &'a [Token]) -> Parsed<'a, Argument>
     ensures { Gives result ((set_argument text.now).read tokens.now) }
 {
     let (word, rest) = read_word(alloc, text, tokens)?;
@@ -223,7 +223,7 @@ fn read_set_argument<'a>(alloc: Global, text: &[u8], tokens: &'a [Token]) -> Rea
 }
 
 #[tactic(auto, unfolding(crate::specs::Values::off_argument))]
-fn read_off_argument<'a>(alloc: Global, text: &[u8], tokens: &'a [Token]) -> Reading<'a, Argument>
+fn read_off_argument<'a>(alloc: Global, text: &[u8], tokens: &'a [Token]) -> Parsed<'a, Argument>
     ensures { Gives result ((off_argument text.now).read tokens.now) }
 {
     let (_, rest) = read_mark(text, b'!', tokens)?;
@@ -231,7 +231,7 @@ fn read_off_argument<'a>(alloc: Global, text: &[u8], tokens: &'a [Token]) -> Rea
     Ok((Argument::Off(word), rest))
 }
 
-fn read_bare_argument<'a>(alloc: Global, text: &[u8], tokens: &'a [Token]) -> Reading<'a, Argument>
+fn read_bare_argument<'a>(alloc: Global, text: &[u8], tokens: &'a [Token]) -> Parsed<'a, Argument>
     ensures { Gives result ((bare_argument text.now).read tokens.now) }
 {
     if front_is_mark(b'!', tokens) {
@@ -245,7 +245,7 @@ fn read_bare_argument<'a>(alloc: Global, text: &[u8], tokens: &'a [Token]) -> Re
 }
 
 #[tactic(auto, unfolding(crate::specs::Values::argument))]
-fn read_argument<'a>(alloc: Global, text: &[u8], tokens: &'a [Token]) -> Reading<'a, PlacedArgument>
+fn read_argument<'a>(alloc: Global, text: &[u8], tokens: &'a [Token]) -> Parsed<'a, PlacedArgument>
     ensures { Gives result ((argument text.now).read tokens.now) }
 {
     let (argument, rest) = read_bare_argument(alloc, text, tokens)?;
@@ -270,7 +270,7 @@ impl Repeated for Arguments {
         alloc: Global,
         text: &[u8],
         tokens: &'a [Token],
-    ) -> Reading<'a, PlacedArgument> {
+    ) -> Parsed<'a, PlacedArgument> {
         read_argument(alloc, text, tokens)
     }
 }
@@ -284,7 +284,7 @@ pub fn begins_call(tokens: &[Token]) -> bool
 
 /// Takes a call: a word and its arguments.
 #[tactic(auto, unfolding(crate::specs::Values::call))]
-pub fn read_call<'a>(alloc: Global, text: &[u8], tokens: &'a [Token]) -> Reading<'a, Call>
+pub fn read_call<'a>(alloc: Global, text: &[u8], tokens: &'a [Token]) -> Parsed<'a, Call>
     ensures { Gives result ((call text.now).read tokens.now) }
 {
     let (word, rest) = read_word(alloc, text, tokens)?;
@@ -303,21 +303,21 @@ pub fn read_call<'a>(alloc: Global, text: &[u8], tokens: &'a [Token]) -> Reading
 }
 
 #[tactic(auto, unfolding(crate::specs::Values::part))]
-fn read_part<'a>(alloc: Global, text: &[u8], tokens: &'a [Token]) -> Reading<'a, Part>
+fn read_part<'a>(alloc: Global, text: &[u8], tokens: &'a [Token]) -> Parsed<'a, BracePart>
     ensures { Gives result ((part text.now).read tokens.now) }
 {
     if begins_call(tokens) {
         let (call, rest) = read_call(alloc, text, tokens)?;
-        return Ok((Part::Call(call), rest));
+        return Ok((BracePart::Call(call), rest));
     }
     let (symbol, rest) = read_symbol(alloc, text, tokens)?;
-    Ok((Part::Symbol(symbol), rest))
+    Ok((BracePart::Symbol(symbol), rest))
 }
 
 struct Parts;
 
 impl Repeated for Parts {
-    type Value = Part;
+    type Value = BracePart;
 
     ghost test = { λ text ts. true };
 
@@ -327,13 +327,13 @@ impl Repeated for Parts {
         true
     }
 
-    fn read_next<'a>(alloc: Global, text: &[u8], tokens: &'a [Token]) -> Reading<'a, Part> {
+    fn read_next<'a>(alloc: Global, text: &[u8], tokens: &'a [Token]) -> Parsed<'a, BracePart> {
         read_part(alloc, text, tokens)
     }
 }
 
 #[tactic(auto, unfolding(crate::specs::Values::braces))]
-fn read_braces<'a>(alloc: Global, text: &[u8], tokens: &'a [Token]) -> Reading<'a, Braces>
+fn read_braces<'a>(alloc: Global, text: &[u8], tokens: &'a [Token]) -> Parsed<'a, Braces>
     ensures { Gives result ((braces text.now).read tokens.now) }
 {
     let (_, rest) = read_mark(text, b'{', tokens)?;
@@ -344,7 +344,7 @@ fn read_braces<'a>(alloc: Global, text: &[u8], tokens: &'a [Token]) -> Reading<'
 }
 
 #[tactic(auto, unfolding(crate::specs::Values::element))]
-fn read_element<'a>(alloc: Global, text: &[u8], tokens: &'a [Token]) -> Reading<'a, Element>
+fn read_element<'a>(alloc: Global, text: &[u8], tokens: &'a [Token]) -> Parsed<'a, Element>
     ensures { Gives result ((element text.now).read tokens.now) }
 {
     if front_is_mark(b'{', tokens) {
@@ -372,14 +372,14 @@ impl Repeated for Elements {
         true
     }
 
-    fn read_next<'a>(alloc: Global, text: &[u8], tokens: &'a [Token]) -> Reading<'a, Element> {
+    fn read_next<'a>(alloc: Global, text: &[u8], tokens: &'a [Token]) -> Parsed<'a, Element> {
         read_element(alloc, text, tokens)
     }
 }
 
 /// Takes a list between brackets.
 #[tactic(auto, unfolding(crate::specs::Values::list))]
-pub fn read_list<'a>(alloc: Global, text: &[u8], tokens: &'a [Token]) -> Reading<'a, List>
+pub fn read_list<'a>(alloc: Global, text: &[u8], tokens: &'a [Token]) -> Parsed<'a, List>
     ensures { Gives result ((list text.now).read tokens.now) }
 {
     let (_, rest) = read_mark(text, b'[', tokens)?;
@@ -391,7 +391,7 @@ pub fn read_list<'a>(alloc: Global, text: &[u8], tokens: &'a [Token]) -> Reading
 
 /// Takes what a field is set to.
 #[tactic(auto, unfolding(crate::specs::Values::value))]
-pub fn read_value<'a>(alloc: Global, text: &[u8], tokens: &'a [Token]) -> Reading<'a, Value>
+pub fn read_value<'a>(alloc: Global, text: &[u8], tokens: &'a [Token]) -> Parsed<'a, Value>
     ensures { Gives result ((value text.now).read tokens.now) }
 {
     if front_is_mark(b'[', tokens) {

@@ -20,7 +20,7 @@ pub struct Shown<'a> {
 }
 
 /// Where a fault stands; want of memory stands nowhere.
-pub fn place_of(fault: Fault) -> Option<At> {
+pub fn fault_place(fault: Fault) -> Option<At> {
     match fault {
         Fault::Memory => None,
         Fault::TooLong(at)
@@ -132,7 +132,7 @@ fn show_line<W: Write>(
 impl fmt::Display for Shown<'_> {
     fn fmt<W: Write>(&self, f: &mut Formatter<W>) -> fmt::Result {
         let meaning = meaning_of(self.fault);
-        let Some(at) = place_of(self.fault) else {
+        let Some(at) = fault_place(self.fault) else {
             return writeln!(f, "error: {meaning}");
         };
         let path = self.path;

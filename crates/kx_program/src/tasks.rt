@@ -1,6 +1,6 @@
 //! What the program does.
 use crate::keeping::Kept;
-use crate::showing::{Shown, place_of};
+use crate::showing::{Shown, fault_place};
 use crate::usage::explain;
 use crate::words::{Included, Task, task_in};
 use crate::writing::write_whole;
@@ -60,7 +60,7 @@ fn show_fault(
     source: &[u8],
     included: &[Included],
 ) {
-    let file = place_of(fault).map_or(0, |at| at.file as usize);
+    let file = fault_place(fault).map_or(0, |at| at.file as usize);
     if file == 0 {
         let text = source;
         let _ = rt.eprint(Shown { fault, path, text });

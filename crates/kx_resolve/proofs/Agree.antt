@@ -22,7 +22,7 @@ use Rattle.kx_resolve.specs.Bounds.{TypeHolds}
 use Rattle.kx_typing.specs.Given.{KeyGiven}
 use Rattle.kx_typing.specs.GroupTypes.{content_group, group_count, group_type_name, type_definition}
 use Rattle.kx_bearing.specs.Deeds.{Deeds}
-use Rattle.kx_resolve.specs.Keys.{Keyed, cells_of, group_of, groups_of, key_if_named, key_of, keys_below, resolved_of, type_of, types_used}
+use Rattle.kx_resolve.specs.Keys.{Keyed, cells_of, resolved_group, groups_of, key_if_named, key_of, keys_below, resolved_of, type_of, types_used}
 use Rattle.kx_resolve.specs.Shown.{groups_if, keymap_meant, most_groups_below, name_within, shown_by, shown_for, shown_if, shown_in}
 use Rattle.kx_tables.specs.Keymap.{level_of, nothing_shown}
 use Rattle.kx_tables.specs.Range.{in_range}
@@ -151,10 +151,10 @@ module _ (real : ℕ → RealSet) (declared : List ℕ → Option Definition) (k
   abbrev tree : Resolved
   tree = record { types = map (type_of real declared) used; keys = keys_below declared used keyed 4096 }
 
-  group_shown : (code group mods : ℕ) (of_key : List ℕ) → code < 4096 → keyed.name code ≡ Some of_key → group < group_count (keyed.key code) → shown_of_group tree mods (Some (group_of declared used (keyed.deeds code) (keyed.key code) group)) ≡ shown_in real declared (keyed.deeds code) (keyed.key code) group mods
+  group_shown : (code group mods : ℕ) (of_key : List ℕ) → code < 4096 → keyed.name code ≡ Some of_key → group < group_count (keyed.key code) → shown_of_group tree mods (Some (resolved_group declared used (keyed.deeds code) (keyed.key code) group)) ≡ shown_in real declared (keyed.deeds code) (keyed.key code) group mods
   group_shown code group mods of_key less is within =
       let of_group = group_type_name declared (keyed.key code) group in
-      ap (shown_of_type (group_of declared used (keyed.deeds code) (keyed.key code) group) mods) (type_at real declared keyed code group of_key less is within)
+      ap (shown_of_type (resolved_group declared used (keyed.deeds code) (keyed.key code) group) mods) (type_at real declared keyed code group of_key less is within)
       ∙ cell_shown real declared of_group (each of_group (type_used real declared keyed code group of_key less is within)) (keyed.deeds code) (keyed.key code) (content_group (keyed.key code) group) mods
 
   key_shown : (code group mods : ℕ) (of_key : List ℕ) → code < 4096 → keyed.name code ≡ Some of_key → shown_of_key tree group mods (Some (key_of declared used (keyed.deeds code) (keyed.key code) code of_key (keyed.modmap code))) ≡ shown_for real declared (keyed.deeds code) (keyed.key code) group mods

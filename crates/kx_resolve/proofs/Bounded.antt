@@ -24,7 +24,7 @@ use Rattle.kx_resolve.specs.Bounds.{BoundsBelow, CellsAreValid, GroupsAreValid, 
 use Rattle.kx_typing.specs.Given.{KeyGiven}
 use Rattle.kx_typing.specs.GroupTypes.{content_group, group_count, group_type_name}
 use Rattle.kx_bearing.specs.Deeds.{Deeds}
-use Rattle.kx_resolve.specs.Keys.{Keyed, cell_of, cells_of, group_of, groups_of, key_if_named, key_of, keys_below, resolved_of, type_names, type_names_below, type_names_if, type_of, type_place, types_used}
+use Rattle.kx_resolve.specs.Keys.{Keyed, cell_of, cells_of, resolved_group, groups_of, key_if_named, key_of, keys_below, resolved_of, type_names, type_names_below, type_names_if, type_of, type_place, types_used}
 use Rattle.kx_types.specs.KeyTypes.{Definition}
 
 -- ---- Lists that grow at their end
@@ -95,15 +95,15 @@ module _ (declared : List ℕ → Option Definition) (used : List (List ℕ)) (d
   pub groups_length : (n : ℕ) → length (groups_of declared used deeds key n) ≡ n
   unfolding groups_of
   groups_length zero = refl
-  groups_length (suc n) = omega (arith, length-append (groups_of declared used deeds key n) (group_of declared used deeds key n ∷ []), groups_length n)
+  groups_length (suc n) = omega (arith, length-append (groups_of declared used deeds key n) (resolved_group declared used deeds key n ∷ []), groups_length n)
 
-  pub group_at : (n group : ℕ) → group < n → slice_get (groups_of declared used deeds key n) group ≡ Some (group_of declared used deeds key group)
+  pub group_at : (n group : ℕ) → group < n → slice_get (groups_of declared used deeds key n) group ≡ Some (resolved_group declared used deeds key group)
   unfolding groups_of
   group_at zero group less = absurd (omega (arith, less))
   group_at (suc n) group less =
       elim (eq-or-lt_of_le upto) [
-        | inl same ↦ ap (slice_get (groups_of declared used deeds key n ++ group_of declared used deeds key n ∷ [])) (same ∙ sym (groups_length n)) ∙ end_at (groups_of declared used deeds key n) (group_of declared used deeds key n) ∙ ap (λ g. Some (group_of declared used deeds key g)) (sym same)
-        | inr before ↦ front_at (groups_of declared used deeds key n) (group_of declared used deeds key n ∷ []) group (omega (arith, before, groups_length n)) ∙ group_at n group before
+        | inl same ↦ ap (slice_get (groups_of declared used deeds key n ++ resolved_group declared used deeds key n ∷ [])) (same ∙ sym (groups_length n)) ∙ end_at (groups_of declared used deeds key n) (resolved_group declared used deeds key n) ∙ ap (λ g. Some (resolved_group declared used deeds key g)) (sym same)
+        | inr before ↦ front_at (groups_of declared used deeds key n) (resolved_group declared used deeds key n ∷ []) group (omega (arith, before, groups_length n)) ∙ group_at n group before
       ]
     where
       upto : group ≤ n
@@ -113,7 +113,7 @@ module _ (declared : List ℕ → Option Definition) (used : List (List ℕ)) (d
   unfolding groups_of type_names
   group_types zero = refl
   group_types (suc n) =
-      map-append (λ (g : ResolvedGroup). g.key_type) (groups_of declared used deeds key n) (group_of declared used deeds key n ∷ [])
+      map-append (λ (g : ResolvedGroup). g.key_type) (groups_of declared used deeds key n) (resolved_group declared used deeds key n ∷ [])
       ∙ ap (λ ps. ps ++ type_place used (group_type_name declared key n) ∷ []) (group_types n)
       ∙ sym (map-append (type_place used) (type_names declared key n) (group_type_name declared key n ∷ []))
 
@@ -191,9 +191,9 @@ module _ (real : ℕ → RealSet) (declared : List ℕ → Option Definition) (k
       slice_get-map (type_of real declared) used (type_place used (group_type_name declared (key code) group))
       ∙ ap (option_map (type_of real declared)) (stands_at (group_type_name declared (key code) group) used (type_used code group of_key less is within))
 
-  group_valid : (code group : ℕ) (of_key : List ℕ) → code < 4096 → name code ≡ Some of_key → group < group_count (key code) → CellsAreValid (keyed.deeds code) (key code) (content_group (key code) group) (levels_of_group declared (key code) group) → GroupIsValid types (group_of declared used (keyed.deeds code) (key code) group)
+  group_valid : (code group : ℕ) (of_key : List ℕ) → code < 4096 → name code ≡ Some of_key → group < group_count (key code) → CellsAreValid (keyed.deeds code) (key code) (content_group (key code) group) (levels_of_group declared (key code) group) → GroupIsValid types (resolved_group declared used (keyed.deeds code) (key code) group)
   group_valid code group of_key less is within valid = record {
-    whole = subst (λ o. IsSomeAnd o (λ (t : ResolvedType). length (group_of declared used (keyed.deeds code) (key code) group).cells ≡ t.levels)) (sym (type_at code group of_key less is within)) (cells_length (keyed.deeds code) (key code) (content_group (key code) group) (levels_of_group declared (key code) group));
+    whole = subst (λ o. IsSomeAnd o (λ (t : ResolvedType). length (resolved_group declared used (keyed.deeds code) (key code) group).cells ≡ t.levels)) (sym (type_at code group of_key less is within)) (cells_length (keyed.deeds code) (key code) (content_group (key code) group) (levels_of_group declared (key code) group));
     each_cell = cells_valid (keyed.deeds code) (key code) (content_group (key code) group) (levels_of_group declared (key code) group) valid;
   }
 
@@ -201,7 +201,7 @@ module _ (real : ℕ → RealSet) (declared : List ℕ → Option Definition) (k
   unfolding groups_of
   groups_valid code zero of_key less is within valid = All-nil (GroupIsValid types)
   groups_valid code (suc n) of_key less is within valid =
-      All-push (GroupIsValid types) (groups_of declared used (keyed.deeds code) (key code) n) (group_of declared used (keyed.deeds code) (key code) n)
+      All-push (GroupIsValid types) (groups_of declared used (keyed.deeds code) (key code) n) (resolved_group declared used (keyed.deeds code) (key code) n)
       (groups_valid code n of_key less is (omega (arith, within)) (λ group below. valid group (lt_trans below (lt-suc_self n))))
       (group_valid code n of_key less is (omega (arith, within)) (valid n (lt-suc_self n)))
 

@@ -5,7 +5,7 @@ use Rattle.kx_masks.specs.Counted.{with_names}
 use Rattle.kx_typing.specs.Given.{KeyGiven, given_in}
 use Rattle.kx_typing.specs.GroupTypes.{group_count, group_type_name, groups_within}
 use Rattle.kx_bearing.specs.Deeds.{Deeds}
-use Rattle.kx_resolve.specs.Keys.{Keyed, cell_of, cells_of, group_of, groups_of, key_if_named, keys_below, resolved_of, type_names, type_names_below, type_names_if, type_of, types_used}
+use Rattle.kx_resolve.specs.Keys.{Keyed, cell_of, cells_of, resolved_group, groups_of, key_if_named, keys_below, resolved_of, type_names, type_names_below, type_names_if, type_of, types_used}
 use Rattle.kx_types.specs.KeyTypes.{Definition}
 
 one_more : (n : ℕ) → suc n ≡ n + 1
@@ -37,9 +37,9 @@ module _ (key : KeyGiven) where
       unfolding groups_of
       groups_none = refl
 
-      pub groups_next : (n : ℕ) → groups_of declared used deeds key (n + 1) ≡ groups_of declared used deeds key n ++ group_of declared used deeds key n ∷ []
+      pub groups_next : (n : ℕ) → groups_of declared used deeds key (n + 1) ≡ groups_of declared used deeds key n ++ resolved_group declared used deeds key n ∷ []
       unfolding groups_of
-      groups_next n = subst (λ m. groups_of declared used deeds key m ≡ groups_of declared used deeds key n ++ group_of declared used deeds key n ∷ []) (one_more n) refl
+      groups_next n = subst (λ m. groups_of declared used deeds key m ≡ groups_of declared used deeds key n ++ resolved_group declared used deeds key n ∷ []) (one_more n) refl
 
 -- ---- Keys
 

@@ -62,8 +62,8 @@ abbrev pub type_place : List (List ℕ) → List ℕ → ℕ
 type_place used name = unwrap_or (position (bytes_eq name) used) 0
 
 module _ (declared : List ℕ → Option Definition) (used : List (List ℕ)) (deeds : Deeds) (key : KeyGiven) where
-  abbrev pub group_of : ℕ → ResolvedGroup
-  group_of group = record {
+  abbrev pub resolved_group : ℕ → ResolvedGroup
+  resolved_group group = record {
     key_type = type_place used (group_type_name declared key group);
     cells = cells_of deeds key (content_group key group) (type_definition declared (group_type_name declared key group)).levels;
   }
@@ -71,7 +71,7 @@ module _ (declared : List ℕ → Option Definition) (used : List (List ℕ)) (d
   -- the groups of a number of them, in order
   unfoldable pub groups_of : ℕ → List ResolvedGroup
   groups_of zero = []
-  groups_of (suc n) = groups_of n ++ group_of n ∷ []
+  groups_of (suc n) = groups_of n ++ resolved_group n ∷ []
 
   -- `modmap` are the real modifiers that the key is mapped to
   abbrev pub key_of : ℕ → List ℕ → Mods → ResolvedKey

@@ -13,7 +13,7 @@ ghost use Rattle.kx_masks.specs.Standing.{stands_for};
 ghost use Rattle.kx_mods.specs.Mods.{mask};
 ghost use Rattle.kx_resolve.specs.Bounds.{BoundsBelow, CellsAreValid, GroupsAreValid, KeepsBounds, last_cells, levels_of_group};
 ghost use Rattle.kx_bearing.specs.Deeds.{deeds_of};
-ghost use Rattle.kx_resolve.specs.Keys.{cell_of, cells_of, group_of, key_if_named, key_of, keyed_of, keys_below, type_place};
+ghost use Rattle.kx_resolve.specs.Keys.{cell_of, cells_of, resolved_group, key_if_named, key_of, keyed_of, keys_below, type_place};
 ghost use Rattle.kx_symbols.specs.Keys.{key_at};
 ghost use Rattle.kx_tables.specs.Sound.{ActionHolds, RangeHolds};
 ghost use Rattle.kx_typing.specs.Given.{given, given_in};
@@ -160,7 +160,7 @@ fn push_group(
     requires few { length (last_groups builder.old.keys) < MOST_GROUPS }
     requires places { length used.now < 2 ^ 16 }
     requires own { key.own ≡ has_action (given key.key.now) }
-    ensures pushed { OnOk result (builder.new ≡ with_group builder.old (group_of (type_named types.now) used.now (deeds_of (real_of (stands_for key.entry.stands.now)) key.entry.interpretations.now key.entry.modmap (given key.entry.key.now)) (given key.entry.key.now) group)) }
+    ensures pushed { OnOk result (builder.new ≡ with_group builder.old (resolved_group (type_named types.now) used.now (deeds_of (real_of (stands_for key.entry.stands.now)) key.entry.interpretations.now key.entry.modmap (given key.entry.key.now)) (given key.entry.key.now) group)) }
     ensures valid { OnOk result (CellsAreValid (deeds_of (real_of (stands_for key.entry.stands.now)) key.entry.interpretations.now key.entry.modmap (given key.entry.key.now)) (given key.entry.key.now) (content_group (given key.entry.key.now) group) (levels_of_group (type_named types.now) (given key.entry.key.now) group)) }
     ensures small { OnOk result (IsWithinLimits builder.new) }
     ensures err { IfErr result (λ e. e ≡ Memory) }

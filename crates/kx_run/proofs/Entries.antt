@@ -11,7 +11,7 @@ use Rattle.std.proofs.lemmas.List.Folds.{list_any_at, list_any_none}
 use Rattle.std.proofs.lemmas.List.Quantifiers.{position-Some, all_pairs_push}
 use Rattle.kx_run.specs.declared.held.HeldKey.{HeldKey}
 use Rattle.kx_run.specs.Held.{action_size, base_group, is_at, is_held, held_at, other_keys, disturbed, AreAllDisturbed, AreDistinct, AreSound}
-use Rattle.kx_run.specs.Presses.{AreEarlierDisturbed, ArePlaced, group_after_entry, is_entry_of, keys_of, place_of}
+use Rattle.kx_run.specs.Presses.{AreEarlierDisturbed, ArePlaced, group_after_entry, is_entry_of, keys_of, entry_index}
 use Rattle.kx_run.proofs.HeldLists.{IsSmall, apart, base_group-push, disturbed-twice, head_apart, is_held-let_go, length-distinct, length-sound, none_held, other_keys-apart, small_few, tail_apart}
 
 -- ---- the first place that passes
@@ -58,17 +58,17 @@ any_entry code [] = refl
 any_entry code (None ∷ es) = any_entry code es
 any_entry code (Some key ∷ es) = ap (λ b. is_at code key || b) (any_entry code es)
 
-pub is_placed : (code : ℕ) (es : List (Option HeldKey)) → is_some (place_of code es) ≡ is_held code (keys_of es)
+pub is_placed : (code : ℕ) (es : List (Option HeldKey)) → is_some (entry_index code es) ≡ is_held code (keys_of es)
 is_placed code es = some_place (is_entry_of code) 0 es ∙ any_entry code es
 
 no_place : (o : Option ℕ) → is_some o ≡ false → o ≡ None
 no_place None h = refl
 no_place (Some n) h = absurd (cc)
 
-pub unplaced : (code : ℕ) (es : List (Option HeldKey)) → is_held code (keys_of es) ≡ false → place_of code es ≡ None
-unplaced code es h = no_place (place_of code es) (is_placed code es ∙ h)
+pub unplaced : (code : ℕ) (es : List (Option HeldKey)) → is_held code (keys_of es) ≡ false → entry_index code es ≡ None
+unplaced code es h = no_place (entry_index code es) (is_placed code es ∙ h)
 
-pub unheld : (code : ℕ) (es : List (Option HeldKey)) → place_of code es ≡ None → is_held code (keys_of es) ≡ false
+pub unheld : (code : ℕ) (es : List (Option HeldKey)) → entry_index code es ≡ None → is_held code (keys_of es) ≡ false
 unheld code es h = sym (is_placed code es) ∙ ap is_some h
 
 -- what is true of all keys is true of each entry's
@@ -155,7 +155,7 @@ ArePlaced-push places es key placed new = λ code d within.
           ∙ sym (place-push_other (is_entry_of code) 0 es (Some key) other)
     ]
 
-pub ArePlaced-emptied : (places : List (Option ℕ)) (es : List (Option HeldKey)) (code place : ℕ) → ArePlaced places es → AreDistinct (keys_of es) → place_of code es ≡ Some place → ArePlaced (set places code None) (set es place None)
+pub ArePlaced-emptied : (places : List (Option ℕ)) (es : List (Option HeldKey)) (code place : ℕ) → ArePlaced places es → AreDistinct (keys_of es) → entry_index code es ≡ Some place → ArePlaced (set places code None) (set es place None)
 ArePlaced-emptied places es code place placed distinct found = λ c d within.
     let inside : c < length places = omega (arith, length-set places code None) in
     let at = found_place (is_entry_of code) es place None found in
@@ -179,7 +179,7 @@ entry_of-disturbed : (code : ℕ) (e : Option HeldKey) → is_entry_of code (opt
 entry_of-disturbed code None = refl
 entry_of-disturbed code (Some key) = refl
 
-pub place-disturbed : (code : ℕ) (es : List (Option HeldKey)) (n : ℕ) (d : Option HeldKey) → place_of code (set es n (option_map disturbed (get_or es n d))) ≡ place_of code es
+pub place-disturbed : (code : ℕ) (es : List (Option HeldKey)) (n : ℕ) (d : Option HeldKey) → entry_index code (set es n (option_map disturbed (get_or es n d))) ≡ entry_index code es
 place-disturbed code es n d = place-set (is_entry_of code) 0 es n _ d (entry_of-disturbed code (get_or es n d))
 
 -- where all but the last key are disturbed, to disturb all is to disturb the last
@@ -219,12 +219,12 @@ or_same None (Some n) same = absurd (cc)
 or_same (Some m) b same = refl
 
 -- each code with an entry was told its new place, and the others had none before
-pub ArePlaced-dropped : (places new : List (Option ℕ)) (es kept : List (Option HeldKey)) → length new ≡ length places → ArePlaced places es → keys_of kept ≡ keys_of es → ((code : ℕ) (d : Option ℕ) → get_or new code d ≡ option_or (place_of code kept) (get_or places code d)) → ArePlaced new kept
+pub ArePlaced-dropped : (places new : List (Option ℕ)) (es kept : List (Option HeldKey)) → length new ≡ length places → ArePlaced places es → keys_of kept ≡ keys_of es → ((code : ℕ) (d : Option ℕ) → get_or new code d ≡ option_or (entry_index code kept) (get_or places code d)) → ArePlaced new kept
 ArePlaced-dropped places new es kept long placed keys each = λ code d within.
     let inside : code < length places = omega arith in
     each code d
-    ∙ ap (option_or (place_of code kept)) (placed code d inside)
-    ∙ or_same (place_of code kept) (place_of code es) (is_placed code kept ∙ ap (is_held code) keys ∙ sym (is_placed code es))
+    ∙ ap (option_or (entry_index code kept)) (placed code d inside)
+    ∙ or_same (entry_index code kept) (entry_index code es) (is_placed code kept ∙ ap (is_held code) keys ∙ sym (is_placed code es))
 
 -- ---- the base group over entries
 
@@ -253,5 +253,5 @@ group-more n es d within =
 
 -- ---- what is read
 
-pub read_place : (places : List (Option ℕ)) (es : List (Option HeldKey)) (code n : ℕ) (o : Option ℕ) → ArePlaced places es → code < length places → n ≡ code → o ≡ get_or places n o → o ≡ place_of code es
+pub read_place : (places : List (Option ℕ)) (es : List (Option HeldKey)) (code n : ℕ) (o : Option ℕ) → ArePlaced places es → code < length places → n ≡ code → o ≡ get_or places n o → o ≡ entry_index code es
 read_place places es code n o placed inside same read = read ∙ ap (λ k. get_or places k o) same ∙ placed code o inside

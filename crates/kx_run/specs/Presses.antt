@@ -14,12 +14,12 @@ is_entry_of code None = false
 is_entry_of code (Some key) = is_at code key
 
 -- the place of a code's entry
-abbrev pub place_of : ℕ → List (Option HeldKey) → Option ℕ
-place_of code entries = position_from (is_entry_of code) 0 entries
+abbrev pub entry_index : ℕ → List (Option HeldKey) → Option ℕ
+entry_index code entries = position_from (is_entry_of code) 0 entries
 
 -- by code the places of entries
 abbrev pub ArePlaced : List (Option ℕ) → List (Option HeldKey) → Type 0
-ArePlaced places entries = (code : ℕ) (d : Option ℕ) → code < length places → get_or places code d ≡ place_of code entries
+ArePlaced places entries = (code : ℕ) (d : Option ℕ) → code < length places → get_or places code d ≡ entry_index code entries
 
 -- each press disturbs all keys that are held before it, so only the last entry's key can be undisturbed
 abbrev pub AreEarlierDisturbed : List (Option HeldKey) → Type 0

@@ -2,7 +2,7 @@
 ghost use Rattle.std.specs.Prelude.{◌≡◌, ℕ, ◌+◌, ◌*◌, ◌<◌, ◌≤◌, false, List, [], ◌∷◌, ◌++◌, All, length, get_or, map, Option, Some, IfOk, IfSome, if◌then◌else◌, pos, negsuc, ◌≤ℤ◌, vec_capacity};
 ghost use Rattle.std.specs.Option.{option_map, option_or};
 ghost use Rattle.kx_run.specs.Held.{AreAllDisturbed, AreSound, base_group, disturbed, held_at, is_held, other_keys};
-ghost use Rattle.kx_run.specs.Presses.{AreEarlierDisturbed, ArePlaced, group_after_entry, is_entry_of, keys_of, place_of};
+ghost use Rattle.kx_run.specs.Presses.{AreEarlierDisturbed, ArePlaced, group_after_entry, is_entry_of, keys_of, entry_index};
 
 use crate::group::base_group_with;
 use crate::held::HeldKey;
@@ -106,7 +106,7 @@ impl Presses {
         requires { AreSound self.now }
         ensures { result ≡ base_group self.now }
     {
-        group_of(&self.entries)
+        base_group(&self.entries)
     }
 }
 
@@ -115,7 +115,7 @@ fn disturb_last(entries: &mut [Option<HeldKey>])
     requires { AreEarlierDisturbed entries.old }
     ensures long { length entries.new ≡ length entries.old }
     ensures keys { keys_of entries.new ≡ map disturbed (keys_of entries.old) }
-    ensures places { (code : ℕ) → place_of code entries.new ≡ place_of code entries.old }
+    ensures places { (code : ℕ) → entry_index code entries.new ≡ entry_index code entries.old }
     ensures earlier { AreEarlierDisturbed entries.new }
 {
     let count = entries.len();
@@ -134,7 +134,7 @@ fn tell(entry: &mut Option<HeldKey>)
 }
 
 /// The base group of the keys of some entries.
-fn group_of(entries: &[Option<HeldKey>]) -> i32
+fn base_group(entries: &[Option<HeldKey>]) -> i32
     requires sound { AreSound (keys_of entries.now) }
     ensures { result ≡ base_group (keys_of entries.now) }
 {
@@ -195,7 +195,7 @@ fn place_all(entries: &[Option<HeldKey>], places: &mut [Option<u16>])
     requires few { length entries.now ≤ CODES }
     requires codes { All (λ key. key.code < length places.old) (keys_of entries.now) }
     ensures long { length places.new ≡ length places.old }
-    ensures each { (code : ℕ) (d : Option ℕ) → get_or places.new code d ≡ option_or (place_of code entries.now) (get_or places.old code d) }
+    ensures each { (code : ℕ) (d : Option ℕ) → get_or places.new code d ≡ option_or (entry_index code entries.now) (get_or places.old code d) }
 {
     let mut place = entries.len();
     while place > 0 {

@@ -32,8 +32,8 @@ single [] x = x
 single (o ∷ os) x = None
 
 -- a group is one term without a sign, counted from 1
-abbrev pub group_of : Expression → Option ℕ
-group_of e = single e.rest (term_group e.first)
+abbrev pub group_named : Expression → Option ℕ
+group_named e = single e.rest (term_group e.first)
 
 abbrev pub is_group : ℕ → Bool
 is_group n = nat_lt 0 n && nat_le n MOST_GROUPS
@@ -44,7 +44,7 @@ known_group None = None
 known_group (Some n) = if is_group n then Some (n - 1) else None
 
 abbrev pub group_at : Expression → Option ℕ
-group_at e = known_group (group_of e)
+group_at e = known_group (group_named e)
 
 abbrev pub named_group_faults : ℕ → Expression → Option ℕ → List Fault
 named_group_faults file e None = BadValue (at file e.span) ∷ []
@@ -52,4 +52,4 @@ named_group_faults file e (Some n) = if is_group n then [] else GroupRange (at f
 
 -- of an expression that is to name a group
 abbrev pub group_faults : ℕ → Expression → List Fault
-group_faults file e = named_group_faults file e (group_of e)
+group_faults file e = named_group_faults file e (group_named e)

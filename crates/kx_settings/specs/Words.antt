@@ -2,7 +2,7 @@
 use Rattle.std.specs.Prelude.{ℕ, Bool, true, false, not, is_some, ◌&&◌, ◌||◌, List, [], ◌∷◌, Option, None, Some, if◌then◌else◌, codes}
 use Rattle.std.specs.List.{list_any}
 use Rattle.std.specs.Str.{str_eq_ignore_ascii_case}
-use Rattle.kx_parse.specs.declared.tree.Place.{Place}
+use Rattle.kx_parse.specs.declared.tree.FieldPlace.{FieldPlace}
 use Rattle.kx_settings.specs.declared.words.RangeField.TheVariants as ranges
 use Rattle.kx_settings.specs.declared.words.SettingField.{SettingField}
 use Rattle.kx_settings.specs.declared.words.SettingField.TheVariants as fields
@@ -62,5 +62,5 @@ abbrev pub truth_words : List (List ℕ × Bool)
 truth_words = (codes "true", true) ∷ (codes "yes", true) ∷ (codes "on", true) ∷ (codes "false", false) ∷ (codes "no", false) ∷ (codes "off", false) ∷ []
 
 -- a field of a symbols section that names a group
-abbrev pub is_group_name : Place → Bool
+abbrev pub is_group_name : FieldPlace → Bool
 is_group_name place = not (is_some place.member) && str_eq_ignore_ascii_case place.word.bytes (codes "name")

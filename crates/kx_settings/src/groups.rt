@@ -4,7 +4,7 @@ ghost use Rattle.std.specs.Char.{is_ascii_digit};
 ghost use Rattle.std.specs.List.{list_all};
 ghost use Rattle.std.specs.Option.{option_map};
 ghost use Rattle.std.specs.Result.{result_ok};
-ghost use Rattle.kx_settings.specs.Groups.{group_at, group_faults, group_of, group_word, is_group, is_number, term_group};
+ghost use Rattle.kx_settings.specs.Groups.{group_at, group_faults, group_named, group_word, is_group, is_number, term_group};
 
 use kx_basics::{MOST_GROUPS, digits_value};
 use kx_lex::{At, Fault};
@@ -51,8 +51,8 @@ fn term_group(term: &Term) -> Option<u64>
 
 /// The group that an expression names, counted from 1, or 2^32 where it is greater; `None` where it isn't one term of its
 /// kind.
-pub fn group_of(expression: &Expression) -> Option<u64>
-    ensures { result ≡ option_map (min (2 ^ 32)) (group_of expression.now) }
+pub fn group_named(expression: &Expression) -> Option<u64>
+    ensures { result ≡ option_map (min (2 ^ 32)) (group_named expression.now) }
 {
     match expression.rest.as_slice() {
         [] => term_group(&expression.first),
@@ -81,7 +81,7 @@ pub fn read_group(file: u32, expression: &Expression) -> Result<u8, Fault>
         file,
         span: expression.span,
     };
-    match group_of(expression) {
+    match group_named(expression) {
         None => Err(Fault::BadValue(at)),
         Some(number) => {
             if !is_group(number) {

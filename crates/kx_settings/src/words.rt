@@ -2,7 +2,7 @@
 ghost use Rattle.std.specs.Prelude.{◌≡◌, is_some};
 ghost use Rattle.kx_settings.specs.Words.{among, field_named, is_group_name, is_key_word, is_list_word, is_unused_word, truth_words, used_words};
 
-use kx_parse::Place;
+use kx_parse::FieldPlace;
 
 /// The fields that set a key's range.
 #[derive(Clone, Copy, Debug, PartialEq, Eq)]
@@ -122,7 +122,7 @@ pub(crate) fn truth_named(word: &[u8]) -> Option<bool>
 }
 
 /// Whether a field of a symbols section names a group, as `name[1] = "English";`.
-pub fn is_group_name(place: &Place) -> bool
+pub fn is_group_name(place: &FieldPlace) -> bool
     ensures { result ≡ is_group_name place.now }
 {
     place.member.is_none() && place.word.bytes.as_slice().eq_ignore_ascii_case(b"name")

@@ -5,7 +5,7 @@ use Rattle.kx_modmaps.specs.Entries.{same_target}
 use Rattle.std.proofs.Math.Path.{fun_ext}
 use Rattle.std.specs.Option.{option_and_then, option_map, option_or}
 use Rattle.ks_core.specs.Entry.{Entry}
-use Rattle.kx_bearing.specs.Bearing.{Reading, brings, stands}
+use Rattle.kx_bearing.specs.Bearing.{ReadKeymap, brings, stands}
 use Rattle.kx_bearing.specs.Deeds.{deeds_of}
 use Rattle.kx_bearing.specs.Read.{reading_of}
 use Rattle.kx_builder.specs.Lamps.{ResolvedIndicator, keymap_with}
@@ -197,7 +197,7 @@ module _ (library : Library) (bodies : Bodies) (are : AreBodies library bodies) 
               interpretations_same = interpreted ∙ (λ i. interpretations_of names (modifiers_same i) (are.compat i))
 
               -- as it is read, but for the masks that are declared
-              abbrev read_with : (ℕ → RealSet) → Reading
+              abbrev read_with : (ℕ → RealSet) → ReadKeymap
               read_with masks = record {
                 name = name_of c;
                 key = λ code. given_in (key_at keys code);

@@ -1,7 +1,7 @@
 -- The keymap that the statements of a keymap's text mean, with the files that it includes.
 use Rattle.std.specs.Prelude.{ℕ, suc, List, [], ◌∷◌, Option, is_some, nat_eq}
 use Rattle.ks_core.specs.Entry.{Entry}
-use Rattle.kx_bearing.specs.Bearing.{Reading, stands}
+use Rattle.kx_bearing.specs.Bearing.{ReadKeymap, stands}
 use Rattle.kx_bearing.specs.Deeds.{deeds_of}
 use Rattle.kx_builder.specs.Lamps.{ResolvedIndicator, keymap_with}
 use Rattle.kx_builder.specs.Resolved.{Resolved}
@@ -101,7 +101,7 @@ module _ (names : List Entry) (library : Library) where
   abbrev pub interpretations_in : List Interpretation
   interpretations_in = interpretations_of names (modifiers_of library) (body_of library Compat)
 
-  abbrev pub reading_in : Reading
+  abbrev pub reading_in : ReadKeymap
   reading_in = record {
     name = name_of (codes_in library);
     key = key_in;

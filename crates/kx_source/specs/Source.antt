@@ -8,7 +8,7 @@ use Rattle.kx_codes.specs.Codes.{Codes}
 use Rattle.kx_compat.specs.Meaning.{compat_faults}
 use Rattle.kx_groups.specs.Names.{AreGroupNames, name_moves, name_rules}
 use Rattle.kx_include.specs.Expansion.{Body, body_of}
-use Rattle.kx_include.specs.IncludeFaults.{IsWhole, HasFault as HasIncludeFault}
+use Rattle.kx_include.specs.IncludeFaults.{IsWhole, HasIncludeFault}
 use Rattle.kx_include.specs.Library.{Library}
 use Rattle.kx_include.specs.Source.{Handed, HasNoTree, HasTooManyFiles, IsRead}
 use Rattle.kx_lamps.specs.Meaning.{lamps_faults}

@@ -8,8 +8,8 @@ use Rattle.kx_parse.specs.declared.tree.Call.{Call}
 use Rattle.kx_parse.specs.declared.tree.Element.{Element}
 use Rattle.kx_parse.specs.declared.tree.Element.TheVariants as elements
 use Rattle.kx_parse.specs.declared.tree.List.{List as Listed}
-use Rattle.kx_parse.specs.declared.tree.Part.{Part}
-use Rattle.kx_parse.specs.declared.tree.Part.TheVariants as parts
+use Rattle.kx_parse.specs.declared.tree.BracePart.{BracePart}
+use Rattle.kx_parse.specs.declared.tree.BracePart.TheVariants as parts
 use Rattle.kx_symbols.specs.Known.{Known}
 
 -- no action defines nothing
@@ -17,11 +17,11 @@ abbrev pub defined : KeyAction → Option KeyAction
 defined NoAction = None
 defined action = Some action
 
-abbrev pub call_in : Part → List Call
+abbrev pub call_in : BracePart → List Call
 call_in (parts.Symbol symbol) = []
 call_in (parts.Call call) = call ∷ []
 
-abbrev pub calls_in : List Part → List Call
+abbrev pub calls_in : List BracePart → List Call
 calls_in ps = flat_map call_in ps
 
 abbrev pub call_action : Known → Call → Option KeyAction

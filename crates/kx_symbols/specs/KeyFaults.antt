@@ -21,8 +21,8 @@ use Rattle.kx_parse.specs.declared.tree.Item.TheVariants.{Include, Statement}
 use Rattle.kx_parse.specs.declared.tree.KeyField.{KeyField}
 use Rattle.kx_parse.specs.declared.tree.KeyField.TheVariants as fields
 use Rattle.kx_parse.specs.declared.tree.List.{List as Listed}
-use Rattle.kx_parse.specs.declared.tree.Part.{Part}
-use Rattle.kx_parse.specs.declared.tree.Part.TheVariants as parts
+use Rattle.kx_parse.specs.declared.tree.BracePart.{BracePart}
+use Rattle.kx_parse.specs.declared.tree.BracePart.TheVariants as parts
 use Rattle.kx_parse.specs.declared.tree.Setting.{Setting}
 use Rattle.kx_parse.specs.declared.tree.Setting.TheVariants.{Off, On, To}
 use Rattle.kx_parse.specs.declared.tree.Statement.{Statement as Said}
@@ -57,12 +57,12 @@ module _ (file : ℕ) where
   symbol_faults (Number number) = if nat_lt GREATEST_KEYSYM number.value then BadValue (at file number.span) ∷ [] else []
 
   -- in a list of keysyms
-  abbrev pub part_faults : Part → List Fault
+  abbrev pub part_faults : BracePart → List Fault
   part_faults (parts.Symbol symbol) = symbol_faults symbol
   part_faults (parts.Call call) = BadValue (at file call.span) ∷ []
 
   -- a level has at most eight keysyms; `whole` is the statement
-  abbrev pub count_faults : Span → List Part → List Fault
+  abbrev pub count_faults : Span → List BracePart → List Fault
   count_faults whole ps = if nat_lt MOST_KEYSYMS (length ps) then TooMany (at file whole) ∷ [] else []
 
   abbrev pub element_faults : Span → Element → List Fault
@@ -79,7 +79,7 @@ module _ (file : ℕ) where
 
   module _ (modifiers : List (List ℕ)) where
     -- in a list of actions
-    abbrev pub action_part_faults : Part → List Fault
+    abbrev pub action_part_faults : BracePart → List Fault
     action_part_faults (parts.Symbol symbol) = BadValue (at file (symbol_span symbol)) ∷ []
     action_part_faults (parts.Call call) = action_faults file modifiers call
 

@@ -8,8 +8,8 @@ use Rattle.ks_core.specs.Names.{keysym_named}
 use Rattle.kx_parse.specs.declared.tree.Element.{Element}
 use Rattle.kx_parse.specs.declared.tree.Element.TheVariants as elements
 use Rattle.kx_parse.specs.declared.tree.List.{List as Listed}
-use Rattle.kx_parse.specs.declared.tree.Part.{Part}
-use Rattle.kx_parse.specs.declared.tree.Part.TheVariants as parts
+use Rattle.kx_parse.specs.declared.tree.BracePart.{BracePart}
+use Rattle.kx_parse.specs.declared.tree.BracePart.TheVariants as parts
 use Rattle.kx_parse.specs.declared.tree.Symbol.{Symbol}
 use Rattle.kx_parse.specs.declared.tree.Symbol.TheVariants.{Word, Number}
 
@@ -49,7 +49,7 @@ abbrev pub one : Option ℕ → List ℕ
 one None = []
 one (Some keysym) = keysym ∷ []
 
-abbrev pub part_keysyms : List Entry → Part → List ℕ
+abbrev pub part_keysyms : List Entry → BracePart → List ℕ
 part_keysyms names (parts.Symbol symbol) = one (symbol_keysym names symbol)
 part_keysyms names (parts.Call call) = []
 

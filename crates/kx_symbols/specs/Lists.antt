@@ -12,9 +12,9 @@ use Rattle.kx_parse.specs.declared.tree.Index.{Index}
 use Rattle.kx_parse.specs.declared.tree.KeyField.{KeyField}
 use Rattle.kx_parse.specs.declared.tree.KeyField.TheVariants as fields
 use Rattle.kx_parse.specs.declared.tree.List.{List as Listed}
-use Rattle.kx_parse.specs.declared.tree.Part.{Part}
-use Rattle.kx_parse.specs.declared.tree.Part.TheVariants as parts
-use Rattle.kx_parse.specs.declared.tree.Place.{Place}
+use Rattle.kx_parse.specs.declared.tree.BracePart.{BracePart}
+use Rattle.kx_parse.specs.declared.tree.BracePart.TheVariants as parts
+use Rattle.kx_parse.specs.declared.tree.FieldPlace.{FieldPlace}
 use Rattle.kx_parse.specs.declared.tree.Setting.{Setting}
 use Rattle.kx_parse.specs.declared.tree.Setting.TheVariants.{To}
 use Rattle.kx_parse.specs.declared.tree.Value.TheVariants as values
@@ -32,7 +32,7 @@ pub record StatementLists : Type 0 where
 abbrev pub no_lists : StatementLists
 no_lists = record { symbols = []; actions = [] }
 
-abbrev pub is_call : Part → Bool
+abbrev pub is_call : BracePart → Bool
 is_call (parts.Symbol symbol) = false
 is_call (parts.Call call) = true
 
@@ -49,7 +49,7 @@ abbrev pub kind_word : List ℕ → Option ListKind
 kind_word word = if str_eq_ignore_ascii_case word (codes "symbols") then Some Symbols else (if str_eq_ignore_ascii_case word (codes "actions") then Some Actions else None)
 
 -- the kind of a list under a field, which the field names
-abbrev pub field_kind : Place → Option ListKind
+abbrev pub field_kind : FieldPlace → Option ListKind
 field_kind place = if is_some place.member then None else kind_word place.word.bytes
 
 -- whether a field isn't a list by itself

@@ -11,7 +11,7 @@ use ks_core::{Note, Notes};
 use kx_actions::{KeyAction, read};
 use kx_lex::{At, Fault, Span};
 use kx_lists::{LevelValue, Levels};
-use kx_parse::{Braces, Call, Element, List as Listed, Part, Symbol};
+use kx_parse::{BracePart, Braces, Call, Element, List as Listed, Symbol};
 use std::alloc::{AllocError, Global};
 use std::marker::Model;
 
@@ -97,7 +97,7 @@ fn symbol_fault(file: u32, symbol: &Symbol) -> Fault
 fn part_action(
     known: &Known,
     file: u32,
-    part: &Part,
+    part: &BracePart,
     notes: &mut Notes,
 ) -> Result<Option<LevelAction>, Fault>
     ensures value { IfOk result (λ level. level ≡ only_action known.now (calls_in (part.now ∷ []))) }
@@ -105,8 +105,8 @@ fn part_action(
     ensures fault { IfErr result (λ e. Contains (action_part_faults file known.now.modifiers part.now) e) }
 {
     match part {
-        Part::Symbol(symbol) => Err(symbol_fault(file, symbol)),
-        Part::Call(call) => call_action(known, file, call, notes),
+        BracePart::Symbol(symbol) => Err(symbol_fault(file, symbol)),
+        BracePart::Call(call) => call_action(known, file, call, notes),
     }
 }
 
@@ -117,7 +117,7 @@ fn several_fault(known: &Known, file: u32, braces: &Braces) -> Fault
 {
     let parts = braces.parts.as_slice();
     'parts: for part in parts {
-        if let Part::Symbol(symbol) = part {
+        if let BracePart::Symbol(symbol) = part {
             return symbol_fault(file, symbol);
         }
     }

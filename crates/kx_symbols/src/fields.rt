@@ -10,7 +10,7 @@ ghost use Rattle.kx_symbols.specs.Lists.{field_kind, field_lists, lists_of, name
 use crate::actions::{LevelAction, read_actions};
 use crate::keysyms::{Keysyms, read_levels};
 use crate::kinds::{ListKind, bare_kind, field_kind};
-use crate::known::{Known, Reading};
+use crate::known::{Known, StatementSite};
 use ks_core::{NameTable, Notes};
 use kx_lex::Fault;
 use kx_lists::{Levels, group_for, put_list};
@@ -37,18 +37,18 @@ impl Model for StatementLists {
 fn add_symbols(
     alloc: Global,
     names: &NameTable,
-    reading: Reading,
+    site: StatementSite,
     index: &Option<Boxed<Index>>,
     list: &Listed,
     lists: &mut Vec<Option<Levels<Keysyms>>>,
     notes: &mut Notes,
 ) -> Result<(), Fault>
     ensures value { OnOk result (lists.new.items ≡ given_list lists.old.items (group_for lists.old.items (index.now)) (levels_of names.now list.now)) }
-    ensures faultless { OnOk result (place_faults reading.file lists.old.items (index.now) list.now ++ elements_faults reading.file reading.whole list.now ≡ []) }
-    ensures fault { IfErr result (λ e. Contains (Memory ∷ (place_faults reading.file lists.old.items (index.now) list.now ++ elements_faults reading.file reading.whole list.now)) e) }
+    ensures faultless { OnOk result (place_faults site.file lists.old.items (index.now) list.now ++ elements_faults site.file site.whole list.now ≡ []) }
+    ensures fault { IfErr result (λ e. Contains (Memory ∷ (place_faults site.file lists.old.items (index.now) list.now ++ elements_faults site.file site.whole list.now)) e) }
 {
-    let group = group_for(reading.file, lists.as_slice(), index, list)?;
-    let levels = read_levels(alloc, names, reading, list, notes)?;
+    let group = group_for(site.file, lists.as_slice(), index, list)?;
+    let levels = read_levels(alloc, names, site, list, notes)?;
     put_list(lists, group, levels)?;
     Ok(())
 }
@@ -57,18 +57,18 @@ fn add_symbols(
 fn add_actions(
     alloc: Global,
     known: &Known,
-    reading: Reading,
+    site: StatementSite,
     index: &Option<Boxed<Index>>,
     list: &Listed,
     lists: &mut Vec<Option<Levels<LevelAction>>>,
     notes: &mut Notes,
 ) -> Result<(), Fault>
     ensures value { OnOk result (lists.new.items ≡ given_list lists.old.items (group_for lists.old.items (index.now)) (actions_of known.now list.now)) }
-    ensures faultless { OnOk result (place_faults reading.file lists.old.items (index.now) list.now ++ actions_faults reading.file known.now.modifiers list.now ≡ []) }
-    ensures fault { IfErr result (λ e. Contains (Memory ∷ (place_faults reading.file lists.old.items (index.now) list.now ++ actions_faults reading.file known.now.modifiers list.now)) e) }
+    ensures faultless { OnOk result (place_faults site.file lists.old.items (index.now) list.now ++ actions_faults site.file known.now.modifiers list.now ≡ []) }
+    ensures fault { IfErr result (λ e. Contains (Memory ∷ (place_faults site.file lists.old.items (index.now) list.now ++ actions_faults site.file known.now.modifiers list.now)) e) }
 {
-    let group = group_for(reading.file, lists.as_slice(), index, list)?;
-    let levels = read_actions(alloc, known, reading.file, list, notes)?;
+    let group = group_for(site.file, lists.as_slice(), index, list)?;
+    let levels = read_actions(alloc, known, site.file, list, notes)?;
     put_list(lists, group, levels)?;
     Ok(())
 }
@@ -77,7 +77,7 @@ fn add_actions(
 fn add_list(
     alloc: Global,
     known: &Known,
-    reading: Reading,
+    site: StatementSite,
     kind: ListKind,
     index: &Option<Boxed<Index>>,
     list: &Listed,
@@ -85,17 +85,17 @@ fn add_list(
     notes: &mut Notes,
 ) -> Result<(), Fault>
     ensures value { OnOk result (lists.new ≡ with_listed known.now lists.old (index.now) list.now kind) }
-    ensures faultless { OnOk result (list_faults reading.file known.now.modifiers reading.whole lists.old (index.now) list.now kind ≡ []) }
-    ensures fault { IfErr result (λ e. Contains (Memory ∷ list_faults reading.file known.now.modifiers reading.whole lists.old (index.now) list.now kind) e) }
+    ensures faultless { OnOk result (list_faults site.file known.now.modifiers site.whole lists.old (index.now) list.now kind ≡ []) }
+    ensures fault { IfErr result (λ e. Contains (Memory ∷ list_faults site.file known.now.modifiers site.whole lists.old (index.now) list.now kind) e) }
 {
     match kind {
         ListKind::Symbols => {
             let symbols = &mut lists.symbols;
-            add_symbols(alloc, known.names, reading, index, list, symbols, notes)
+            add_symbols(alloc, known.names, site, index, list, symbols, notes)
         }
         ListKind::Actions => {
             let actions = &mut lists.actions;
-            add_actions(alloc, known, reading, index, list, actions, notes)
+            add_actions(alloc, known, site, index, list, actions, notes)
         }
     }
 }
@@ -104,26 +104,26 @@ fn add_list(
 fn add_set(
     alloc: Global,
     known: &Known,
-    reading: Reading,
+    site: StatementSite,
     kind: ListKind,
     field: &Field,
     lists: &mut StatementLists,
     notes: &mut Notes,
 ) -> Result<(), Fault>
     ensures value { OnOk result (lists.new ≡ set_lists known.now lists.old field.now.place.index kind field.now.setting) }
-    ensures faultless { OnOk result (set_faults reading.file known.now.modifiers reading.whole lists.old field.now.place.index field.now.span kind field.now.setting ≡ []) }
-    ensures fault { IfErr result (λ e. Contains (Memory ∷ set_faults reading.file known.now.modifiers reading.whole lists.old field.now.place.index field.now.span kind field.now.setting) e) }
+    ensures faultless { OnOk result (set_faults site.file known.now.modifiers site.whole lists.old field.now.place.index field.now.span kind field.now.setting ≡ []) }
+    ensures fault { IfErr result (λ e. Contains (Memory ∷ set_faults site.file known.now.modifiers site.whole lists.old field.now.place.index field.now.span kind field.now.setting) e) }
 {
     match &field.setting {
         Setting::To(Value::List(list)) => {
             let index = &field.place.index;
-            add_list(alloc, known, reading, kind, index, list, lists, notes)
+            add_list(alloc, known, site, kind, index, list, lists, notes)
         }
         Setting::To(Value::Expression(expression)) => {
-            Err(Fault::BadValue(reading.at(expression.span)))
+            Err(Fault::BadValue(site.at(expression.span)))
         }
-        Setting::To(Value::Call(call)) => Err(Fault::BadValue(reading.at(call.span))),
-        Setting::Off | Setting::On => Err(Fault::BadValue(reading.at(field.span))),
+        Setting::To(Value::Call(call)) => Err(Fault::BadValue(site.at(call.span))),
+        Setting::Off | Setting::On => Err(Fault::BadValue(site.at(field.span))),
     }
 }
 
@@ -131,18 +131,18 @@ fn add_set(
 fn add_named(
     alloc: Global,
     known: &Known,
-    reading: Reading,
+    site: StatementSite,
     field: &Field,
     lists: &mut StatementLists,
     notes: &mut Notes,
 ) -> Result<(), Fault>
     ensures value { OnOk result (lists.new ≡ named_lists known.now lists.old field.now (field_kind field.now.place)) }
-    ensures faultless { OnOk result (named_faults reading.file known.now.modifiers reading.whole lists.old field.now (field_kind field.now.place) ≡ []) }
-    ensures fault { IfErr result (λ e. Contains (Memory ∷ named_faults reading.file known.now.modifiers reading.whole lists.old field.now (field_kind field.now.place)) e) }
+    ensures faultless { OnOk result (named_faults site.file known.now.modifiers site.whole lists.old field.now (field_kind field.now.place) ≡ []) }
+    ensures fault { IfErr result (λ e. Contains (Memory ∷ named_faults site.file known.now.modifiers site.whole lists.old field.now (field_kind field.now.place)) e) }
 {
     match field_kind(&field.place) {
         None => Ok(()),
-        Some(kind) => add_set(alloc, known, reading, kind, field, lists, notes),
+        Some(kind) => add_set(alloc, known, site, kind, field, lists, notes),
     }
 }
 
@@ -150,21 +150,21 @@ fn add_named(
 fn add_field(
     alloc: Global,
     known: &Known,
-    reading: Reading,
+    site: StatementSite,
     field: &KeyField,
     lists: &mut StatementLists,
     notes: &mut Notes,
 ) -> Result<(), Fault>
     ensures value { OnOk result (lists.new ≡ field_lists known.now lists.old field.now) }
-    ensures faultless { OnOk result (field_faults reading.file known.now.modifiers reading.whole lists.old field.now ≡ []) }
-    ensures fault { IfErr result (λ e. Contains (Memory ∷ field_faults reading.file known.now.modifiers reading.whole lists.old field.now) e) }
+    ensures faultless { OnOk result (field_faults site.file known.now.modifiers site.whole lists.old field.now ≡ []) }
+    ensures fault { IfErr result (λ e. Contains (Memory ∷ field_faults site.file known.now.modifiers site.whole lists.old field.now) e) }
 {
     match field {
         KeyField::List(list) => {
             let kind = bare_kind(list);
-            add_list(alloc, known, reading, kind, &None, list, lists, notes)
+            add_list(alloc, known, site, kind, &None, list, lists, notes)
         }
-        KeyField::Field(field) => add_named(alloc, known, reading, field.get(), lists, notes),
+        KeyField::Field(field) => add_named(alloc, known, site, field.get(), lists, notes),
     }
 }
 
@@ -172,20 +172,20 @@ fn add_field(
 pub(crate) fn read_lists(
     alloc: Global,
     known: &Known,
-    reading: Reading,
+    site: StatementSite,
     fields: &[KeyField],
     notes: &mut Notes,
 ) -> Result<StatementLists, Fault>
     ensures value { IfOk result (λ lists. lists ≡ lists_of known.now fields.now) }
-    ensures faultless { OnOk result (fields_faults reading.file known.now reading.whole no_lists fields.now ≡ []) }
-    ensures fault { IfErr result (λ e. Contains (Memory ∷ fields_faults reading.file known.now reading.whole no_lists fields.now) e) }
+    ensures faultless { OnOk result (fields_faults site.file known.now site.whole no_lists fields.now ≡ []) }
+    ensures fault { IfErr result (λ e. Contains (Memory ∷ fields_faults site.file known.now site.whole no_lists fields.now) e) }
 {
     let mut lists = StatementLists {
         symbols: Vec::new(alloc),
         actions: Vec::new(alloc),
     };
     'fields: for field in fields {
-        add_field(alloc, known, reading, field, &mut lists, notes)?;
+        add_field(alloc, known, site, field, &mut lists, notes)?;
     }
     Ok(lists)
 }

@@ -18,7 +18,7 @@ use crate::cells::{Cell, CellValue};
 use crate::checks::check_other;
 use crate::defaults::SectionDefaults;
 use crate::fields::read_lists;
-use crate::known::{Known, Reading};
+use crate::known::{Known, StatementSite};
 use crate::record::KeyRecord;
 use crate::settings::read_besides;
 use indexmap::IndexMap;
@@ -79,16 +79,16 @@ fn one_record(alloc: Global, code: u16, key: KeyRecord) -> Result<Vec<(u16, KeyR
 fn read_content(
     alloc: Global,
     known: &Known,
-    reading: Reading,
+    site: StatementSite,
     fields: &[KeyField],
     notes: &mut Notes,
 ) -> Result<KeyRecord, Fault>
     ensures offered { (mode : ModeValue) (code : ℕ) → IfOk result (λ key. IsOffered mode (cell_in) (width_in_key) code key (key_offer known.now fields.now mode code)) }
-    ensures faultless { OnOk result (content_faults reading.file known.now reading.whole fields.now ≡ []) }
-    ensures fault { IfErr result (λ e. Contains (Memory ∷ content_faults reading.file known.now reading.whole fields.now) e) }
+    ensures faultless { OnOk result (content_faults site.file known.now site.whole fields.now ≡ []) }
+    ensures fault { IfErr result (λ e. Contains (Memory ∷ content_faults site.file known.now site.whole fields.now) e) }
 {
-    let lists = read_lists(alloc, known, reading, fields, notes)?;
-    let settings = read_besides(alloc, known, reading.file, fields)?;
+    let lists = read_lists(alloc, known, site, fields, notes)?;
+    let settings = read_besides(alloc, known, site.file, fields)?;
     Ok(KeyRecord::of(lists, settings))
 }
 
@@ -97,19 +97,19 @@ fn read_key(
     alloc: Global,
     codes: &Codes,
     known: &Known,
-    reading: Reading,
+    site: StatementSite,
     name: &KeyName,
     fields: &[KeyField],
     notes: &mut Notes,
 ) -> Result<Vec<(u16, KeyRecord)>, Fault>
     ensures records { (mode : ModeValue) → IfOk result (λ records. AreOffered mode (cell_in) (width_in_key) records.items (offered known.now fields.now mode (code_of codes.now name.now.bytes))) }
-    ensures faultless { OnOk result (name_faults reading.file reading.whole name.now ++ content_faults reading.file known.now reading.whole fields.now ≡ []) }
-    ensures fault { IfErr result (λ e. Contains (Memory ∷ (name_faults reading.file reading.whole name.now ++ content_faults reading.file known.now reading.whole fields.now)) e) }
+    ensures faultless { OnOk result (name_faults site.file site.whole name.now ++ content_faults site.file known.now site.whole fields.now ≡ []) }
+    ensures fault { IfErr result (λ e. Contains (Memory ∷ (name_faults site.file site.whole name.now ++ content_faults site.file known.now site.whole fields.now)) e) }
 {
     if name.as_slice().len() > MOST_NAME_BYTES {
-        return Err(Fault::TooMany(reading.at(reading.whole)));
+        return Err(Fault::TooMany(site.at(site.whole)));
     }
-    let key = read_content(alloc, known, reading, fields, notes)?;
+    let key = read_content(alloc, known, site, fields, notes)?;
     match codes.code_of(name.as_slice()) {
         Some(code) => one_record(alloc, code, key),
         None => {
@@ -124,22 +124,22 @@ fn read_statement(
     alloc: Global,
     codes: &Codes,
     known: &Known,
-    reading: Reading,
+    site: StatementSite,
     word: Span,
     statement: &Statement,
     notes: &mut Notes,
 ) -> Result<Vec<(u16, KeyRecord)>, Fault>
     ensures records { (mode : ModeValue) → IfOk result (λ records. AreOffered mode (cell_in) (width_in_key) records.items (said_offers codes.now known.now mode (key_in statement.now))) }
-    ensures faultless { OnOk result (said_faults reading.file known.now statement.now word reading.whole (key_in statement.now) ≡ []) }
-    ensures fault { IfErr result (λ e. Contains (Memory ∷ said_faults reading.file known.now statement.now word reading.whole (key_in statement.now)) e) }
+    ensures faultless { OnOk result (said_faults site.file known.now statement.now word site.whole (key_in statement.now) ≡ []) }
+    ensures fault { IfErr result (λ e. Contains (Memory ∷ said_faults site.file known.now statement.now word site.whole (key_in statement.now)) e) }
 {
     match key_in(statement) {
         None => {
-            check_other(known.modifiers, reading.file, word, statement)?;
+            check_other(known.modifiers, site.file, word, statement)?;
             Ok(no_records(alloc))
         }
         Some((name, fields)) => {
-            read_key(alloc, codes, known, reading, name, fields.as_slice(), notes)
+            read_key(alloc, codes, known, site, name, fields.as_slice(), notes)
         }
     }
 }
@@ -164,12 +164,12 @@ fn read_item(
             span,
             ..
         } => {
-            let reading = Reading {
+            let site = StatementSite {
                 file: place.file,
                 whole: *span,
             };
             let word = item.word_span();
-            read_statement(alloc, codes, known, reading, word, statement, notes)
+            read_statement(alloc, codes, known, site, word, statement, notes)
         }
     }
 }

@@ -8,13 +8,13 @@ ghost use Rattle.kx_symbols.specs.KeyFaults.{count_faults, element_faults, eleme
 ghost use Rattle.kx_basics.specs.Keysyms.{IsKeysym};
 ghost use Rattle.kx_symbols.specs.Keysyms.{element_level, given, keysym_of_text, levels_of, number_keysym, part_keysyms, symbol_keysym, word_keysym};
 
-use crate::known::Reading;
+use crate::known::StatementSite;
 use arrayvec::ArrayVec;
 use ks_core::{NameTable, Note, Notes};
 use kx_basics::{GREATEST_KEYSYM, MOST_KEYSYMS};
 use kx_lex::{At, Fault};
 use kx_lists::{LevelValue, Levels};
-use kx_parse::{Element, List as Listed, Part, Symbol};
+use kx_parse::{BracePart, Element, List as Listed, Symbol};
 use std::alloc::{AllocError, Global};
 use std::marker::Model;
 
@@ -162,45 +162,45 @@ pub fn symbol_keysym(
 /// Adds what a part of a level gives.
 fn add_part(
     names: &NameTable,
-    reading: Reading,
-    part: &Part,
+    site: StatementSite,
+    part: &BracePart,
     keysyms: &mut Keysyms,
     notes: &mut Notes,
 ) -> Result<(), Fault>
     requires { length keysyms.old < 8 }
     ensures value { OnOk result (keysyms.new ≡ keysyms.old ++ part_keysyms names.now part.now) }
     ensures few { OnOk result (length keysyms.new ≤ length keysyms.old + 1) }
-    ensures faultless { OnOk result (part_faults reading.file part.now ≡ []) }
-    ensures fault { IfErr result (λ e. Contains (Memory ∷ part_faults reading.file part.now) e) }
+    ensures faultless { OnOk result (part_faults site.file part.now ≡ []) }
+    ensures fault { IfErr result (λ e. Contains (Memory ∷ part_faults site.file part.now) e) }
 {
     match part {
-        Part::Symbol(symbol) => {
-            if let Some(keysym) = symbol_keysym(names, reading.file, symbol, notes)? {
+        BracePart::Symbol(symbol) => {
+            if let Some(keysym) = symbol_keysym(names, site.file, symbol, notes)? {
                 keysyms.push(keysym);
             }
             Ok(())
         }
-        Part::Call(call) => Err(Fault::BadValue(reading.at(call.span))),
+        BracePart::Call(call) => Err(Fault::BadValue(site.at(call.span))),
     }
 }
 
 /// The keysyms of a level in braces.
 fn braces_keysyms(
     names: &NameTable,
-    reading: Reading,
-    parts: &[Part],
+    site: StatementSite,
+    parts: &[BracePart],
     notes: &mut Notes,
 ) -> Result<Keysyms, Fault>
     ensures value { IfOk result (λ keysyms. keysyms ≡ flat_map (part_keysyms names.now) parts.now) }
-    ensures faultless { OnOk result (count_faults reading.file reading.whole parts.now ++ flat_map (part_faults reading.file) parts.now ≡ []) }
-    ensures fault { IfErr result (λ e. Contains (Memory ∷ (count_faults reading.file reading.whole parts.now ++ flat_map (part_faults reading.file) parts.now)) e) }
+    ensures faultless { OnOk result (count_faults site.file site.whole parts.now ++ flat_map (part_faults site.file) parts.now ≡ []) }
+    ensures fault { IfErr result (λ e. Contains (Memory ∷ (count_faults site.file site.whole parts.now ++ flat_map (part_faults site.file) parts.now)) e) }
 {
     let mut keysyms = Keysyms::none();
     if parts.len() > MOST_KEYSYMS {
-        return Err(Fault::TooMany(reading.at(reading.whole)));
+        return Err(Fault::TooMany(site.at(site.whole)));
     }
     'parts: for part in parts {
-        add_part(names, reading, part, &mut keysyms, notes)?;
+        add_part(names, site, part, &mut keysyms, notes)?;
     }
     Ok(keysyms)
 }
@@ -208,16 +208,16 @@ fn braces_keysyms(
 /// What an element of a list gives its level.
 fn element_level(
     names: &NameTable,
-    reading: Reading,
+    site: StatementSite,
     element: &Element,
     notes: &mut Notes,
 ) -> Result<Option<Keysyms>, Fault>
     ensures value { IfOk result (λ level. level ≡ element_level names.now element.now) }
-    ensures faultless { OnOk result (element_faults reading.file reading.whole element.now ≡ []) }
-    ensures fault { IfErr result (λ e. Contains (Memory ∷ element_faults reading.file reading.whole element.now) e) }
+    ensures faultless { OnOk result (element_faults site.file site.whole element.now ≡ []) }
+    ensures fault { IfErr result (λ e. Contains (Memory ∷ element_faults site.file site.whole element.now) e) }
 {
     match element {
-        Element::Symbol(symbol) => match symbol_keysym(names, reading.file, symbol, notes)? {
+        Element::Symbol(symbol) => match symbol_keysym(names, site.file, symbol, notes)? {
             None => Ok(None),
             Some(keysym) => {
                 let mut keysyms = Keysyms::none();
@@ -225,9 +225,9 @@ fn element_level(
                 Ok(Some(keysyms))
             }
         },
-        Element::Call(call) => Err(Fault::BadValue(reading.at(call.get().span))),
+        Element::Call(call) => Err(Fault::BadValue(site.at(call.get().span))),
         Element::Braces(braces) => {
-            let keysyms = braces_keysyms(names, reading, braces.parts.as_slice(), notes)?;
+            let keysyms = braces_keysyms(names, site, braces.parts.as_slice(), notes)?;
             Ok(keysyms.given())
         }
     }
@@ -237,18 +237,18 @@ fn element_level(
 pub(crate) fn read_levels(
     alloc: Global,
     names: &NameTable,
-    reading: Reading,
+    site: StatementSite,
     list: &Listed,
     notes: &mut Notes,
 ) -> Result<Levels<Keysyms>, Fault>
     ensures value { IfOk result (λ levels. levels ≡ levels_of names.now list.now) }
-    ensures faultless { OnOk result (elements_faults reading.file reading.whole list.now ≡ []) }
-    ensures fault { IfErr result (λ e. Contains (Memory ∷ elements_faults reading.file reading.whole list.now) e) }
+    ensures faultless { OnOk result (elements_faults site.file site.whole list.now ≡ []) }
+    ensures fault { IfErr result (λ e. Contains (Memory ∷ elements_faults site.file site.whole list.now) e) }
 {
     let elements = list.elements.as_slice();
     let mut levels = Vec::with_capacity(alloc, elements.len())?;
     'elements: for element in elements {
-        levels.push(element_level(names, reading, element, notes)?)?;
+        levels.push(element_level(names, site, element, notes)?)?;
     }
     Ok(Levels::of(levels))
 }

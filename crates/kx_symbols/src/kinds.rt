@@ -3,7 +3,7 @@ ghost use Rattle.std.specs.Prelude.{◌≡◌};
 ghost use Rattle.std.specs.List.{list_any};
 ghost use Rattle.kx_symbols.specs.Lists.{bare_kind, field_kind, has_call, is_call, kind_word};
 
-use kx_parse::{Element, List as Listed, Part, Place};
+use kx_parse::{BracePart, Element, FieldPlace, List as Listed};
 
 /// What a list of a key statement gives.
 #[derive(Clone, Copy, Debug, PartialEq, Eq)]
@@ -15,12 +15,12 @@ pub(crate) enum ListKind {
 }
 
 /// Whether a part is an action.
-fn has_call_part(parts: &[Part]) -> bool
+fn has_call_part(parts: &[BracePart]) -> bool
     ensures { result ≡ list_any is_call parts.now }
 {
     parts.iter().any(|part| match part {
-        Part::Symbol(_) => false,
-        Part::Call(_) => true,
+        BracePart::Symbol(_) => false,
+        BracePart::Call(_) => true,
     })
 }
 
@@ -65,7 +65,7 @@ fn kind_word(word: &[u8]) -> Option<ListKind>
 }
 
 /// The kind that a field of a key statement names for its list, if it does.
-pub(crate) fn field_kind(place: &Place) -> Option<ListKind>
+pub(crate) fn field_kind(place: &FieldPlace) -> Option<ListKind>
     ensures { result ≡ field_kind place.now }
 {
     if place.member.is_some() {

@@ -25,13 +25,13 @@ impl<'a> Model for Known<'a> {
 
 /// Where a statement stands.
 #[derive(Clone, Copy, Debug, PartialEq, Eq)]
-pub(crate) struct Reading {
+pub(crate) struct StatementSite {
     pub file: u32,
     /// All of the statement.
     pub whole: Span,
 }
 
-impl Reading {
+impl StatementSite {
     pub fn at(self, span: Span) -> At
         ensures { result ≡ record { file = self.file; span = span } }
     {

@@ -8,7 +8,7 @@ use Rattle.kx_tables.specs.Names.{NamesDiffer, IsRepeated}
 use Rattle.kx_tables.specs.SoFar.{NamesAreNew}
 use Rattle.kx_tables.specs.Sound.{IsNewName}
 use Rattle.kx_tables.specs.declared.check.Broken.{Broken}
-use Rattle.kx_tables.specs.declared.check.Part.{Part}
+use Rattle.kx_tables.specs.declared.check.RecordKind.{RecordKind}
 
 abbrev pub numbered_name : {X : Type 0} → List X → (X → List ℕ) → ℕ → List ℕ
 numbered_name xs name_of i = option_map_or name_of (slice_get xs i) []
@@ -47,8 +47,8 @@ if_err P Q (Ok x) f p = tt
 if_err P Q (Err b) f p = f b p
 
 -- what a check of numbered names answers, of one kind of row
-pub names_checked : {X : Type 0} (c : Content) (part : Part) (xs : List X) (name_of : X → List ℕ) (P : ℕ → X → Type 0) (is_new : (i : ℕ) (x : X) → P i x → IsNewName xs name_of i (name_of x)) (breaks : (j : ℕ) → RowBreaks xs P j → Breaks c part j) (count : ℕ) → count ≡ length xs → (r : Result (Unit {0}) Broken)
+pub names_checked : {X : Type 0} (c : Content) (part : RecordKind) (xs : List X) (name_of : X → List ℕ) (P : ℕ → X → Type 0) (is_new : (i : ℕ) (x : X) → P i x → IsNewName xs name_of i (name_of x)) (breaks : (j : ℕ) → RowBreaks xs P j → Breaks c part j) (count : ℕ) → count ≡ length xs → (r : Result (Unit {0}) Broken)
     → IfErr r (λ b. (b.part ≡ part) × IsRepeated (numbered_name xs name_of) count b.index) → IfErr r (λ b. Breaks c b.part b.index)
 names_checked c part xs name_of P is_new breaks count whole r =
     if_err (λ b. (b.part ≡ part) × IsRepeated (numbered_name xs name_of) count b.index) (λ b. Breaks c b.part b.index) r
-    (λ b h. subst (λ (p : Part). Breaks c p b.index) (sym h.0) (breaks b.index (repeated_breaks xs name_of P is_new count b.index whole h.1)))
+    (λ b h. subst (λ (p : RecordKind). Breaks c p b.index) (sym h.0) (breaks b.index (repeated_breaks xs name_of P is_new count b.index whole h.1)))

@@ -3,8 +3,8 @@ use Rattle.std.specs.Prelude.{ℕ, List, ◌≡◌, ◌+◌, ◌<◌, ◌≤◌,
 use Rattle.kx_tables.specs.Content.{Content}
 use Rattle.kx_basics.specs.Keysyms.{IsKeysym}
 use Rattle.kx_tables.specs.Sound.{CountsHold, TypeHolds, EntryHolds, KeyHolds, GroupHolds, CellHolds, IndicatorHolds, GroupNameHolds, NameByteHolds}
-use Rattle.kx_tables.specs.declared.check.Part.{Part}
-use Rattle.kx_tables.specs.declared.check.Part.TheVariants.{Header, KeyType, Entry, Key, Group, Cell, Keysym, Indicator, GroupName, Name}
+use Rattle.kx_tables.specs.declared.check.RecordKind.{RecordKind}
+use Rattle.kx_tables.specs.declared.check.RecordKind.TheVariants.{Header, KeyType, Entry, Key, Group, Cell, Keysym, Indicator, GroupName, Name}
 use Rattle.kx_tables.specs.declared.rows.EntryRow.{EntryRow}
 use Rattle.kx_tables.specs.declared.rows.TypeRow.{TypeRow}
 
@@ -24,7 +24,7 @@ pub record EntryBreaks (c : Content) (i : ℕ) : Type 0 where
   pub breaks : EntryHolds c key_type i entry → ⊥
 
 -- a row that breaks a rule; the header is the one row of its kind
-abbrev pub Breaks : Content → Part → ℕ → Type 0
+abbrev pub Breaks : Content → RecordKind → ℕ → Type 0
 Breaks c Header i = (i ≡ 0) × (CountsHold c → ⊥)
 Breaks c KeyType i = RowBreaks c.types (TypeHolds c) i
 Breaks c Entry i = EntryBreaks c i

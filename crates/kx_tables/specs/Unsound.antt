@@ -3,13 +3,13 @@ use Rattle.std.specs.Prelude.{ℕ, List}
 use Rattle.kx_tables.specs.Broken.{Breaks, RowBreaks}
 use Rattle.kx_tables.specs.Content.{Content}
 use Rattle.kx_tables.specs.Sound.{Sound, EachRow}
-use Rattle.kx_tables.specs.declared.check.Part.{Part}
-use Rattle.kx_tables.specs.declared.check.Part.TheVariants.{Header, KeyType, Entry, Key, Group, Cell, Keysym, Indicator, GroupName, Name}
+use Rattle.kx_tables.specs.declared.check.RecordKind.{RecordKind}
+use Rattle.kx_tables.specs.declared.check.RecordKind.TheVariants.{Header, KeyType, Entry, Key, Group, Cell, Keysym, Indicator, GroupName, Name}
 
 row_breaks : {X : Type 0} (xs : List X) (P : ℕ → X → Type 0) (i : ℕ) → RowBreaks xs P i → EachRow xs P → ⊥
 row_breaks xs P i broken each = broken.2 (each i broken.0 broken.1)
 
-pub breaks_unsound : (c : Content) (part : Part) (i : ℕ) → Breaks c part i → Sound c → ⊥
+pub breaks_unsound : (c : Content) (part : RecordKind) (i : ℕ) → Breaks c part i → Sound c → ⊥
 breaks_unsound c Header i broken sound = broken.1 sound.counts
 breaks_unsound c KeyType i broken sound = row_breaks c.types _ i broken sound.types
 breaks_unsound c Entry i broken sound = broken.breaks (sound.entries broken.owner broken.key_type broken.owner_is i broken.entry broken.from broken.below broken.entry_is)

@@ -26,7 +26,7 @@ use types::check_types;
 
 /// A kind of record of a keymap's tables.
 #[derive(Clone, Copy, PartialEq, Eq, Debug)]
-pub enum Part {
+pub enum RecordKind {
     /// The counts of all tables.
     Header,
     KeyType,
@@ -41,19 +41,19 @@ pub enum Part {
     Name,
 }
 
-impl fmt::Display for Part {
+impl fmt::Display for RecordKind {
     fn fmt<W: fmt::Write>(&self, f: &mut fmt::Formatter<W>) -> fmt::Result {
         f.write_str(match self {
-            Part::Header => "header",
-            Part::KeyType => "type",
-            Part::Entry => "entry",
-            Part::Key => "key",
-            Part::Group => "group",
-            Part::Cell => "cell",
-            Part::Keysym => "keysym",
-            Part::Indicator => "indicator",
-            Part::GroupName => "groupname",
-            Part::Name => "name",
+            RecordKind::Header => "header",
+            RecordKind::KeyType => "type",
+            RecordKind::Entry => "entry",
+            RecordKind::Key => "key",
+            RecordKind::Group => "group",
+            RecordKind::Cell => "cell",
+            RecordKind::Keysym => "keysym",
+            RecordKind::Indicator => "indicator",
+            RecordKind::GroupName => "groupname",
+            RecordKind::Name => "name",
         })
     }
 }
@@ -61,13 +61,13 @@ impl fmt::Display for Part {
 /// A record that breaks a rule: its kind, and its index counted from 0.
 #[derive(Clone, Copy, PartialEq, Eq, Debug)]
 pub struct Broken {
-    pub part: Part,
+    pub part: RecordKind,
     pub index: u32,
 }
 
 impl Broken {
     pub(crate) const HEADER: Broken = Broken {
-        part: Part::Header,
+        part: RecordKind::Header,
         index: 0,
     };
 }

@@ -7,7 +7,7 @@ mod range;
 mod rows;
 mod tables;
 
-pub use check::{Broken, Part, check as check_tables};
+pub use check::{Broken, RecordKind, check as check_tables};
 pub use owned::{Owned, RawTables};
 pub use range::wrap_group;
 pub use rows::{

@@ -4,7 +4,7 @@ ghost use Rattle.kx_tables.specs.Fit.{CountsFit};
 ghost use Rattle.kx_tables.specs.RawTables.{content_of};
 ghost use Rattle.kx_tables.specs.Sound.{Sound};
 
-use crate::check::{Broken, Part, check};
+use crate::check::{Broken, RecordKind, check};
 use crate::rows::{CellRow, EntryRow, GroupNameRow, GroupRow, IndicatorRow, KeyRow, TypeRow};
 use crate::tables::{Counts, Rows, Tables, most_groups};
 use kx_basics::MOST_GROUPS;
@@ -47,13 +47,13 @@ fn unfit(parts: &RawTables) -> Broken
 {
     if parts.indicators.len() > 32 {
         return Broken {
-            part: Part::Indicator,
+            part: RecordKind::Indicator,
             index: 32,
         };
     }
     if parts.group_names.len() > 32 {
         return Broken {
-            part: Part::GroupName,
+            part: RecordKind::GroupName,
             index: 32,
         };
     }
@@ -64,7 +64,7 @@ fn unfit(parts: &RawTables) -> Broken
     for index in 0..parts.keys.len() {
         if parts.keys[index].groups > MOST_GROUPS {
             return Broken {
-                part: Part::Key,
+                part: RecordKind::Key,
                 index: index as u32,
             };
         }

@@ -5,12 +5,12 @@ use Rattle.std.specs.Io.KnownBytes.{Appends}
 use Rattle.ks_core.specs.Device.{Begins}
 use Rattle.ks_core.specs.Entry.{Entry}
 use Rattle.ks_core.specs.Lines.{lines_of}
-use Rattle.kx_image.specs.Image.{IsImage, HasFault}
+use Rattle.kx_image.specs.Image.{IsImage, HasImageFault}
 use Rattle.kx_image.specs.declared.fault.ImageFault.{ImageFault}
 use Rattle.kx_tables.specs.Content.{Content}
 use Rattle.kx_run.specs.World.{opening}
 use Rattle.kx_include.specs.Source.{Handed}
-use Rattle.kx_source.specs.Source.{HasFault as HasSourceFault}
+use Rattle.kx_source.specs.Source.{HasFault}
 use Rattle.kx_lex.specs.declared.fault.Fault.TheVariants.{Memory}
 use Rattle.kx_tool.specs.Answer.{answers_from}
 use Rattle.kx_tool.specs.Compiled.{IsCompiled}
@@ -33,7 +33,7 @@ answers_to content names lines = answers_from content names opening (events_in (
 pub record RefusesImage {A D : Type 0} (bytes : List ℕ) (d e : D) (r : Result A ReplayFault) : Type 0 where
   pub fault : ImageFault
   pub is : r ≡ Err (faults.Image fault)
-  pub has : HasFault bytes fault
+  pub has : HasImageFault bytes fault
   pub still : e ≡ d
 
 -- `written` and `failures` read the bytes that a writer holds, where they are known, and its count of failures
@@ -71,6 +71,6 @@ module _ {D : Type 0} (written : D → Option (List ℕ)) (failures : D → ℕ)
   abbrev pub AnswersSession : {A : Type 0} → List ℕ → Handed → List Entry → D → D → Result A SessionFault → Type 0
   AnswersSession text files names d e (Ok x) = Answers text files names d e (Ok x)
   AnswersSession text files names d e (Err (Compile fault)) =
-      (e ≡ d) × ((fault ≡ Memory) ⊎ HasSourceFault (source_in text) files names fault)
+      (e ≡ d) × ((fault ≡ Memory) ⊎ HasFault (source_in text) files names fault)
   AnswersSession {A} text files names d e (Err (Replay fault)) =
       ((fault ≡ faults.Read) × (e ≡ d)) ⊎ Answers {A = A} text files names d e (Err fault)

@@ -69,7 +69,7 @@ impl Types {
     }
 
     /// The place of a name among the types, counted from 0.
-    pub fn place_of(&self, name: &[u8]) -> Option<usize>
+    pub fn index_of(&self, name: &[u8]) -> Option<usize>
         ensures value { result ≡ position (bytes_eq name.now) (names_in self.now) }
         ensures within { IfSome result (λ place. place < length self.now) }
     {

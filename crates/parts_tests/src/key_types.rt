@@ -199,7 +199,7 @@ fn types_stand_in_the_order_of_first_appearance(rt: HostRuntime) -> Result<(), F
     )?;
     assert_eq!(rt; types.len(), 2);
     assert!(rt; !types.is_empty());
-    assert_eq!(rt; types.place_of(b"A"), Some(1));
+    assert_eq!(rt; types.index_of(b"A"), Some(1));
     let found = types.at(0).ok_or("no type")?;
     assert_eq!(rt; found.0, b"B".as_slice());
     Ok(())

@@ -83,7 +83,7 @@ fn takes_sound_tables(rt: HostRuntime) -> Result<(), Fail> {
 #[test]
 fn refuses_unsound_tables(rt: HostRuntime) -> Result<(), Fail> {
     let key_0 = Broken {
-        part: Part::Key,
+        part: RecordKind::Key,
         index: 0,
     };
     let refused = Owned::new(one_key(rt.alloc(), 4096)?).err();
@@ -115,7 +115,7 @@ fn refused_for(alloc: Global, count: u32) -> Result<Option<Broken>, Fail> {
 #[test]
 fn names_the_indicator_past_the_last_place(rt: HostRuntime) -> Result<(), Fail> {
     let indicator_32 = Broken {
-        part: Part::Indicator,
+        part: RecordKind::Indicator,
         index: 32,
     };
     for count in [33, 65_536] {

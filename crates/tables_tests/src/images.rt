@@ -3,7 +3,7 @@ mod slow;
 
 use ks_core::MemOut;
 use kx_image::{ImageFault, UpgradeFault, View, upgrade, write};
-use kx_tables::{Part, Rows, Tables};
+use kx_tables::{RecordKind, Rows, Tables};
 use std::test::Fail;
 
 /// One key `<A>` with code 38 and the keysym a, in version 1.
@@ -91,11 +91,11 @@ fn refuses_changed_bytes(rt: HostRuntime) {
         (0usize, 0, Some(ImageFault::Magic)),
         (4, 9, Some(ImageFault::Version)),
         (4, 2, Some(ImageFault::Truncated)),
-        (6, 2, Some(ImageFault::BadRecord(Part::Header, 0))),
-        (34, 1, Some(ImageFault::BadRecord(Part::KeyType, 0))),
-        (52, 8, Some(ImageFault::BadRecord(Part::Key, 0))),
+        (6, 2, Some(ImageFault::BadRecord(RecordKind::Header, 0))),
+        (34, 1, Some(ImageFault::BadRecord(RecordKind::KeyType, 0))),
+        (52, 8, Some(ImageFault::BadRecord(RecordKind::Key, 0))),
         (84, 0xff, None),
-        (93, 0x3e, Some(ImageFault::BadRecord(Part::Name, 9))),
+        (93, 0x3e, Some(ImageFault::BadRecord(RecordKind::Name, 9))),
     ];
     for (place, byte, want) in cases {
         let mut bytes = ONE;
@@ -121,9 +121,12 @@ fn prints_faults(rt: HostRuntime) -> Result<(), Fail> {
         (ImageFault::Magic, "I2 Magic"),
         (ImageFault::Version, "I3 Version"),
         (ImageFault::Length, "I4 Length"),
-        (ImageFault::BadRecord(Part::Key, 0), "I5 BadRecord key 0"),
         (
-            ImageFault::BadRecord(Part::GroupName, 7),
+            ImageFault::BadRecord(RecordKind::Key, 0),
+            "I5 BadRecord key 0",
+        ),
+        (
+            ImageFault::BadRecord(RecordKind::GroupName, 7),
             "I5 BadRecord groupname 7",
         ),
     ];

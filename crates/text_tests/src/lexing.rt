@@ -3,7 +3,7 @@ ghost use Rattle.kx_lex.specs.Tokens.{mark, semicolon};
 
 use kx_lex::repeated::{Repeated, is_before_mark, read_listed, read_many, read_sequence};
 use kx_lex::tokens::{
-    Reading, behind_front, front_is_key_name, front_is_keyword, front_is_mark, front_is_number,
+    Parsed, behind_front, front_is_key_name, front_is_keyword, front_is_mark, front_is_number,
     front_is_text, front_is_word, front_span, is_keyword, is_mark, is_number, is_word,
     read_key_name, read_keyword, read_mark, read_number, read_text, read_word, span_between,
     syntax,
@@ -206,7 +206,7 @@ fn fronts_are_told_apart(rt: HostRuntime) -> Result<(), Fail> {
 }
 
 /// The bytes and the span of a name with how many tokens are left, or the fault.
-fn name_shown(rt: &(impl Abort + AllocGlobal), reading: Reading<'_, Name>) -> Result<String, Fail> {
+fn name_shown(rt: &(impl Abort + AllocGlobal), reading: Parsed<'_, Name>) -> Result<String, Fail> {
     match reading {
         Ok((name, rest)) => {
             let left = rest.len();
@@ -221,7 +221,7 @@ fn name_shown(rt: &(impl Abort + AllocGlobal), reading: Reading<'_, Name>) -> Re
 /// The same of a key's name.
 fn key_name_shown(
     rt: &(impl Abort + AllocGlobal),
-    reading: Reading<'_, KeyName>,
+    reading: Parsed<'_, KeyName>,
 ) -> Result<String, Fail> {
     match reading {
         Ok((name, rest)) => {
@@ -341,13 +341,13 @@ impl Repeated for Semicolons {
     }
 
     #[tactic(auto, using(kx_lex::proofs::Shorter::shorter_marks))]
-    fn read_next<'a>(_alloc: Global, text: &[u8], tokens: &'a [Token]) -> Reading<'a, Token> {
+    fn read_next<'a>(_alloc: Global, text: &[u8], tokens: &'a [Token]) -> Parsed<'a, Token> {
         read_mark(text, b';', tokens)
     }
 }
 
 /// How many were read, and how many tokens are left.
-fn counts(reading: Reading<'_, Row<Token>>) -> Result<(usize, usize), Fail> {
+fn counts(reading: Parsed<'_, Row<Token>>) -> Result<(usize, usize), Fail> {
     let (row, rest) = reading?;
     Ok((row.as_slice().len(), rest.len()))
 }

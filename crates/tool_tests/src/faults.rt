@@ -2,7 +2,7 @@
 use ks_core::NameFault;
 use kx_image::ImageFault;
 use kx_lex::{At, Fault, Span};
-use kx_tables::Part;
+use kx_tables::RecordKind;
 use kx_tool::{ReplayFault, SessionFault};
 use std::fmt::Display;
 use std::process::Abort;
@@ -54,16 +54,16 @@ fn faults_of_sources(rt: HostRuntime) -> Result<(), Fail> {
 #[test]
 fn faults_of_images_and_lines(rt: HostRuntime) -> Result<(), Fail> {
     let parts = [
-        (Part::Header, "I5 BadRecord header 7"),
-        (Part::KeyType, "I5 BadRecord type 7"),
-        (Part::Entry, "I5 BadRecord entry 7"),
-        (Part::Key, "I5 BadRecord key 7"),
-        (Part::Group, "I5 BadRecord group 7"),
-        (Part::Cell, "I5 BadRecord cell 7"),
-        (Part::Keysym, "I5 BadRecord keysym 7"),
-        (Part::Indicator, "I5 BadRecord indicator 7"),
-        (Part::GroupName, "I5 BadRecord groupname 7"),
-        (Part::Name, "I5 BadRecord name 7"),
+        (RecordKind::Header, "I5 BadRecord header 7"),
+        (RecordKind::KeyType, "I5 BadRecord type 7"),
+        (RecordKind::Entry, "I5 BadRecord entry 7"),
+        (RecordKind::Key, "I5 BadRecord key 7"),
+        (RecordKind::Group, "I5 BadRecord group 7"),
+        (RecordKind::Cell, "I5 BadRecord cell 7"),
+        (RecordKind::Keysym, "I5 BadRecord keysym 7"),
+        (RecordKind::Indicator, "I5 BadRecord indicator 7"),
+        (RecordKind::GroupName, "I5 BadRecord groupname 7"),
+        (RecordKind::Name, "I5 BadRecord name 7"),
     ];
     for (part, wanted) in parts {
         let fault = ImageFault::BadRecord(part, 7);

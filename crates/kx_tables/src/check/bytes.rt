@@ -4,7 +4,7 @@ ghost use Rattle.kx_tables.specs.Content.{type_names, key_names};
 ghost use Rattle.kx_basics.specs.KeyNames.{IsKeyByte};
 ghost use Rattle.kx_tables.specs.Sound.{EachRow, NameByteHolds};
 
-use super::{Broken, Part};
+use super::{Broken, RecordKind};
 use crate::tables::Rows;
 use kx_basics::is_key_byte;
 
@@ -20,7 +20,7 @@ pub fn check_key_bytes<R: Rows>(rows: &R, start: u32, end: u32) -> Result<(), Br
     for index in start..end {
         if !is_key_byte(names[index as usize]) {
             return Err(Broken {
-                part: Part::Name,
+                part: RecordKind::Name,
                 index,
             });
         }

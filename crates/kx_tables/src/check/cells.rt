@@ -4,7 +4,7 @@ ghost use Rattle.kx_tables.specs.SoFar.{CellsAre, CellNumbers, EachBelow};
 ghost use Rattle.kx_basics.specs.Keysyms.{IsKeysym};
 ghost use Rattle.kx_tables.specs.Sound.{ActionHolds, GroupChangeHolds};
 
-use super::{Broken, Part};
+use super::{Broken, RecordKind};
 use crate::rows::{Action, CellRow, GroupChange};
 use crate::tables::Rows;
 use kx_basics::{MOST_KEYSYMS, is_keysym};
@@ -54,7 +54,7 @@ pub fn check_cells<R: Rows>(rows: &R) -> Result<(), Broken>
         let row = rows.cell_row(index);
         if !is_numbered(&row, keysyms) {
             return Err(Broken {
-                part: Part::Cell,
+                part: RecordKind::Cell,
                 index,
             });
         }
@@ -75,7 +75,7 @@ pub fn check_keysyms<R: Rows>(rows: &R) -> Result<(), Broken>
         let keysym = rows.keysym(index);
         if !is_keysym(keysym) {
             return Err(Broken {
-                part: Part::Keysym,
+                part: RecordKind::Keysym,
                 index,
             });
         }

@@ -3,7 +3,7 @@ ghost use Rattle.std.specs.Option.{option_map_or};
 ghost use Rattle.kx_tables.specs.Content.{type_name, key_name, indicator_name, part};
 ghost use Rattle.kx_tables.specs.Names.{NamesDiffer, IsRepeated};
 
-use super::{Broken, Part};
+use super::{Broken, RecordKind};
 use crate::tables::Rows;
 
 /// Names by number. Any number may be asked for.
@@ -136,7 +136,7 @@ fn repeated_of_most<L: NameList>(list: &L, count: u16) -> Option<u16>
 }
 
 /// Checks that no two of the first `count` names are the same.
-pub fn check_names<L: NameList>(list: &L, count: u16, part: Part) -> Result<(), Broken>
+pub fn check_names<L: NameList>(list: &L, count: u16, part: RecordKind) -> Result<(), Broken>
     ensures ok { OnOk result (NamesDiffer (L.name list.now) count) }
     ensures broken { IfErr result (λ b. (b.part ≡ part) × IsRepeated (L.name list.now) count b.index) }
 {

@@ -3,7 +3,7 @@ ghost use Rattle.kx_tables.specs.Broken.{Breaks};
 ghost use Rattle.kx_tables.specs.SoFar.{EntryNumbers, EntriesLie};
 ghost use Rattle.kx_tables.specs.Sound.{EachRow, EntriesHold};
 
-use super::{Broken, Part};
+use super::{Broken, RecordKind};
 use crate::rows::{EntryRow, TypeRow};
 use crate::tables::Rows;
 
@@ -32,7 +32,7 @@ fn check_entries_of<R: Rows>(rows: &R, index: u16, key_type: TypeRow) -> Result<
         let mods = usize::from(entry.mods.mask());
         if !is_numbered(entry, key_type) || seen[mods] {
             return Err(Broken {
-                part: Part::Entry,
+                part: RecordKind::Entry,
                 index: place,
             });
         }

@@ -3,7 +3,7 @@ ghost use Rattle.kx_tables.specs.Broken.{Breaks};
 ghost use Rattle.kx_tables.specs.Content.{types_used};
 ghost use Rattle.kx_tables.specs.SoFar.{GroupsAre, GroupNumbers};
 
-use super::{Broken, Part};
+use super::{Broken, RecordKind};
 use crate::rows::GroupRow;
 use crate::tables::Rows;
 
@@ -26,7 +26,7 @@ pub fn check_groups<R: Rows>(rows: &R) -> Result<(), Broken>
         let row = rows.group_row(index);
         if !is_numbered(&row, counts.types, used, cells) {
             return Err(Broken {
-                part: Part::Group,
+                part: RecordKind::Group,
                 index,
             });
         }
@@ -38,7 +38,7 @@ pub fn check_groups<R: Rows>(rows: &R) -> Result<(), Broken>
     }
     if used < counts.types {
         return Err(Broken {
-            part: Part::KeyType,
+            part: RecordKind::KeyType,
             index: u32::from(used),
         });
     }

@@ -3,7 +3,7 @@ ghost use Rattle.kx_tables.specs.Broken.{Breaks};
 ghost use Rattle.kx_tables.specs.Content.{type_names, key_names, indicator_names};
 ghost use Rattle.kx_tables.specs.SoFar.{IndicatorsAre, IndicatorNumbers, GroupNamesAre, GroupNameNumbers};
 
-use super::{Broken, Part};
+use super::{Broken, RecordKind};
 use crate::rows::{GroupNameRow, IndicatorRow};
 use crate::tables::Rows;
 use kx_basics::MOST_NAME_BYTES;
@@ -32,7 +32,7 @@ pub fn check_indicators<R: Rows>(rows: &R, before: u64) -> Result<u64, Broken>
         let row = rows.indicator_row(index);
         if !is_numbered(row, index, names) {
             return Err(Broken {
-                part: Part::Indicator,
+                part: RecordKind::Indicator,
                 index: u32::from(index),
             });
         }
@@ -63,7 +63,7 @@ pub fn check_group_names<R: Rows>(rows: &R, before: u64) -> Result<(), Broken>
         let row = rows.group_name_row(index);
         if !is_named(&row, index, counts.group_names, names) {
             return Err(Broken {
-                part: Part::GroupName,
+                part: RecordKind::GroupName,
                 index: u32::from(index),
             });
         }

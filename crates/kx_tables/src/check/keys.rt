@@ -4,7 +4,7 @@ ghost use Rattle.kx_tables.specs.Content.{type_names, key_names};
 ghost use Rattle.kx_tables.specs.SoFar.{KeysAre, KeyNumbers};
 ghost use Rattle.kx_tables.specs.Sound.{RangeHolds};
 
-use super::{Broken, Part};
+use super::{Broken, RecordKind};
 use crate::rows::{KeyRow, Range};
 use crate::tables::Rows;
 use kx_basics::{GREATEST_CODE, MOST_GROUPS, MOST_NAME_BYTES};
@@ -48,7 +48,7 @@ pub fn check_keys<R: Rows>(rows: &R, before: u64) -> Result<u64, Broken>
         let row = rows.key_row(index);
         if !is_numbered(row, groups, names) || row.code < next {
             return Err(Broken {
-                part: Part::Key,
+                part: RecordKind::Key,
                 index: u32::from(index),
             });
         }

@@ -3,7 +3,7 @@ ghost use Rattle.kx_tables.specs.Broken.{Breaks};
 ghost use Rattle.kx_tables.specs.Content.{type_names};
 ghost use Rattle.kx_tables.specs.SoFar.{TypesAre, TypeNumbers};
 
-use super::{Broken, Part};
+use super::{Broken, RecordKind};
 use crate::rows::TypeRow;
 use crate::tables::Rows;
 use kx_basics::{MOST_LEVELS, MOST_NAME_BYTES};
@@ -32,7 +32,7 @@ pub fn check_types<R: Rows>(rows: &R) -> Result<u64, Broken>
         let row = rows.type_row(index);
         if !is_numbered(row, entries, names) {
             return Err(Broken {
-                part: Part::KeyType,
+                part: RecordKind::KeyType,
                 index: u32::from(index),
             });
         }

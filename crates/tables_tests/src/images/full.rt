@@ -2,7 +2,7 @@
 use super::{fault_of, slow};
 use ks_core::MemOut;
 use kx_image::{ImageFault, View, upgrade};
-use kx_tables::{Part, Rows, Tables};
+use kx_tables::{RecordKind, Rows, Tables};
 use std::test::Fail;
 
 const LENGTH: usize = 317;
@@ -120,12 +120,24 @@ fn changes_of_the_older_version_agree_with_a_slow_reader(rt: HostRuntime) {
 fn refuses_broken_records(rt: HostRuntime) {
     let cases = [
         (65usize, 1, None),
-        (65, 4, Some(ImageFault::BadRecord(Part::Entry, 0))),
-        (68, 1, Some(ImageFault::BadRecord(Part::Entry, 1))),
-        (74, 2, Some(ImageFault::BadRecord(Part::Entry, 2))),
-        (261, 16, Some(ImageFault::BadRecord(Part::Indicator, 0))),
-        (279, 1, Some(ImageFault::BadRecord(Part::Indicator, 1))),
-        (302, 9, Some(ImageFault::BadRecord(Part::GroupName, 1))),
+        (65, 4, Some(ImageFault::BadRecord(RecordKind::Entry, 0))),
+        (68, 1, Some(ImageFault::BadRecord(RecordKind::Entry, 1))),
+        (74, 2, Some(ImageFault::BadRecord(RecordKind::Entry, 2))),
+        (
+            261,
+            16,
+            Some(ImageFault::BadRecord(RecordKind::Indicator, 0)),
+        ),
+        (
+            279,
+            1,
+            Some(ImageFault::BadRecord(RecordKind::Indicator, 1)),
+        ),
+        (
+            302,
+            9,
+            Some(ImageFault::BadRecord(RecordKind::GroupName, 1)),
+        ),
         (314, 0, None),
     ];
     for (place, byte, want) in cases {

@@ -1,6 +1,6 @@
 //! A slow reader that follows the rules of an image one by one, and shares nothing with the code under test.
 use kx_image::ImageFault;
-use kx_tables::Part;
+use kx_tables::RecordKind;
 
 /// The number in so many bytes at a place; bytes past the end are 0.
 fn number(bytes: &[u8], place: u64, count: u32) -> u64 {
@@ -305,41 +305,41 @@ impl<'a> Slow<'a> {
     }
 
     /// Whether a record breaks a rule.
-    pub fn breaks(&self, part: Part, index: u64) -> bool {
+    pub fn breaks(&self, part: RecordKind, index: u64) -> bool {
         match part {
-            Part::Header => self.header_breaks(),
-            Part::KeyType => self.type_breaks(index),
-            Part::Key => self.key_breaks(index),
-            Part::Group => self.group_breaks(index),
-            Part::Cell => self.cell_breaks(index),
-            Part::Keysym => {
+            RecordKind::Header => self.header_breaks(),
+            RecordKind::KeyType => self.type_breaks(index),
+            RecordKind::Key => self.key_breaks(index),
+            RecordKind::Group => self.group_breaks(index),
+            RecordKind::Cell => self.cell_breaks(index),
+            RecordKind::Keysym => {
                 let value = self.field(KEYSYMS, index, 0, 4);
                 value < 10 || value > 0x1fff_ffff
             }
-            Part::Name => {
+            RecordKind::Name => {
                 let (start, _, _) = self.names_of(KEYS);
                 let (end, _, _) = self.names_of(INDICATORS);
                 let byte = self.field(NAMES, index, 0, 1);
                 start <= index && index < end && (byte < 0x21 || byte > 0x7e || byte == 0x3e)
             }
-            Part::Entry => self.entry_breaks(index),
-            Part::Indicator => self.indicator_breaks(index),
-            Part::GroupName => self.group_name_breaks(index),
+            RecordKind::Entry => self.entry_breaks(index),
+            RecordKind::Indicator => self.indicator_breaks(index),
+            RecordKind::GroupName => self.group_name_breaks(index),
         }
     }
 
     /// Whether some record breaks a rule.
     fn any_breaks(&self) -> bool {
         let tables = [
-            (TYPES, Part::KeyType),
-            (ENTRIES, Part::Entry),
-            (KEYS, Part::Key),
-            (GROUPS, Part::Group),
-            (CELLS, Part::Cell),
-            (KEYSYMS, Part::Keysym),
-            (INDICATORS, Part::Indicator),
-            (GROUP_NAMES, Part::GroupName),
-            (NAMES, Part::Name),
+            (TYPES, RecordKind::KeyType),
+            (ENTRIES, RecordKind::Entry),
+            (KEYS, RecordKind::Key),
+            (GROUPS, RecordKind::Group),
+            (CELLS, RecordKind::Cell),
+            (KEYSYMS, RecordKind::Keysym),
+            (INDICATORS, RecordKind::Indicator),
+            (GROUP_NAMES, RecordKind::GroupName),
+            (NAMES, RecordKind::Name),
         ];
         for (table, part) in tables {
             for index in 0..self.count(table) {

@@ -1,5 +1,5 @@
 use Rattle.std.proofs.Common.{ap, ◌∙◌, ◌≡◌}
-use Rattle.kx_tables.specs.declared.check.Part.TheVariants.{GroupName}
+use Rattle.kx_tables.specs.declared.check.RecordKind.TheVariants.{GroupName}
 use Rattle.kx_image.specs.Image.{IsCanonical}
 use Rattle.kx_image.specs.Records.{group_name_bytes, group_name_of}
 use Rattle.kx_image.specs.Shape.{header_of, header_size, group_count, group_names_start}

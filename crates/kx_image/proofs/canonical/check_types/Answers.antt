@@ -1,5 +1,5 @@
 use Rattle.std.proofs.Common.{ap, ◌∙◌, ◌≡◌}
-use Rattle.kx_tables.specs.declared.check.Part.TheVariants.{KeyType}
+use Rattle.kx_tables.specs.declared.check.RecordKind.TheVariants.{KeyType}
 use Rattle.kx_image.specs.Image.{IsCanonical}
 use Rattle.kx_image.specs.Records.{type_bytes, type_of}
 use Rattle.kx_image.specs.Shape.{header_of, header_size, group_count}

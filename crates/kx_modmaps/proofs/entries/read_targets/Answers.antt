@@ -7,6 +7,6 @@ use Rattle.kx_modmaps.proofs.entries.read_targets.Goals as goal
 
 pub returns-in_err-target-clause-fault : goal.returns-in_err-target-clause-fault
 returns-in_err-target-clause-fault c =
-    let faults = entry_faults c.args.reading.file c.args.reading.whole in
+    let faults = entry_faults c.args.site.file c.args.site.whole in
     passed c.from_residual.result (Memory ∷ flat_map faults c.args.entries.now) c.in_err-target.field-0.0 c.from_residual.ensures.1
     (flat_blames faults c.args.entries.now c.entries.entry-index c.entry-item.result Memory c.in_err-target.field-0.0 c.entries-test.true c.entry-item.is c.entries.invariant.1 c.in_err-target.ensures.fault)

@@ -13,7 +13,7 @@ use Rattle.kx_resolve.specs.Bounds.{CellsAreValid, GroupsAreValid, levels_of_gro
 use Rattle.kx_typing.specs.Given.{given}
 use Rattle.kx_typing.specs.GroupTypes.{content_group, group_count}
 use Rattle.kx_bearing.specs.Deeds.{deeds_of}
-use Rattle.kx_resolve.specs.Keys.{group_of, groups_of, key_of}
+use Rattle.kx_resolve.specs.Keys.{resolved_group, groups_of, key_of}
 use Rattle.kx_types.specs.Types.{type_named}
 use Rattle.kx_resolve.proofs.keys.push_key.Goals as goal
 
@@ -40,7 +40,7 @@ groups-preserved c =
     let key = given c.args.key.key.now in
     let deeds = deeds_of (real_of (stands_for c.args.key.stands.now)) c.args.key.interpretations.now c.args.key.modmap (given c.args.key.key.now) in
     let group = c.groups.group in
-    let g = group_of declared used deeds key group in
+    let g = resolved_group declared used deeds key group in
     let bare : ResolvedKey = record (key_of declared used deeds key c.args.code c.args.name.now c.args.key.modmap) { groups = [] } in
     let pushed = c.in_ok-push_group.ensures.pushed in
     let still : length c.push_group.new.builder.keys ≡ length c.groups.builder.keys = ap (λ (r : Resolved). length r.keys) pushed ∙ change_length (key_with_group g) c.groups.builder.keys in

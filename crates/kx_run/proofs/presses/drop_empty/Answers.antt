@@ -1,7 +1,7 @@
 use Rattle.std.proofs.Common.{◌<◌, ◌∙◌, All, ap, arith, is_some, length, rules, subst, sym}
 use Rattle.std.proofs.lemmas.Fn.{filter_same}
 use Rattle.kx_run.specs.declared.held.HeldKey.{HeldKey}
-use Rattle.kx_run.specs.Presses.{keys_of, place_of}
+use Rattle.kx_run.specs.Presses.{keys_of, entry_index}
 use Rattle.kx_run.proofs.Entries.{ArePlaced-dropped, keys-dropped, length-dropped}
 use Rattle.kx_run.proofs.presses.drop_empty.Goals as goal
 
@@ -32,4 +32,4 @@ returns-clause-placed c =
     λ code d within.
     ArePlaced-dropped c.args.places.now c.place_all.new.places c.args.entries.now.items c.deref.result.now c.place_all.ensures.long c.requires.placed
     (ap keys_of (same ∙ kept) ∙ keys-dropped c.args.entries.now.items) c.place_all.ensures.each code d within
-    ∙ ap (place_of code) same
+    ∙ ap (entry_index code) same

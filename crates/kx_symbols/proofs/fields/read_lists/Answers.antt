@@ -8,5 +8,5 @@ use Rattle.kx_symbols.proofs.fields.read_lists.Goals as goal
 
 pub returns-in_err-add_field-clause-fault : goal.returns-in_err-add_field-clause-fault
 returns-in_err-add_field-clause-fault c =
-    passed c.from_residual.result (Memory ∷ fields_faults c.args.reading.file c.args.known.now c.args.reading.whole no_lists c.args.fields.now) c.in_err-add_field.field-0.0 c.from_residual.ensures.1
-    (field_blames c.args.reading.file c.args.known.now c.args.reading.whole c.args.fields.now c.fields.lists c.fields.field-index c.field-item.result c.in_err-add_field.field-0.0 c.fields-test.true c.field-item.is c.fields.invariant.1 c.in_err-add_field.ensures.fault)
+    passed c.from_residual.result (Memory ∷ fields_faults c.args.site.file c.args.known.now c.args.site.whole no_lists c.args.fields.now) c.in_err-add_field.field-0.0 c.from_residual.ensures.1
+    (field_blames c.args.site.file c.args.known.now c.args.site.whole c.args.fields.now c.fields.lists c.fields.field-index c.field-item.result c.in_err-add_field.field-0.0 c.fields-test.true c.field-item.is c.fields.invariant.1 c.in_err-add_field.ensures.fault)

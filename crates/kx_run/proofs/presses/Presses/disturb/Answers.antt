@@ -3,7 +3,7 @@ use Rattle.std.specs.Vec.{with_items}
 use Rattle.std.proofs.lemmas.List.{with_items_is}
 use Rattle.std.proofs.lemmas.List.Elements.{All-map}
 use Rattle.kx_run.specs.Held.{AreAllDisturbed, AreDistinct, disturbed}
-use Rattle.kx_run.specs.Presses.{AreEarlierDisturbed, keys_of, place_of}
+use Rattle.kx_run.specs.Presses.{AreEarlierDisturbed, keys_of, entry_index}
 use Rattle.kx_run.proofs.HeldLists.{AreDistinct-disturbed, all_disturbed, length-disturbed}
 use Rattle.kx_run.proofs.presses.Presses.disturb.Goals as goal
 
@@ -22,9 +22,9 @@ invariant_of-self c =
       long = c.self.invariant.long;
       places = λ code d within.
           c.self.invariant.places code d within
-          ∙ ap (place_of code) (sym given)
+          ∙ ap (entry_index code) (sym given)
           ∙ sym (c.disturb_last.ensures.places code)
-          ∙ ap (place_of code) (sym all);
+          ∙ ap (entry_index code) (sym all);
       earlier = subst AreEarlierDisturbed (sym all) c.disturb_last.ensures.earlier;
       room = c.self.invariant.room;
     }

@@ -3,13 +3,13 @@ use Rattle.std.proofs.lemmas.List.Elements.{All-filter}
 use Rattle.std.proofs.lemmas.List.Kept.{AllPairs-filter}
 use Rattle.kx_run.specs.declared.held.HeldKey.{HeldKey}
 use Rattle.kx_run.specs.Held.{AreDistinct, held_at, is_at, other_keys}
-use Rattle.kx_run.specs.Presses.{AreEarlierDisturbed, ArePlaced, is_entry_of, keys_of, place_of}
+use Rattle.kx_run.specs.Presses.{AreEarlierDisturbed, ArePlaced, is_entry_of, keys_of, entry_index}
 use Rattle.kx_run.proofs.Entries.{ArePlaced-emptied, earlier-emptied, entry_is, found_place, keys-emptied, length-emptied, read_place, unheld}
 use Rattle.kx_run.proofs.HeldLists.{held_at-none, other_keys-none}
 use Rattle.kx_run.proofs.presses.Presses.take.Goals as goal
 
 -- the place that was read is the code's
-at_place : (places : List (Option ℕ)) (es : List (Option HeldKey)) (code n place : ℕ) (o : Option ℕ) → ArePlaced places es → length places ≡ 4096 → code < 4096 → n ≡ code → o ≡ get_or places n o → o ≡ Some place → place_of code es ≡ Some place
+at_place : (places : List (Option ℕ)) (es : List (Option HeldKey)) (code n place : ℕ) (o : Option ℕ) → ArePlaced places es → length places ≡ 4096 → code < 4096 → n ≡ code → o ≡ get_or places n o → o ≡ Some place → entry_index code es ≡ Some place
 at_place places es code n place o placed long small same read found =
     sym (read_place places es code n o placed (omega arith) same read) ∙ found
 

@@ -2,7 +2,7 @@ use Rattle.std.proofs.Common.{ap, ◌≡◌, length}
 use Rattle.kx_tables.proofs.Naming.{names_are_new, names_checked, on_ok}
 use Rattle.kx_tables.specs.Content.{key_name}
 use Rattle.kx_tables.specs.Sound.{KeyHolds}
-use Rattle.kx_tables.specs.declared.check.Part.TheVariants.{Key}
+use Rattle.kx_tables.specs.declared.check.RecordKind.TheVariants.{Key}
 use Rattle.kx_tables.proofs.check.names.check_key_names.Goals as goal
 
 pub returns : goal.returns

@@ -4,7 +4,7 @@ use Rattle.kx_run.specs.Held.{base_group}
 use Rattle.kx_run.specs.Presses.{group_after_entry, keys_of}
 use Rattle.kx_run.proofs.Entries.{group-more, small_front}
 use Rattle.kx_run.proofs.HeldLists.{kept_small}
-use Rattle.kx_run.proofs.presses.group_of.Goals as goal
+use Rattle.kx_run.proofs.presses.base_group.Goals as goal
 
 pub group_with-group-requires-clause-low : goal.group_with-group-requires-clause-low
 group_with-group-requires-clause-low c =

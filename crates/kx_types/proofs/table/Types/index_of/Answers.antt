@@ -1,6 +1,6 @@
 use Rattle.std.proofs.Common.{sym, ◌∙◌}
 use Rattle.kx_types.proofs.NamesShown.{place_is}
-use Rattle.kx_types.proofs.table.Types.place_of.Goals as goal
+use Rattle.kx_types.proofs.table.Types.index_of.Goals as goal
 
 pub returns-clause-value : goal.returns-clause-value
 returns-clause-value c = c.get_index_of.ensures.index ∙ sym (place_is c.args.name.now c.args.self.now c.self.inside.by_name.entries c.self.view_is)
