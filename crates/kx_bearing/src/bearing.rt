@@ -8,7 +8,7 @@ use crate::deeds::InterpretedKey;
 use kx_choice::Interpretation;
 use kx_masks::{MOST_VIRTUAL_MODIFIERS, NameSet};
 use kx_types::Types;
-use kx_typing::{content_group, group_count, group_levels, virtual_mods};
+use kx_typing::{content_group, group_count, group_type, virtual_mods};
 
 /// The set of a virtual modifier, where there is one.
 #[tactic(auto, using(crate::proofs::Names::has_none, crate::proofs::Names::has_one))]
@@ -72,7 +72,8 @@ impl InterpretedKey<'_> {
     {
         let mut set = NameSet::none();
         'groups: for group in 0..group_count(self.key) {
-            set = set.with(self.given_levels(group, group_levels(types, self.key, group)));
+            let levels = group_type(types, self.key, group).levels;
+            set = set.with(self.given_levels(group, levels));
         }
         set
     }

@@ -22,7 +22,7 @@ use kx_lex::Fault;
 use kx_modmaps::ModifierMaps;
 use kx_symbols::{KeyRecord, Keys};
 use kx_types::Types;
-use kx_typing::{content_group, group_count, group_levels, keysyms_at};
+use kx_typing::{content_group, group_count, group_type, keysyms_at};
 use std::alloc::Global;
 
 /// The first places of the keysyms that are looked for, by the keysyms' numbers; none where none is found.
@@ -62,7 +62,13 @@ fn visit_key(firsts: &mut FirstPlaces, types: &Types, key: &KeyRecord, code: u16
     ensures { Visits (λ k. group_places k (type_named types.now) (given key.now) code (group_count (given key.now))) (get nat_eq firsts.old) (get nat_eq firsts.new) }
 {
     'groups: for group in 0..group_count(key) {
-        visit_group(firsts, key, code, group, group_levels(types, key, group));
+        visit_group(
+            firsts,
+            key,
+            code,
+            group,
+            group_type(types, key, group).levels,
+        );
     }
 }
 
@@ -81,6 +87,9 @@ fn visit_code(firsts: &mut FirstPlaces, codes: &Codes, types: &Types, keys: &Key
 fn visit_codes(firsts: &mut FirstPlaces, codes: &Codes, types: &Types, keys: &Keys)
     ensures { (maps : Maps) → Visits (λ k. places_below k (mapping_of codes.now types.now keys.now maps) CODES) (get nat_eq firsts.old) (get nat_eq firsts.new) }
 {
+    if firsts.is_empty() {
+        return;
+    }
     'codes: for code in 0..codes.end() {
         visit_code(firsts, codes, types, keys, code);
     }

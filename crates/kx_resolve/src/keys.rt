@@ -32,10 +32,7 @@ use kx_mods::Mods;
 use kx_symbols::KeyRecord;
 use kx_tables::{Action, Range};
 use kx_types::Types;
-use kx_typing::{
-    content_group, falls_back, group_count, group_type_name, has_action, keysyms_at, levels_of,
-    range,
-};
+use kx_typing::{GroupType, content_group, group_count, group_type, has_action, keysyms_at, range};
 
 /// A key with what it is read against.
 #[derive(Clone, Copy)]
@@ -147,6 +144,18 @@ fn type_place(used: &Names, name: &[u8]) -> u16
     }
 }
 
+/// Notes a type that stands in place of another, and keysyms or an action behind its levels.
+fn note_group(key: &KeyRecord, content: usize, group_type: GroupType, notes: &mut Notes) {
+    if group_type.falls_back {
+        notes.count(Note::OtherType);
+    }
+    let lost = |level| key.keysyms(content, level).is_some()
+        || key.action(content, level).is_some();
+    if (group_type.levels..key.width(content)).any(lost) {
+        notes.count(Note::LostLevels);
+    }
+}
+
 /// Pushes a group with its levels.
 fn push_group(
     builder: &mut Builder,
@@ -154,6 +163,7 @@ fn push_group(
     used: &Names,
     key: KeyMeaning,
     group: usize,
+    notes: &mut Notes,
 ) -> Result<(), Fault>
     requires small { IsWithinLimits builder.old }
     requires some { 0 < length builder.old.keys }
@@ -165,14 +175,11 @@ fn push_group(
     ensures small { OnOk result (IsWithinLimits builder.new) }
     ensures err { IfErr result (λ e. e ≡ Memory) }
 {
-    let name = group_type_name(types, key.key, group);
-    push_bare_group(builder, type_place(used, name))?;
-    push_levels(
-        builder,
-        key,
-        content_group(key.key, group),
-        levels_of(types, name),
-    )?;
+    let group_type = group_type(types, key.key, group);
+    let content = content_group(key.key, group);
+    note_group(key.key, content, group_type, notes);
+    push_bare_group(builder, type_place(used, group_type.name))?;
+    push_levels(builder, key, content, group_type.levels)?;
     Ok(())
 }
 
@@ -191,20 +198,6 @@ fn push_bare_key(
     ensures err { IfErr result (λ e. e ≡ Memory) }
 {
     builder.push_key(code, name, modmap, range).map_err(refused)
-}
-
-/// Notes a group that has another type than it wants, or has keysyms or an action behind the levels of its type.
-fn note_group(types: &Types, key: &KeyRecord, group: usize, notes: &mut Notes) {
-    let content = content_group(key, group);
-    if falls_back(types, key, content) {
-        notes.count(Note::OtherType);
-    }
-    let levels = levels_of(types, group_type_name(types, key, group));
-    let lost = |level| key.keysyms(content, level).is_some()
-        || key.action(content, level).is_some();
-    if (levels..key.width(content)).any(lost) {
-        notes.count(Note::LostLevels);
-    }
 }
 
 /// Pushes a key with its groups.
@@ -230,8 +223,7 @@ fn push_key(
 {
     push_bare_key(builder, code, name, key.modmap, range(key.key))?;
     'groups: for group in 0..group_count(key.key) {
-        note_group(types, key.key, group, notes);
-        push_group(builder, types, used, key, group)?;
+        push_group(builder, types, used, key, group, notes)?;
     }
     Ok(())
 }

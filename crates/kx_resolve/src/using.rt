@@ -27,7 +27,7 @@ use kx_masks::Names;
 use kx_mods::Mods;
 use kx_symbols::{KeyRecord, Keys};
 use kx_types::{KeyType, Types};
-use kx_typing::{group_count, group_type_name};
+use kx_typing::{group_count, group_type};
 use std::alloc::Global;
 
 /// Takes up the types of a key's groups.
@@ -36,7 +36,7 @@ fn use_key(alloc: Global, types: &Types, key: &KeyRecord, used: &mut Names) -> R
     ensures err { IfErr result (λ e. e ≡ Memory) }
 {
     'groups: for group in 0..group_count(key) {
-        used.add(alloc, group_type_name(types, key, group))?;
+        used.add(alloc, group_type(types, key, group).name)?;
     }
     Ok(())
 }

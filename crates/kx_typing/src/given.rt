@@ -34,7 +34,7 @@ pub fn action_at(key: &KeyRecord, group: usize, level: usize) -> Option<KeyActio
 
 /// The name of the type that is written for a group.
 #[tactic(auto, using(crate::proofs::Back::name_back))]
-pub(crate) fn group_type(key: &KeyRecord, group: usize) -> Option<&[u8]>
+pub(crate) fn written_type(key: &KeyRecord, group: usize) -> Option<&[u8]>
     ensures { option_map (λ n. n.now) result ≡ (given key.now).group_type group }
 {
     key.settings().group_type(group)

@@ -1,13 +1,13 @@
 //! The key type of a group.
-ghost use Rattle.std.specs.Prelude.{◌≡◌, ◌≤◌, ℕ, IsTrue, is_some};
+ghost use Rattle.std.specs.Prelude.{◌≡◌, ◌≤◌, ℕ, IfNone, IfSome, IsTrue, false, is_some};
 ghost use Rattle.kx_masks.specs.Sets.{any_below};
 ghost use Rattle.std.specs.Option.{option_map};
 ghost use Rattle.kx_basics.specs.declared.limits.TheConstants.{MOST_GROUPS, MOST_LEVELS};
 ghost use Rattle.kx_typing.specs.Given.{given};
-ghost use Rattle.kx_typing.specs.GroupTypes.{automatic, content_group, falls_back, first_keysym, four_levels, group_count, group_levels, group_type_name, groups_within, has_action, has_keypad, has_letters, is_fallback, is_type, type_definition, type_name, two_levels, wanted_type};
+ghost use Rattle.kx_typing.specs.GroupTypes.{automatic, content_group, falls_back, first_keysym, four_levels, group_count, group_levels, group_type_name, groups_within, has_action, has_keypad, has_letters, is_fallback, is_type, one_level_name, type_definition, type_name, two_levels, wanted_type};
 ghost use Rattle.kx_types.specs.Types.{type_named};
 
-use crate::given::{action_at, group_type, key_type, keysyms_at};
+use crate::given::{action_at, key_type, keysyms_at, written_type};
 use ks_core::Keysym;
 use kx_basics::MOST_NAME_BYTES;
 use kx_symbols::KeyRecord;
@@ -83,34 +83,12 @@ fn automatic(key: &KeyRecord, group: usize) -> Option<&'static [u8]>
 fn wanted_type(key: &KeyRecord, group: usize) -> Option<&[u8]>
     ensures { option_map (λ n. n.now) result ≡ wanted_type (given key.now) group }
 {
-    match group_type(key, group) {
+    match written_type(key, group) {
         Some(name) => Some(name),
         None => match key_type(key) {
             Some(name) => Some(name),
             None => automatic(key, group),
         },
-    }
-}
-
-fn is_type(types: &Types, name: &[u8]) -> bool
-    ensures { result ≡ is_type (type_named types.now) name.now }
-{
-    name.len() <= MOST_NAME_BYTES && types.named(name).is_some()
-}
-
-/// The name of the type that a group has, where it wants one.
-fn type_name<'a>(types: &Types, wanted: Option<&'a [u8]>) -> &'a [u8]
-    ensures { result.now ≡ type_name (type_named types.now) (option_map (λ n. n.now) wanted.entry) }
-{
-    match wanted {
-        None => ONE_LEVEL.as_bytes(),
-        Some(name) => {
-            if is_type(types, name) {
-                name
-            } else {
-                ONE_LEVEL.as_bytes()
-            }
-        }
     }
 }
 
@@ -156,6 +134,9 @@ fn group_has_action(key: &KeyRecord, group: usize) -> bool
 pub fn has_action(key: &KeyRecord) -> bool
     ensures { result ≡ has_action (given key.now) }
 {
+    if !key.has_action() {
+        return false;
+    }
     let mut found = false;
     'groups: for group in 0..group_count(key) {
         found = found || group_has_action(key, group);
@@ -163,23 +144,76 @@ pub fn has_action(key: &KeyRecord) -> bool
     found
 }
 
-/// How many levels a group of a key has: what is behind them is lost.
-pub fn group_levels(types: &Types, key: &KeyRecord, group: usize) -> usize
-    ensures value { result ≡ group_levels (type_named types.now) (given key.now) group }
-    ensures few { result ≤ MOST_LEVELS }
-{
-    levels_of(types, group_type_name(types, key, group))
+/// The key type that a group has.
+#[derive(Clone, Copy, Debug)]
+pub struct GroupType<'a> {
+    /// Its name.
+    pub name: &'a [u8],
+    /// How many levels it has, 1 to 64: what a group has behind them is lost.
+    pub levels: usize,
+    /// Whether it stands in place of another that is wanted; ONE_LEVEL, which is built in, stands for itself.
+    pub falls_back: bool,
 }
 
-/// The name of the type that a group has.
-pub fn group_type_name<'a>(types: &Types, key: &'a KeyRecord, group: usize) -> &'a [u8]
-    ensures { result.now ≡ group_type_name (type_named types.now) (given key.now) group }
+/// The built-in type, or the one that is declared under its name.
+fn one_level(types: &Types, falls_back: bool) -> GroupType<'static>
+    ensures name { result.name.now ≡ one_level_name }
+    ensures levels { result.levels ≡ (type_definition (type_named types.now) one_level_name).levels }
+    ensures few { result.levels ≤ MOST_LEVELS }
+    ensures falls_back { result.falls_back ≡ falls_back }
 {
-    type_name(types, wanted_type(key, content_group(key, group)))
+    let name = ONE_LEVEL.as_bytes();
+    GroupType {
+        name,
+        levels: levels_of(types, name),
+        falls_back,
+    }
+}
+
+/// The type of a name, where a type has it.
+fn declared_type<'a>(types: &Types, name: &'a [u8]) -> Option<GroupType<'a>>
+    ensures some { IfSome result (λ t. IsTrue (is_type (type_named types.now) name.now) × (t.name.now ≡ name.now) × (t.levels ≡ (type_definition (type_named types.now) name.now).levels) × (t.levels ≤ MOST_LEVELS) × (t.falls_back ≡ false)) }
+    ensures none { IfNone result (is_type (type_named types.now) name.now ≡ false) }
+{
+    if name.len() > MOST_NAME_BYTES {
+        return None;
+    }
+    let key_type = types.named(name)?;
+    Some(GroupType {
+        name,
+        levels: usize::from(key_type.levels()),
+        falls_back: false,
+    })
+}
+
+/// The type that stands for one that is wanted.
+fn type_for<'a>(types: &Types, wanted: Option<&'a [u8]>) -> GroupType<'a>
+    ensures name { result.name.now ≡ type_name (type_named types.now) (option_map (λ n. n.now) wanted.entry) }
+    ensures levels { result.levels ≡ (type_definition (type_named types.now) (type_name (type_named types.now) (option_map (λ n. n.now) wanted.entry))).levels }
+    ensures few { result.levels ≤ MOST_LEVELS }
+    ensures falls_back { result.falls_back ≡ is_fallback (type_named types.now) (option_map (λ n. n.now) wanted.entry) }
+{
+    match wanted {
+        None => one_level(types, true),
+        Some(name) => match declared_type(types, name) {
+            Some(group_type) => group_type,
+            None => one_level(types, name != ONE_LEVEL.as_bytes()),
+        },
+    }
+}
+
+/// The type that a group has, or the first one where it has no level of its own.
+pub fn group_type<'a>(types: &Types, key: &'a KeyRecord, group: usize) -> GroupType<'a>
+    ensures name { result.name.now ≡ group_type_name (type_named types.now) (given key.now) group }
+    ensures levels { result.levels ≡ group_levels (type_named types.now) (given key.now) group }
+    ensures few { result.levels ≤ MOST_LEVELS }
+    ensures falls_back { result.falls_back ≡ falls_back (type_named types.now) (given key.now) (content_group (given key.now) group) }
+{
+    type_for(types, wanted_type(key, content_group(key, group)))
 }
 
 /// How many levels the type of a name has.
-pub fn levels_of(types: &Types, name: &[u8]) -> usize
+fn levels_of(types: &Types, name: &[u8]) -> usize
     ensures value { result ≡ (type_definition (type_named types.now) name.now).levels }
     ensures few { result ≤ MOST_LEVELS }
 {
@@ -187,21 +221,4 @@ pub fn levels_of(types: &Types, name: &[u8]) -> usize
         None => 1,
         Some(key_type) => usize::from(key_type.levels()),
     }
-}
-
-/// Whether another type is taken than this one.
-fn fell_back(types: &Types, wanted: Option<&[u8]>) -> bool
-    ensures { result ≡ is_fallback (type_named types.now) (option_map (λ n. n.now) wanted.entry) }
-{
-    match wanted {
-        None => true,
-        Some(name) => !is_type(types, name) && name != ONE_LEVEL.as_bytes(),
-    }
-}
-
-/// Whether a group, whose content is its own, has another type than it wants: not ONE_LEVEL itself, which is built in.
-pub fn falls_back(types: &Types, key: &KeyRecord, group: usize) -> bool
-    ensures { result ≡ falls_back (type_named types.now) (given key.now) group }
-{
-    fell_back(types, wanted_type(key, group))
 }

@@ -14,4 +14,4 @@ groups-init c =
     visits_none (get nat_eq c.args.firsts.now) (λ k. group_places k declared (given c.args.key.now) c.args.code 0) (λ k. groups_none k (given c.args.key.now) c.args.code declared)
 
 pub groups-preserved : goal.groups-preserved
-groups-preserved c = visits_group (get nat_eq c.args.firsts.now) (get nat_eq c.groups.firsts) (get nat_eq c.visit_group.new.firsts) (given c.args.key.now) c.args.code c.groups.group (type_named c.args.types.now) c.group_levels.result c.group_levels.ensures.value c.groups.invariant c.visit_group.ensures
+groups-preserved c = visits_group (get nat_eq c.args.firsts.now) (get nat_eq c.groups.firsts) (get nat_eq c.visit_group.new.firsts) (given c.args.key.now) c.args.code c.groups.group (type_named c.args.types.now) c.group_type.result.levels c.group_type.ensures.levels c.groups.invariant c.visit_group.ensures

@@ -40,9 +40,8 @@ returns-clause-pushed c =
     let deeds = deeds_of (real_of (stands_for c.args.key.stands.now)) c.args.key.interpretations.now c.args.key.modmap (given c.args.key.key.now) in
     let declared = type_named c.args.types.now in
     let used = c.args.used.now in
-    let place = c.type_place.ensures ∙ ap (type_place used) c.group_type_name-name.ensures in
-    let levels = c.levels_of.ensures.value ∙ ap (λ n. (type_definition declared n).levels) c.group_type_name-name.ensures in
+    let place = c.type_place.ensures ∙ ap (type_place used) c.group_type-group_type.ensures.name in
     c.in_ok-push_levels.ensures.pushed
-    ∙ ap (λ r. fold with_cell r (cells_of deeds key c.content_group.result c.levels_of.result)) c.in_ok-push_bare_group.ensures.pushed
-    ∙ group_then_cells c.args.builder.now (bare c.type_place.result) (cells_of deeds key c.content_group.result c.levels_of.result)
-    ∙ (λ i. with_group c.args.builder.now (record { key_type = place i; cells = cells_of deeds key (c.content_group.ensures i) (levels i) }))
+    ∙ ap (λ r. fold with_cell r (cells_of deeds key c.content_group-content.result c.group_type-group_type.result.levels)) c.in_ok-push_bare_group.ensures.pushed
+    ∙ group_then_cells c.args.builder.now (bare c.type_place.result) (cells_of deeds key c.content_group-content.result c.group_type-group_type.result.levels)
+    ∙ (λ i. with_group c.args.builder.now (record { key_type = place i; cells = cells_of deeds key (c.content_group-content.ensures i) (c.group_type-group_type.ensures.levels i) }))

@@ -20,7 +20,7 @@ groups-preserved c =
     let group = c.groups.group in
     let name = group_type_name declared key group in
     c.in_ok-add.ensures.added
-    ∙ ap (with_name bytes_eq c.groups.used) c.group_type_name.ensures
+    ∙ ap (with_name bytes_eq c.groups.used) c.group_type.ensures.name
     ∙ ap (λ ks. with_name bytes_eq ks name) c.groups.invariant
     ∙ sym (with_next c.args.used.now (type_names declared key group) name)
     ∙ ap (with_names c.args.used.now) (sym (names_next key declared group))

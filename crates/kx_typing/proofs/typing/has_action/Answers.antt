@@ -1,9 +1,13 @@
-use Rattle.std.proofs.Common.{◌≡◌, ℕ, Bool, is_some, ap, ◌∙◌, arith}
+use Rattle.std.proofs.Common.{◌≡◌, ℕ, Bool, is_some, ap, sym, ◌∙◌, arith}
 use Rattle.kx_masks.specs.Sets.{any_below}
-use Rattle.kx_typing.specs.Given.{given}
+use Rattle.kx_typing.specs.Given.{action_of, given}
 use Rattle.kx_typing.specs.GroupTypes.{group_count}
-use Rattle.kx_typing.proofs.Acting.{acts_is}
+use Rattle.kx_typing.proofs.Acting.{acts_is, acts_not}
 use Rattle.kx_typing.proofs.typing.has_action.Goals as goal
+
+pub returns-then-not-has_action : goal.returns-then-not-has_action
+returns-then-not-has_action c =
+    sym (acts_not (given c.args.key.now) (λ group level. ap action_of (c.has_action.ensures.none c.if-not-has_action.true group level)))
 
 pub returns : goal.returns
 returns c =

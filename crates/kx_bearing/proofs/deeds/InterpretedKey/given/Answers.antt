@@ -21,7 +21,7 @@ groups-preserved c = λ number.
     let at = interpretation_at c.args.self.interpretations.now c.args.self.modmap key in
     let group = c.groups.group in
     let test : ℕ → Bool = λ group. any_below (group_levels (type_named c.args.types.now) key group) (λ level. gives number group level (at (content_group key group) level)) in
-    let here : has_virtual c.given_levels.result number ≡ test group = c.given_levels.ensures number ∙ ap (λ n. any_below n (λ level. gives number group level (at (content_group key group) level))) c.group_levels.ensures.value in
+    let here : has_virtual c.given_levels.result number ≡ test group = c.given_levels.ensures number ∙ ap (λ n. any_below n (λ level. gives number group level (at (content_group key group) level))) c.group_type-levels.ensures.levels in
     ap (λ set. has_virtual set number) c.with-set.ensures ∙ next_with c.groups.set c.given_levels.result (number + 8) group test (c.groups.invariant number) here
 
 pub returns : goal.returns
