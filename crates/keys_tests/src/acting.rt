@@ -97,7 +97,7 @@ fn has_action(rt: &impl AllocGlobal, items: &[u8]) -> Result<bool, Fail> {
 fn check(rt: &(impl Abort + AllocGlobal), rows: &[(&[u8], &str)]) -> Result<(), Fail> {
     for (items, wanted) in rows {
         let text = shown(rt, items)?;
-        assert_eq!(rt; text.as_str(), *wanted, "{:?}", items);
+        assert!(rt; text.as_str() == *wanted, "{:?}", items);
     }
     Ok(())
 }
@@ -238,7 +238,7 @@ fn actions_count_by_value(rt: HostRuntime) -> Result<(), Fail> {
         (b"include \"locks:4\"", true),
     ];
     for (items, wanted) in &rows {
-        assert_eq!(rt; has_action(&rt, items)?, *wanted, "{:?}", items);
+        assert!(rt; has_action(&rt, items)? == *wanted, "{:?}", items);
     }
     Ok(())
 }
@@ -247,8 +247,8 @@ fn actions_count_by_value(rt: HostRuntime) -> Result<(), Fail> {
 fn actions_without_effect_are_noted(rt: HostRuntime) -> Result<(), Fail> {
     let items = b"key <A> { [Nope(), { Nope() }, NoAction()] }; replace key <A> { [Quit()] };";
     let (_keys, notes) = keys_of(&rt, items.as_slice())?;
-    assert_eq!(rt; notes.actions, 3);
-    assert_eq!(rt; notes.keysyms, 0);
-    assert_eq!(rt; notes.keys, 0);
+    assert!(rt; notes.actions == 3);
+    assert!(rt; notes.keysyms == 0);
+    assert!(rt; notes.keys == 0);
     Ok(())
 }

@@ -64,9 +64,9 @@ fn check(rt: &(impl Abort + AllocGlobal), front: &[u8], row: &Row) -> Result<(),
     all.extend_from_slice(items)?;
     let (found, _notes) = interpretations_of(rt.alloc(), ITEMS, all.as_slice())?;
     let action = chosen(&found, keysym, first_level, modmap);
-    assert_eq!(rt; action, wanted, "{:?}", items);
+    assert!(rt; action == wanted, "{:?}", items);
     if !front.is_empty() {
-        assert_eq!(rt; chosen(&found, keysym, FIRST, 129), "other");
+        assert!(rt; chosen(&found, keysym, FIRST, 129) == "other");
     }
     Ok(())
 }

@@ -74,7 +74,7 @@ fn check(
 ) -> Result<(), Fail> {
     for (items, wanted) in rows {
         let line = line(rt.alloc(), frame, items)?;
-        assert_eq!(rt; line.as_str(), *wanted, "{:?}", items);
+        assert!(rt; line.as_str() == *wanted, "{:?}", items);
     }
     Ok(())
 }
@@ -292,6 +292,6 @@ fn unknown_names_and_idle_actions_are_noted(rt: HostRuntime) -> Result<(), Fail>
     let items =
         b"interpret.action=Beep(); interpret frob { action=Terminate(); action=NoAction(); action=Private(); }; interpret a {}; replace interpret frob {};";
     let (_found, notes) = interpretations_of(rt.alloc(), ITEMS, items.as_slice())?;
-    assert_eq!(rt; (notes.actions, notes.keysyms, notes.keys), (3, 2, 0));
+    assert!(rt; (notes.actions, notes.keysyms, notes.keys) == (3, 2, 0));
     Ok(())
 }

@@ -73,7 +73,7 @@ fn check(
 ) -> Result<(), Fail> {
     for (items, wanted) in rows {
         let line = line(rt.alloc(), frame, items)?;
-        assert_eq!(rt; line.as_str(), *wanted, "{:?}", items);
+        assert!(rt; line.as_str() == *wanted, "{:?}", items);
     }
     Ok(())
 }
@@ -197,11 +197,11 @@ fn types_stand_in_the_order_of_first_appearance(rt: HostRuntime) -> Result<(), F
         ITEMS,
         b"type \"B\" { }; type \"A\" { }; type \"B\" { };",
     )?;
-    assert_eq!(rt; types.len(), 2);
+    assert!(rt; types.len() == 2);
     assert!(rt; !types.is_empty());
-    assert_eq!(rt; types.index_of(b"A"), Some(1));
+    assert!(rt; types.index_of(b"A") == Some(1));
     let found = types.at(0).ok_or("no type")?;
-    assert_eq!(rt; found.0, b"B".as_slice());
+    assert!(rt; found.0 == b"B".as_slice());
     Ok(())
 }
 
@@ -225,7 +225,7 @@ fn there_are_4096_types_at_most(rt: HostRuntime) -> Result<(), Fail> {
     for (last, wanted) in rows {
         let items = many_types(rt.alloc(), 4096, last)?;
         let line = line(rt.alloc(), ITEMS, items.as_slice())?;
-        assert_eq!(rt; line.as_str(), wanted, "{:?}", last);
+        assert!(rt; line.as_str() == wanted, "{:?}", last);
     }
     Ok(())
 }
@@ -235,7 +235,7 @@ fn a_name_has_255_bytes(rt: HostRuntime) -> Result<(), Fail> {
     for (letters, wanted) in [(255, ""), (256, "F13 TooMany at 0:25-293")] {
         let name = vec![in rt.alloc(); b'x'; letters]?;
         let line = line(rt.alloc(), NAME, name.as_slice())?;
-        assert_eq!(rt; line.as_str(), wanted);
+        assert!(rt; line.as_str() == wanted);
     }
     Ok(())
 }

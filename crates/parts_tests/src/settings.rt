@@ -87,7 +87,7 @@ fn check(
 ) -> Result<(), Fail> {
     for (items, wanted) in rows {
         let line = line(rt.alloc(), frame, items)?;
-        assert_eq!(rt; line.as_str(), *wanted, "{:?}", items);
+        assert!(rt; line.as_str() == *wanted, "{:?}", items);
     }
     Ok(())
 }
@@ -237,7 +237,7 @@ fn a_map_that_is_moved_gives_its_first_group_alone(rt: HostRuntime) -> Result<()
     ];
     for (group, mode, wanted) in rows {
         let line = moved_line(rt.alloc(), group, mode)?;
-        assert_eq!(rt; line.as_str(), wanted);
+        assert!(rt; line.as_str() == wanted);
     }
     Ok(())
 }
@@ -252,7 +252,7 @@ fn kept(alloc: Global, letters: usize) -> Result<usize, Fail> {
 #[test]
 fn of_a_long_name_256_bytes_are_kept(rt: HostRuntime) -> Result<(), Fail> {
     for (letters, wanted) in [(255, 255), (256, 256), (300, 256)] {
-        assert_eq!(rt; kept(rt.alloc(), letters)?, wanted);
+        assert!(rt; kept(rt.alloc(), letters)? == wanted);
     }
     Ok(())
 }

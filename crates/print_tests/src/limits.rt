@@ -70,7 +70,7 @@ fn check(rt: &(impl Abort + AllocGlobal), source: &str, length: usize) -> Result
     let image = image_of(rt.alloc(), source.as_bytes(), &names)?;
     let text = text_of(rt.alloc(), image.as_slice())?;
     let again = image_of(rt.alloc(), text.as_slice(), &names)?;
-    assert_eq!(rt; image.len(), length);
+    assert!(rt; image.len() == length);
     assert!(rt; image.as_slice() == again.as_slice());
     Ok(())
 }

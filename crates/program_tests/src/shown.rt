@@ -41,7 +41,7 @@ fn faults_are_shown_in_their_line(rt: HostRuntime) -> Result<(), Fail> {
         ),
     ];
     for (text, start, stop, wanted) in rows {
-        assert_eq!(rt; shown(rt.alloc(), text, start, stop)?.as_str(), wanted);
+        assert!(rt; shown(rt.alloc(), text, start, stop)?.as_str() == wanted);
     }
     Ok(())
 }

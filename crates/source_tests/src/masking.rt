@@ -136,7 +136,7 @@ fn check_names(rt: &(impl Abort + AllocGlobal), rows: &[Declaring]) -> Result<()
     for (types, compat, symbols, wanted) in rows {
         let text = keymap(rt, types, compat, symbols)?;
         let shown = names_line(rt, text.as_slice())?;
-        assert_eq!(rt; shown.trim_end(), *wanted, "{:?}", types);
+        assert!(rt; shown.trim_end() == *wanted, "{:?}", types);
     }
     Ok(())
 }
@@ -238,7 +238,7 @@ fn check_sets(rt: &(impl Abort + AllocGlobal), rows: &[(&[u8], &str)]) -> Result
     for (symbols, wanted) in rows {
         let text = keymap(rt, b"virtual_modifiers A, B;", b"", symbols)?;
         let shown = set_line(rt, text.as_slice())?;
-        assert_eq!(rt; shown.as_str(), *wanted, "{:?}", symbols);
+        assert!(rt; shown.as_str() == *wanted, "{:?}", symbols);
     }
     Ok(())
 }
@@ -284,7 +284,7 @@ fn too_many_names_are_refused(rt: HostRuntime) -> Result<(), Fail> {
         let types = many(&rt, count, last)?;
         let text = keymap(&rt, types.as_slice(), b"", b"m = Foo;")?;
         let shown = set_line(&rt, text.as_slice())?;
-        assert_eq!(rt; shown.as_str(), wanted);
+        assert!(rt; shown.as_str() == wanted);
     }
     Ok(())
 }
@@ -292,15 +292,15 @@ fn too_many_names_are_refused(rt: HostRuntime) -> Result<(), Fail> {
 #[test]
 fn sets(rt: HostRuntime) -> Result<(), Fail> {
     let set = NameSet::of_virtual(1).with(NameSet::of_real(Mods::SHIFT));
-    assert_eq!(rt; set.bits(), 513);
+    assert!(rt; set.bits() == 513);
     assert!(rt; set.has_virtual(1));
     assert!(rt; !set.has_virtual(0));
-    assert_eq!(rt; set.real(), Mods::SHIFT);
+    assert!(rt; set.real() == Mods::SHIFT);
     assert!(rt; set.minus(set).is_none());
-    assert_eq!(rt; set.minus(NameSet::none()), set);
+    assert!(rt; set.minus(NameSet::none()) == set);
     let stands = [Mods::LOCK, Mods::MOD2];
-    assert_eq!(rt; real_of(set, stands.as_slice()).mask(), 17);
-    assert_eq!(rt; real_mask(b"cOntrol"), Some(Mods::CONTROL));
-    assert_eq!(rt; real_mask(b"mod6"), None);
+    assert!(rt; real_of(set, stands.as_slice()).mask() == 17);
+    assert!(rt; real_mask(b"cOntrol") == Some(Mods::CONTROL));
+    assert!(rt; real_mask(b"mod6") == None);
     Ok(())
 }

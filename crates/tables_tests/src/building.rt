@@ -129,7 +129,7 @@ fn builds_sound_tables(rt: HostRuntime) -> Result<(), Fail> {
     let tables = Owned::new(built(rt.alloc())?.into_parts())
         .ok()
         .ok_or("unsound")?;
-    assert_eq!(rt; tables.counts().cells, 3);
+    assert!(rt; tables.counts().cells == 3);
     Ok(())
 }
 
@@ -137,19 +137,13 @@ fn builds_sound_tables(rt: HostRuntime) -> Result<(), Fail> {
 fn refuses_what_has_no_place(rt: HostRuntime) -> Result<(), Fail> {
     let misplaced = Some(BuildFault::Misplaced);
     let mut builder = Box::new(rt.alloc(), Builder::new(rt.alloc()))?;
-    assert_eq!(rt; builder.push_group(0).err(), misplaced);
-    assert_eq!(rt;
-        builder.push_cell([].as_slice(), Action::None).err(),
-        misplaced
-    );
+    assert!(rt; builder.push_group(0).err() == misplaced);
+    assert!(rt; builder.push_cell([].as_slice(), Action::None).err() == misplaced);
     let pushed = builder.push_key(9, b"ESC", Mods::NONE, Range::Wrap);
     assert!(rt; pushed.is_ok());
-    assert_eq!(rt;
-        builder.push_cell([].as_slice(), Action::None).err(),
-        misplaced
-    );
+    assert!(rt; builder.push_cell([].as_slice(), Action::None).err() == misplaced);
     let pushed = builder.push_type(b"ONE", Mods::NONE, 1, [].as_slice());
-    assert_eq!(rt; pushed.err(), misplaced);
+    assert!(rt; pushed.err() == misplaced);
     Ok(())
 }
 
@@ -159,7 +153,7 @@ fn refuses_what_does_not_fit(rt: HostRuntime) -> Result<(), Fail> {
     let mut builder = Box::new(rt.alloc(), Builder::new(rt.alloc()))?;
     let name = vec![in rt.alloc(); b'A'; 65536]?;
     let pushed = builder.push_type(name.as_slice(), Mods::NONE, 1, [].as_slice());
-    assert_eq!(rt; pushed.err(), too_many);
+    assert!(rt; pushed.err() == too_many);
     let parts = Box::new(rt.alloc(), Box::into_inner(builder).into_parts())?;
     assert!(rt; parts.names.is_empty());
     Ok(())

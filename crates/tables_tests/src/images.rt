@@ -39,11 +39,11 @@ fn opens_both_versions(rt: HostRuntime) -> Result<(), Fail> {
     let one = View::open(&ONE).ok().ok_or("version 1")?;
     let two = View::open(&TWO).ok().ok_or("version 2")?;
     let counts = one.counts();
-    assert_eq!(rt; counts, two.counts());
-    assert_eq!(rt; counts.keys, 1);
-    assert_eq!(rt; one.key_of(38), Some(0));
-    assert_eq!(rt; one.key_of(39), None);
-    assert_eq!(rt; one.greatest_groups(), 1);
+    assert!(rt; counts == two.counts());
+    assert!(rt; counts.keys == 1);
+    assert!(rt; one.key_of(38) == Some(0));
+    assert!(rt; one.key_of(39) == None);
+    assert!(rt; one.greatest_groups() == 1);
     Ok(())
 }
 
@@ -64,25 +64,23 @@ fn names_outlive_the_view(rt: HostRuntime) -> Result<(), Fail> {
 #[test]
 fn refuses_cut_and_long_bytes(rt: HostRuntime) {
     for n in 0..ONE.len() {
-        assert_eq!(rt;
-            fault_of(&ONE[..n]),
-            Some(ImageFault::Truncated),
+        assert!(rt;
+            fault_of(&ONE[..n]) == Some(ImageFault::Truncated),
             "{n} bytes"
         );
     }
     for n in 0..TWO.len() {
-        assert_eq!(rt;
-            fault_of(&TWO[..n]),
-            Some(ImageFault::Truncated),
+        assert!(rt;
+            fault_of(&TWO[..n]) == Some(ImageFault::Truncated),
             "{n} bytes"
         );
     }
     let mut long = [0; 99];
     long[..98].copy_from_slice(&TWO);
-    assert_eq!(rt; fault_of(&long), Some(ImageFault::Length));
+    assert!(rt; fault_of(&long) == Some(ImageFault::Length));
     long[..94].copy_from_slice(&ONE);
     long[94] = 0;
-    assert_eq!(rt; fault_of(&long[..95]), Some(ImageFault::Length));
+    assert!(rt; fault_of(&long[..95]) == Some(ImageFault::Length));
 }
 
 #[test]
@@ -101,13 +99,13 @@ fn refuses_changed_bytes(rt: HostRuntime) {
         let mut bytes = ONE;
         assert!(rt; place < 94);
         bytes[place] = byte;
-        assert_eq!(rt; fault_of(&bytes), want, "byte {place} as {byte}");
+        assert!(rt; fault_of(&bytes) == want, "byte {place} as {byte}");
     }
 }
 
 #[test]
 fn keys_stand_in_order(rt: HostRuntime) {
-    assert_eq!(rt; fault_of(&KEYS), None);
+    assert!(rt; fault_of(&KEYS) == None);
     let mut swapped = KEYS;
     swapped[28..44].copy_from_slice(&KEYS[44..60]);
     swapped[44..60].copy_from_slice(&KEYS[28..44]);
@@ -132,7 +130,7 @@ fn prints_faults(rt: HostRuntime) -> Result<(), Fail> {
     ];
     for (fault, line) in lines {
         let text = format!(in rt.alloc(); "{fault}")?;
-        assert_eq!(rt; text.as_str(), line);
+        assert!(rt; text.as_str() == line);
     }
     Ok(())
 }
@@ -142,13 +140,13 @@ fn upgrades(rt: HostRuntime) {
     for image in [ONE.as_slice(), TWO.as_slice()] {
         let mut room = [0; 98];
         let mut out = MemOut::new(&mut room);
-        assert_eq!(rt; upgrade(image, &mut out), Ok(()));
+        assert!(rt; upgrade(image, &mut out) == Ok(()));
         assert!(rt; out.written() == TWO.as_slice());
     }
     let mut room = [0; 98];
     let mut out = MemOut::new(&mut room);
     let refused = Err(UpgradeFault::Image(ImageFault::Truncated));
-    assert_eq!(rt; upgrade(&ONE[..93], &mut out), refused);
+    assert!(rt; upgrade(&ONE[..93], &mut out) == refused);
     assert!(rt; out.written().is_empty());
 }
 
@@ -173,14 +171,14 @@ fn writes_to_slow_and_broken_writers(rt: HostRuntime) -> Result<(), Fail> {
 fn opens_the_empty_image(rt: HostRuntime) {
     let mut empty = [0; 32];
     empty[..5].copy_from_slice(&[0x4b, 0x58, 0x49, 0x0a, 2]);
-    assert_eq!(rt; fault_of(&empty), None);
-    assert_eq!(rt; fault_of(&empty[..31]), Some(ImageFault::Truncated));
+    assert!(rt; fault_of(&empty) == None);
+    assert!(rt; fault_of(&empty[..31]) == Some(ImageFault::Truncated));
     let mut older = empty;
     older[4] = 1;
-    assert_eq!(rt; fault_of(&older[..28]), None);
+    assert!(rt; fault_of(&older[..28]) == None);
     let mut room = [0; 33];
     let mut out = MemOut::new(&mut room);
-    assert_eq!(rt; upgrade(&older[..28], &mut out), Ok(()));
+    assert!(rt; upgrade(&older[..28], &mut out) == Ok(()));
     assert!(rt; out.written() == empty.as_slice());
 }
 

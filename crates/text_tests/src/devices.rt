@@ -8,11 +8,11 @@ use std::test::Fail;
 fn takes_and_fails(rt: &impl Abort) -> Result<(), Fail> {
     let mut feed = MemFeed::new(b"abcdef").with_most(2).failing_after(5);
     let mut buffer = [0u8; 4];
-    assert_eq!(rt; feed.take(&mut buffer)?, 2);
-    assert_eq!(rt; feed.take(&mut buffer[..1])?, 1);
-    assert_eq!(rt; feed.take(&mut buffer)?, 2);
-    assert_eq!(rt; buffer[0], b'd');
-    assert_eq!(rt; feed.take(&mut [])?, 0);
+    assert!(rt; feed.take(&mut buffer)? == 2);
+    assert!(rt; feed.take(&mut buffer[..1])? == 1);
+    assert!(rt; feed.take(&mut buffer)? == 2);
+    assert!(rt; buffer[0] == b'd');
+    assert!(rt; feed.take(&mut [])? == 0);
     assert!(rt; feed.take(&mut buffer).is_err());
     assert!(rt; feed.take(&mut buffer).is_err());
     Ok(())
@@ -23,8 +23,8 @@ fn takes_from_a_slice(rt: HostRuntime) -> Result<(), Fail> {
     takes_and_fails(&rt)?;
     let mut buffer = [0u8; 4];
     let mut feed = MemFeed::new(b"ab");
-    assert_eq!(rt; feed.take(&mut buffer)?, 2);
-    assert_eq!(rt; feed.take(&mut buffer)?, 0);
+    assert!(rt; feed.take(&mut buffer)? == 2);
+    assert!(rt; feed.take(&mut buffer)? == 0);
     let mut feed = MemFeed::new(b"ab").with_most(0);
     assert!(rt; feed.take(&mut buffer).is_err());
     Ok(())
@@ -32,20 +32,20 @@ fn takes_from_a_slice(rt: HostRuntime) -> Result<(), Fail> {
 
 /// Asserts that a device takes six bytes, four at a time.
 fn fills(rt: &impl Abort, mut out: MemOut) -> Result<(), Fail> {
-    assert_eq!(rt; out.put(b"abcdefgh")?, 4);
-    assert_eq!(rt; out.put(b"efgh")?, 2);
-    assert_eq!(rt; out.put(b"")?, 0);
+    assert!(rt; out.put(b"abcdefgh")? == 4);
+    assert!(rt; out.put(b"efgh")? == 2);
+    assert!(rt; out.put(b"")? == 0);
     assert!(rt; out.put(b"gh").is_err());
-    assert_eq!(rt; out.written(), b"abcdef".as_slice());
+    assert!(rt; out.written() == b"abcdef".as_slice());
     Ok(())
 }
 
 /// Asserts that a device takes one byte and then fails.
 fn fails_for_good(rt: &impl Abort, mut out: MemOut) -> Result<(), Fail> {
     assert!(rt; put_all(&mut out, b"xy").is_err());
-    assert_eq!(rt; out.written(), b"x".as_slice());
+    assert!(rt; out.written() == b"x".as_slice());
     assert!(rt; out.put(b"y").is_err());
-    assert_eq!(rt; out.put(b"")?, 0);
+    assert!(rt; out.put(b"")? == 0);
     assert!(rt; out.put(b"y").is_err());
     Ok(())
 }
@@ -78,17 +78,17 @@ impl Write for Stuck {
 fn lends_readers_and_writers(rt: HostRuntime) -> Result<(), Fail> {
     let mut feed = Lent::new(b"abc".as_slice());
     let mut buffer = [0u8; 8];
-    assert_eq!(rt; feed.take(&mut buffer)?, 3);
-    assert_eq!(rt; feed.take(&mut buffer)?, 0);
-    assert_eq!(rt; feed.failures, 0);
+    assert!(rt; feed.take(&mut buffer)? == 3);
+    assert!(rt; feed.take(&mut buffer)? == 0);
+    assert!(rt; feed.failures == 0);
     let mut out = Lent::new(Vec::new(rt.alloc()));
     put_all(&mut out, b"abc")?;
-    assert_eq!(rt; out.device.as_slice(), b"abc".as_slice());
+    assert!(rt; out.device.as_slice() == b"abc".as_slice());
     let mut stuck = Lent::new(Stuck);
-    assert_eq!(rt; stuck.put(b"").ok(), Some(0));
+    assert!(rt; stuck.put(b"").ok() == Some(0));
     let fault = stuck.put(b"a").err().map(|fault| fault.kind());
-    assert_eq!(rt; fault, Some(ErrorKind::WriteZero));
-    assert_eq!(rt; stuck.failures, 1);
+    assert!(rt; fault == Some(ErrorKind::WriteZero));
+    assert!(rt; stuck.failures == 1);
     Ok(())
 }
 
@@ -99,17 +99,17 @@ fn presses_pieces(rt: HostRuntime) -> Result<(), Fail> {
     let mut press = BufferedOut::new();
     let long = [b'x'; 5000];
     press.write(&mut out, b"ab");
-    assert_eq!(rt; out.written().len(), 0);
+    assert!(rt; out.written().len() == 0);
     press.flush(&mut out);
-    assert_eq!(rt; out.written(), b"ab".as_slice());
+    assert!(rt; out.written() == b"ab".as_slice());
     press.write(&mut out, b"c");
     press.write(&mut out, &long);
     press.write(&mut out, b"d");
     press.finish(&mut out)?;
     let written = out.written();
-    assert_eq!(rt; written.len(), 5004);
-    assert_eq!(rt; &written[..4], b"abcx".as_slice());
-    assert_eq!(rt; written[5003], b'd');
+    assert!(rt; written.len() == 5004);
+    assert!(rt; &written[..4] == b"abcx".as_slice());
+    assert!(rt; written[5003] == b'd');
     Ok(())
 }
 
@@ -122,5 +122,5 @@ fn remembers_a_fault(rt: HostRuntime) {
     press.flush(&mut out);
     press.write(&mut out, b"efgh");
     assert!(rt; press.finish(&mut out).is_err());
-    assert_eq!(rt; out.written(), b"abc".as_slice());
+    assert!(rt; out.written() == b"abc".as_slice());
 }

@@ -40,7 +40,7 @@ fn shown(rt: &(impl Abort + AllocGlobal), text: &[u8]) -> Result<String, Fail> {
 fn check(rt: &(impl Abort + AllocGlobal), rows: &[(&[u8], &str)]) -> Result<(), Fail> {
     for (text, wanted) in rows {
         let line = shown(rt, text)?;
-        assert_eq!(rt; line.as_str(), *wanted);
+        assert!(rt; line.as_str() == *wanted);
     }
     Ok(())
 }
@@ -85,12 +85,9 @@ fn tokens_are_the_longest_of_their_kind(rt: HostRuntime) -> Result<(), Fail> {
 #[test]
 fn a_text_has_a_greatest_length(rt: HostRuntime) -> Result<(), Fail> {
     let longest = vec![in rt.alloc(); b' '; 1_048_576]?;
-    assert_eq!(rt; shown(&rt, longest.as_slice())?.as_str(), "");
+    assert!(rt; shown(&rt, longest.as_slice())?.as_str() == "");
     let longer = vec![in rt.alloc(); b' '; 1_048_577]?;
-    assert_eq!(rt;
-        shown(&rt, longer.as_slice())?.as_str(),
-        "F2 TooLong at 0:0-1048577"
-    );
+    assert!(rt; shown(&rt, longer.as_slice())?.as_str() == "F2 TooLong at 0:0-1048577");
     Ok(())
 }
 
@@ -109,24 +106,21 @@ fn text_stands_for_bytes(rt: HostRuntime) -> Result<(), Fail> {
     ];
     for (text, wanted) in rows {
         let bytes = kx_lex::text_bytes(rt.alloc(), text)?;
-        assert_eq!(rt; bytes.as_slice(), wanted);
+        assert!(rt; bytes.as_slice() == wanted);
     }
     Ok(())
 }
 
 #[test]
 fn faults_print_as_lines(rt: HostRuntime) -> Result<(), Fail> {
-    assert_eq!(rt;
-        format!(in rt.alloc(); "{}", Fault::Memory)?.as_str(),
-        "F1 Memory"
-    );
+    assert!(rt; format!(in rt.alloc(); "{}", Fault::Memory)?.as_str() == "F1 Memory");
     Ok(())
 }
 
 #[test]
 fn an_item_goes_before_the_others(rt: HostRuntime) -> Result<(), Fail> {
     let row = Row::of(vec![in rt.alloc(); 2u8, 3]?).behind(1)?;
-    assert_eq!(rt; row.as_slice(), [1, 2, 3].as_slice());
+    assert!(rt; row.as_slice() == [1, 2, 3].as_slice());
     Ok(())
 }
 
@@ -134,12 +128,12 @@ fn an_item_goes_before_the_others(rt: HostRuntime) -> Result<(), Fail> {
 fn keeps(rt: &(impl Abort + AllocGlobal), all: &[u8], len: usize) -> Result<(), Fail> {
     let (wanted, _) = all.split_at(len.min(all.len()));
     let given = Bytes::of(rt.alloc(), wanted)?;
-    assert_eq!(rt; given.as_slice(), wanted);
+    assert!(rt; given.as_slice() == wanted);
     let front = Bytes::front(rt.alloc(), all, len)?;
-    assert_eq!(rt; front.as_slice(), wanted);
+    assert!(rt; front.as_slice() == wanted);
     let fewer = Bytes::front(rt.alloc(), wanted, 24)?;
     let (most, _) = wanted.split_at(wanted.len().min(24));
-    assert_eq!(rt; fewer.as_slice(), most);
+    assert!(rt; fewer.as_slice() == most);
     Ok(())
 }
 
@@ -154,7 +148,7 @@ fn bytes_are_kept_whole(rt: HostRuntime) -> Result<(), Fail> {
 #[test]
 fn a_value_stands_apart(rt: HostRuntime) -> Result<(), Fail> {
     let apart = Boxed::of(rt.alloc(), 7u8)?;
-    assert_eq!(rt; *apart.get(), 7);
+    assert!(rt; *apart.get() == 7);
     Ok(())
 }
 
@@ -194,12 +188,9 @@ fn fronts_are_told_apart(rt: HostRuntime) -> Result<(), Fail> {
     ];
     for (text, wanted) in rows {
         let tokens = lex(rt.alloc(), text)?;
-        assert_eq!(rt; kinds_of_front(tokens.as_slice()), wanted, "{:?}", text);
+        assert!(rt; kinds_of_front(tokens.as_slice()) == wanted, "{:?}", text);
         if let Some(token) = tokens.as_slice().first() {
-            assert_eq!(rt;
-                kinds_of(token),
-                [wanted[0], wanted[1], wanted[4], wanted[5]]
-            );
+            assert!(rt; kinds_of(token) == [wanted[0], wanted[1], wanted[4], wanted[5]]);
         }
     }
     Ok(())
@@ -240,22 +231,19 @@ fn names_are_read_without_what_encloses_them(rt: HostRuntime) -> Result<(), Fail
     let all = lex(rt.alloc(), text)?;
     let tokens = all.as_slice();
     let word = read_word(rt.alloc(), text, tokens);
-    assert_eq!(rt; name_shown(&rt, word)?.as_str(), "[97, 98] 0-2 2");
+    assert!(rt; name_shown(&rt, word)?.as_str() == "[97, 98] 0-2 2");
     let behind = behind_front(tokens);
     let key = read_key_name(rt.alloc(), text, behind);
-    assert_eq!(rt; key_name_shown(&rt, key)?.as_str(), "[99, 100] 3-7 1");
+    assert!(rt; key_name_shown(&rt, key)?.as_str() == "[99, 100] 3-7 1");
     let last = behind_front(behind);
     let quoted = read_text(rt.alloc(), text, last);
-    assert_eq!(rt; name_shown(&rt, quoted)?.as_str(), "[101, 10] 8-13 0");
+    assert!(rt; name_shown(&rt, quoted)?.as_str() == "[101, 10] 8-13 0");
     let no_word = read_word(rt.alloc(), text, behind);
-    assert_eq!(rt; name_shown(&rt, no_word)?.as_str(), "F6 Syntax at 0:3-7");
+    assert!(rt; name_shown(&rt, no_word)?.as_str() == "F6 Syntax at 0:3-7");
     let no_key = read_key_name(rt.alloc(), text, behind_front(last));
-    assert_eq!(rt;
-        key_name_shown(&rt, no_key)?.as_str(),
-        "F6 Syntax at 0:13-13"
-    );
+    assert!(rt; key_name_shown(&rt, no_key)?.as_str() == "F6 Syntax at 0:13-13");
     let no_text = read_text(rt.alloc(), text, tokens);
-    assert_eq!(rt; name_shown(&rt, no_text)?.as_str(), "F6 Syntax at 0:0-2");
+    assert!(rt; name_shown(&rt, no_text)?.as_str() == "F6 Syntax at 0:0-2");
     Ok(())
 }
 
@@ -270,7 +258,7 @@ fn tokens_of_another_text_may_enclose_no_key_name(rt: HostRuntime) -> Result<(),
     ];
     for (text, wanted) in rows {
         let key = read_key_name(rt.alloc(), text, tokens.as_slice());
-        assert_eq!(rt; key_name_shown(&rt, key)?.as_str(), wanted);
+        assert!(rt; key_name_shown(&rt, key)?.as_str() == wanted);
     }
     Ok(())
 }
@@ -301,7 +289,7 @@ fn numbers_are_at_most_4294967295(rt: HostRuntime) -> Result<(), Fail> {
     ];
     for (text, wanted) in rows {
         let shown = number_shown(&rt, text)?;
-        assert_eq!(rt; shown.as_str(), wanted);
+        assert!(rt; shown.as_str() == wanted);
     }
     Ok(())
 }
@@ -312,16 +300,15 @@ fn marks_keywords_and_their_places(rt: HostRuntime) -> Result<(), Fail> {
     let all = lex(rt.alloc(), text)?;
     let tokens = all.as_slice();
     let (word, behind) = read_keyword(text, Keyword::Key, tokens)?;
-    assert_eq!(rt; word.span, Span { start: 0, stop: 3 });
+    assert!(rt; word.span == Span { start: 0, stop: 3 });
     let (mark, rest) = read_mark(text, b';', behind)?;
-    assert_eq!(rt; mark.span, Span { start: 4, stop: 5 });
+    assert!(rt; mark.span == Span { start: 4, stop: 5 });
     assert!(rt; read_keyword(text, Keyword::Key, behind).is_err());
     assert!(rt; read_mark(text, b',', behind).is_err());
-    assert_eq!(rt; front_span(rest), Span { start: 6, stop: 7 });
-    assert_eq!(rt; span_between(tokens, rest), Span { start: 0, stop: 5 });
-    assert_eq!(rt;
-        format!(in rt.alloc(); "{}", syntax(text, behind))?.as_str(),
-        "F6 Syntax at 0:4-5"
+    assert!(rt; front_span(rest) == Span { start: 6, stop: 7 });
+    assert!(rt; span_between(tokens, rest) == Span { start: 0, stop: 5 });
+    assert!(rt;
+        format!(in rt.alloc(); "{}", syntax(text, behind))?.as_str() == "F6 Syntax at 0:4-5"
     );
     Ok(())
 }
@@ -360,13 +347,13 @@ fn rows_end_where_no_more_stand(rt: HostRuntime) -> Result<(), Fail> {
     let pair = tokens.get(2..).unwrap_or(&[]);
     let close = tokens.get(5..).unwrap_or(&[]);
     let many = read_many::<Semicolons>(rt.alloc(), text, tokens);
-    assert_eq!(rt; counts(many)?, (3, 3));
+    assert!(rt; counts(many)? == (3, 3));
     let sequence = read_sequence::<Semicolons>(rt.alloc(), text, pair);
-    assert_eq!(rt; counts(sequence)?, (2, 1));
+    assert!(rt; counts(sequence)? == (2, 1));
     let listed = read_listed::<Semicolons>(rt.alloc(), text, b'}', pair);
-    assert_eq!(rt; counts(listed)?, (2, 1));
+    assert!(rt; counts(listed)? == (2, 1));
     let none = read_listed::<Semicolons>(rt.alloc(), text, b'}', close);
-    assert_eq!(rt; counts(none)?, (0, 1));
+    assert!(rt; counts(none)? == (0, 1));
     assert!(rt; read_sequence::<Semicolons>(rt.alloc(), text, close).is_err());
     Ok(())
 }

@@ -14,7 +14,7 @@ fn prints(
     wanted: &str,
 ) -> Result<(), Fail> {
     let line = fault.to_string(rt.alloc())?;
-    assert_eq!(rt; line.as_str(), wanted);
+    assert!(rt; line.as_str() == wanted);
     Ok(())
 }
 

@@ -34,8 +34,8 @@ const EVENTS: [Event; 4] = [
 
 /// A reply has one keysym, and shows these modifiers of keys that are held.
 fn assert_gives(rt: &impl Abort, reply: &Reply, keysym: u32, base: Mods) {
-    assert_eq!(rt; reply.syms.as_slice(), [keysym].as_slice());
-    assert_eq!(rt; reply.state.base, base);
+    assert!(rt; reply.syms.as_slice() == [keysym].as_slice());
+    assert!(rt; reply.state.base == base);
 }
 
 #[test]
@@ -43,7 +43,7 @@ fn a_layout_answers(rt: HostRuntime) -> Result<(), Fail> {
     let files = no_files(rt.alloc())?;
     let names = builtin(rt.alloc())?;
     let replies = play(rt.alloc(), LAYOUT, &files, &names, &EVENTS)?;
-    assert_eq!(rt; replies.len(), 4);
+    assert!(rt; replies.len() == 4);
     assert_gives(&rt, &replies[0], 0x61, Mods::NONE);
     assert_gives(&rt, &replies[3], 0x31, Mods::SHIFT);
     Ok(())

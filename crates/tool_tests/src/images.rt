@@ -139,7 +139,7 @@ fn has_bytes(
 ) -> Result<(), Fail> {
     let bytes = bytes.replace(rt.alloc(), " ", "")?;
     let found = hex::encode(rt.alloc(), image.get(place..).unwrap_or(&[]))?;
-    assert_eq!(rt; found.get(..bytes.len()), Some(bytes.as_str()));
+    assert!(rt; found.get(..bytes.len()) == Some(bytes.as_str()));
     Ok(())
 }
 
@@ -147,10 +147,10 @@ fn has_bytes(
 fn images_have_these_bytes(rt: HostRuntime) -> Result<(), Fail> {
     for (source, notes, records) in IMAGES {
         let wanted = wanted(rt.alloc(), notes, records)?;
-        assert_eq!(rt; shown(rt.alloc(), source)?.as_str(), wanted.as_str());
+        assert!(rt; shown(rt.alloc(), source)?.as_str() == wanted.as_str());
     }
     let wanted = wanted(rt.alloc(), "0 0 0 0 0", &DESKTOP_IMAGE)?;
-    assert_eq!(rt; shown(rt.alloc(), DESKTOP)?.as_str(), wanted.as_str());
+    assert!(rt; shown(rt.alloc(), DESKTOP)?.as_str() == wanted.as_str());
     Ok(())
 }
 
@@ -158,8 +158,8 @@ fn images_have_these_bytes(rt: HostRuntime) -> Result<(), Fail> {
 fn images_have_these_records(rt: HostRuntime) -> Result<(), Fail> {
     for (source, length, place, bytes) in RECORDS {
         let (image, notes) = image_of(rt.alloc(), source)?;
-        assert_eq!(rt; image.len(), length);
-        assert_eq!(rt; notes, Notes::new());
+        assert!(rt; image.len() == length);
+        assert!(rt; notes == Notes::new());
         has_bytes(&rt, image.as_slice(), place, bytes)?;
     }
     Ok(())

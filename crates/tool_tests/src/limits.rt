@@ -239,7 +239,7 @@ fn reach_limits(rt: &(impl Abort + AllocGlobal), rows: &[Row]) -> Result<(), Fai
     for (front, piece, count, back, wanted) in rows {
         let source = repeated(rt.alloc(), front, piece, *count, back)?;
         let found = refusal(rt, source.as_bytes(), &files)?;
-        assert_eq!(rt; found.as_str(), *wanted, "{count} of {piece}");
+        assert!(rt; found.as_str() == *wanted, "{count} of {piece}");
     }
     Ok(())
 }

@@ -48,7 +48,7 @@ fn includes_reach_their_limits(rt: HostRuntime) -> Result<(), Fail> {
         let section = section(rt.alloc(), 1, width)?;
         let source = ["xkb_keymap { ", section.as_str(), " };"].concat(rt.alloc())?;
         let found = refusal(&rt, source.as_bytes(), &files)?;
-        assert_eq!(rt; found.as_str(), wanted, "{depth} deep");
+        assert!(rt; found.as_str() == wanted, "{depth} deep");
     }
     Ok(())
 }

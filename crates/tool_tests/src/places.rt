@@ -14,9 +14,8 @@ fn bytes_stand_on_lines(rt: HostRuntime) {
         (70, 3, 3),
     ];
     for (place, line, column) in rows {
-        assert_eq!(rt;
-            locate(text, place),
-            Position { line, column },
+        assert!(rt;
+            locate(text, place) == Position { line, column },
             "at {place}"
         );
     }

@@ -25,7 +25,7 @@ fn faults_stand_at_their_place(rt: HostRuntime) -> Result<(), Fail> {
     let files = files_of(rt.alloc(), &GIVEN)?;
     for (source, wanted) in REFUSED {
         let found = refusal(&rt, source.as_bytes(), &files)?;
-        assert_eq!(rt; found.as_str(), wanted, "{source}");
+        assert!(rt; found.as_str() == wanted, "{source}");
     }
     Ok(())
 }

@@ -46,8 +46,8 @@ fn opens_each_kind_of_record(rt: HostRuntime) -> Result<(), Fail> {
     assert!(rt; counts.indicators == 2 && counts.group_names == 2);
     assert!(rt; view.indicator_name(0) == b"C".as_slice());
     assert!(rt; view.group_name(1) == b"gh".as_slice());
-    assert_eq!(rt; view.greatest_groups(), 2);
-    assert_eq!(rt; fault_of(&full_one()), None);
+    assert!(rt; view.greatest_groups() == 2);
+    assert!(rt; fault_of(&full_one()) == None);
     Ok(())
 }
 
@@ -56,9 +56,8 @@ fn refuses_what_is_cut_or_too_long(rt: HostRuntime) {
     let one = full_one();
     for image in [FULL.as_slice(), one.as_slice()] {
         for n in 0..image.len() {
-            assert_eq!(rt;
-                fault_of(&image[..n]),
-                Some(ImageFault::Truncated),
+            assert!(rt;
+                fault_of(&image[..n]) == Some(ImageFault::Truncated),
                 "{n} bytes"
             );
         }
@@ -66,7 +65,7 @@ fn refuses_what_is_cut_or_too_long(rt: HostRuntime) {
         let end = image.len();
         assert!(rt; end <= LENGTH);
         long[..end].copy_from_slice(image);
-        assert_eq!(rt; fault_of(&long[..end + 1]), Some(ImageFault::Length));
+        assert!(rt; fault_of(&long[..end + 1]) == Some(ImageFault::Length));
     }
 }
 
@@ -144,7 +143,7 @@ fn refuses_broken_records(rt: HostRuntime) {
         let mut bytes = FULL;
         assert!(rt; place < LENGTH);
         bytes[place] = byte;
-        assert_eq!(rt; fault_of(&bytes), want, "byte {place} as {byte}");
+        assert!(rt; fault_of(&bytes) == want, "byte {place} as {byte}");
     }
 }
 
@@ -152,7 +151,7 @@ fn refuses_broken_records(rt: HostRuntime) {
 fn upgrades_what_has_every_kind(rt: HostRuntime) -> Result<(), Fail> {
     let mut room = [0; LENGTH];
     let mut out = MemOut::new(&mut room);
-    assert_eq!(rt; upgrade(&FULL, &mut out), Ok(()));
+    assert!(rt; upgrade(&FULL, &mut out) == Ok(()));
     assert!(rt; out.written() == FULL.as_slice());
     let one = full_one();
     let (header, rest) = one.as_slice().split_at(28.min(one.len()));
@@ -160,10 +159,10 @@ fn upgrades_what_has_every_kind(rt: HostRuntime) -> Result<(), Fail> {
     if let Some(version) = wanted.get_mut(4) {
         *version = 2;
     }
-    assert_eq!(rt; wanted.len(), LENGTH_ONE_UPGRADED);
+    assert!(rt; wanted.len() == LENGTH_ONE_UPGRADED);
     let mut room = [0; LENGTH];
     let mut out = MemOut::new(&mut room).with_most(1);
-    assert_eq!(rt; upgrade(&one, &mut out), Ok(()));
+    assert!(rt; upgrade(&one, &mut out) == Ok(()));
     assert!(rt; out.written() == wanted.as_slice());
     Ok(())
 }

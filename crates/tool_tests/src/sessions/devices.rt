@@ -53,8 +53,8 @@ fn replay_answers_lines(rt: HostRuntime) -> Result<(), Fail> {
         let mut room = [0u8; 512];
         let mut out = MemOut::new(&mut room).with_most(most);
         let ended = replay(rt.alloc(), &mut feed, &IMAGE, &names, &mut out);
-        assert_eq!(rt; ended, Ok(()));
-        assert_eq!(rt; out.written(), ANSWERS);
+        assert!(rt; ended == Ok(()));
+        assert!(rt; out.written() == ANSWERS);
     }
     Ok(())
 }
@@ -66,7 +66,7 @@ fn replay_refuses_what_is_no_image(rt: HostRuntime) -> Result<(), Fail> {
     let mut room = [0u8; 512];
     let mut out = MemOut::new(&mut room);
     let ended = replay(rt.alloc(), &mut feed, &IMAGE[..93], &names, &mut out);
-    assert_eq!(rt; ended, Err(ReplayFault::Image(ImageFault::Truncated)));
+    assert!(rt; ended == Err(ReplayFault::Image(ImageFault::Truncated)));
     assert!(rt; out.written().is_empty());
     Ok(())
 }
@@ -80,7 +80,7 @@ fn readers_that_fail_at_each_byte(rt: HostRuntime) -> Result<(), Fail> {
         let mut room = [0u8; 512];
         let mut out = MemOut::new(&mut room);
         let ended = replay(rt.alloc(), &mut feed, &IMAGE, &names, &mut out);
-        assert_eq!(rt; ended, Err(ReplayFault::Read), "at {place}");
+        assert!(rt; ended == Err(ReplayFault::Read), "at {place}");
         assert!(rt; ANSWERS.starts_with(out.written()), "at {place}");
     }
     let input = [SAMPLE, b"%%\n".as_slice(), LINES].concat(rt.alloc())?;
@@ -89,9 +89,8 @@ fn readers_that_fail_at_each_byte(rt: HostRuntime) -> Result<(), Fail> {
         let mut room = [0u8; 512];
         let mut out = MemOut::new(&mut room);
         let ended = session(rt.alloc(), &mut feed, &files, &names, &mut out);
-        assert_eq!(rt;
-            ended,
-            Err(SessionFault::Replay(ReplayFault::Read)),
+        assert!(rt;
+            ended == Err(SessionFault::Replay(ReplayFault::Read)),
             "at {place}"
         );
         assert!(rt; ANSWERS.starts_with(out.written()), "at {place}");
@@ -109,15 +108,14 @@ fn writers_that_fail_at_each_byte(rt: HostRuntime) -> Result<(), Fail> {
         let mut room = [0u8; 512];
         let mut out = MemOut::new(&mut room).failing_after(place);
         let ended = replay(rt.alloc(), &mut feed, &IMAGE, &names, &mut out);
-        assert_eq!(rt; ended, Err(ReplayFault::Write), "at {place}");
+        assert!(rt; ended == Err(ReplayFault::Write), "at {place}");
         assert!(rt; ANSWERS.starts_with(out.written()), "at {place}");
         let mut feed = MemFeed::new(input.as_slice());
         let mut room = [0u8; 512];
         let mut out = MemOut::new(&mut room).failing_after(place);
         let ended = session(rt.alloc(), &mut feed, &files, &names, &mut out);
-        assert_eq!(rt;
-            ended,
-            Err(SessionFault::Replay(ReplayFault::Write)),
+        assert!(rt;
+            ended == Err(SessionFault::Replay(ReplayFault::Write)),
             "at {place}"
         );
         assert!(rt; ANSWERS.starts_with(out.written()), "at {place}");
@@ -137,7 +135,7 @@ fn a_reader_without_end_is_refused(rt: HostRuntime) -> Result<(), Fail> {
         &names,
         &mut out,
     );
-    assert_eq!(rt; ended, Err(ReplayFault::Read));
+    assert!(rt; ended == Err(ReplayFault::Read));
     assert!(rt; out.written().is_empty());
     Ok(())
 }
@@ -152,7 +150,7 @@ fn a_mark_without_its_line_feed_ends_the_source(rt: HostRuntime) -> Result<(), F
         let mut room = [0u8; 16];
         let mut out = MemOut::new(&mut room);
         let ended = session(rt.alloc(), &mut feed, &files, &names, &mut out);
-        assert_eq!(rt; ended, Ok(()));
+        assert!(rt; ended == Ok(()));
         assert!(rt; out.written().is_empty());
     }
     Ok(())
@@ -166,9 +164,9 @@ fn dumps_rows_of_32_bytes(rt: HostRuntime) {
     let mut room = [0u8; 80];
     let mut out = MemOut::new(&mut room).with_most(1);
     assert!(rt; dump(&bytes, &mut out).is_ok());
-    assert_eq!(rt;
-        out.written(),
-        b"fe00000000000000000000000000000000000000000000000000000000000000\n0a\n".as_slice()
+    assert!(rt;
+        out.written()
+            == b"fe00000000000000000000000000000000000000000000000000000000000000\n0a\n".as_slice()
     );
     let mut room = [0u8; 80];
     let mut out = MemOut::new(&mut room);
