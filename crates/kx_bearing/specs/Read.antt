@@ -10,8 +10,8 @@ use Rattle.kx_types.specs.Types.{NamedTypes, type_named}
 use Rattle.kx_typing.specs.Given.{given_in}
 
 -- `modmap` are the modifiers that the keys of codes are mapped to, `declared` the masks of virtual modifiers by number
-abbrev pub reading_of : Codes → NamedTypes → List (ℕ × KeyContent) → (ℕ → Mods) → List Interpretation → List Mods → ReadKeymap
-reading_of codes types keys modmap interpretations declared = record {
+abbrev pub read_keymap_of : Codes → NamedTypes → List (ℕ × KeyContent) → (ℕ → Mods) → List Interpretation → List Mods → ReadKeymap
+read_keymap_of codes types keys modmap interpretations declared = record {
   name = name_of codes;
   key = λ code. given_in (key_at keys code);
   modmap = modmap;

@@ -3,7 +3,7 @@ ghost use Rattle.std.specs.Prelude.{◌≡◌, ◌<◌, ◌&&◌, ◌||◌, ℕ,
 ghost use Rattle.std.specs.Option.{option_map_or};
 ghost use Rattle.kx_bearing.specs.Bearers.{is_brought};
 ghost use Rattle.kx_bearing.specs.Bearing.{bears, brings, stands};
-ghost use Rattle.kx_bearing.specs.Read.{reading_of};
+ghost use Rattle.kx_bearing.specs.Read.{read_keymap_of};
 ghost use Rattle.kx_lex.specs.declared.fault.Fault.TheVariants.{Memory};
 ghost use Rattle.kx_mapped.specs.Modmaps.{modmap_at};
 ghost use Rattle.kx_masks.specs.Sets.{any_below, has, has_virtual};
@@ -84,7 +84,7 @@ fn add_code(
     interpretations: &Interpretations,
     code: u16,
 ) -> Result<(), Fault>
-    ensures added { OnOk result ((number real : ℕ) → is_brought bearers.new.items number real ≡ (is_brought bearers.old.items number real || brings (reading_of codes.now types.now keys.now (modmap_at modmaps.now) interpretations.now []) number real code)) }
+    ensures added { OnOk result ((number real : ℕ) → is_brought bearers.new.items number real ≡ (is_brought bearers.old.items number real || brings (read_keymap_of codes.now types.now keys.now (modmap_at modmaps.now) interpretations.now []) number real code)) }
     ensures err { IfErr result (λ e. e ≡ Memory) }
 {
     match (codes.name_of(code), keys.key(code)) {
@@ -106,7 +106,7 @@ fn bearers_of(
     modmaps: &KeyMods,
     interpretations: &Interpretations,
 ) -> Result<Vec<Bearer>, Fault>
-    ensures all { IfOk result (λ bearers. (number real : ℕ) → is_brought bearers.items number real ≡ any_below CODES (brings (reading_of codes.now types.now keys.now (modmap_at modmaps.now) interpretations.now []) number real)) }
+    ensures all { IfOk result (λ bearers. (number real : ℕ) → is_brought bearers.items number real ≡ any_below CODES (brings (read_keymap_of codes.now types.now keys.now (modmap_at modmaps.now) interpretations.now []) number real)) }
     ensures err { IfErr result (λ e. e ≡ Memory) }
 {
     let mut bearers = Vec::new(alloc);
@@ -186,7 +186,7 @@ pub fn standings(
     interpretations: &Interpretations,
     declared: &[Mods],
 ) -> Result<Vec<Mods>, Fault>
-    ensures stands { IfOk result (λ made. (number real : ℕ) → number < MOST_VIRTUAL_MODIFIERS → stands_for made.items number real ≡ stands (reading_of codes.now types.now keys.now (modmap_at modmaps.now) interpretations.now declared.now) number real) }
+    ensures stands { IfOk result (λ made. (number real : ℕ) → number < MOST_VIRTUAL_MODIFIERS → stands_for made.items number real ≡ stands (read_keymap_of codes.now types.now keys.now (modmap_at modmaps.now) interpretations.now declared.now) number real) }
     ensures err { IfErr result (λ e. e ≡ Memory) }
 {
     let bearers = bearers_of(alloc, codes, types, keys, modmaps, interpretations)?;

@@ -8,7 +8,7 @@ mod Left
 mod Matching
 mod Names
 mod Naming
-mod Numbered
+mod NumberMaps
 mod Numbering
 mod Places
 mod Standing

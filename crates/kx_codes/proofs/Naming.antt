@@ -10,7 +10,7 @@ use Rattle.kx_codes.proofs.Matching.{some_same}
 use Rattle.kx_codes.proofs.Numbering.{name_back, numbered_push, same_any}
 use Rattle.kx_codes.proofs.Standing.{got_at, within_at}
 use Rattle.kx_codes.specs.Indexed.{Indexed, Stands, distinct}
-use Rattle.kx_codes.specs.Numbers.{IsOnce, Numbered, Numbers, StandsIn, number}
+use Rattle.kx_codes.specs.Numbers.{AreNumbered, IsNumbered, IsOnce, StandsIn, number}
 use Rattle.kx_codes.specs.Pairs.{Pair, shares, name_in}
 
 any_at : (test : Pair → Bool) (vs : List Pair) (i : ℕ) (v : Pair) → list_any test vs ≡ false → slice_get vs i ≡ Some v → test v ≡ false
@@ -37,16 +37,16 @@ name_at (w ∷ ws) (suc i) v d is =
 module _ (names : List (List ℕ)) (once : IsOnce names) (x old new : Indexed) (place : ℕ) (v : Pair)
     (puts : (n code : ℕ) (name : List ℕ) (ps : List Pair) → slice_get x.by_code place ≡ Some (record { name = number n; code = code }) → slice_get names n ≡ Some name → Stands old ps → list_any (shares (record { name = name; code = code })) ps ≡ false → Stands new (ps ++ record { name = name; code = code } ∷ []))
     (is : slice_get x.by_code place ≡ Some v) where
-  pub one_named : (ps : List Pair) → StandsIn names x ps → Stands x x.by_code → (ns : List Pair) × Numbered names (take place x.by_code) ns × Stands old ns → (ns : List Pair) × Numbered names (take (place + 1) x.by_code) ns × Stands new ns
+  pub one_named : (ps : List Pair) → StandsIn names x ps → Stands x x.by_code → (ns : List Pair) × AreNumbered names (take place x.by_code) ns × Stands old ns → (ns : List Pair) × AreNumbered names (take (place + 1) x.by_code) ns × Stands new ns
   one_named ps s own before =
       let vs = x.by_code in
       let back = name_back names s.numbered ps s.are v.code v.name (sym (s.stands.names_are v.code) ∙ name_at vs place v own.distinct_are is) in
       let p : Pair = record { name = back.1; code = v.code } in
       let q : Pair = record { name = number back.0; code = v.code } in
       let same : v ≡ q = ap (λ n. record { name = n; code = v.code }) back.2 in
-      let a : Numbers names v p = record { place = back.0; number_is = back.2; name_is = back.3; code_is = refl } in
+      let a : IsNumbered names v p = record { place = back.0; number_is = back.2; name_is = back.3; code_is = refl } in
       let none = sym (same_any names once v p a (take place vs) before.0 before.1) ∙ apart_before vs place v own.distinct_are is in (
         before.0 ++ p ∷ [],
-        subst (λ l. Numbered names l (before.0 ++ p ∷ [])) (sym (take_more vs place v (within_at vs place v is) ∙ ap (λ w. take place vs ++ w ∷ []) (got_at vs place v is))) (numbered_push names once v p a (take place vs) before.0 before.1),
+        subst (λ l. AreNumbered names l (before.0 ++ p ∷ [])) (sym (take_more vs place v (within_at vs place v is) ∙ ap (λ w. take place vs ++ w ∷ []) (got_at vs place v is))) (numbered_push names once v p a (take place vs) before.0 before.1),
         puts back.0 v.code back.1 before.0 (is ∙ ap Some same) back.3 before.2 none,
       )

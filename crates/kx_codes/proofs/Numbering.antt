@@ -8,13 +8,13 @@ use Rattle.std.specs.Str.{bytes_eq}
 use Rattle.kx_parse.specs.declared.tree.Mode.{Mode}
 use Rattle.kx_parse.specs.declared.tree.Mode.TheVariants.{Augment, Override, Replace}
 use Rattle.kx_codes.proofs.Matching.{bool_same, option_same, some_same}
-use Rattle.kx_codes.proofs.Numbered.{single}
+use Rattle.kx_codes.proofs.NumberMaps.{single}
 use Rattle.kx_codes.specs.Indexed.{Indexed, Stands, distinct}
-use Rattle.kx_codes.specs.Numbers.{Grows, IsOnce, Numbered, Numbers, StandsIn, number}
+use Rattle.kx_codes.specs.Numbers.{AreNumbered, Grows, IsNumbered, IsOnce, StandsIn, number}
 use Rattle.kx_codes.specs.Pairs.{Pair, shares, without, taken, all_taken, code_in, name_in}
 
 module _ (names : List (List ℕ)) (once : IsOnce names) where
-  same-name : (q p r s : Pair) → Numbers names q p → Numbers names r s → bytes_eq q.name r.name ≡ bytes_eq p.name s.name
+  same-name : (q p r s : Pair) → IsNumbered names q p → IsNumbered names r s → bytes_eq q.name r.name ≡ bytes_eq p.name s.name
   same-name q p r s a b = bool_same (bytes_eq q.name r.name) (bytes_eq p.name s.name)
       (λ h. (bytes_eq-Decides p.name s.name).1 (some_same p.name s.name (sym a.name_is ∙ ap (slice_get names) (numbers h) ∙ b.name_is)))
       (λ h. (bytes_eq-Decides q.name r.name).1 (a.number_is ∙ ap number (once a.place b.place p.name a.name_is (b.name_is ∙ ap Some (sym ((bytes_eq-Decides p.name s.name).0 h)))) ∙ sym b.number_is))
@@ -22,43 +22,43 @@ module _ (names : List (List ℕ)) (once : IsOnce names) where
       numbers : bytes_eq q.name r.name ≡ true → a.place ≡ b.place
       numbers h = (unsigned_Decides a.place b.place).0 (sym (single a.place b.place) ∙ (bytes_eq-Decides (number a.place) (number b.place)).1 (sym a.number_is ∙ (bytes_eq-Decides q.name r.name).0 h ∙ b.number_is))
 
-  pub same_shares : (q p r s : Pair) → Numbers names q p → Numbers names r s → shares q r ≡ shares p s
+  pub same_shares : (q p r s : Pair) → IsNumbered names q p → IsNumbered names r s → shares q r ≡ shares p s
   same_shares q p r s a b = (λ i. same-name q p r s a b i || (a.code_is i == b.code_is i))
 
-  pub same_any : (q p : Pair) → Numbers names q p → (qs ps : List Pair) → Numbered names qs ps → list_any (shares q) qs ≡ list_any (shares p) ps
+  pub same_any : (q p : Pair) → IsNumbered names q p → (qs ps : List Pair) → AreNumbered names qs ps → list_any (shares q) qs ≡ list_any (shares p) ps
   same_any q p a [] [] are = refl
   same_any q p a [] (s ∷ ps) are = absurd are
   same_any q p a (r ∷ qs) [] are = absurd are
   same_any q p a (r ∷ qs) (s ∷ ps) are = λ i. same_shares q p r s a are.0 i || same_any q p a qs ps are.1 i
 
-  pub same_distinct : (qs ps : List Pair) → Numbered names qs ps → distinct qs ≡ distinct ps
+  pub same_distinct : (qs ps : List Pair) → AreNumbered names qs ps → distinct qs ≡ distinct ps
   same_distinct [] [] are = refl
   same_distinct [] (s ∷ ps) are = absurd are
   same_distinct (r ∷ qs) [] are = absurd are
   same_distinct (r ∷ qs) (s ∷ ps) are = λ i. not (same_any r s are.0 qs ps are.1 i) && same_distinct qs ps are.1 i
 
-  numbered-without : (q p : Pair) → Numbers names q p → (qs ps : List Pair) → Numbered names qs ps → Numbered names (without q qs) (without p ps)
+  numbered-without : (q p : Pair) → IsNumbered names q p → (qs ps : List Pair) → AreNumbered names qs ps → AreNumbered names (without q qs) (without p ps)
   numbered-without q p a [] [] are = tt
   numbered-without q p a [] (s ∷ ps) are = absurd are
   numbered-without q p a (r ∷ qs) [] are = absurd are
   numbered-without q p a (r ∷ qs) (s ∷ ps) are = by (shares q r) (shares p s) (same_shares q p r s a are.0) (numbered-without q p a qs ps are.1)
     where
-      by : (b c : Bool) → b ≡ c → Numbered names (without q qs) (without p ps) → Numbered names (cond (not b) (r ∷ without q qs) (without q qs)) (cond (not c) (s ∷ without p ps) (without p ps))
+      by : (b c : Bool) → b ≡ c → AreNumbered names (without q qs) (without p ps) → AreNumbered names (cond (not b) (r ∷ without q qs) (without q qs)) (cond (not c) (s ∷ without p ps) (without p ps))
       by true true e rest = rest
       by true false e rest = absurd (false≢true (sym e))
       by false true e rest = absurd (false≢true e)
       by false false e rest = (are.0, rest)
 
-  pub numbered_push : (q p : Pair) → Numbers names q p → (qs ps : List Pair) → Numbered names qs ps → Numbered names (qs ++ q ∷ []) (ps ++ p ∷ [])
+  pub numbered_push : (q p : Pair) → IsNumbered names q p → (qs ps : List Pair) → AreNumbered names qs ps → AreNumbered names (qs ++ q ∷ []) (ps ++ p ∷ [])
   numbered_push q p a [] [] are = (a, tt)
   numbered_push q p a [] (s ∷ ps) are = absurd are
   numbered_push q p a (r ∷ qs) [] are = absurd are
   numbered_push q p a (r ∷ qs) (s ∷ ps) are = (are.0, numbered_push q p a qs ps are.1)
 
-  pub numbered_taken : (mode : Mode) (q p : Pair) → Numbers names q p → (qs ps : List Pair) → Numbered names qs ps → Numbered names (taken mode qs q) (taken mode ps p)
+  pub numbered_taken : (mode : Mode) (q p : Pair) → IsNumbered names q p → (qs ps : List Pair) → AreNumbered names qs ps → AreNumbered names (taken mode qs q) (taken mode ps p)
   numbered_taken Augment q p a qs ps are = by (list_any (shares q) qs) (list_any (shares p) ps) (same_any q p a qs ps are)
     where
-      by : (b c : Bool) → b ≡ c → Numbered names (cond b qs (qs ++ q ∷ [])) (cond c ps (ps ++ p ∷ []))
+      by : (b c : Bool) → b ≡ c → AreNumbered names (cond b qs (qs ++ q ∷ [])) (cond c ps (ps ++ p ∷ []))
       by true true e = are
       by true false e = absurd (false≢true (sym e))
       by false true e = absurd (false≢true e)
@@ -66,7 +66,7 @@ module _ (names : List (List ℕ)) (once : IsOnce names) where
   numbered_taken Override q p a qs ps are = numbered_push q p a (without q qs) (without p ps) (numbered-without q p a qs ps are)
   numbered_taken Replace q p a qs ps are = numbered_push q p a (without q qs) (without p ps) (numbered-without q p a qs ps are)
 
-  pub numbered_all : (mode : Mode) (rs ss qs ps : List Pair) → Numbered names rs ss → Numbered names qs ps → Numbered names (all_taken mode rs qs) (all_taken mode ss ps)
+  pub numbered_all : (mode : Mode) (rs ss qs ps : List Pair) → AreNumbered names rs ss → AreNumbered names qs ps → AreNumbered names (all_taken mode rs qs) (all_taken mode ss ps)
   numbered_all mode rs ss [] [] old are = old
   numbered_all mode rs ss [] (p ∷ ps) old are = absurd are
   numbered_all mode rs ss (q ∷ qs) [] old are = absurd are
@@ -81,10 +81,10 @@ module _ (names : List (List ℕ)) (once : IsOnce names) where
   }
 
 -- numbers stay where names grow
-numbers-grow : (old new : List (List ℕ)) → Grows old new → (q p : Pair) → Numbers old q p → Numbers new q p
+numbers-grow : (old new : List (List ℕ)) → Grows old new → (q p : Pair) → IsNumbered old q p → IsNumbered new q p
 numbers-grow old new g q p a = record { place = a.place; number_is = a.number_is; name_is = g.kept a.place p.name a.name_is; code_is = a.code_is }
 
-numbered-grow : (old new : List (List ℕ)) → Grows old new → (qs ps : List Pair) → Numbered old qs ps → Numbered new qs ps
+numbered-grow : (old new : List (List ℕ)) → Grows old new → (qs ps : List Pair) → AreNumbered old qs ps → AreNumbered new qs ps
 numbered-grow old new g [] [] are = tt
 numbered-grow old new g [] (p ∷ ps) are = absurd are
 numbered-grow old new g (q ∷ qs) [] are = absurd are
@@ -122,7 +122,7 @@ same-code c = (unsigned_Decides c c).1 refl
 
 -- a name's code is that of its number, and a code's name that of its number
 module _ (names : List (List ℕ)) where
-  code-forth : (qs ps : List Pair) → Numbered names qs ps → (name : List ℕ) (c : ℕ) → code_in ps name ≡ Some c → (n : ℕ) × (slice_get names n ≡ Some name) × (code_in qs (number n) ≡ Some c)
+  code-forth : (qs ps : List Pair) → AreNumbered names qs ps → (name : List ℕ) (c : ℕ) → code_in ps name ≡ Some c → (n : ℕ) × (slice_get names n ≡ Some name) × (code_in qs (number n) ≡ Some c)
   code-forth [] [] are name c h = absurd (false≢true (ap is_some h))
   code-forth [] (p ∷ ps) are name c h = absurd are
   code-forth (q ∷ qs) [] are name c h = absurd are
@@ -138,7 +138,7 @@ module _ (names : List (List ℕ)) where
           let found = rest e in
           (found.0, found.1, ap (λ b. cond b (Some q.code) (code_in qs (number found.0))) (other found.0 found.1 (λ is. false≢true (back is)) (bytes_eq (number found.0) q.name) (bytes_eq-Decides (number found.0) q.name).0) ∙ found.2)
 
-  code-shape : (qs ps : List Pair) → Numbered names qs ps → (m : List ℕ) (c : ℕ) → code_in qs m ≡ Some c → (n : ℕ) × (name : List ℕ) × (m ≡ number n) × (slice_get names n ≡ Some name)
+  code-shape : (qs ps : List Pair) → AreNumbered names qs ps → (m : List ℕ) (c : ℕ) → code_in qs m ≡ Some c → (n : ℕ) × (name : List ℕ) × (m ≡ number n) × (slice_get names n ≡ Some name)
   code-shape [] ps are m c h = absurd (false≢true (ap is_some h))
   code-shape (q ∷ qs) [] are m c h = absurd are
   code-shape (q ∷ qs) (p ∷ ps) are m c h = by (bytes_eq m q.name) (bytes_eq-Decides m q.name).0 (code-shape qs ps are.1 m c) h
@@ -147,7 +147,7 @@ module _ (names : List (List ℕ)) where
       by true same rest e = (are.0.place, p.name, same refl ∙ are.0.number_is, are.0.name_is)
       by false same rest e = rest e
 
-  name-forth : (qs ps : List Pair) → Numbered names qs ps → (code : ℕ) (name : List ℕ) → name_in ps code ≡ Some name → (n : ℕ) × (slice_get names n ≡ Some name) × (name_in qs code ≡ Some (number n))
+  name-forth : (qs ps : List Pair) → AreNumbered names qs ps → (code : ℕ) (name : List ℕ) → name_in ps code ≡ Some name → (n : ℕ) × (slice_get names n ≡ Some name) × (name_in qs code ≡ Some (number n))
   name-forth [] [] are code name h = absurd (false≢true (ap is_some h))
   name-forth [] (p ∷ ps) are code name h = absurd are
   name-forth (q ∷ qs) [] are code name h = absurd are
@@ -159,7 +159,7 @@ module _ (names : List (List ℕ)) where
       by false true e rest is = absurd (false≢true e)
       by false false e rest is = rest is
 
-  pub name_back : (qs ps : List Pair) → Numbered names qs ps → (code : ℕ) (m : List ℕ) → name_in qs code ≡ Some m → (n : ℕ) × (name : List ℕ) × (m ≡ number n) × (slice_get names n ≡ Some name) × (name_in ps code ≡ Some name)
+  pub name_back : (qs ps : List Pair) → AreNumbered names qs ps → (code : ℕ) (m : List ℕ) → name_in qs code ≡ Some m → (n : ℕ) × (name : List ℕ) × (m ≡ number n) × (slice_get names n ≡ Some name) × (name_in ps code ≡ Some name)
   name_back [] ps are code m h = absurd (false≢true (ap is_some h))
   name_back (q ∷ qs) [] are code m h = absurd are
   name_back (q ∷ qs) (p ∷ ps) are code m h = by (nat_eq code p.code) (nat_eq code q.code) (ap (nat_eq code) (sym are.0.code_is)) (name_back qs ps are.1 code m) h
@@ -172,7 +172,7 @@ module _ (names : List (List ℕ)) where
       by false false e rest is = rest is
 
 module _ (names : List (List ℕ)) (once : IsOnce names) where
-  code-back : (qs ps : List Pair) → Numbered names qs ps → (n : ℕ) (name : List ℕ) (c : ℕ) → slice_get names n ≡ Some name → code_in qs (number n) ≡ Some c → code_in ps name ≡ Some c
+  code-back : (qs ps : List Pair) → AreNumbered names qs ps → (n : ℕ) (name : List ℕ) (c : ℕ) → slice_get names n ≡ Some name → code_in qs (number n) ≡ Some c → code_in ps name ≡ Some c
   code-back [] ps are n name c is h = absurd (false≢true (ap is_some h))
   code-back (q ∷ qs) [] are n name c is h = absurd are
   code-back (q ∷ qs) (p ∷ ps) are n name c is h = by (bytes_eq (number n) q.name) (bytes_eq name p.name) (same-name names once (record { name = number n; code = 0 }) (record { name = name; code = 0 }) q p (record { place = n; number_is = refl; name_is = is; code_is = refl }) are.0) (code-back qs ps are.1 n name c is) h
@@ -187,7 +187,7 @@ module _ (names : List (List ℕ)) (once : IsOnce names) where
   same-number n m name a b = ap number (once n m name a b)
 
   -- two lists of numbers that look alike, and what they stand for
-  module _ (ms ns : List Pair) (us ws : List Pair) (ma : Numbered names ms us) (nb : Numbered names ns ws) where
+  module _ (ms ns : List Pair) (us ws : List Pair) (ma : AreNumbered names ms us) (nb : AreNumbered names ns ws) where
     names-alike : ((m : List ℕ) → code_in ms m ≡ code_in ns m) → (name : List ℕ) (c : ℕ) → code_in us name ≡ Some c → code_in ws name ≡ Some c
     names-alike alike name c h = let found = code-forth names ms us ma name c h in code-back ns ws nb found.0 name c found.1 (sym (alike (number found.0)) ∙ found.2)
 
@@ -211,7 +211,7 @@ module _ (names : List (List ℕ)) (once : IsOnce names) where
         found.2 ∙ ap Some (same-number found.0 back.0 back.1 found.1 back.3 ∙ sym back.2)
 
   -- numbers for pairs whose names have some
-  numbers-for : (ps : List Pair) → ((name : List ℕ) (c : ℕ) → code_in ps name ≡ Some c → (n : ℕ) × (slice_get names n ≡ Some name)) → (qs : List Pair) × Numbered names qs ps
+  numbers-for : (ps : List Pair) → ((name : List ℕ) (c : ℕ) → code_in ps name ≡ Some c → (n : ℕ) × (slice_get names n ≡ Some name)) → (qs : List Pair) × AreNumbered names qs ps
   numbers-for [] some = ([], tt)
   numbers-for (p ∷ ps) some =
       let head = some p.name p.code (ap (λ b. cond b (Some p.code) (code_in ps p.name)) (same-list p.name)) in
@@ -244,7 +244,7 @@ module _ (names : List (List ℕ)) (once : IsOnce names) where
       }
 
   -- what stands for pairs of numbers by their names
-  pub named_stands : (x y : Indexed) (vs ns ps : List Pair) → StandsIn names x ps → Stands x vs → Numbered names vs ns → Stands y ns → Stands y ps
+  pub named_stands : (x y : Indexed) (vs ns ps : List Pair) → StandsIn names x ps → Stands x vs → AreNumbered names vs ns → Stands y ns → Stands y ps
   named_stands x y vs ns ps s v are stands = record {
     distinct_are = sym (same_distinct names once s.numbered ps s.are) ∙ s.stands.distinct_are;
     codes_are = λ name. stands.codes_are name ∙ option_same (code_in ns name) (code_in ps name)

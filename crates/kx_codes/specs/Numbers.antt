@@ -1,5 +1,5 @@
 -- Names that are numbered, and pairs of a number and a keycode that stand for pairs of a name and a keycode.
-use Rattle.std.specs.Prelude.{◌≡◌, ℕ, List, [], ◌∷◌, Some, slice_get, ⊤}
+use Rattle.std.specs.Prelude.{◌≡◌, ℕ, List, [], ◌∷◌, Some, map, slice_get, ⊤}
 use Rattle.kx_codes.specs.Indexed.{Indexed, Stands}
 use Rattle.kx_codes.specs.Pairs.{Pair}
 
@@ -16,21 +16,25 @@ pub record Grows (old new : List (List ℕ)) : Type 0 where
 abbrev pub number : ℕ → List ℕ
 number n = n ∷ []
 
+-- entries of a map from keycodes to numbers of names
+abbrev pub with_numbers : List (ℕ × ℕ) → List (ℕ × List ℕ)
+with_numbers es = map {A = ℕ × ℕ} {B = ℕ × List ℕ} (λ e. (e.0, number e.1)) es
+
 -- a pair of a number stands for the pair of its name
-pub record Numbers (names : List (List ℕ)) (q p : Pair) : Type 0 where
+pub record IsNumbered (names : List (List ℕ)) (q p : Pair) : Type 0 where
   pub place : ℕ
   pub number_is : q.name ≡ number place
   pub name_is : slice_get names place ≡ Some p.name
   pub code_is : q.code ≡ p.code
 
-abbrev pub Numbered : List (List ℕ) → List Pair → List Pair → Type 0
-Numbered names [] [] = ⊤
-Numbered names [] (p ∷ ps) = ⊥
-Numbered names (q ∷ qs) [] = ⊥
-Numbered names (q ∷ qs) (p ∷ ps) = Numbers names q p × Numbered names qs ps
+abbrev pub AreNumbered : List (List ℕ) → List Pair → List Pair → Type 0
+AreNumbered names [] [] = ⊤
+AreNumbered names [] (p ∷ ps) = ⊥
+AreNumbered names (q ∷ qs) [] = ⊥
+AreNumbered names (q ∷ qs) (p ∷ ps) = IsNumbered names q p × AreNumbered names qs ps
 
 -- what is gathered by numbers stands for pairs of names
 pub record StandsIn (names : List (List ℕ)) (x : Indexed) (ps : List Pair) : Type 0 where
   pub numbered : List Pair
   pub stands : Stands x numbered
-  pub are : Numbered names numbered ps
+  pub are : AreNumbered names numbered ps

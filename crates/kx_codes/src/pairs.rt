@@ -25,7 +25,7 @@ impl Model for Pairs {
     ghost use Rattle.kx_codes.specs.Codes.{named, coded};
     ghost use Rattle.kx_codes.specs.Indexed.{Indexed};
     ghost use Rattle.kx_codes.specs.Numbers.{number};
-    ghost use Rattle.kx_codes.specs.Numbered.{with_numbers};
+    ghost use Rattle.kx_codes.specs.Numbers.{with_numbers};
 
     ghost Value = { Indexed };
 

@@ -7,7 +7,7 @@ use Rattle.std.specs.Option.{option_and_then, option_map, option_or}
 use Rattle.ks_core.specs.Entry.{Entry}
 use Rattle.kx_bearing.specs.Bearing.{ReadKeymap, brings, stands}
 use Rattle.kx_bearing.specs.Deeds.{deeds_of}
-use Rattle.kx_bearing.specs.Read.{reading_of}
+use Rattle.kx_bearing.specs.Read.{read_keymap_of}
 use Rattle.kx_builder.specs.Lamps.{ResolvedIndicator, keymap_with}
 use Rattle.kx_builder.specs.Resolved.{Resolved}
 use Rattle.kx_choice.specs.Interpretations.{Interpretation}
@@ -45,7 +45,7 @@ use Rattle.kx_parse.specs.declared.tree.Mode.{Mode}
 use Rattle.kx_resolve.specs.Keys.{Keyed, keyed_of, resolved_of}
 use Rattle.kx_resolve.specs.Lit.{indicators_of}
 use Rattle.kx_resolve.specs.Shown.{keymap_meant}
-use Rattle.kx_source.specs.Meaning.{codes_in, codes_of, declared_in, declared_masks_of, indicators_by, indicators_in, interpretations_in, key_given, key_in, keyed_in, keymap_in, lamps_from, mapping_by, mapping_in, modifier_bodies_of, modifiers_of, modmap_in, reading_in, real_in, resolved_in}
+use Rattle.kx_source.specs.Meaning.{codes_in, codes_of, declared_in, declared_masks_of, indicators_by, indicators_in, interpretations_in, key_given, key_in, keyed_in, keymap_in, lamps_from, mapping_by, mapping_in, modifier_bodies_of, modifiers_of, modmap_in, read_keymap_in, real_in, resolved_in}
 use Rattle.kx_source.specs.Source.{keys_faults, maps_faults}
 use Rattle.kx_symbols.specs.KeyFaults.{item_faults, key_in as key_said}
 use Rattle.kx_symbols.specs.Keys.{KeyContent, KeysShow, item_next, item_offers, key_at, key_moves, key_rules, known_under, offered, said_offers}
@@ -207,7 +207,7 @@ module _ (library : Library) (bodies : Bodies) (are : AreBodies library bodies) 
                 masks = masks;
               }
 
-              read_same : read_with (declared_masks_of library) ≡ reading_in names library
+              read_same : read_with (declared_masks_of library) ≡ read_keymap_in names library
               read_same = λ i. record {
                 name = names_same c (body_of library Keycodes) codes_show i;
                 key = keys_same i;
@@ -217,15 +217,15 @@ module _ (library : Library) (bodies : Bodies) (are : AreBodies library bodies) 
                 masks = declared_masks_of library;
               }
 
-              module _ (found : List Mods) (stand : (n real : ℕ) → n < 24 → stands_for found n real ≡ stands (reading_of c types keys modmaps interpretations m.masks) n real) where
-                stands_same : (n real : ℕ) → n < 24 → stands_for found n real ≡ stands (reading_in names library) n real
+              module _ (found : List Mods) (stand : (n real : ℕ) → n < 24 → stands_for found n real ≡ stands (read_keymap_of c types keys modmaps interpretations m.masks) n real) where
+                stands_same : (n real : ℕ) → n < 24 → stands_for found n real ≡ stands (read_keymap_in names library) n real
                 stands_same n real less =
                     stand n real less
                     ∙ ap (λ b. b || any_below 4096 (brings (read_with (declared_masks_of library)) n real)) (masks_same n real less)
                     ∙ ap (λ r. stands r n real) read_same
 
                 pub real_same : real_of (stands_for found) ≡ real_in names library
-                real_same = fun_ext (λ set. fun_ext (λ real. ap (λ b. has (real_part set) real || b) (any_same 24 (λ n. has_virtual set n && stands_for found n real) (λ n. has_virtual set n && stands (reading_in names library) n real) (λ n less. ap (λ b. has_virtual set n && b) (stands_same n real less)))))
+                real_same = fun_ext (λ set. fun_ext (λ real. ap (λ b. has (real_part set) real || b) (any_same 24 (λ n. has_virtual set n && stands_for found n real) (λ n. has_virtual set n && stands (read_keymap_in names library) n real) (λ n less. ap (λ b. has_virtual set n && b) (stands_same n real less)))))
 
                 keyed_same : keyed_of (real_of (stands_for found)) c keys modmaps interpretations ≡ keyed_in names library
                 keyed_same = λ i. record {

@@ -2,7 +2,7 @@
 use Rattle.std.specs.Prelude.{ℕ, ◌≡◌, ◌<◌, List}
 use Rattle.ks_core.specs.Entry.{Entry}
 use Rattle.kx_bearing.specs.Bearing.{stands}
-use Rattle.kx_bearing.specs.Read.{reading_of}
+use Rattle.kx_bearing.specs.Read.{read_keymap_of}
 use Rattle.kx_builder.specs.Agreement.{ShowsSame}
 use Rattle.kx_builder.specs.Lamps.{keymap_with, with_lamps}
 use Rattle.kx_builder.specs.Placed.{content_of_resolved}
@@ -45,7 +45,7 @@ pub record IsInterpreted (names : List Entry) (m : ModNames) (compat symbols : B
   pub interpreted : interpretations ≡ interpretations_of names m.names compat
   -- what virtual modifiers stand for
   pub found : List Mods
-  pub stand : (number real : ℕ) → number < 24 → stands_for found number real ≡ stands (reading_of c types keys modmaps interpretations m.masks) number real
+  pub stand : (number real : ℕ) → number < 24 → stands_for found number real ≡ stands (read_keymap_of c types keys modmaps interpretations m.masks) number real
   pub lit : IsLit m.names compat symbols (real_of (stands_for found)) types (keyed_of (real_of (stands_for found)) c keys modmaps interpretations) content
 
 -- of types, with the keys and the modifier maps that a symbols body has

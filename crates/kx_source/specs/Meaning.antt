@@ -101,8 +101,8 @@ module _ (names : List Entry) (library : Library) where
   abbrev pub interpretations_in : List Interpretation
   interpretations_in = interpretations_of names (modifiers_of library) (body_of library Compat)
 
-  abbrev pub reading_in : ReadKeymap
-  reading_in = record {
+  abbrev pub read_keymap_in : ReadKeymap
+  read_keymap_in = record {
     name = name_of (codes_in library);
     key = key_in;
     modmap = modmap_in;
@@ -113,7 +113,7 @@ module _ (names : List Entry) (library : Library) where
 
   -- the real modifiers that a set of modifiers stands for
   abbrev pub real_in : ℕ → RealSet
-  real_in = real_of (stands reading_in)
+  real_in = real_of (stands read_keymap_in)
 
   abbrev pub keyed_in : Keyed
   keyed_in = record {

@@ -1,10 +1,10 @@
 use Rattle.std.proofs.Common.{◌≡◌, ℕ, []}
 use Rattle.kx_bearing.specs.Bearers.{is_brought}
 use Rattle.kx_bearing.specs.Bearing.{brings}
-use Rattle.kx_bearing.specs.Read.{reading_of}
+use Rattle.kx_bearing.specs.Read.{read_keymap_of}
 use Rattle.kx_mapped.specs.Modmaps.{modmap_at}
 use Rattle.kx_masks.specs.Sets.{any_below}
 use Rattle.kx_bearing.proofs.standing.bearers_of.Given as goal
 
 abbrev pub invariant-codes : goal.invariant-codes
-invariant-codes l = (number real : ℕ) → is_brought l.bearers.items number real ≡ any_below l.code (brings (reading_of l.codes l.types l.keys (modmap_at l.modmaps) l.interpretations []) number real)
+invariant-codes l = (number real : ℕ) → is_brought l.bearers.items number real ≡ any_below l.code (brings (read_keymap_of l.codes l.types l.keys (modmap_at l.modmaps) l.interpretations []) number real)

@@ -1,5 +1,5 @@
 use Rattle.std.proofs.Common.{◌<◌, ◌≤◌, subst, take_all}
-use Rattle.kx_codes.specs.Numbers.{Numbered}
+use Rattle.kx_codes.specs.Numbers.{AreNumbered}
 use Rattle.kx_codes.proofs.Naming.{one_named}
 use Rattle.kx_codes.proofs.Numbering.{named_stands}
 use Rattle.kx_codes.proofs.Standing.{some_at}
@@ -16,4 +16,4 @@ returns-clause-named c = λ once ps s.
     let vs = c.args.pairs.now.by_code in
     let all = c.pairs.invariant once ps s in
     named_stands c.args.names.now once c.args.pairs.now c.pairs.named vs all.0 ps s (c.len-count.ensures.own s.numbered s.stands)
-    (subst (λ l. Numbered c.args.names.now l all.0) (take_all c.pairs.place vs (subst (λ n. n ≤ c.pairs.place) c.len-count.ensures.len c.pairs-test.false)) all.1) all.2
+    (subst (λ l. AreNumbered c.args.names.now l all.0) (take_all c.pairs.place vs (subst (λ n. n ≤ c.pairs.place) c.len-count.ensures.len c.pairs-test.false)) all.1) all.2

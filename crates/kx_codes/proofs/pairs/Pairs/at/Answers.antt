@@ -1,8 +1,8 @@
 use Rattle.std.proofs.Common.{sym, ap, ◌∙◌}
 use Rattle.std.specs.List.{slice_get}
-use Rattle.kx_codes.proofs.Numbered.{numbers_at}
+use Rattle.kx_codes.proofs.NumberMaps.{numbers_at}
 use Rattle.kx_codes.proofs.Standing.{coded_at}
-use Rattle.kx_codes.specs.Numbered.{with_numbers}
+use Rattle.kx_codes.specs.Numbers.{with_numbers}
 use Rattle.kx_codes.specs.Numbers.{number}
 use Rattle.kx_codes.proofs.pairs.Pairs.at.Goals as goal
 

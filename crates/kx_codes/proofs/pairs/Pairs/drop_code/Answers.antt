@@ -2,7 +2,7 @@ use Rattle.std.proofs.Common.{None, cond, ap, ◌∙◌}
 use Rattle.std.specs.Str.{bytes_eq}
 use Rattle.kx_codes.specs.Numbers.{number}
 use Rattle.kx_codes.specs.Pairs.{code_in}
-use Rattle.kx_codes.proofs.Numbered.{removed_numbered}
+use Rattle.kx_codes.proofs.NumberMaps.{removed_numbered}
 use Rattle.kx_codes.proofs.pairs.Pairs.drop_code.Goals as goal
 
 pub returns-in-Some-clause-dropped : goal.returns-in-Some-clause-dropped

@@ -1,6 +1,6 @@
 use Rattle.std.proofs.Common.{None, cond, nat_eq, ap, ◌∙◌}
 use Rattle.kx_codes.specs.Pairs.{name_in}
-use Rattle.kx_codes.proofs.Numbered.{numbers_removed}
+use Rattle.kx_codes.proofs.NumberMaps.{numbers_removed}
 use Rattle.kx_codes.proofs.pairs.Pairs.drop_name.Goals as goal
 
 pub returns-in-Some-clause-dropped : goal.returns-in-Some-clause-dropped

@@ -1,6 +1,6 @@
 use Rattle.std.proofs.Common.{sym, subst}
 use Rattle.kx_codes.specs.Indexed.{Stands}
-use Rattle.kx_codes.proofs.Numbered.{shared_number, shared_numbers}
+use Rattle.kx_codes.proofs.NumberMaps.{shared_number, shared_numbers}
 use Rattle.kx_codes.proofs.pairs.Pairs.has_sharing.Goals as goal
 
 pub returns-then-contains_key : goal.returns-then-contains_key

@@ -1,8 +1,8 @@
 use Rattle.std.proofs.Common.{nat_eq, length, sym, ap, subst, ◌∙◌}
 use Rattle.std.specs.List.{IsDistinct}
-use Rattle.kx_codes.proofs.Numbered.{keys_numbers, length_numbers}
+use Rattle.kx_codes.proofs.NumberMaps.{keys_numbers, length_numbers}
 use Rattle.kx_codes.proofs.Standing.{length-coded, own_stands}
-use Rattle.kx_codes.specs.Numbered.{with_numbers}
+use Rattle.kx_codes.specs.Numbers.{with_numbers}
 use Rattle.kx_codes.proofs.pairs.Pairs.len.Goals as goal
 
 pub returns-clause-len : goal.returns-clause-len

@@ -2,7 +2,7 @@ use Rattle.std.proofs.Common.{Some, cond, sym, ap, ◌∙◌}
 use Rattle.std.specs.Str.{bytes_eq}
 use Rattle.kx_codes.specs.Numbers.{number}
 use Rattle.kx_codes.specs.Pairs.{code_in}
-use Rattle.kx_codes.proofs.Numbered.{code_numbered, put_numbered}
+use Rattle.kx_codes.proofs.NumberMaps.{code_numbered, put_numbered}
 use Rattle.kx_codes.proofs.pairs.Pairs.put_code.Goals as goal
 
 pub returns-clause-before : goal.returns-clause-before

@@ -1,7 +1,7 @@
 use Rattle.std.proofs.Common.{Some, cond, nat_eq, sym, ap, ◌∙◌, option_map}
 use Rattle.kx_codes.specs.Numbers.{number}
 use Rattle.kx_codes.specs.Pairs.{name_in}
-use Rattle.kx_codes.proofs.Numbered.{look_numbers, numbers_put}
+use Rattle.kx_codes.proofs.NumberMaps.{look_numbers, numbers_put}
 use Rattle.kx_codes.proofs.pairs.Pairs.put_name.Goals as goal
 
 pub returns-clause-before : goal.returns-clause-before

@@ -1,7 +1,7 @@
 use Rattle.std.proofs.Common.{◌<◌, ◌≤◌, nat_eq, take, length, sym, ap, subst, ◌∙◌, take_all}
 use Rattle.std.specs.List.{IsDistinct}
-use Rattle.kx_codes.proofs.Numbered.{keys_numbers, length_numbers}
-use Rattle.kx_codes.specs.Numbered.{with_numbers}
+use Rattle.kx_codes.proofs.NumberMaps.{keys_numbers, length_numbers}
+use Rattle.kx_codes.specs.Numbers.{with_numbers}
 use Rattle.kx_codes.specs.Indexed.{Stands}
 use Rattle.kx_codes.specs.Pairs.{all_taken}
 use Rattle.kx_codes.proofs.Standing.{all_stand, some_at, next_taken, length-coded}

@@ -1,11 +1,11 @@
 use Rattle.std.proofs.Common.{sym, ap, subst, ◌∙◌}
 use Rattle.std.specs.List.{slice_get}
 use Rattle.kx_codes.specs.Indexed.{Stands}
-use Rattle.kx_codes.specs.Numbered.{with_numbers}
+use Rattle.kx_codes.specs.Numbers.{with_numbers}
 use Rattle.kx_codes.specs.Numbers.{number}
 use Rattle.kx_codes.specs.Pairs.{Pair, taken}
 use Rattle.kx_codes.proofs.Matching.{some_same}
-use Rattle.kx_codes.proofs.Numbered.{numbers_at}
+use Rattle.kx_codes.proofs.NumberMaps.{numbers_at}
 use Rattle.kx_codes.proofs.Standing.{coded_at}
 use Rattle.kx_codes.proofs.pairs.Pairs.take_at.Goals as goal
 

@@ -1,6 +1,6 @@
 use Rattle.std.proofs.Common.{◌≡◌, ℕ, List, None, Some, option_map, cond, nat_eq, sym, ap, ◌∙◌, rules}
 use Rattle.std.specs.Str.{bytes_eq}
-use Rattle.kx_codes.proofs.Numbered.{number_none, number_some}
+use Rattle.kx_codes.proofs.NumberMaps.{number_none, number_some}
 use Rattle.kx_codes.specs.Numbers.{number}
 use Rattle.kx_codes.specs.Pairs.{Pair, code_in, name_in}
 use Rattle.kx_codes.proofs.Places.{dropped, dropped_codes, dropped_names, name_stays, same_place, takes_place}

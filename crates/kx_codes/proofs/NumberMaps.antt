@@ -10,7 +10,7 @@ use Rattle.kx_codes.proofs.Entries.{code_named, named_put, named_removed, put_lo
 use Rattle.kx_codes.specs.Codes.{named, coded}
 use Rattle.kx_codes.proofs.Standing.{sharing}
 use Rattle.kx_codes.specs.Indexed.{Indexed, Stands}
-use Rattle.kx_codes.specs.Numbered.{with_numbers}
+use Rattle.kx_codes.specs.Numbers.{with_numbers}
 use Rattle.kx_codes.specs.Numbers.{number}
 use Rattle.kx_codes.specs.Pairs.{Pair, shares, code_in, name_in}
 
