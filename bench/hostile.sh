@@ -99,3 +99,10 @@ run 'includes that double, 11 deep' $files f11="$work/keys"
 awk 'BEGIN { for (i = 0; i < 50000; i++) print "xkb_types{};"; print "xkb_symbols { };" }' > "$work/sections"
 including symbols a 4000
 run 'the last of 50,001 sections, included 4,000 times' a="$work/sections"
+
+awk 'BEGIN { for (i = 0; i < 45000; i++) printf "xkb_symbols\"%d\"{};\n", i }' > "$work/named"
+awk 'BEGIN { print "xkb_keymap {\nxkb_symbols {"; for (i = 44999; i >= 41000; i--) printf "include \"a(%d)\"\n", i; print "};\n};" }' > "$work/source"
+run '4,000 of 45,000 maps of a file, each included once' a="$work/named"
+
+awk 'BEGIN { print "xkb_keymap { xkb_keycodes { <A>=1; }; xkb_symbols { key <A> {[a"; for (i = 1; i < 200000; i++) printf ",a"; print "]};"; for (i = 0; i < 40000; i++) print "key<A>{[b]};"; print "}; };" }' > "$work/source"
+run 'a key of 200,000 levels, and 40,000 statements that change its first'

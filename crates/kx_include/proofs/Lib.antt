@@ -6,4 +6,5 @@ pub mod Knowing
 pub mod Walking
 pub mod Visiting
 pub mod Sections
+pub mod Indexing
 pub mod Complete

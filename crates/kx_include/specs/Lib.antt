@@ -1,6 +1,7 @@
 pub mod Limits
 pub mod IncludeText
 pub mod Library
+pub mod MapIndex
 pub mod Expansion
 pub mod Shared
 pub mod IncludeFaults

@@ -4,6 +4,9 @@
 mod expanding;
 mod expansion;
 mod files;
+mod indexed;
+mod kind_maps;
+mod map_index;
 mod part;
 mod place;
 mod reading;
@@ -14,4 +17,4 @@ pub use expansion::{Bodies, Entry, Expansion, Link, Map};
 pub use files::Files;
 pub use part::{Part, include_parts};
 pub use place::Place;
-pub use sources::{Library, is_of};
+pub use sources::Library;

@@ -1,17 +1,17 @@
-ghost use Rattle.std.specs.Prelude.{◌≡◌, ◌&&◌, ◌≤◌, ◌<◌, ◌⊎◌, map, length, slice_get, IfOk, IfErr, IfSome, Some, List, ℕ};
-ghost use Rattle.std.specs.List.{list_any, position};
+ghost use Rattle.std.specs.Prelude.{◌≡◌, ◌≤◌, ◌<◌, ◌⊎◌, map, length, slice_get, IfOk, IfErr, IfSome, Some, List, ℕ};
 ghost use Rattle.std.specs.Option.{option_map};
 ghost use Rattle.kx_lex.specs.declared.fault.Fault.TheVariants.{Memory, TooMany};
 ghost use Rattle.kx_include.specs.IncludeFaults.{at};
-ghost use Rattle.kx_include.specs.Library.{folder, file_of, number_of, is_of, is_default_flag, has_name, map_of, sections_in, items_in, place_in, place_of};
+ghost use Rattle.kx_include.specs.Library.{folder, file_of, number_of, sections_in, items_in, place_in, place_of};
 ghost use Rattle.kx_include.specs.Texts.{IsLibrary};
 
 use crate::files::Files;
+use crate::indexed::IndexedText;
 use crate::part::Part;
 use crate::place::Place;
 use crate::text::read_text;
 use kx_lex::{At, Fault, Span};
-use kx_parse::{Flag, Item, Kind, Name, Section, Tree};
+use kx_parse::{Item, Kind, Section, Tree};
 use std::alloc::{AllocError, Global};
 use std::marker::Model;
 
@@ -22,7 +22,7 @@ pub const MOST_FILES: usize = 65_535;
 #[derive(Drop)]
 pub struct Library<'a> {
     files: &'a Files,
-    texts: Vec<Result<Tree, Fault>>,
+    texts: Vec<IndexedText>,
 }
 
 impl<'a> Model for Library<'a> {
@@ -45,72 +45,6 @@ fn folder(kind: Kind) -> &'static [u8]
         Kind::Compat => b"compat/",
         Kind::Symbols => b"symbols/",
         Kind::Geometry => b"geometry/",
-    }
-}
-
-/// Whether a section is of a kind.
-pub fn is_of(kind: Kind, section: &Section) -> bool
-    ensures { result ≡ is_of kind section.now }
-{
-    matches!(
-        (kind, section.kind),
-        (Kind::Keycodes, Kind::Keycodes)
-            | (Kind::Types, Kind::Types)
-            | (Kind::Compat, Kind::Compat)
-            | (Kind::Symbols, Kind::Symbols)
-            | (Kind::Geometry, Kind::Geometry)
-    )
-}
-
-fn has_name(name: &[u8], given: &Option<Name>) -> bool
-    ensures { result ≡ has_name name.now given.now }
-{
-    match given {
-        None => false,
-        Some(given) => name == given.bytes.as_slice(),
-    }
-}
-
-fn is_default(section: &Section) -> bool
-    ensures { result ≡ list_any is_default_flag section.now.flags }
-{
-    section
-        .flags
-        .as_slice()
-        .iter()
-        .any(|flag| matches!(*flag, Flag::Default))
-}
-
-/// Which section is the first of a kind that has a name.
-fn named_map(sections: &[Section], kind: Kind, name: &[u8]) -> Option<usize>
-    ensures { result ≡ position (λ s. is_of kind s && has_name name.now s.name) sections.now }
-{
-    sections.iter().position(|section| is_of(kind, section) && has_name(name, &section.name))
-}
-
-/// Which section is the first of a kind that is flagged default.
-fn default_map(sections: &[Section], kind: Kind) -> Option<usize>
-    ensures { result ≡ position (λ s. is_of kind s && list_any is_default_flag s.flags) sections.now }
-{
-    sections
-        .iter()
-        .position(|section| is_of(kind, section) && is_default(section))
-}
-
-/// Which section is the first of a kind.
-fn first_map(sections: &[Section], kind: Kind) -> Option<usize>
-    ensures { result ≡ position (is_of kind) sections.now }
-{
-    sections.iter().position(|section| is_of(kind, section))
-}
-
-/// Which of some sections is the map of a name, or without one the default map of a kind.
-fn map_of(sections: &[Section], kind: Kind, name: Option<&[u8]>) -> Option<usize>
-    ensures { result ≡ map_of sections.now kind (option_map (λ n. n.now) name.entry) }
-{
-    match name {
-        Some(name) => named_map(sections, kind, name),
-        None => default_map(sections, kind).or(first_map(sections, kind)),
     }
 }
 
@@ -143,10 +77,10 @@ impl<'a> Library<'a> {
             }));
         }
         let mut texts = Vec::new(alloc);
-        texts.push(Ok(tree))?;
+        texts.push(IndexedText::of(alloc, Ok(tree))?)?;
         'files: for place in 0..files.len() {
             let text = read_text(alloc, place as u32 + 1, files.bytes_at(place))?;
-            texts.push(text)?;
+            texts.push(IndexedText::of(alloc, text)?)?;
         }
         Ok(Library { files, texts })
     }
@@ -155,10 +89,7 @@ impl<'a> Library<'a> {
     pub(crate) fn fault_of(&self, file: u32) -> Option<Fault>
         ensures { result ≡ fault_in (slice_get self.now.texts file) }
     {
-        match self.texts.get(file as usize) {
-            Some(Err(fault)) => Some(*fault),
-            Some(Ok(_)) | None => None,
-        }
+        self.texts.get(file as usize)?.fault()
     }
 
     /// The sections of the text of a number; none where it has no tree.
@@ -166,8 +97,8 @@ impl<'a> Library<'a> {
         ensures { result.now ≡ sections_in self.now file }
     {
         match self.texts.get(file as usize) {
-            Some(Ok(tree)) => tree.sections.as_slice(),
-            Some(Err(_)) | None => &[],
+            Some(text) => text.sections(),
+            None => &[],
         }
     }
 
@@ -203,7 +134,9 @@ impl<'a> Library<'a> {
     pub(crate) fn place_in(&self, kind: Kind, map: Option<&[u8]>, file: u32) -> Option<Place>
         ensures { result ≡ place_in self.now kind (option_map (λ m. m.now) map.entry) file }
     {
-        map_of(self.sections_in(file), kind, map).map(|section| Place { file, section })
+        let text = self.texts.get(file as usize)?;
+        text.map_of(kind, map)
+            .map(|section| Place { file, section })
     }
 
     /// The map that a part of an include's text names.
