@@ -4,15 +4,16 @@ use Rattle.std.specs.Prelude.{is_some}
 use Rattle.kx_lex.specs.declared.token.Token.{Token}
 use Rattle.kx_lex.specs.Production.{Production}
 use Rattle.kx_lex.specs.Kinds.{is_word, is_mark, front, before_mark}
-use Rattle.kx_lex.specs.Tokens.{open_brace, close_brace, open_bracket, close_bracket, open_paren, close_paren, comma, point, equals, plus, minus, bang}
+use Rattle.kx_lex.specs.Tokens.{open_brace, close_brace, open_bracket, close_bracket, open_paren, close_paren, comma, point, equals, plus, minus, bang, mark}
 use Rattle.kx_lex.proofs.Lawful.{Lawful, Admits, ◌>>=◌, give-lawful, either-lawful, optional-lawful, many-lawful, known-lawful, spanned-lawful}
 use Rattle.kx_lex.proofs.Others.{word-before, number-before, key_name-before, text-before, mark-before}
 use Rattle.kx_lex.proofs.TokenLaws.{mark-lawful, mark-least, mark-front, word-lawful, word-front, word-behind, key_name-lawful, key_name-front, text_name-lawful, text_name-front, number-lawful, number-front}
-use Rattle.kx_parse.specs.Values.{after_comma, sequence, listed, symbol, sign_of, is_sign, sign, signed, term, operation, expression, index, optional_index, member, optional_member, place, begins_set, set_argument, off_argument, bare_argument, argument, begins_call, call, part, braces, element, list, value}
+use Rattle.kx_parse.specs.Forms.{after, listed, sequence}
+use Rattle.kx_parse.specs.Values.{symbol, sign_of, is_sign, sign, signed, term, operation, expression, index, optional_index, member, optional_member, place, begins_set, set_argument, off_argument, bare_argument, argument, begins_call, call, part, braces, element, list, value}
 use Rattle.kx_parse.specs.declared.tree.Argument.{Argument}
 use Rattle.kx_parse.specs.declared.tree.Sign.TheVariants.{Plus, Minus}
 
-abbrev pub after_comma-lawful : {A : Type 0} {p : Production A} (text : List ℕ) → Lawful text p → Lawful text (after_comma text p)
+abbrev pub after_comma-lawful : {A : Type 0} {p : Production A} (text : List ℕ) → Lawful text p → Lawful text (after (mark text comma) p)
 after_comma-lawful text lp = do
   _ ← mark-lawful text comma
   lp

@@ -4,9 +4,10 @@ use Rattle.kx_lex.specs.declared.keyword.Keyword.TheVariants as keywords
 use Rattle.kx_lex.specs.declared.token.Token.{Token}
 use Rattle.kx_lex.specs.declared.token.Span.{Span}
 use Rattle.kx_lex.specs.declared.fault.Fault.{Fault}
-use Rattle.kx_lex.specs.Production.{Production, ◌>>=◌, give, many, either, known, optional, spanned, fronted, at_end}
+use Rattle.kx_lex.specs.Production.{Production, ◌>>=◌, give, many, either, known, optional, fronted, at_end}
 use Rattle.kx_lex.specs.Kinds.{is_word, is_key_name, is_text, is_mark, is_keyword, front, second, before_mark}
 use Rattle.kx_lex.specs.Tokens.{mark, keyword, text_name, open_brace, close_brace, semicolon, bang}
+use Rattle.kx_parse.specs.Forms.{after, between, both, ended, made3, placed}
 use Rattle.kx_parse.specs.Geometry.{geometry}
 use Rattle.kx_parse.specs.Statements.{statement}
 use Rattle.kx_lex.specs.declared.name.Name.{Name}
@@ -51,12 +52,7 @@ unfoldable pub mode : List ℕ → Production Mode
 mode text = known text mode_of
 
 unfoldable pub include : List ℕ → Production Item
-include text = do
-  i ← spanned {A = Mode × Name} (do
-    m ← join text
-    n ← text_name text
-    give (m, n))
-  give (items.Include i.0.0 i.0.1 i.1)
+include text = placed (λ i span. items.Include i.0 i.1 span) (both (join text) (text_name text))
 
 -- a statement in a mode, with its first token and its ;
 unfoldable pub moded : List ℕ → Mode → Production (Mode × Statement × Span)
@@ -71,9 +67,7 @@ modal text = do
   moded text m
 
 unfoldable pub own : List ℕ → Production Item
-own text = do
-  s ← spanned (either begins_moded (modal text) (moded text Override))
-  give (items.Statement s.0.0 s.0.1 s.0.2 s.1)
+own text = placed (λ s span. items.Statement s.0 s.1 s.2 span) (either begins_moded (modal text) (moded text Override))
 
 unfoldable pub item : List ℕ → Production Item
 item text = either begins_include (include text) (own text)
@@ -121,25 +115,13 @@ unfoldable pub optional_text : List ℕ → Production (Option Name)
 optional_text text = optional (front is_text) (text_name text)
 
 unfoldable pub held_items : List ℕ → Production (List Item)
-held_items text = do
-  _ ← mark text open_brace
-  is ← many (before_mark close_brace) (item text)
-  _ ← mark text close_brace
-  give is
+held_items text = between text open_brace close_brace (many (before_mark close_brace) (item text))
 
 unfoldable pub plain_section : List ℕ → List Flag → Production Section
-plain_section text fs = do
-  k ← kind text
-  n ← optional_text text
-  is ← held_items text
-  give (record { flags = fs; kind = k; name = n; items = is })
+plain_section text fs = made3 (λ k n is. record { flags = fs; kind = k; name = n; items = is }) (kind text) (optional_text text) (held_items text)
 
 unfoldable pub geometry_body : List ℕ → Production (Unit {0})
-geometry_body text = do
-  _ ← mark text open_brace
-  _ ← geometry text
-  _ ← mark text close_brace
-  give tt
+geometry_body text = after (mark text open_brace) (ended text close_brace (geometry text))
 
 -- geometry is read over, and kept as an empty section
 unfoldable pub geometry_section : List ℕ → List Flag → Production Section
@@ -155,16 +137,10 @@ flagged text fs = either (front (is_keyword keywords.XkbGeometry)) (geometry_sec
 unfoldable pub section : List ℕ → Production Section
 section text = do
   fs ← flags text
-  s ← flagged text fs
-  _ ← mark text semicolon
-  give s
+  ended text semicolon (flagged text fs)
 
 unfoldable pub held_sections : List ℕ → Production (List Section)
-held_sections text = do
-  _ ← mark text open_brace
-  ss ← many (before_mark close_brace) (section text)
-  _ ← mark text close_brace
-  give ss
+held_sections text = between text open_brace close_brace (many (before_mark close_brace) (section text))
 
 -- a keymap's source
 unfoldable pub source : List ℕ → Production Tree

@@ -3,10 +3,11 @@ use Rattle.std.specs.Prelude.{ℕ, Bool, ◌&&◌, ◌||◌, List, Option}
 use Rattle.kx_lex.specs.declared.keyword.Keyword.{Keyword}
 use Rattle.kx_lex.specs.declared.keyword.Keyword.TheVariants as keywords
 use Rattle.kx_lex.specs.declared.token.Token.{Token}
-use Rattle.kx_lex.specs.Production.{Production, ◌>>=◌, give, many, either, optional, spanned}
+use Rattle.kx_lex.specs.Production.{Production, give, many, either, optional}
 use Rattle.kx_lex.specs.Kinds.{is_word, is_number, is_key_name, is_text, is_mark, is_keyword, front, second, before_mark}
 use Rattle.kx_lex.specs.Tokens.{mark, keyword, word, key_name, text_name, number, open_brace, close_brace, open_bracket, semicolon, equals, plus, bang}
-use Rattle.kx_parse.specs.Values.{sequence, listed, symbol, expression, place, value, call, list, begins_call}
+use Rattle.kx_parse.specs.Forms.{after, assigned, between, both, ended, headed, listed, made, made2, made3, placed, sequence}
+use Rattle.kx_parse.specs.Values.{symbol, expression, place, value, call, list, begins_call}
 use Rattle.kx_parse.specs.declared.tree.FieldPlace.{FieldPlace}
 use Rattle.kx_parse.specs.declared.tree.Expression.{Expression}
 use Rattle.kx_parse.specs.declared.tree.Setting.{Setting}
@@ -23,185 +24,92 @@ use Rattle.kx_parse.specs.declared.tree.Statement.{Statement}
 use Rattle.kx_parse.specs.declared.tree.Statement.TheVariants as statements
 
 unfoldable pub setting : List ℕ → Production Setting
-setting text = either (front (is_mark equals))
-    (do
-      _ ← mark text equals
-      v ← value text
-      give (settings.To v))
-    (give settings.On)
+setting text = either (front (is_mark equals)) (after (mark text equals) (made settings.To (value text))) (give settings.On)
 
 abbrev pub off_field : List ℕ → Production (FieldPlace × Setting)
-off_field text = do
-  _ ← mark text bang
-  p ← place text
-  give (p, settings.Off)
+off_field text = after (mark text bang) (made (λ p. (p, settings.Off)) (place text))
 
 abbrev pub on_field : List ℕ → Production (FieldPlace × Setting)
-on_field text = do
-  p ← place text
-  s ← setting text
-  give (p, s)
+on_field text = both (place text) (setting text)
 
 abbrev pub bare_field : List ℕ → Production (FieldPlace × Setting)
 bare_field text = either (front (is_mark bang)) (off_field text) (on_field text)
 
 unfoldable pub field : List ℕ → Production Field
-field text = do
-  f ← spanned (bare_field text)
-  give (record { place = f.0.0; setting = f.0.1; span = f.1 })
+field text = placed (λ f span. record { place = f.0; setting = f.1; span = span }) (bare_field text)
 
 unfoldable pub block_field : List ℕ → Production Field
-block_field text = do
-  f ← field text
-  _ ← mark text semicolon
-  give f
+block_field text = ended text semicolon (field text)
 
 unfoldable pub block : List ℕ → Production (List Field)
-block text = do
-  _ ← mark text open_brace
-  fields ← many (before_mark close_brace) (block_field text)
-  _ ← mark text close_brace
-  give fields
+block text = between text open_brace close_brace (many (before_mark close_brace) (block_field text))
 
 unfoldable pub key_field : List ℕ → Production KeyField
-key_field text = either (front (is_mark open_bracket))
-    (do
-      l ← list text
-      give (key_fields.List l))
-    (do
-      f ← field text
-      give (key_fields.Field f))
+key_field text = either (front (is_mark open_bracket)) (made key_fields.List (list text)) (made key_fields.Field (field text))
 
 abbrev pub declared_mask : List ℕ → Production (Option Expression)
-declared_mask text = optional (front (is_mark equals)) (do
-  _ ← mark text equals
-  expression text)
+declared_mask text = optional (front (is_mark equals)) (after (mark text equals) (expression text))
 
 unfoldable pub declaration : List ℕ → Production Declaration
-declaration text = do
-  w ← word text
-  m ← declared_mask text
-  give (record { word = w; mask = m })
+declaration text = made2 (λ w m. record { word = w; mask = m }) (word text) (declared_mask text)
 
 unfoldable pub predicate : List ℕ → Production Predicate
-predicate text = either begins_call
-    (do
-      c ← call text
-      give (predicates.Call c))
-    (do
-      e ← expression text
-      give (predicates.Mask e))
+predicate text = either begins_call (made predicates.Call (call text)) (made predicates.Mask (expression text))
 
 unfoldable pub entry : List ℕ → Production Entry
-entry text = either (front is_key_name)
-    (do
-      n ← key_name text
-      give (entries.KeyName n))
-    (do
-      s ← symbol text
-      give (entries.Symbol s))
+entry text = either (front is_key_name) (made entries.KeyName (key_name text)) (made entries.Symbol (symbol text))
 
 -- this word, and behind it a token that passes the test
 abbrev pub begins : Keyword → (Token → Bool) → List Token → Bool
 begins keyword test ts = front (is_keyword keyword) ts && second test ts
 
 unfoldable pub keycode : List ℕ → Production Statement
-keycode text = do
-  n ← key_name text
-  _ ← mark text equals
-  c ← number text
-  give (statements.Keycode n c)
+keycode text = assigned text statements.Keycode (key_name text) (number text)
 
 unfoldable pub alias : List ℕ → Production Statement
-alias text = do
-  _ ← keyword text keywords.Alias
-  n ← key_name text
-  _ ← mark text equals
-  target ← key_name text
-  give (statements.Alias n target)
+alias text = after (keyword text keywords.Alias) (assigned text statements.Alias (key_name text) (key_name text))
 
 unfoldable pub indicator_name : List ℕ → Production Statement
-indicator_name text = do
-  _ ← keyword text keywords.Indicator
-  i ← number text
-  _ ← mark text equals
-  n ← text_name text
-  give (statements.IndicatorName i n)
+indicator_name text = after (keyword text keywords.Indicator) (assigned text statements.IndicatorName (number text) (text_name text))
 
 unfoldable pub virtual_indicator : List ℕ → Production Statement
-virtual_indicator text = do
-  _ ← keyword text keywords.Virtual
-  indicator_name text
+virtual_indicator text = after (keyword text keywords.Virtual) (indicator_name text)
 
 unfoldable pub virtual_modifiers : List ℕ → Production Statement
-virtual_modifiers text = do
-  _ ← keyword text keywords.VirtualModifiers
-  ds ← sequence text (declaration text)
-  give (statements.VirtualModifiers ds)
+virtual_modifiers text = after (keyword text keywords.VirtualModifiers) (made statements.VirtualModifiers (sequence text (declaration text)))
 
 unfoldable pub key_type : List ℕ → Production Statement
-key_type text = do
-  _ ← keyword text keywords.Type
-  n ← text_name text
-  fs ← block text
-  give (statements.KeyType n fs)
+key_type text = after (keyword text keywords.Type) (made2 statements.KeyType (text_name text) (block text))
 
 unfoldable pub wanted_modifiers : List ℕ → Production Predicate
-wanted_modifiers text = do
-  _ ← mark text plus
-  predicate text
+wanted_modifiers text = after (mark text plus) (predicate text)
 
 abbrev pub optional_modifiers : List ℕ → Production (Option Predicate)
 optional_modifiers text = optional (front (is_mark plus)) (wanted_modifiers text)
 
 unfoldable pub interpretation : List ℕ → Production Statement
-interpretation text = do
-  _ ← keyword text keywords.Interpret
-  s ← symbol text
-  p ← optional_modifiers text
-  fs ← block text
-  give (statements.Interpretation s p fs)
+interpretation text =
+    after (keyword text keywords.Interpret) (made3 statements.Interpretation (symbol text) (optional_modifiers text) (block text))
 
 unfoldable pub indicator : List ℕ → Production Statement
-indicator text = do
-  _ ← keyword text keywords.Indicator
-  n ← text_name text
-  fs ← block text
-  give (statements.Indicator n fs)
+indicator text = after (keyword text keywords.Indicator) (made2 statements.Indicator (text_name text) (block text))
 
 unfoldable pub group : List ℕ → Production Statement
-group text = do
-  _ ← keyword text keywords.Group
-  n ← number text
-  _ ← mark text equals
-  m ← expression text
-  give (statements.Group n m)
+group text = after (keyword text keywords.Group) (assigned text statements.Group (number text) (expression text))
 
 unfoldable pub key : List ℕ → Production Statement
-key text = do
-  _ ← keyword text keywords.Key
-  n ← key_name text
-  _ ← mark text open_brace
-  fs ← listed text close_brace (key_field text)
-  _ ← mark text close_brace
-  give (statements.Key n fs)
+key text = after (keyword text keywords.Key)
+    (headed text open_brace close_brace statements.Key (key_name text) (listed text close_brace (key_field text)))
 
 unfoldable pub mapped_entries : List ℕ → Production (List Entry)
 mapped_entries text = sequence text (entry text)
 
 unfoldable pub modifier_map : List ℕ → Production Statement
-modifier_map text = do
-  _ ← keyword text keywords.ModifierMap
-  w ← word text
-  _ ← mark text open_brace
-  es ← mapped_entries text
-  _ ← mark text close_brace
-  give (statements.ModifierMap w es)
+modifier_map text = after (keyword text keywords.ModifierMap)
+    (headed text open_brace close_brace statements.ModifierMap (word text) (mapped_entries text))
 
 unfoldable pub field_statement : List ℕ → Production Statement
-field_statement text = do
-  f ← field text
-  give (statements.Field f)
+field_statement text = made statements.Field (field text)
 
 -- statements of keycodes sections
 unfoldable pub keycodes_statement : List ℕ → Production Statement → Production Statement
