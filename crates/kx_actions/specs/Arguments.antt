@@ -18,8 +18,9 @@ use Rattle.kx_parse.specs.declared.tree.Value.TheVariants.{Expression as Express
 use Rattle.kx_tables.specs.declared.rows.GroupChange.TheVariants.{Relative}
 use Rattle.kx_actions.specs.Defaults.{settings_for}
 use Rattle.kx_actions.specs.Settings.{last_settings}
-use Rattle.kx_actions.specs.Values.{lone_word, member_faults, member_given}
-use Rattle.kx_actions.specs.Words.{among, kind_words}
+use Rattle.kx_values.specs.Words.{among, lone_word}
+use Rattle.kx_actions.specs.Values.{member_faults, member_given}
+use Rattle.kx_actions.specs.Words.{kind_words}
 use Rattle.kx_actions.specs.declared.action.ActionMods.TheVariants.{Named}
 use Rattle.kx_actions.specs.declared.action.Affect.TheVariants.{Both}
 use Rattle.kx_actions.specs.declared.action.KeyAction.{KeyAction}

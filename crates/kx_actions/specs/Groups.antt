@@ -1,32 +1,17 @@
 -- The group that an action names: with a sign, so many groups on; without one, a group counted from 1.
-use Rattle.std.specs.Prelude.{ℕ, pos, negsuc, neg_ℤ, ◌-◌, ◌&&◌, nat_le, nat_lt, Bool, List, [], ◌∷◌, length, take, drop, Option, None, Some, if◌then◌else◌, codes}
-use Rattle.std.specs.List.{list_all}
+use Rattle.std.specs.Prelude.{ℕ, pos, negsuc, neg_ℤ, ◌-◌, ◌&&◌, nat_le, nat_lt, Bool, Option, None, Some, if◌then◌else◌}
 use Rattle.std.specs.Option.{option_map}
-use Rattle.std.specs.Char.{is_ascii_digit}
-use Rattle.std.specs.Str.{str_eq_ignore_ascii_case}
-use Rattle.std.specs.Str.Parse.{digits_value}
 use Rattle.kx_basics.specs.declared.limits.TheConstants.{MOST_GROUPS}
 use Rattle.kx_parse.specs.declared.tree.Expression.{Expression}
-use Rattle.kx_parse.specs.declared.tree.Operation.{Operation}
 use Rattle.kx_parse.specs.declared.tree.Sign.{Sign}
 use Rattle.kx_parse.specs.declared.tree.Sign.TheVariants.{Plus, Minus}
 use Rattle.kx_parse.specs.declared.tree.Term.{Term}
 use Rattle.kx_parse.specs.declared.tree.Term.TheVariants.{Number, Signed, Word}
 use Rattle.kx_tables.specs.declared.rows.GroupChange.{GroupChange}
 use Rattle.kx_tables.specs.declared.rows.GroupChange.TheVariants.{Absolute, Relative}
-
--- one digit or more
-abbrev pub is_number : List ℕ → Bool
-is_number digits = nat_lt 0 (length digits) && list_all is_ascii_digit digits
-
--- the number behind the word Group in any case; leading zeros don't count
-abbrev pub group_word : List ℕ → Option ℕ
-group_word word = if str_eq_ignore_ascii_case (take 5 word) (codes "group") && is_number (drop 5 word) then Some (digits_value 10 (drop 5 word)) else None
-
--- what is written of an expression of one term
-abbrev pub single : {X : Type 0} → List Operation → Option X → Option X
-single [] x = x
-single (o ∷ os) x = None
+use Rattle.kx_values.specs.Numbers.{word_number}
+use Rattle.kx_values.specs.Words.{single}
+use Rattle.kx_values.specs.declared.numbers.Counted.TheVariants.{Group}
 
 -- a group as it is written: its sign, where it has one, and its number
 abbrev pub Written : Type 0
@@ -38,7 +23,7 @@ unsigned n = (None, n)
 abbrev pub term_written : Term → Option Written
 term_written (Signed signed) = Some (Some signed.sign, signed.number.value)
 term_written (Number number) = Some (unsigned number.value)
-term_written (Word word) = option_map unsigned (group_word word.bytes)
+term_written (Word word) = option_map unsigned (word_number Group word.bytes)
 term_written _ = None
 
 abbrev pub written : Expression → Option Written

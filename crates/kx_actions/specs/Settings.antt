@@ -1,7 +1,8 @@
 -- What the fields of an action are given, and the last of several that give a field.
-use Rattle.std.specs.Prelude.{Bool, List, [], ◌∷◌, Option, None, Some}
+use Rattle.std.specs.Prelude.{Bool, List, Option, None, Some}
 use Rattle.std.specs.Option.{option_and_then, option_or}
 use Rattle.kx_tables.specs.declared.rows.GroupChange.{GroupChange}
+use Rattle.kx_values.specs.Last.{last_given}
 use Rattle.kx_actions.specs.declared.action.ActionMods.{ActionMods}
 use Rattle.kx_actions.specs.declared.action.Affect.{Affect}
 use Rattle.kx_actions.specs.declared.settings.Given.{Given}
@@ -39,11 +40,6 @@ given_clear_locks _ = None
 abbrev pub given_latch_to_lock : Given → Option Bool
 given_latch_to_lock (given.LatchToLock on) = Some on
 given_latch_to_lock _ = None
-
--- what the last gives, of those that give anything
-abbrev pub last_given : {X Y : Type 0} → (X → Option Y) → List X → Option Y
-last_given gives [] = None
-last_given gives (x ∷ xs) = option_or (last_given gives xs) (gives x)
 
 module _ {X : Type 0} (gives : X → Option Given) where
   -- each field has what the last gives that gives it anything, else what it had before them

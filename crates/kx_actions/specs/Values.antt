@@ -12,11 +12,10 @@ use Rattle.kx_parse.specs.declared.tree.Expression.{Expression}
 use Rattle.kx_parse.specs.declared.tree.Index.{Index}
 use Rattle.kx_parse.specs.declared.tree.Setting.{Setting}
 use Rattle.kx_parse.specs.declared.tree.Setting.TheVariants.{Off, On, To}
-use Rattle.kx_parse.specs.declared.tree.Term.{Term}
-use Rattle.kx_parse.specs.declared.tree.Term.TheVariants as terms
 use Rattle.kx_parse.specs.declared.tree.Value.TheVariants.{Expression as Expressed, Call as Called, List as Listed}
-use Rattle.kx_actions.specs.Groups.{Written, change_of, single, written}
-use Rattle.kx_actions.specs.Words.{among, field_of}
+use Rattle.kx_values.specs.Words.{lone_word, meaning_among, truth_words}
+use Rattle.kx_actions.specs.Groups.{Written, change_of, written}
+use Rattle.kx_actions.specs.Words.{field_of}
 use Rattle.kx_actions.specs.declared.action.ActionMods.{ActionMods}
 use Rattle.kx_actions.specs.declared.action.ActionMods.TheVariants.{Named, OfKey}
 use Rattle.kx_actions.specs.declared.action.Affect.{Affect}
@@ -27,23 +26,8 @@ use Rattle.kx_actions.specs.declared.kinds.ActionKind.{ActionKind}
 use Rattle.kx_actions.specs.declared.settings.Given.{Given}
 use Rattle.kx_actions.specs.declared.settings.Given.TheVariants as given
 
-abbrev pub term_word : Term → Option Name
-term_word (terms.Word word) = Some word
-term_word _ = None
-
--- the word of an expression that is one word
-abbrev pub lone_word : Expression → Option Name
-lone_word e = single e.rest (term_word e.first)
-
-abbrev pub truth_words : List (List ℕ × Bool)
-truth_words = (codes "true", true) ∷ (codes "yes", true) ∷ (codes "on", true) ∷ (codes "false", false) ∷ (codes "no", false) ∷ (codes "off", false) ∷ []
-
 abbrev pub affect_words : List (List ℕ × Affect)
 affect_words = (codes "lock", affects.Lock) ∷ (codes "unlock", affects.Unlock) ∷ (codes "both", affects.Both) ∷ (codes "neither", affects.Neither) ∷ []
-
--- what an expression of one word means among words
-abbrev pub meaning_among : {X : Type 0} → List (List ℕ × X) → Expression → Option X
-meaning_among words e = option_and_then (λ w. among words w.bytes) (lone_word e)
 
 abbrev pub is_modmap : Expression → Bool
 is_modmap e = option_map_or (λ w. str_eq_ignore_ascii_case w.bytes (codes "modMapMods")) (lone_word e) false

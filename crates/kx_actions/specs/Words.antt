@@ -1,16 +1,11 @@
 -- The words of actions and of their arguments, which are read without regard to case, and which arguments an action has.
 use Rattle.std.specs.Prelude.{ℕ, Bool, true, false, List, [], ◌∷◌, Option, None, Some, if◌then◌else◌, codes}
 use Rattle.std.specs.Option.{option_and_then}
-use Rattle.std.specs.Str.{str_eq_ignore_ascii_case}
+use Rattle.kx_values.specs.Words.{among}
 use Rattle.kx_actions.specs.declared.kinds.ActionField.{ActionField}
 use Rattle.kx_actions.specs.declared.kinds.ActionField.TheVariants as fields
 use Rattle.kx_actions.specs.declared.kinds.ActionKind.{ActionKind}
 use Rattle.kx_actions.specs.declared.kinds.ActionKind.TheVariants as kinds
-
--- what a word means among words with their meanings
-abbrev pub among : {X : Type 0} → List (List ℕ × X) → List ℕ → Option X
-among [] word = None
-among (row ∷ rows) word = if str_eq_ignore_ascii_case word row.0 then Some row.1 else among rows word
 
 abbrev pub kind_words : List (List ℕ × ActionKind)
 kind_words =

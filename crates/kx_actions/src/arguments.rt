@@ -9,11 +9,12 @@ use crate::action::{ActionGroup, ActionMods, Affect, KeyAction};
 use crate::defaults::ActionDefaults;
 use crate::kinds::{ActionKind, kind_named};
 use crate::settings::{Given, Settings};
-use crate::values::{bad_value, flag_given, known_field, lone_word, value_given};
+use crate::values::{flag_given, known_field, value_given};
 use kx_lex::Fault;
 use kx_masks::{ModNames, NameSet};
 use kx_parse::{Argument, Call, PlacedArgument};
 use kx_tables::GroupChange;
+use kx_values::{bad_value, lone_word};
 
 fn read_argument(
     names: &ModNames,

@@ -6,10 +6,11 @@ ghost use Rattle.std.specs.Result.{result_ok};
 
 use crate::kinds::{ActionKind, kind_named};
 use crate::settings::{Given, Settings};
-use crate::values::{bad_value, flag_given, known_field, value_given};
+use crate::values::{flag_given, known_field, value_given};
 use kx_lex::{At, Fault, Name};
 use kx_masks::ModNames;
 use kx_parse::{Field, Setting, Value};
+use kx_values::bad_value;
 
 /// What the default statements of a section give the arguments of actions.
 #[derive(Clone, Copy, Debug, PartialEq, Eq)]

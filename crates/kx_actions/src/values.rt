@@ -5,55 +5,17 @@ ghost use Rattle.std.specs.Result.{result_ok};
 ghost use Rattle.kx_include.specs.IncludeFaults.{at};
 ghost use Rattle.kx_lex.specs.declared.fault.Fault.TheVariants.{BadValue, UnknownField};
 ghost use Rattle.kx_actions.specs.Groups.{change_of, term_written, written};
-ghost use Rattle.kx_actions.specs.Words.{among};
-ghost use Rattle.kx_actions.specs.Values.{affect_words, bad_unless, flag_given, is_modmap, known_field, lone_word, meaning_among, mods_faults, mods_of, truth_words, value_faults, value_given, written_faults};
+ghost use Rattle.kx_values.specs.Words.{among, meaning_among, truth_words};
+ghost use Rattle.kx_actions.specs.Values.{affect_words, bad_unless, flag_given, is_modmap, known_field, mods_faults, mods_of, value_faults, value_given, written_faults};
 
 use crate::action::{ActionGroup, ActionMods, Affect};
-use crate::groups::{absolute, group_word, relative};
+use crate::groups::{absolute, relative};
 use crate::kinds::{ActionField, ActionKind};
 use crate::settings::Given;
 use kx_lex::{At, Fault, Name, Span};
 use kx_masks::ModNames;
 use kx_parse::{Boxed, Expression, Index, Term};
-
-pub(crate) fn bad_value(file: u32, span: Span) -> Fault
-    ensures { result ≡ BadValue (at file span) }
-{
-    Fault::BadValue(At { file, span })
-}
-
-/// The word of an expression that is one word.
-pub(crate) fn lone_word(expression: &Expression) -> Option<&Name>
-    ensures { option_map (λ w. w.now) result ≡ lone_word expression.now }
-{
-    match expression.rest.as_slice() {
-        [] => match &expression.first {
-            Term::Word(word) => Some(word),
-            _ => None,
-        },
-        _ => None,
-    }
-}
-
-fn truth_named(word: &[u8]) -> Option<bool>
-    ensures { result ≡ among truth_words word.now }
-{
-    if word.eq_ignore_ascii_case(b"true") {
-        Some(true)
-    } else if word.eq_ignore_ascii_case(b"yes") {
-        Some(true)
-    } else if word.eq_ignore_ascii_case(b"on") {
-        Some(true)
-    } else if word.eq_ignore_ascii_case(b"false") {
-        Some(false)
-    } else if word.eq_ignore_ascii_case(b"no") {
-        Some(false)
-    } else if word.eq_ignore_ascii_case(b"off") {
-        Some(false)
-    } else {
-        None
-    }
-}
+use kx_values::{Counted, bad_value, lone_word, truth_named};
 
 fn affect_named(word: &[u8]) -> Option<Affect>
     ensures { result ≡ among affect_words word.now }
@@ -119,7 +81,7 @@ fn term_change(term: &Term) -> Option<Option<ActionGroup>>
     match term {
         Term::Signed(signed) => Some(relative(signed.sign, signed.number.value)),
         Term::Number(number) => Some(absolute(u64::from(number.value))),
-        Term::Word(word) => match group_word(word.bytes.as_slice()) {
+        Term::Word(word) => match Counted::Group.in_word(word.bytes.as_slice()) {
             Some(number) => Some(absolute(number)),
             None => None,
         },

@@ -2,8 +2,7 @@
 use Rattle.std.specs.Prelude.{ℕ, Bool, true, false, List, [], ◌∷◌, Option, None, Some, is_some, if◌then◌else◌, codes}
 use Rattle.std.specs.Option.{option_and_then, option_map}
 use Rattle.kx_actions.specs.Arguments.{action_faults, action_of}
-use Rattle.kx_actions.specs.Values.{bad_unless, lone_word, meaning_among}
-use Rattle.kx_actions.specs.Words.{among}
+use Rattle.kx_actions.specs.Values.{bad_unless}
 use Rattle.kx_actions.specs.declared.defaults.ActionDefaults.{ActionDefaults}
 use Rattle.kx_include.specs.IncludeFaults.{at}
 use Rattle.kx_lex.specs.declared.fault.Fault.{Fault}
@@ -18,6 +17,8 @@ use Rattle.kx_parse.specs.declared.tree.Index.{Index}
 use Rattle.kx_parse.specs.declared.tree.Setting.{Setting}
 use Rattle.kx_parse.specs.declared.tree.Setting.TheVariants.{Off, On, To}
 use Rattle.kx_parse.specs.declared.tree.Value.TheVariants.{Expression as Expressed, Call as Called, List as Listed}
+use Rattle.kx_values.specs.Faults.{expression_in, value_faults}
+use Rattle.kx_values.specs.Words.{among, lone_word, meaning_among}
 use Rattle.kx_compat.specs.declared.fields.InterpretField.{InterpretField}
 use Rattle.kx_compat.specs.declared.fields.InterpretField.TheVariants as fields
 use Rattle.kx_compat.specs.declared.values.FieldValue.{FieldValue}
@@ -49,8 +50,7 @@ abbrev pub level_words : List (List ℕ × Bool)
 level_words = (codes "level1", true) ∷ (codes "levelone", true) ∷ (codes "anylevel", false) ∷ (codes "any", false) ∷ []
 
 abbrev pub levels_value : Setting → Option FieldValue
-levels_value (To (Expressed e)) = option_map FirstLevelOnly (meaning_among level_words e)
-levels_value _ = None
+levels_value s = option_map FirstLevelOnly (option_and_then (meaning_among level_words) (expression_in s))
 
 -- `names` are the virtual modifiers by number
 module _ (names : List (List ℕ)) where
@@ -67,8 +67,7 @@ module _ (names : List (List ℕ)) where
   action_value d _ = None
 
   abbrev pub modifier_value : Setting → Option FieldValue
-  modifier_value (To (Expressed e)) = option_map Modifier (modifier_of e)
-  modifier_value _ = None
+  modifier_value s = option_map Modifier (option_and_then modifier_of (expression_in s))
 
   -- what is read and not used gives nothing
   abbrev pub setting_value : ActionDefaults → Setting → InterpretField → Option FieldValue
@@ -84,14 +83,6 @@ module _ (names : List (List ℕ)) where
 module _ (file : ℕ) where
   abbrev pub levels_faults : Expression → List Fault
   levels_faults e = bad_unless file (is_some (meaning_among level_words e)) e.span
-
-  -- of a setting that must be an expression; `whole` is the field
-  abbrev pub expression_faults : (Expression → List Fault) → Span → Setting → List Fault
-  expression_faults faults whole (To (Expressed e)) = faults e
-  expression_faults faults whole (To (Called call)) = BadValue (at file call.span) ∷ []
-  expression_faults faults whole (To (Listed list)) = BadValue (at file list.span) ∷ []
-  expression_faults faults whole Off = BadValue (at file whole) ∷ []
-  expression_faults faults whole On = BadValue (at file whole) ∷ []
 
   -- of a setting that must be a call
   abbrev pub call_faults : (Call → List Fault) → Span → Setting → List Fault
@@ -116,8 +107,8 @@ module _ (file : ℕ) where
     -- what is read and not used may have any value
     abbrev pub setting_faults : Span → Setting → InterpretField → List Fault
     setting_faults whole setting fields.Action = call_faults (action_faults file names) whole setting
-    setting_faults whole setting fields.Modifier = expression_faults modifier_faults whole setting
-    setting_faults whole setting fields.Levels = expression_faults levels_faults whole setting
+    setting_faults whole setting fields.Modifier = value_faults file modifier_faults whole setting
+    setting_faults whole setting fields.Levels = value_faults file levels_faults whole setting
     setting_faults whole setting fields.Unused = []
 
     abbrev pub known_faults : Name → Field → Option InterpretField → List Fault

@@ -1,7 +1,7 @@
 -- What the fields of an interpretation are given: the last of several that give one, and by mode.
 use Rattle.std.specs.Prelude.{Bool, false, ℕ, List, Option, None, Some, unwrap_or}
 use Rattle.std.specs.Option.{option_and_then, option_map, option_or}
-use Rattle.kx_actions.specs.Settings.{last_given}
+use Rattle.kx_values.specs.Last.{last_given}
 use Rattle.kx_actions.specs.declared.action.KeyAction.{KeyAction}
 use Rattle.kx_choice.specs.Interpretations.{Interpretation}
 use Rattle.kx_choice.specs.declared.trigger.Trigger.{Trigger}

@@ -3,8 +3,7 @@ use Rattle.std.specs.Prelude.{ℕ, Bool, false, List, [], ◌∷◌, Option, Non
 use Rattle.std.specs.Option.{option_and_then, option_map, option_map_or}
 use Rattle.std.specs.Str.{str_eq_ignore_ascii_case}
 use Rattle.ks_core.specs.Entry.{Entry}
-use Rattle.kx_actions.specs.Values.{lone_word}
-use Rattle.kx_actions.specs.Words.{among}
+use Rattle.kx_values.specs.Words.{among, lone_word}
 use Rattle.kx_include.specs.IncludeFaults.{at}
 use Rattle.kx_lex.specs.declared.fault.Fault.{Fault}
 use Rattle.kx_lex.specs.declared.fault.Fault.TheVariants.{BadValue, UnknownField}

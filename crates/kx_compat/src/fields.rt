@@ -1,11 +1,10 @@
 //! What the fields of interpretations are given.
 ghost use Rattle.std.specs.Prelude.{◌≡◌, [], Contains, IfErr, IfOk, OnOk, Some};
 ghost use Rattle.kx_actions.specs.Arguments.{action_faults, action_of};
-ghost use Rattle.kx_actions.specs.Values.{meaning_among};
-ghost use Rattle.kx_actions.specs.Words.{among};
-ghost use Rattle.kx_compat.specs.FieldWords.{action_value, call_faults, expression_faults, field_faults, field_named, field_value, field_words, indexed, level_words, levels_faults, levels_value, modifier_faults, modifier_of, modifier_value, setting_faults, setting_value, word_faults, word_modifier};
+ghost use Rattle.kx_values.specs.Faults.{value_faults};
+ghost use Rattle.kx_values.specs.Words.{among, meaning_among};
+ghost use Rattle.kx_compat.specs.FieldWords.{action_value, call_faults, field_faults, field_named, field_value, field_words, indexed, level_words, levels_faults, levels_value, modifier_faults, modifier_of, modifier_value, setting_faults, setting_value, word_faults, word_modifier};
 
-use crate::predicates::{bad_value, lone_word, unknown_field};
 use crate::values::FieldValue;
 use ks_core::{Note, Notes};
 use kx_actions::{ActionDefaults, KeyAction, is_action_word, read};
@@ -13,6 +12,7 @@ use kx_choice::{GivenAction, GivenModifier};
 use kx_lex::{At, Boxed, Fault, Name, Span};
 use kx_masks::{ModNames, real_mask};
 use kx_parse::{Call, Expression, Field, Index, Setting, Value};
+use kx_values::{bad_value, expression_of, lone_word, unknown_field};
 
 /// What the fields of an interpretation set.
 #[derive(Clone, Copy)]
@@ -185,35 +185,23 @@ fn modifier_setting(
     setting: &Setting,
 ) -> Result<FieldValue, Fault>
     ensures value { IfOk result (λ value. Some value ≡ modifier_value names.now.names setting.now) }
-    ensures faultless { OnOk result (expression_faults file (modifier_faults file names.now.names) whole setting.now ≡ []) }
-    ensures fault { IfErr result (λ e. Contains (expression_faults file (modifier_faults file names.now.names) whole setting.now) e) }
+    ensures faultless { OnOk result (value_faults file (modifier_faults file names.now.names) whole setting.now ≡ []) }
+    ensures fault { IfErr result (λ e. Contains (value_faults file (modifier_faults file names.now.names) whole setting.now) e) }
 {
-    match setting {
-        Setting::To(Value::Expression(expression)) => {
-            let modifier = read_modifier(names, file, expression)?;
-            Ok(FieldValue::Modifier(modifier))
-        }
-        Setting::To(Value::Call(call)) => Err(bad_value(file, call.span)),
-        Setting::To(Value::List(list)) => Err(bad_value(file, list.span)),
-        Setting::Off | Setting::On => Err(bad_value(file, whole)),
-    }
+    let expression = expression_of(file, whole, setting)?;
+    let modifier = read_modifier(names, file, expression)?;
+    Ok(FieldValue::Modifier(modifier))
 }
 
 /// Whether a field is set to the first level alone.
 fn levels_setting(file: u32, whole: Span, setting: &Setting) -> Result<FieldValue, Fault>
     ensures value { IfOk result (λ value. Some value ≡ levels_value setting.now) }
-    ensures faultless { OnOk result (expression_faults file (levels_faults file) whole setting.now ≡ []) }
-    ensures fault { IfErr result (λ e. Contains (expression_faults file (levels_faults file) whole setting.now) e) }
+    ensures faultless { OnOk result (value_faults file (levels_faults file) whole setting.now ≡ []) }
+    ensures fault { IfErr result (λ e. Contains (value_faults file (levels_faults file) whole setting.now) e) }
 {
-    match setting {
-        Setting::To(Value::Expression(expression)) => {
-            let only = read_levels(file, expression)?;
-            Ok(FieldValue::FirstLevelOnly(only))
-        }
-        Setting::To(Value::Call(call)) => Err(bad_value(file, call.span)),
-        Setting::To(Value::List(list)) => Err(bad_value(file, list.span)),
-        Setting::Off | Setting::On => Err(bad_value(file, whole)),
-    }
+    let expression = expression_of(file, whole, setting)?;
+    let only = read_levels(file, expression)?;
+    Ok(FieldValue::FirstLevelOnly(only))
 }
 
 /// What a field is given by its setting; nothing, where it is read and not used.

@@ -1,10 +1,8 @@
 //! For which keys the symbol and the predicate of an interpretation are.
 ghost use Rattle.std.specs.Prelude.{◌≡◌, ◌∷◌, [], Contains, IfErr, IfOk, OnOk, Some};
 ghost use Rattle.std.specs.Option.{option_map};
-ghost use Rattle.kx_actions.specs.Values.{lone_word};
-ghost use Rattle.kx_actions.specs.Words.{among};
-ghost use Rattle.kx_include.specs.IncludeFaults.{at};
-ghost use Rattle.kx_lex.specs.declared.fault.Fault.TheVariants.{BadValue, Memory, UnknownField};
+ghost use Rattle.kx_values.specs.Words.{among};
+ghost use Rattle.kx_lex.specs.declared.fault.Fault.TheVariants.{Memory};
 ghost use Rattle.kx_masks.specs.Masks.{mask_set};
 ghost use Rattle.kx_mods.specs.Mods.{mask};
 ghost use Rattle.kx_symbols.specs.KeyFaults.{symbol_faults};
@@ -17,34 +15,7 @@ use kx_masks::ModNames;
 use kx_mods::Mods;
 use kx_parse::{Argument, Call, Expression, PlacedArgument, Predicate, Symbol, Term};
 use kx_symbols::symbol_keysym;
-
-pub(crate) fn bad_value(file: u32, span: Span) -> Fault
-    ensures { result ≡ BadValue (at file span) }
-{
-    Fault::BadValue(At { file, span })
-}
-
-pub(crate) fn unknown_field(file: u32, word: &Name) -> Fault
-    ensures { result ≡ UnknownField (at file word.now.span) }
-{
-    Fault::UnknownField(At {
-        file,
-        span: word.span,
-    })
-}
-
-/// The word of an expression that is one word.
-pub(crate) fn lone_word(expression: &Expression) -> Option<&Name>
-    ensures { option_map (λ w. w.now) result ≡ lone_word expression.now }
-{
-    match expression.rest.as_slice() {
-        [] => match &expression.first {
-            Term::Word(word) => Some(word),
-            _ => None,
-        },
-        _ => None,
-    }
-}
+use kx_values::{bad_value, lone_word, unknown_field};
 
 fn is_any(symbol: &Symbol) -> bool
     ensures { result ≡ is_any symbol.now }

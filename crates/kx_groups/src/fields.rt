@@ -1,20 +1,15 @@
 //! The fields that name groups.
-ghost use Rattle.std.specs.Prelude.{◌≡◌, ◌≤◌, ◌++◌, ◌^◌, [], Contains, IfErr, IfOk, OnOk, Some, length, min};
+ghost use Rattle.std.specs.Prelude.{◌≡◌, ◌≤◌, ◌++◌, [], Contains, IfErr, IfOk, OnOk, Some, length};
 ghost use Rattle.std.specs.Option.{option_map};
 ghost use Rattle.kx_basics.specs.declared.limits.TheConstants.{MOST_NAME_BYTES};
-ghost use Rattle.kx_groups.specs.Fields.{field_faults, group_faults, index_faults, indexed_group, is_name, known_group, name_in, set_text, setting_faults, term_text, text_faults, text_of};
-ghost use Rattle.kx_settings.specs.Groups.{group_named, is_group};
+ghost use Rattle.kx_groups.specs.Fields.{expression_faults, field_faults, index_faults, indexed_group, name_in, set_text, term_text, text_faults, text_of};
+ghost use Rattle.kx_values.specs.Faults.{value_faults};
 
-use kx_basics::{MOST_GROUPS, MOST_NAME_BYTES};
+use kx_basics::MOST_NAME_BYTES;
 use kx_lex::{At, Boxed, Fault, Name, Span};
-use kx_parse::{Expression, Field, FieldPlace, Index, Setting, Statement, Term, Value};
-use kx_settings::group_named;
-
-fn is_name(place: &FieldPlace) -> bool
-    ensures { result ≡ is_name place.now }
-{
-    place.member.is_none() && place.word.bytes.as_slice().eq_ignore_ascii_case(b"name")
-}
+use kx_parse::{Expression, Field, Index, Statement, Term};
+use kx_settings::is_group_name;
+use kx_values::{Counted, bad_value, expression_of, unknown_field};
 
 /// The field of a statement, where it names a group.
 pub(crate) fn name_in(statement: &Statement) -> Option<&Field>
@@ -23,7 +18,7 @@ pub(crate) fn name_in(statement: &Statement) -> Option<&Field>
     match statement {
         Statement::Field(field) => {
             let field = field.get();
-            if is_name(&field.place) {
+            if is_group_name(&field.place) {
                 Some(field)
             } else {
                 None
@@ -42,40 +37,6 @@ pub(crate) fn name_in(statement: &Statement) -> Option<&Field>
     }
 }
 
-fn is_group(number: u64) -> bool
-    ensures { result ≡ is_group number }
-{
-    0 < number && number <= u64::from(MOST_GROUPS)
-}
-
-/// The group of a number that stands at a span.
-fn numbered_group(file: u32, span: Span, number: u64) -> Result<u8, Fault>
-    ensures value { IfOk result (λ group. Some group ≡ known_group (Some number)) }
-    ensures faultless { OnOk result (group_faults file span (Some number) ≡ []) }
-    ensures fault { IfErr result (λ e. Contains (group_faults file span (Some number)) e) }
-{
-    if is_group(number) {
-        Ok(number as u8)
-    } else {
-        Err(Fault::GroupRange(At { file, span }))
-    }
-}
-
-/// The group that the value of an index names.
-fn valued_group(file: u32, value: &Expression) -> Result<u8, Fault>
-    ensures value { IfOk result (λ group. Some group ≡ known_group (group_named value.now)) }
-    ensures faultless { OnOk result (group_faults file value.now.span (group_named value.now) ≡ []) }
-    ensures fault { IfErr result (λ e. Contains (group_faults file value.now.span (group_named value.now)) e) }
-{
-    match group_named(value) {
-        None => Err(Fault::BadValue(At {
-            file,
-            span: value.span,
-        })),
-        Some(number) => numbered_group(file, value.span, number),
-    }
-}
-
 /// The group, counted from 1, that an index behind a word names.
 fn read_group(file: u32, word: &Name, index: &Option<Boxed<Index>>) -> Result<u8, Fault>
     ensures value { IfOk result (λ group. Some group ≡ indexed_group index.now) }
@@ -83,11 +44,8 @@ fn read_group(file: u32, word: &Name, index: &Option<Boxed<Index>>) -> Result<u8
     ensures fault { IfErr result (λ e. Contains (index_faults file word.now index.now) e) }
 {
     match index {
-        None => Err(Fault::UnknownField(At {
-            file,
-            span: word.span,
-        })),
-        Some(index) => valued_group(file, &index.get().value),
+        None => Err(unknown_field(file, word)),
+        Some(index) => Counted::Group.read(file, &index.get().value),
     }
 }
 
@@ -125,10 +83,7 @@ fn expression_text<'a>(
     ensures fault { IfErr result (λ e. Contains (text_faults file whole expression.now.span (text_of expression.now)) e) }
 {
     match text_of(expression) {
-        None => Err(Fault::BadValue(At {
-            file,
-            span: expression.span,
-        })),
+        None => Err(bad_value(file, expression.span)),
         Some(text) => {
             if text.len() > MOST_NAME_BYTES {
                 return Err(Fault::TooMany(At { file, span: whole }));
@@ -142,24 +97,11 @@ fn expression_text<'a>(
 fn read_text<'a>(file: u32, whole: Span, field: &'a Field) -> Result<&'a [u8], Fault>
     ensures value { IfOk result (λ text. Some text.now ≡ set_text field.now.setting) }
     ensures short { IfOk result (λ text. length text.now ≤ MOST_NAME_BYTES) }
-    ensures faultless { OnOk result (setting_faults file whole field.now.span field.now.setting ≡ []) }
-    ensures fault { IfErr result (λ e. Contains (setting_faults file whole field.now.span field.now.setting) e) }
+    ensures faultless { OnOk result (value_faults file (expression_faults file whole) field.now.span field.now.setting ≡ []) }
+    ensures fault { IfErr result (λ e. Contains (value_faults file (expression_faults file whole) field.now.span field.now.setting) e) }
 {
-    match &field.setting {
-        Setting::To(Value::Expression(expression)) => expression_text(file, whole, expression),
-        Setting::To(Value::Call(call)) => Err(Fault::BadValue(At {
-            file,
-            span: call.span,
-        })),
-        Setting::To(Value::List(list)) => Err(Fault::BadValue(At {
-            file,
-            span: list.span,
-        })),
-        Setting::Off | Setting::On => Err(Fault::BadValue(At {
-            file,
-            span: field.span,
-        })),
-    }
+    let expression = expression_of(file, field.span, &field.setting)?;
+    expression_text(file, whole, expression)
 }
 
 /// The group, counted from 1, that a field of a statement names, and its name.

@@ -1,7 +1,7 @@
 -- Fields that are given one after another have what the last gives.
 use Rattle.std.proofs.Common.{◌≡◌, ℕ, ◌+◌, ◌<◌, List, ◌∷◌, length, drop, get_or, Option, None, Some, refl, sym, ap, ◌∙◌}
 use Rattle.std.specs.Option.{option_and_then, option_or}
-use Rattle.kx_actions.specs.Settings.{last_given}
+use Rattle.kx_values.specs.Last.{last_given}
 use Rattle.kx_lamps.specs.Given.{LampValues}
 use Rattle.kx_lamps.specs.Giving.{last_values, value_group_states, value_groups, value_mod_states, value_modifiers, with_value}
 use Rattle.kx_lamps.specs.declared.values.LampValue.{LampValue}

@@ -1,7 +1,7 @@
 -- What the fields of an indicator are given: the last of several that give one, and by mode.
 use Rattle.std.specs.Prelude.{ℕ, List, Option, None, Some}
 use Rattle.std.specs.Option.{option_and_then, option_map, option_or}
-use Rattle.kx_actions.specs.Settings.{last_given}
+use Rattle.kx_values.specs.Last.{last_given}
 use Rattle.kx_lamps.specs.Given.{LampValues}
 use Rattle.kx_lamps.specs.declared.values.LampField.{LampField}
 use Rattle.kx_lamps.specs.declared.values.LampField.TheVariants as fields

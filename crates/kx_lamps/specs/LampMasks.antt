@@ -1,10 +1,8 @@
 -- The masks of states and of groups that the fields of indicators name: terms joined from the left, `+` for union and `-`
 -- for difference.
-use Rattle.std.specs.Prelude.{ℕ, ◌-◌, ◌^◌, ◌&&◌, nat_le, nat_lt, Bool, List, [], ◌∷◌, ◌++◌, fold, Option, None, Some, is_some, unwrap_or, if◌then◌else◌, codes}
+use Rattle.std.specs.Prelude.{ℕ, ◌-◌, ◌^◌, List, [], ◌∷◌, ◌++◌, fold, Option, None, Some, is_some, unwrap_or, if◌then◌else◌, codes}
 use Rattle.std.specs.List.{flat_map}
 use Rattle.std.specs.Option.{option_and_then, option_or}
-use Rattle.kx_actions.specs.Groups.{group_word}
-use Rattle.kx_basics.specs.declared.limits.TheConstants.{MOST_GROUPS}
 use Rattle.kx_include.specs.IncludeFaults.{at}
 use Rattle.kx_lex.specs.declared.fault.Fault.{Fault}
 use Rattle.kx_lex.specs.declared.fault.Fault.TheVariants.{BadValue, GroupRange}
@@ -14,6 +12,8 @@ use Rattle.kx_parse.specs.declared.tree.Expression.{Expression}
 use Rattle.kx_parse.specs.declared.tree.Operation.{Operation}
 use Rattle.kx_parse.specs.declared.tree.Term.{Term}
 use Rattle.kx_parse.specs.declared.tree.Term.TheVariants.{Number, Signed, Word, Text, KeyName}
+use Rattle.kx_values.specs.Numbers.{is_within, word_number}
+use Rattle.kx_values.specs.declared.numbers.Counted.TheVariants.{Group}
 use Rattle.kx_lamps.specs.declared.masks.MaskKind.{MaskKind}
 use Rattle.kx_lamps.specs.declared.masks.MaskKind.TheVariants.{States, Groups}
 
@@ -27,16 +27,13 @@ abbrev pub words : MaskKind → List (List ℕ × ℕ)
 words States = (codes "none", 0) ∷ (codes "base", 1) ∷ (codes "latched", 2) ∷ (codes "locked", 4) ∷ (codes "effective", 8) ∷ (codes "any", 8) ∷ (codes "compat", 8) ∷ []
 words Groups = (codes "none", 0) ∷ (codes "all", 4294967295) ∷ []
 
-abbrev pub is_group : ℕ → Bool
-is_group n = nat_lt 0 n && nat_le n MOST_GROUPS
-
 -- groups are counted from 1, their bits from 0
 abbrev pub group_bit : ℕ → Option ℕ
-group_bit n = if is_group n then Some (2 ^ (n - 1)) else None
+group_bit n = if is_within Group n then Some (2 ^ (n - 1)) else None
 
 abbrev pub named_group : MaskKind → List ℕ → Option ℕ
 named_group States word = None
-named_group Groups word = group_word word
+named_group Groups word = word_number Group word
 
 abbrev pub word_mask : MaskKind → List ℕ → Option ℕ
 word_mask kind word = option_or (mask_among (words kind) word) (option_and_then group_bit (named_group kind word))

@@ -1,26 +1,23 @@
 //! What the fields of indicators are given.
 ghost use Rattle.std.specs.Prelude.{◌≡◌, [], Contains, IfErr, IfOk, OnOk, Some};
-ghost use Rattle.kx_include.specs.IncludeFaults.{at};
-ghost use Rattle.kx_lex.specs.declared.fault.Fault.TheVariants.{BadValue};
-ghost use Rattle.kx_lamps.specs.LampFields.{expression_faults, expression_in, expression_value, field_faults, field_named, field_value, known_value, placed_faults, setting_faults};
+ghost use Rattle.kx_lamps.specs.LampFields.{expression_faults, expression_value, field_faults, field_value, field_words, known_value, placed_faults};
+ghost use Rattle.kx_values.specs.Faults.{value_faults};
+ghost use Rattle.kx_values.specs.Words.{among};
 
 use crate::masks::{MaskKind, read_mask};
 use crate::states::GivenStates;
 use crate::values::{LampField, LampValue};
-use kx_lex::{At, Fault, Name, Span};
+use kx_lex::{At, Fault, Name};
 use kx_masks::ModNames;
-use kx_parse::{Expression, Field, Setting, Value};
-
-fn bad_value(file: u32, span: Span) -> Fault
-    ensures { result ≡ BadValue (at file span) }
-{
-    Fault::BadValue(At { file, span })
-}
+use kx_parse::{Expression, Field};
+use kx_values::expression_of;
 
 fn field_named(word: &[u8]) -> Option<LampField>
-    ensures { result ≡ field_named word.now }
+    ensures { result ≡ among field_words word.now }
 {
-    if word.eq_ignore_ascii_case(b"modifiers") || word.eq_ignore_ascii_case(b"mods") {
+    if word.eq_ignore_ascii_case(b"modifiers") {
+        Some(LampField::Modifiers)
+    } else if word.eq_ignore_ascii_case(b"mods") {
         Some(LampField::Modifiers)
     } else if word.eq_ignore_ascii_case(b"whichModState") {
         Some(LampField::ModStates)
@@ -63,21 +60,14 @@ fn read_setting(
     names: &ModNames,
     file: u32,
     known: LampField,
-    whole: Span,
-    setting: &Setting,
+    field: &Field,
 ) -> Result<LampValue, Fault>
-    ensures value { IfOk result (λ value. Some value ≡ known_value names.now.names setting.now (Some known)) }
-    ensures faultless { OnOk result (setting_faults file names.now.names whole known setting.now ≡ []) }
-    ensures fault { IfErr result (λ e. Contains (setting_faults file names.now.names whole known setting.now) e) }
+    ensures value { IfOk result (λ value. Some value ≡ known_value names.now.names field.now.setting (Some known)) }
+    ensures faultless { OnOk result (value_faults file (expression_faults file names.now.names known) field.now.span field.now.setting ≡ []) }
+    ensures fault { IfErr result (λ e. Contains (value_faults file (expression_faults file names.now.names known) field.now.span field.now.setting) e) }
 {
-    match setting {
-        Setting::To(Value::Expression(expression)) => {
-            read_expression(names, file, known, expression)
-        }
-        Setting::To(Value::Call(call)) => Err(bad_value(file, call.span)),
-        Setting::To(Value::List(list)) => Err(bad_value(file, list.span)),
-        Setting::Off | Setting::On => Err(bad_value(file, whole)),
-    }
+    let expression = expression_of(file, field.span, &field.setting)?;
+    read_expression(names, file, known, expression)
 }
 
 /// What a field gives that has a meaning, and takes no index.
@@ -93,7 +83,7 @@ fn read_known(
     ensures fault { IfErr result (λ e. Contains (placed_faults file names.now.names word.now field.now known field.now.place.index) e) }
 {
     match &field.place.index {
-        None => read_setting(names, file, known, field.span, &field.setting),
+        None => read_setting(names, file, known, field),
         Some(_) => Err(Fault::UnknownField(At {
             file,
             span: word.span,

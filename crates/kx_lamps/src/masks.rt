@@ -1,16 +1,16 @@
 //! The masks that fields of indicators name.
 ghost use Rattle.std.specs.Prelude.{◌≡◌, ◌<◌, ◌^◌, [], Contains, IfErr, IfOk, IfSome, OnOk, Some, fold, is_some, min};
-ghost use Rattle.std.specs.Char.{is_ascii_digit};
-ghost use Rattle.std.specs.List.{flat_map, list_all};
-ghost use Rattle.std.specs.Option.{option_and_then, option_map};
-ghost use Rattle.kx_actions.specs.Groups.{group_word, is_number};
+ghost use Rattle.std.specs.List.{flat_map};
+ghost use Rattle.std.specs.Option.{option_and_then};
+ghost use Rattle.kx_values.specs.Numbers.{word_number};
+ghost use Rattle.kx_values.specs.declared.numbers.Counted.TheVariants.{Group};
 ghost use Rattle.kx_masks.specs.Masks.{joined, mask_among};
 ghost use Rattle.kx_lamps.specs.declared.masks.MaskKind.TheVariants.{Groups, States};
 ghost use Rattle.kx_lamps.specs.LampMasks.{group_bit, group_in, mask_faults, mask_of, named_group, number_mask, operated, operation_faults, other_faults, term_faults, term_mask, term_span, width, word_mask, words};
 
-use kx_basics::{MOST_GROUPS, digits_value};
 use kx_lex::{At, Fault, Span};
 use kx_parse::{Expression, Operation, Sign, Term};
+use kx_values::Counted;
 
 /// What a mask is of.
 #[derive(Clone, Copy)]
@@ -42,38 +42,11 @@ fn state_named(word: &[u8]) -> Option<u32>
     }
 }
 
-fn are_digits(text: &[u8]) -> bool
-    ensures { result ≡ list_all is_ascii_digit text.now }
-{
-    text.iter().all(|byte| byte.is_ascii_digit())
-}
-
-fn is_number(digits: &[u8]) -> bool
-    ensures { result ≡ is_number digits.now }
-{
-    !digits.is_empty() && are_digits(digits)
-}
-
-/// The number behind the word Group in any case, or 2^32 where it is greater.
-fn group_word(word: &[u8]) -> Option<u64>
-    ensures { result ≡ option_map (min (2 ^ 32)) (group_word word.now) }
-{
-    if word.len() < 5 {
-        return None;
-    }
-    let (begin, digits) = word.split_at(5);
-    if begin.eq_ignore_ascii_case(b"group") && is_number(digits) {
-        Some(digits_value(digits, 10))
-    } else {
-        None
-    }
-}
-
 /// The bit of a group that is counted from 1.
 fn group_bit(number: u64) -> Option<u32>
     ensures { result ≡ group_bit number }
 {
-    if 0 < number && number <= u64::from(MOST_GROUPS) {
+    if Counted::Group.has(number) {
         let group = (number - 1) as u32;
         Some(1 << group)
     } else {
@@ -83,9 +56,9 @@ fn group_bit(number: u64) -> Option<u32>
 
 /// The groups of a word for a group.
 fn one_group(word: &[u8]) -> Option<u32>
-    ensures { result ≡ option_and_then group_bit (group_word word.now) }
+    ensures { result ≡ option_and_then group_bit (word_number Group word.now) }
 {
-    match group_word(word) {
+    match Counted::Group.in_word(word) {
         Some(number) => group_bit(number),
         None => None,
     }
@@ -149,7 +122,7 @@ impl MaskKind {
     {
         match self {
             MaskKind::States => false,
-            MaskKind::Groups => group_word(word).is_some(),
+            MaskKind::Groups => Counted::Group.in_word(word).is_some(),
         }
     }
 }

@@ -6,7 +6,9 @@ use Rattle.kx_lex.specs.declared.fault.Fault.TheVariants.{BadValue, GroupRange}
 use Rattle.kx_parse.specs.declared.tree.Index.{Index}
 use Rattle.kx_parse.specs.declared.tree.List.{List as Listed}
 use Rattle.kx_include.specs.IncludeFaults.{at}
-use Rattle.kx_settings.specs.Groups.{group_at, group_faults}
+use Rattle.kx_values.specs.Numbers.{number_faults}
+use Rattle.kx_values.specs.declared.numbers.Counted.TheVariants.{Group}
+use Rattle.kx_settings.specs.Groups.{group_at}
 use Rattle.kx_lists.specs.Lists.{Lists, free_group, has_list, with_list}
 
 module _ {X : Type 0} where
@@ -33,4 +35,4 @@ module _ {X : Type 0} (file : ℕ) where
   -- a key has MOST_GROUPS groups at most, and a statement gives each one list of a kind at most
   abbrev pub place_faults : Lists X → Option Index → Listed → List Fault
   place_faults lists None list = if nat_le MOST_GROUPS (free_group lists) then GroupRange (at file list.span) ∷ [] else []
-  place_faults lists (Some index) list = group_faults file index.value ++ second_faults lists list (group_at index.value)
+  place_faults lists (Some index) list = number_faults file Group index.value ++ second_faults lists list (group_at index.value)

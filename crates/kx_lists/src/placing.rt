@@ -3,7 +3,9 @@ ghost use Rattle.std.specs.Prelude.{◌≡◌, ◌<◌, ◌++◌, [], Contains, 
 ghost use Rattle.kx_basics.specs.declared.limits.TheConstants.{MOST_GROUPS};
 ghost use Rattle.kx_lists.specs.Lists.{free_group, has_list, is_free, widened_to, with_list};
 ghost use Rattle.kx_lists.specs.Places.{group_for, open_group, place_faults, second_faults};
-ghost use Rattle.kx_settings.specs.Groups.{group_at, group_faults};
+ghost use Rattle.kx_values.specs.Numbers.{number_faults};
+ghost use Rattle.kx_values.specs.declared.numbers.Counted.TheVariants.{Group};
+ghost use Rattle.kx_settings.specs.Groups.{group_at};
 
 use crate::levels::{LevelValue, Levels};
 use kx_basics::MOST_GROUPS;
@@ -76,8 +78,8 @@ fn indexed_group<X: LevelValue>(
 ) -> Result<usize, Fault>
     ensures small { IfOk result (λ group. group < MOST_GROUPS) }
     ensures value { IfOk result (λ group. Some group ≡ open_group lists.now (group_at index.now)) }
-    ensures faultless { OnOk result (group_faults file index.now ++ second_faults file lists.now list.now (group_at index.now) ≡ []) }
-    ensures fault { IfErr result (λ e. Contains (group_faults file index.now ++ second_faults file lists.now list.now (group_at index.now)) e) }
+    ensures faultless { OnOk result (number_faults file Group index.now ++ second_faults file lists.now list.now (group_at index.now) ≡ []) }
+    ensures fault { IfErr result (λ e. Contains (number_faults file Group index.now ++ second_faults file lists.now list.now (group_at index.now)) e) }
 {
     let group = usize::from(read_group(file, index)?);
     if has_list(lists, group) {

@@ -4,7 +4,8 @@ use Rattle.std.specs.Option.{option_and_then, option_map, option_or}
 use Rattle.kx_parse.specs.declared.tree.Field.{Field}
 use Rattle.kx_parse.specs.declared.tree.KeyField.{KeyField}
 use Rattle.kx_settings.specs.KeyFields.{cell_default, cell_given, default_given, defaults_behind, effective, key_given, next_defaults}
-use Rattle.kx_settings.specs.Settings.{Settings, given_to, last_given, no_settings, setting_in, type_at, with_given}
+use Rattle.kx_values.specs.Last.{last_given}
+use Rattle.kx_settings.specs.Settings.{Settings, given_to, no_settings, setting_in, type_at, with_given}
 use Rattle.kx_settings.specs.declared.cells.SettingCell.{SettingCell}
 use Rattle.kx_settings.specs.declared.cells.SettingCell.TheVariants as cells
 use Rattle.kx_settings.specs.declared.cells.SettingValue.TheVariants as values

@@ -9,8 +9,9 @@ use Rattle.kx_lex.specs.declared.name.Name.{Name}
 use Rattle.kx_parse.specs.declared.tree.Field.{Field}
 use Rattle.kx_parse.specs.declared.tree.KeyField.{KeyField}
 use Rattle.kx_parse.specs.declared.tree.KeyField.TheVariants as keys
+use Rattle.kx_values.specs.Last.{last_given}
 use Rattle.kx_settings.specs.SettingFields.{named_faults, named_given}
-use Rattle.kx_settings.specs.Settings.{Settings, given_to, last_given, no_settings, setting_in, with_given}
+use Rattle.kx_settings.specs.Settings.{Settings, given_to, no_settings, setting_in, with_given}
 use Rattle.kx_settings.specs.Words.{is_key_word, is_list_word}
 use Rattle.kx_settings.specs.declared.cells.SettingCell.{SettingCell}
 use Rattle.kx_settings.specs.declared.cells.SettingValue.{SettingValue}

@@ -1,34 +1,35 @@
 -- What a field of a key says that isn't a list, and its faults; `names` are the virtual modifiers by number.
 use Rattle.std.specs.Prelude.{ℕ, Bool, true, false, List, [], ◌∷◌, ◌++◌, Option, None, Some, is_some, if◌then◌else◌}
-use Rattle.std.specs.Option.{option_and_then, option_map, option_map_or}
+use Rattle.std.specs.Option.{option_and_then, option_map}
 use Rattle.kx_include.specs.IncludeFaults.{at}
 use Rattle.kx_lex.specs.declared.fault.Fault.{Fault}
 use Rattle.kx_lex.specs.declared.fault.Fault.TheVariants.{BadValue, UnknownField}
 use Rattle.kx_lex.specs.declared.name.Name.{Name}
+use Rattle.kx_lex.specs.declared.token.Span.{Span}
 use Rattle.kx_parse.specs.declared.tree.Expression.{Expression}
 use Rattle.kx_parse.specs.declared.tree.Field.{Field}
 use Rattle.kx_parse.specs.declared.tree.Index.{Index}
 use Rattle.kx_parse.specs.declared.tree.Setting.{Setting}
 use Rattle.kx_parse.specs.declared.tree.Setting.TheVariants.{Off, On, To}
 use Rattle.kx_parse.specs.declared.tree.Term.{Term}
-use Rattle.kx_parse.specs.declared.tree.Term.TheVariants.{Text, Word}
-use Rattle.kx_parse.specs.declared.tree.Value.TheVariants.{Expression as Expressed, Call as Called, List as Listed}
+use Rattle.kx_parse.specs.declared.tree.Term.TheVariants.{Text}
+use Rattle.kx_parse.specs.declared.tree.Value.TheVariants.{Expression as Expressed}
 use Rattle.kx_tables.specs.declared.rows.Range.{Range}
 use Rattle.kx_tables.specs.declared.rows.Range.TheVariants as ranges
-use Rattle.kx_settings.specs.Groups.{group_at, group_faults, single}
+use Rattle.kx_values.specs.Faults.{expression_in, value_faults}
+use Rattle.kx_values.specs.Numbers.{number_faults}
+use Rattle.kx_values.specs.Words.{meaning_among, single, truth_words}
+use Rattle.kx_values.specs.declared.numbers.Counted.TheVariants.{Group}
+use Rattle.kx_settings.specs.Groups.{group_at}
 use Rattle.kx_settings.specs.Settings.{kept_name}
 use Rattle.kx_settings.specs.VirtualMasks.{virtual_mask, virtual_mask_faults}
-use Rattle.kx_settings.specs.Words.{among, field_named, truth_words}
+use Rattle.kx_settings.specs.Words.{field_named}
 use Rattle.kx_settings.specs.declared.given.Given.{Given}
 use Rattle.kx_settings.specs.declared.given.Given.TheVariants as gives
 use Rattle.kx_settings.specs.declared.words.RangeField.{RangeField}
 use Rattle.kx_settings.specs.declared.words.RangeField.TheVariants as words
 use Rattle.kx_settings.specs.declared.words.SettingField.{SettingField}
 use Rattle.kx_settings.specs.declared.words.SettingField.TheVariants as fields
-
-abbrev pub expression_in : Setting → Option Expression
-expression_in (To (Expressed e)) = Some e
-expression_in _ = None
 
 abbrev pub term_text : Term → Option (List ℕ)
 term_text (Text text) = Some (kept_name text.bytes)
@@ -38,22 +39,11 @@ term_text _ = None
 abbrev pub text_of : Expression → Option (List ℕ)
 text_of e = single e.rest (term_text e.first)
 
-abbrev pub term_word : Term → Option Name
-term_word (Word word) = Some word
-term_word _ = None
-
-abbrev pub lone_word : Expression → Option Name
-lone_word e = single e.rest (term_word e.first)
-
--- a truth value is one word
-abbrev pub truth_of : Expression → Option Bool
-truth_of e = option_and_then (λ w. among truth_words w.bytes) (lone_word e)
-
 -- a field without a value is true, with `!` false
 abbrev pub truth_in : Setting → Option Bool
 truth_in Off = Some false
 truth_in On = Some true
-truth_in (To (Expressed e)) = truth_of e
+truth_in (To (Expressed e)) = meaning_among truth_words e
 truth_in (To _) = None
 
 -- false means the other of the two
@@ -102,47 +92,35 @@ module _ (names : List (List ℕ)) where
   named_given word field = field_given (field_named word.bytes) field.place.index field.setting
 
 module _ (file : ℕ) where
-  -- of a value that is no expression; where none is written, the fault is at the field
-  abbrev pub other_faults : Field → Setting → List Fault
-  other_faults field (To (Expressed e)) = []
-  other_faults field (To (Called call)) = BadValue (at file call.span) ∷ []
-  other_faults field (To (Listed list)) = BadValue (at file list.span) ∷ []
-  other_faults field Off = BadValue (at file field.span) ∷ []
-  other_faults field On = BadValue (at file field.span) ∷ []
-
-  -- of a value, where an expression has some faults
-  abbrev pub value_faults : (Expression → List Fault) → Field → Setting → List Fault
-  value_faults faults field s = other_faults field s ++ option_map_or faults (expression_in s) []
-
   abbrev pub text_faults : Expression → List Fault
   text_faults e = if is_some (text_of e) then [] else BadValue (at file e.span) ∷ []
 
   abbrev pub truth_faults : Expression → List Fault
-  truth_faults e = if is_some (truth_of e) then [] else BadValue (at file e.span) ∷ []
+  truth_faults e = if is_some (meaning_among truth_words e) then [] else BadValue (at file e.span) ∷ []
 
-  abbrev pub flag_faults : Field → Setting → List Fault
-  flag_faults field Off = []
-  flag_faults field On = []
-  flag_faults field (To value) = value_faults truth_faults field (To value)
+  abbrev pub flag_faults : Span → Setting → List Fault
+  flag_faults whole Off = []
+  flag_faults whole On = []
+  flag_faults whole (To value) = value_faults file truth_faults whole (To value)
 
   abbrev pub index_faults : Option Index → List Fault
   index_faults None = []
-  index_faults (Some index) = group_faults file index.value
+  index_faults (Some index) = number_faults file Group index.value
 
   abbrev pub type_faults : Field → List Fault
-  type_faults field = index_faults field.place.index ++ value_faults text_faults field field.setting
+  type_faults field = index_faults field.place.index ++ value_faults file text_faults field.span field.setting
 
   abbrev pub range_faults : RangeField → Field → List Fault
-  range_faults words.Wrap field = flag_faults field field.setting
-  range_faults words.Clamp field = flag_faults field field.setting
-  range_faults words.Redirect field = value_faults (group_faults file) field field.setting
+  range_faults words.Wrap field = flag_faults field.span field.setting
+  range_faults words.Clamp field = flag_faults field.span field.setting
+  range_faults words.Redirect field = value_faults file (number_faults file Group) field.span field.setting
 
   abbrev pub no_index_faults : Name → Option Index → List Fault
   no_index_faults word index = if is_some index then UnknownField (at file word.span) ∷ [] else []
 
   module _ (names : List (List ℕ)) where
     abbrev pub mods_faults : Field → List Fault
-    mods_faults field = value_faults (virtual_mask_faults names file) field field.setting
+    mods_faults field = value_faults file (virtual_mask_faults names file) field.span field.setting
 
     abbrev pub field_faults : Name → Field → Option SettingField → List Fault
     field_faults word field (Some fields.KeyType) = type_faults field

@@ -1,7 +1,7 @@
 -- What statements say of a key besides its lists: the types of its groups, its own type, the virtual modifiers that it bears,
 -- and what becomes of groups that it doesn't have.
-use Rattle.std.specs.Prelude.{ℕ, ◌+◌, ◌-◌, ◌==◌, ◌++◌, List, [], ◌∷◌, length, replicate, slice_get, slice_set, take, Option, None, Some, if◌then◌else◌}
-use Rattle.std.specs.Option.{option_and_then, option_map, option_or}
+use Rattle.std.specs.Prelude.{ℕ, ◌+◌, ◌-◌, ◌==◌, ◌++◌, List, [], length, replicate, slice_get, slice_set, take, Option, None, Some, if◌then◌else◌}
+use Rattle.std.specs.Option.{option_and_then, option_map}
 use Rattle.kx_basics.specs.declared.limits.TheConstants.{MOST_NAME_BYTES}
 use Rattle.kx_merge.specs.Bodies.{Moves}
 use Rattle.kx_tables.specs.declared.rows.Range.{Range}
@@ -46,11 +46,6 @@ given_to cells.KeyType (given.KeyType name) = Some (values.Type name)
 given_to cells.VirtualMods (given.VirtualMods set) = Some (values.Mods set)
 given_to cells.Range (given.Range range) = Some (values.Range range)
 given_to _ _ = None
-
--- what the last gives, of those that give anything
-abbrev pub last_given : {X Y : Type 0} → (X → Option Y) → List X → Option Y
-last_given gives [] = None
-last_given gives (x ∷ xs) = option_or (last_given gives xs) (gives x)
 
 -- settings once a field gives something: its cell has what it gives, and the others what they had
 abbrev pub widened_to : ℕ → GroupTypes → GroupTypes

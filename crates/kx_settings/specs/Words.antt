@@ -1,16 +1,12 @@
 -- The words of a key's fields, which are read without regard to case.
-use Rattle.std.specs.Prelude.{ℕ, Bool, true, false, not, is_some, ◌&&◌, ◌||◌, List, [], ◌∷◌, Option, None, Some, if◌then◌else◌, codes}
+use Rattle.std.specs.Prelude.{ℕ, Bool, not, is_some, ◌&&◌, ◌||◌, List, [], ◌∷◌, Option, Some, if◌then◌else◌, codes}
 use Rattle.std.specs.List.{list_any}
 use Rattle.std.specs.Str.{str_eq_ignore_ascii_case}
 use Rattle.kx_parse.specs.declared.tree.FieldPlace.{FieldPlace}
+use Rattle.kx_values.specs.Words.{among}
 use Rattle.kx_settings.specs.declared.words.RangeField.TheVariants as ranges
 use Rattle.kx_settings.specs.declared.words.SettingField.{SettingField}
 use Rattle.kx_settings.specs.declared.words.SettingField.TheVariants as fields
-
--- what a word means among words with their meanings
-abbrev pub among : {X : Type 0} → List (List ℕ × X) → List ℕ → Option X
-among [] word = None
-among (row ∷ rows) word = if str_eq_ignore_ascii_case word row.0 then Some row.1 else among rows word
 
 abbrev pub used_words : List (List ℕ × SettingField)
 used_words =
@@ -57,9 +53,6 @@ is_list_word word = str_eq_ignore_ascii_case word (codes "symbols") || str_eq_ig
 -- the word before the point of a default for keys, as `key.type`
 abbrev pub is_key_word : List ℕ → Bool
 is_key_word word = str_eq_ignore_ascii_case word (codes "key")
-
-abbrev pub truth_words : List (List ℕ × Bool)
-truth_words = (codes "true", true) ∷ (codes "yes", true) ∷ (codes "on", true) ∷ (codes "false", false) ∷ (codes "no", false) ∷ (codes "off", false) ∷ []
 
 -- a field of a symbols section that names a group
 abbrev pub is_group_name : FieldPlace → Bool

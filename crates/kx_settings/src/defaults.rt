@@ -6,12 +6,13 @@ ghost use Rattle.kx_settings.specs.SettingFields.{given_any};
 
 use crate::cells::SettingCell;
 use crate::given::Given;
-use crate::reading::{read_named, unknown_field};
+use crate::reading::read_named;
 use crate::settings::KeySettings;
 use crate::words::is_key_word;
 use kx_lex::Fault;
 use kx_masks::ModNames;
 use kx_parse::Field;
+use kx_values::unknown_field;
 use std::alloc::{AllocError, Global};
 use std::marker::Model;
 
@@ -74,7 +75,8 @@ impl KeyDefaults {
     ghost use Rattle.kx_lex.specs.declared.fault.Fault.TheVariants.{Memory};
     ghost use Rattle.kx_parse.specs.declared.tree.Field.{Field as FieldValue};
     ghost use Rattle.kx_settings.specs.KeyFields.{cell_default, defaults_behind, next_defaults};
-    ghost use Rattle.kx_settings.specs.Settings.{last_given, no_settings, setting_in};
+    ghost use Rattle.kx_settings.specs.Settings.{no_settings, setting_in};
+    ghost use Rattle.kx_values.specs.Last.{last_given};
 
     /// No defaults: those at the start of a section.
     pub fn none(alloc: Global) -> KeyDefaults

@@ -17,7 +17,7 @@ mod words;
 
 pub use cells::{SettingCell, SettingValue};
 pub use defaults::{KeyDefaults, check_default};
-pub use groups::{group_named, read_group};
+pub use groups::read_group;
 pub use settings::KeySettings;
 pub use statement::read_settings;
 pub use words::{is_group_name, is_key_word, is_list_word, is_setting_word};

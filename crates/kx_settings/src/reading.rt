@@ -1,10 +1,8 @@
 //! What a field of a key says that isn't a list.
 ghost use Rattle.std.specs.Prelude.{◌≡◌, [], Contains, IfErr, OnOk, Some};
-ghost use Rattle.std.specs.Option.{option_map};
 ghost use Rattle.std.specs.Result.{result_ok};
-ghost use Rattle.kx_include.specs.IncludeFaults.{at};
-ghost use Rattle.kx_lex.specs.declared.fault.Fault.TheVariants.{BadValue, UnknownField};
-ghost use Rattle.kx_settings.specs.SettingFields.{expression_in, field_faults, field_given, given_any, mods_faults, mods_in, named_faults, name_in, named_given, other_faults, range_faults, range_in, term_text, text_faults, text_of, type_faults, type_given, value_faults};
+ghost use Rattle.kx_settings.specs.SettingFields.{field_faults, field_given, given_any, mods_faults, mods_in, named_faults, name_in, named_given, range_faults, range_in, term_text, text_faults, text_of, type_faults, type_given};
+ghost use Rattle.kx_values.specs.Faults.{value_faults};
 ghost use Rattle.kx_settings.specs.declared.words.RangeField.TheVariants as words;
 
 use crate::given::{Given, KeptName};
@@ -13,38 +11,10 @@ use crate::key_range::KeyRange;
 use crate::masks::virtual_mask;
 use crate::truths::read_flag;
 use crate::words::{RangeField, SettingField, field_named};
-use kx_lex::{At, Fault, Name, Span};
+use kx_lex::{Fault, Name};
 use kx_masks::{ModNames, NameSet};
-use kx_parse::{Expression, Field, Setting, Term, Value};
-
-pub(crate) fn bad_value(file: u32, span: Span) -> Fault
-    ensures { result ≡ BadValue (at file span) }
-{
-    Fault::BadValue(At { file, span })
-}
-
-pub(crate) fn unknown_field(file: u32, word: &Name) -> Fault
-    ensures { result ≡ UnknownField (at file word.now.span) }
-{
-    Fault::UnknownField(At {
-        file,
-        span: word.span,
-    })
-}
-
-/// The expression that a field is set to.
-pub(crate) fn expression_of(file: u32, field: &Field) -> Result<&Expression, Fault>
-    ensures value { option_map (λ e. e.now) (result_ok result) ≡ expression_in field.now.setting }
-    ensures faultless { OnOk result (other_faults file field.now field.now.setting ≡ []) }
-    ensures fault { IfErr result (λ e. Contains (other_faults file field.now field.now.setting) e) }
-{
-    match &field.setting {
-        Setting::To(Value::Expression(expression)) => Ok(expression),
-        Setting::To(Value::List(list)) => Err(bad_value(file, list.span)),
-        Setting::To(Value::Call(call)) => Err(bad_value(file, call.span)),
-        Setting::Off | Setting::On => Err(bad_value(file, field.span)),
-    }
-}
+use kx_parse::{Expression, Field, Term};
+use kx_values::{bad_value, expression_of, unknown_field};
 
 fn term_text(term: &Term) -> Option<KeptName>
     ensures { result ≡ term_text term.now }
@@ -82,10 +52,10 @@ fn expression_text(file: u32, expression: &Expression) -> Result<KeptName, Fault
 /// The name of a type that a field is set to.
 fn read_text(file: u32, field: &Field) -> Result<KeptName, Fault>
     ensures value { result_ok result ≡ name_in field.now.setting }
-    ensures faultless { OnOk result (value_faults file (text_faults file) field.now field.now.setting ≡ []) }
-    ensures fault { IfErr result (λ e. Contains (value_faults file (text_faults file) field.now field.now.setting) e) }
+    ensures faultless { OnOk result (value_faults file (text_faults file) field.now.span field.now.setting ≡ []) }
+    ensures fault { IfErr result (λ e. Contains (value_faults file (text_faults file) field.now.span field.now.setting) e) }
 {
-    let expression = expression_of(file, field)?;
+    let expression = expression_of(file, field.span, &field.setting)?;
     expression_text(file, expression)
 }
 
@@ -109,7 +79,7 @@ fn read_mods(names: &ModNames, file: u32, field: &Field) -> Result<NameSet, Faul
     ensures faultless { OnOk result (mods_faults file names.now.names field.now ≡ []) }
     ensures fault { IfErr result (λ e. Contains (mods_faults file names.now.names field.now) e) }
 {
-    let expression = expression_of(file, field)?;
+    let expression = expression_of(file, field.span, &field.setting)?;
     virtual_mask(names, file, expression)
 }
 
@@ -118,7 +88,7 @@ fn read_redirect(file: u32, field: &Field) -> Result<KeyRange, Fault>
     ensures faultless { OnOk result (range_faults file words.Redirect field.now ≡ []) }
     ensures fault { IfErr result (λ e. Contains (range_faults file words.Redirect field.now) e) }
 {
-    let expression = expression_of(file, field)?;
+    let expression = expression_of(file, field.span, &field.setting)?;
     let group = read_group(file, expression)?;
     Ok(KeyRange::redirect(group))
 }

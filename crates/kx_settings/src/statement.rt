@@ -9,12 +9,13 @@ ghost use Rattle.kx_settings.specs.SettingFields.{given_any};
 use crate::cells::SettingCell;
 use crate::defaults::KeyDefaults;
 use crate::given::Given;
-use crate::reading::{read_named, unknown_field};
+use crate::reading::read_named;
 use crate::settings::KeySettings;
 use crate::words::is_list_word;
 use kx_lex::Fault;
 use kx_masks::ModNames;
 use kx_parse::{Field, KeyField};
+use kx_values::unknown_field;
 use std::alloc::Global;
 
 /// What a field inside a key gives; nothing where it gives a list.

@@ -1,29 +1,15 @@
 //! Truth values.
 ghost use Rattle.std.specs.Prelude.{◌≡◌, [], Contains, IfErr, OnOk};
-ghost use Rattle.std.specs.Option.{option_map};
 ghost use Rattle.std.specs.Result.{result_ok};
-ghost use Rattle.kx_settings.specs.SettingFields.{flag_faults, lone_word, truth_faults, truth_in, truth_of};
+ghost use Rattle.kx_settings.specs.SettingFields.{flag_faults, truth_faults, truth_in};
+ghost use Rattle.kx_values.specs.Words.{meaning_among, truth_words};
 
-use crate::reading::{bad_value, expression_of};
-use crate::words::truth_named;
-use kx_lex::{Fault, Name};
-use kx_parse::{Expression, Field, Setting, Term};
-
-/// The word of an expression that is one word.
-fn lone_word(expression: &Expression) -> Option<&Name>
-    ensures { option_map (λ w. w.now) result ≡ lone_word expression.now }
-{
-    match expression.rest.as_slice() {
-        [] => match &expression.first {
-            Term::Word(word) => Some(word),
-            _ => None,
-        },
-        _ => None,
-    }
-}
+use kx_lex::Fault;
+use kx_parse::{Expression, Field, Setting};
+use kx_values::{bad_value, expression_of, lone_word, truth_named};
 
 fn truth_of(file: u32, value: &Expression) -> Result<bool, Fault>
-    ensures value { result_ok result ≡ truth_of value.now }
+    ensures value { result_ok result ≡ meaning_among truth_words value.now }
     ensures faultless { OnOk result (truth_faults file value.now ≡ []) }
     ensures fault { IfErr result (λ e. Contains (truth_faults file value.now) e) }
 {
@@ -34,12 +20,12 @@ fn truth_of(file: u32, value: &Expression) -> Result<bool, Fault>
 /// The truth value that a field is set to: without a value it is true, with `!` false.
 pub(crate) fn read_flag(file: u32, field: &Field) -> Result<bool, Fault>
     ensures value { result_ok result ≡ truth_in field.now.setting }
-    ensures faultless { OnOk result (flag_faults file field.now field.now.setting ≡ []) }
-    ensures fault { IfErr result (λ e. Contains (flag_faults file field.now field.now.setting) e) }
+    ensures faultless { OnOk result (flag_faults file field.now.span field.now.setting ≡ []) }
+    ensures fault { IfErr result (λ e. Contains (flag_faults file field.now.span field.now.setting) e) }
 {
     match &field.setting {
         Setting::Off => Ok(false),
         Setting::On => Ok(true),
-        Setting::To(_) => truth_of(file, expression_of(file, field)?),
+        Setting::To(_) => truth_of(file, expression_of(file, field.span, &field.setting)?),
     }
 }

@@ -1,6 +1,7 @@
 //! The words of a key's fields.
 ghost use Rattle.std.specs.Prelude.{◌≡◌, is_some};
-ghost use Rattle.kx_settings.specs.Words.{among, field_named, is_group_name, is_key_word, is_list_word, is_unused_word, truth_words, used_words};
+ghost use Rattle.kx_settings.specs.Words.{field_named, is_group_name, is_key_word, is_list_word, is_unused_word, used_words};
+ghost use Rattle.kx_values.specs.Words.{among};
 
 use kx_parse::FieldPlace;
 
@@ -98,27 +99,6 @@ pub fn is_key_word(word: &[u8]) -> bool
     ensures { result ≡ is_key_word word.now }
 {
     word.eq_ignore_ascii_case(b"key")
-}
-
-/// What a word means as a truth value.
-pub(crate) fn truth_named(word: &[u8]) -> Option<bool>
-    ensures { result ≡ among truth_words word.now }
-{
-    if word.eq_ignore_ascii_case(b"true") {
-        Some(true)
-    } else if word.eq_ignore_ascii_case(b"yes") {
-        Some(true)
-    } else if word.eq_ignore_ascii_case(b"on") {
-        Some(true)
-    } else if word.eq_ignore_ascii_case(b"false") {
-        Some(false)
-    } else if word.eq_ignore_ascii_case(b"no") {
-        Some(false)
-    } else if word.eq_ignore_ascii_case(b"off") {
-        Some(false)
-    } else {
-        None
-    }
 }
 
 /// Whether a field of a symbols section names a group, as `name[1] = "English";`.

@@ -6,7 +6,8 @@ use Rattle.std.proofs.lemmas.Bool.{false≢true}
 use Rattle.kx_parse.specs.declared.tree.KeyField.{KeyField}
 use Rattle.kx_parse.specs.declared.tree.KeyField.TheVariants as fields
 use Rattle.kx_settings.specs.KeyFields.{cell_given, effective, setting_faults}
-use Rattle.kx_settings.specs.Settings.{last_given, no_settings, setting_in}
+use Rattle.kx_values.specs.Last.{last_given}
+use Rattle.kx_settings.specs.Settings.{no_settings, setting_in}
 use Rattle.kx_settings.specs.declared.cells.SettingCell.{SettingCell}
 use Rattle.kx_settings.specs.declared.cells.SettingCell.TheVariants as cells
 use Rattle.kx_symbols.specs.Lists.{is_field}

@@ -1,7 +1,6 @@
 pub mod Firsts
 pub mod KeyTypes
 pub mod Lawful
-pub mod LevelTerms
 pub mod TypeFaults
 pub mod TypeFields
 pub mod Types

@@ -1,8 +1,7 @@
 -- What a field of a type statement says, and its faults.
-use Rattle.std.specs.Prelude.{ℕ, ◌||◌, Bool, false, true, List, [], ◌∷◌, ◌++◌, Option, None, Some, is_some, if◌then◌else◌, codes}
+use Rattle.std.specs.Prelude.{ℕ, Bool, false, true, List, [], ◌∷◌, ◌++◌, Option, None, Some, is_some, if◌then◌else◌, codes}
 use Rattle.std.specs.List.{flat_map}
-use Rattle.std.specs.Option.{option_and_then, option_map, option_map_or}
-use Rattle.std.specs.Str.{str_eq_ignore_ascii_case}
+use Rattle.std.specs.Option.{option_and_then, option_map}
 use Rattle.kx_include.specs.IncludeFaults.{at}
 use Rattle.kx_lex.specs.declared.fault.Fault.{Fault}
 use Rattle.kx_lex.specs.declared.fault.Fault.TheVariants.{BadValue, UnknownField}
@@ -11,41 +10,24 @@ use Rattle.kx_parse.specs.declared.tree.Expression.{Expression}
 use Rattle.kx_parse.specs.declared.tree.Field.{Field}
 use Rattle.kx_parse.specs.declared.tree.Index.{Index}
 use Rattle.kx_parse.specs.declared.tree.Operation.{Operation}
-use Rattle.kx_parse.specs.declared.tree.Setting.{Setting}
-use Rattle.kx_parse.specs.declared.tree.Setting.TheVariants.{Off, On, To}
 use Rattle.kx_parse.specs.declared.tree.Term.{Term}
 use Rattle.kx_parse.specs.declared.tree.Term.TheVariants.{Text}
-use Rattle.kx_parse.specs.declared.tree.Value.TheVariants as values
-use Rattle.kx_types.specs.LevelTerms.{level_faults, level_of}
+use Rattle.kx_values.specs.Faults.{expression_in, value_faults}
+use Rattle.kx_values.specs.Numbers.{number_faults, number_named}
+use Rattle.kx_values.specs.Words.{among}
+use Rattle.kx_values.specs.declared.numbers.Counted.TheVariants.{Level}
 use Rattle.kx_types.specs.declared.fields.Slot.{Slot}
 use Rattle.kx_types.specs.declared.fields.Slot.TheVariants as slots
 use Rattle.kx_types.specs.declared.saying.Saying.{Saying}
 use Rattle.kx_types.specs.declared.saying.Saying.TheVariants.{Modifiers, Map, Preserve, LevelName}
 
--- what the words of fields set, in any case
+-- the words of fields
+abbrev pub slot_words : List (List ℕ × Slot)
+slot_words = (codes "modifiers", slots.Modifiers) ∷ (codes "map", slots.Map) ∷ (codes "preserve", slots.Preserve) ∷ (codes "level_name", slots.LevelName) ∷ (codes "levelname", slots.LevelName) ∷ []
+
+-- what the word of a field sets
 abbrev pub slot_of : List ℕ → Option Slot
-slot_of word =
-    if str_eq_ignore_ascii_case word (codes "modifiers") then Some slots.Modifiers
-    else (if str_eq_ignore_ascii_case word (codes "map") then Some slots.Map
-    else (if str_eq_ignore_ascii_case word (codes "preserve") then Some slots.Preserve
-    else (if str_eq_ignore_ascii_case word (codes "level_name") || str_eq_ignore_ascii_case word (codes "levelname") then Some slots.LevelName
-    else None)))
-
-abbrev pub expression_in : Setting → Option Expression
-expression_in (To (values.Expression e)) = Some e
-expression_in _ = None
-
--- of a value that is no expression, and of a field without a value
-abbrev pub setting_faults : ℕ → Field → Setting → List Fault
-setting_faults file field (To (values.Expression e)) = []
-setting_faults file field (To (values.List list)) = BadValue (at file list.span) ∷ []
-setting_faults file field (To (values.Call call)) = BadValue (at file call.span) ∷ []
-setting_faults file field Off = BadValue (at file field.span) ∷ []
-setting_faults file field On = BadValue (at file field.span) ∷ []
-
--- of a field's value, where an expression has some faults
-abbrev pub value_faults : ℕ → (Expression → List Fault) → Field → List Fault
-value_faults file faults field = setting_faults file field field.setting ++ option_map_or faults (expression_in field.setting) []
+slot_of word = among slot_words word
 
 abbrev pub is_text : Term → List Operation → Bool
 is_text (Text text) [] = true
@@ -60,9 +42,9 @@ module _ (names : List (List ℕ)) where
   -- what a field says that sets a slot, with an index or without
   abbrev pub slot_saying : Option Slot → Option Index → Field → Option Saying
   slot_saying (Some slots.Modifiers) None field = option_map (λ e. Modifiers (mask_set names e)) (expression_in field.setting)
-  slot_saying (Some slots.Map) (Some index) field = option_map (Map (mask_set names index.value)) (option_and_then level_of (expression_in field.setting))
+  slot_saying (Some slots.Map) (Some index) field = option_map (Map (mask_set names index.value)) (option_and_then (number_named Level) (expression_in field.setting))
   slot_saying (Some slots.Preserve) (Some index) field = option_map (λ e. Preserve (mask_set names index.value) (mask_set names e)) (expression_in field.setting)
-  slot_saying (Some slots.LevelName) (Some index) field = option_map LevelName (level_of index.value)
+  slot_saying (Some slots.LevelName) (Some index) field = option_map LevelName (number_named Level index.value)
   slot_saying _ _ field = None
 
   abbrev pub saying_of : Field → Option Saying
@@ -81,10 +63,10 @@ module _ (names : List (List ℕ)) where
     unknown_field field = UnknownField (at file field.place.word.span) ∷ []
 
     abbrev pub slot_faults : Option Slot → Option Index → Field → List Fault
-    slot_faults (Some slots.Modifiers) None field = value_faults file (mask_faults file names) field
-    slot_faults (Some slots.Map) (Some index) field = mask_faults file names index.value ++ value_faults file (level_faults file) field
-    slot_faults (Some slots.Preserve) (Some index) field = mask_faults file names index.value ++ value_faults file (mask_faults file names) field
-    slot_faults (Some slots.LevelName) (Some index) field = level_faults file index.value ++ value_faults file (text_faults file) field
+    slot_faults (Some slots.Modifiers) None field = value_faults file (mask_faults file names) field.span field.setting
+    slot_faults (Some slots.Map) (Some index) field = mask_faults file names index.value ++ value_faults file (number_faults file Level) field.span field.setting
+    slot_faults (Some slots.Preserve) (Some index) field = mask_faults file names index.value ++ value_faults file (mask_faults file names) field.span field.setting
+    slot_faults (Some slots.LevelName) (Some index) field = number_faults file Level index.value ++ value_faults file (text_faults file) field.span field.setting
     slot_faults _ _ field = unknown_field field
 
     abbrev pub field_faults : Field → List Fault

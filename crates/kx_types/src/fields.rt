@@ -2,19 +2,21 @@
 ghost use Rattle.std.specs.Prelude.{◌≡◌, ◌++◌, ◌∷◌, [], All, Contains, IfErr, IfOk, None, OnOk, Some};
 ghost use Rattle.std.specs.List.{flat_map};
 ghost use Rattle.std.specs.Option.{option_and_then, option_map};
-ghost use Rattle.kx_lex.specs.declared.fault.Fault.TheVariants.{BadValue, Memory, UnknownField};
+ghost use Rattle.kx_lex.specs.declared.fault.Fault.TheVariants.{Memory, UnknownField};
 ghost use Rattle.kx_include.specs.IncludeFaults.{at};
 ghost use Rattle.kx_masks.specs.Masks.{mask_faults, mask_set};
 ghost use Rattle.kx_types.specs.Lawful.{IsLevel, NamesLevel};
-ghost use Rattle.kx_types.specs.LevelTerms.{level_faults, level_of};
-ghost use Rattle.kx_types.specs.TypeFields.{expression_in, field_faults, is_text, saying_of, sayings_of, setting_faults, slot_faults, slot_of, slot_saying, text_faults, value_faults};
+ghost use Rattle.kx_values.specs.Faults.{expression_in, value_faults};
+ghost use Rattle.kx_values.specs.Numbers.{number_faults, number_named};
+ghost use Rattle.kx_values.specs.declared.numbers.Counted.TheVariants.{Level};
+ghost use Rattle.kx_types.specs.TypeFields.{field_faults, is_text, saying_of, sayings_of, slot_faults, slot_of, slot_saying, text_faults};
 ghost use Rattle.kx_types.specs.declared.fields.Slot.TheVariants as slots;
 
-use crate::levels::read_level;
 use crate::saying::Saying;
-use kx_lex::{At, Fault, Span};
+use kx_lex::{At, Fault};
 use kx_masks::{ModNames, NameSet};
-use kx_parse::{Expression, Field, Index, Setting, Term, Value};
+use kx_parse::{Expression, Field, Index, Term};
+use kx_values::{Counted, bad_value, expression_of};
 use std::alloc::Global;
 
 /// What a field of a type sets.
@@ -36,30 +38,12 @@ fn slot_of(word: &[u8]) -> Option<Slot>
         Some(Slot::Map)
     } else if word.eq_ignore_ascii_case(b"preserve") {
         Some(Slot::Preserve)
-    } else if word.eq_ignore_ascii_case(b"level_name") || word.eq_ignore_ascii_case(b"levelname") {
+    } else if word.eq_ignore_ascii_case(b"level_name") {
+        Some(Slot::LevelName)
+    } else if word.eq_ignore_ascii_case(b"levelname") {
         Some(Slot::LevelName)
     } else {
         None
-    }
-}
-
-fn bad_value(file: u32, span: Span) -> Fault
-    ensures { result ≡ BadValue (at file span) }
-{
-    Fault::BadValue(At { file, span })
-}
-
-/// The expression that a field is set to.
-fn expression_of(file: u32, field: &Field) -> Result<&Expression, Fault>
-    ensures value { IfOk result (λ e. expression_in field.now.setting ≡ Some e.now) }
-    ensures faultless { OnOk result (setting_faults file field.now field.now.setting ≡ []) }
-    ensures fault { IfErr result (λ e. Contains (setting_faults file field.now field.now.setting) e) }
-{
-    match &field.setting {
-        Setting::To(Value::Expression(expression)) => Ok(expression),
-        Setting::To(Value::List(list)) => Err(bad_value(file, list.span)),
-        Setting::To(Value::Call(call)) => Err(bad_value(file, call.span)),
-        Setting::Off | Setting::On => Err(bad_value(file, field.span)),
     }
 }
 
@@ -86,29 +70,29 @@ fn check_text(file: u32, expression: &Expression) -> Result<(), Fault>
 /// The modifiers that a field is set to.
 fn value_mask(modifiers: &ModNames, file: u32, field: &Field) -> Result<NameSet, Fault>
     ensures value { IfOk result (λ set. option_map (mask_set modifiers.now.names) (expression_in field.now.setting) ≡ Some set) }
-    ensures faultless { OnOk result (value_faults file (mask_faults file modifiers.now.names) field.now ≡ []) }
-    ensures fault { IfErr result (λ e. Contains (value_faults file (mask_faults file modifiers.now.names) field.now) e) }
+    ensures faultless { OnOk result (value_faults file (mask_faults file modifiers.now.names) field.now.span field.now.setting ≡ []) }
+    ensures fault { IfErr result (λ e. Contains (value_faults file (mask_faults file modifiers.now.names) field.now.span field.now.setting) e) }
 {
-    let expression = expression_of(file, field)?;
+    let expression = expression_of(file, field.span, &field.setting)?;
     modifiers.mask_of(file, expression)
 }
 
 /// The level that a field is set to.
 fn value_level(file: u32, field: &Field) -> Result<u8, Fault>
-    ensures value { IfOk result (λ level. option_and_then level_of (expression_in field.now.setting) ≡ Some level) }
+    ensures value { IfOk result (λ level. option_and_then (number_named Level) (expression_in field.now.setting) ≡ Some level) }
     ensures within { IfOk result IsLevel }
-    ensures faultless { OnOk result (value_faults file (level_faults file) field.now ≡ []) }
-    ensures fault { IfErr result (λ e. Contains (value_faults file (level_faults file) field.now) e) }
+    ensures faultless { OnOk result (value_faults file (number_faults file Level) field.now.span field.now.setting ≡ []) }
+    ensures fault { IfErr result (λ e. Contains (value_faults file (number_faults file Level) field.now.span field.now.setting) e) }
 {
-    let expression = expression_of(file, field)?;
-    read_level(file, expression)
+    let expression = expression_of(file, field.span, &field.setting)?;
+    Counted::Level.read(file, expression)
 }
 
 fn check_value_text(file: u32, field: &Field) -> Result<(), Fault>
-    ensures faultless { OnOk result (value_faults file (text_faults file) field.now ≡ []) }
-    ensures fault { IfErr result (λ e. Contains (value_faults file (text_faults file) field.now) e) }
+    ensures faultless { OnOk result (value_faults file (text_faults file) field.now.span field.now.setting ≡ []) }
+    ensures fault { IfErr result (λ e. Contains (value_faults file (text_faults file) field.now.span field.now.setting) e) }
 {
-    let expression = expression_of(file, field)?;
+    let expression = expression_of(file, field.span, &field.setting)?;
     check_text(file, expression)
 }
 
@@ -157,7 +141,7 @@ fn read_level_name(
     ensures faultless { OnOk result (slot_faults modifiers.now.names file (Some slots.LevelName) (Some index.now) field.now ≡ []) }
     ensures fault { IfErr result (λ e. Contains (slot_faults modifiers.now.names file (Some slots.LevelName) (Some index.now) field.now) e) }
 {
-    let level = read_level(file, &index.value)?;
+    let level = Counted::Level.read(file, &index.value)?;
     check_value_text(file, field)?;
     Ok(Saying::LevelName(level))
 }

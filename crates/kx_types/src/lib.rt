@@ -6,7 +6,6 @@ mod declared;
 mod definition;
 mod entry;
 mod fields;
-mod levels;
 mod limits;
 mod name;
 mod saying;

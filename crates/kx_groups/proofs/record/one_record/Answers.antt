@@ -1,4 +1,4 @@
-use Rattle.std.proofs.Common.{ap, sym, ◌∙◌, ◌++◌, ◌∷◌, [], Some}
+use Rattle.std.proofs.Common.{ap, ◌∙◌, ◌++◌, ◌∷◌, [], Some}
 use Rattle.kx_groups.specs.declared.record.GroupName.{GroupName}
 use Rattle.kx_groups.proofs.Given.{one_offered}
 use Rattle.kx_groups.proofs.record.one_record.Goals as goal

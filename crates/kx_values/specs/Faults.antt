@@ -1,0 +1,27 @@
+-- The faults of fields whose values are of another kind.
+use Rattle.std.specs.Prelude.{ℕ, ◌++◌, List, [], ◌∷◌, Option, Some, None}
+use Rattle.std.specs.Option.{option_map_or}
+use Rattle.kx_lex.specs.declared.fault.Fault.{Fault}
+use Rattle.kx_lex.specs.declared.fault.Fault.TheVariants.{BadValue}
+use Rattle.kx_lex.specs.declared.token.Span.{Span}
+use Rattle.kx_include.specs.IncludeFaults.{at}
+use Rattle.kx_parse.specs.declared.tree.Expression.{Expression}
+use Rattle.kx_parse.specs.declared.tree.Setting.{Setting}
+use Rattle.kx_parse.specs.declared.tree.Setting.TheVariants.{Off, On, To}
+use Rattle.kx_parse.specs.declared.tree.Value.TheVariants.{Expression as Expressed, Call as Called, List as Listed}
+
+abbrev pub expression_in : Setting → Option Expression
+expression_in (To (Expressed e)) = Some e
+expression_in _ = None
+
+-- of a value that is no expression; where none is written, the fault is at the field, which is `whole`
+abbrev pub other_faults : ℕ → Span → Setting → List Fault
+other_faults file whole (To (Expressed e)) = []
+other_faults file whole (To (Called call)) = BadValue (at file call.span) ∷ []
+other_faults file whole (To (Listed list)) = BadValue (at file list.span) ∷ []
+other_faults file whole Off = BadValue (at file whole) ∷ []
+other_faults file whole On = BadValue (at file whole) ∷ []
+
+-- of a value, where an expression has some faults
+abbrev pub value_faults : ℕ → (Expression → List Fault) → Span → Setting → List Fault
+value_faults file faults whole s = other_faults file whole s ++ option_map_or faults (expression_in s) []
