@@ -22,3 +22,5 @@ mod modifier_maps;
 mod settings;
 #[cfg(test)]
 mod sources;
+#[cfg(test)]
+mod values;
