@@ -48,6 +48,4 @@ u_keysym name = if is_u_form name then keysym_of_character (digits_value 16 (dro
 
 -- the keysym of a name of the 0x form
 unfoldable pub hex_keysym : List ℕ → Option ℕ
-hex_keysym name =
-    let keysym = digits_value 16 (drop 2 name) in
-    if is_hex_form name && is_keysym keysym then Some keysym else None
+hex_keysym name = let keysym = digits_value 16 (drop 2 name) in if is_hex_form name && is_keysym keysym then Some keysym else None

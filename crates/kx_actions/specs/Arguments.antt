@@ -37,14 +37,10 @@ pub record Member : Type 0 where
   pub index : Option Index
   pub setting : Setting
 
--- a word by itself is a flag of that name; another value without a name is nothing
-abbrev pub flag_named : Name → Member
-flag_named word = record { word = word; index = None; setting = On }
-
 abbrev pub named : Argument → Option Member
 named (arguments.Off word) = Some (record { word = word; index = None; setting = Off })
 named (arguments.Set word index value) = Some (record { word = word; index = index; setting = To (Expressed value) })
-named (arguments.Plain e) = option_map flag_named (lone_word e)
+named (arguments.Plain e) = option_map (λ word. record { word = word; index = None; setting = On }) (lone_word e)
 
 -- absent modifiers are none, an absent group is the same one, an absent affect is both, absent flags are false
 abbrev pub action_with : ActionKind → Settings → KeyAction
@@ -57,13 +53,10 @@ action_with kinds.LockGroup s = actions.LockGroup (unwrap_or s.group (Relative (
 action_with kinds.NoAction s = actions.NoAction
 
 module _ (names : List (List ℕ)) where
-  abbrev pub argument_given : ActionKind → PlacedArgument → Option Given
-  argument_given kind a = option_and_then (λ n. member_given names kind n.word n.index n.setting) (named a.argument)
-
   -- each field has what the call's last argument for it gives, else its default; an action of another name has no effect
   abbrev pub action_for : ActionDefaults → List PlacedArgument → Option ActionKind → KeyAction
   action_for d xs None = actions.Other
-  action_for d xs (Some kind) = action_with kind (last_settings (argument_given kind) (settings_for d kind) xs)
+  action_for d xs (Some kind) = action_with kind (last_settings (λ a. option_and_then (λ n. member_given names kind n.word n.index n.setting) (named a.argument)) (settings_for d kind) xs)
 
   abbrev pub action_of : ActionDefaults → Call → KeyAction
   action_of d call = action_for d call.arguments (among kind_words call.word.bytes)
@@ -83,3 +76,8 @@ module _ (file : ℕ) (names : List (List ℕ)) where
 
   abbrev pub action_faults : Call → List Fault
   action_faults call = arguments_faults call.arguments (among kind_words call.word.bytes)
+
+-- ---- Under names, for clauses and proofs
+
+abbrev pub argument_given : (names : List (List ℕ)) → ActionKind → PlacedArgument → Option Given
+argument_given names kind a = option_and_then (λ n. member_given names kind n.word n.index n.setting) (named a.argument)

@@ -1,31 +1,26 @@
 -- The row of tables that an action becomes on a key.
-use Rattle.std.specs.Prelude.{◌≡◌, ℕ, Bool, true, false, List}
+use Rattle.std.specs.Prelude.{◌≡◌, ℕ, Bool, ◌||◌, List}
 use Rattle.kx_masks.specs.Sets.{has, real_of}
 use Rattle.kx_masks.specs.Standing.{stands_for}
 use Rattle.kx_mods.specs.Mods.{mask}
 use Rattle.kx_mods.specs.declared.mods.Mods.{Mods}
 use Rattle.kx_tables.specs.declared.rows.Action.{Action}
 use Rattle.kx_tables.specs.declared.rows.Action.TheVariants as rows
+use Rattle.kx_actions.specs.contracts.action.AffectPartialEq.TheImpl.{ghosts}
 use Rattle.kx_actions.specs.declared.action.ActionMods.{ActionMods}
 use Rattle.kx_actions.specs.declared.action.ActionMods.TheVariants.{Named, OfKey}
 use Rattle.kx_actions.specs.declared.action.Affect.{Affect}
-use Rattle.kx_actions.specs.declared.action.Affect.TheVariants.{Lock, Unlock, Both, Neither}
+use Rattle.kx_actions.specs.declared.action.Affect.TheVariants.{Lock, Unlock, Both}
 use Rattle.kx_actions.specs.declared.action.KeyAction.{KeyAction}
 use Rattle.kx_actions.specs.declared.action.KeyAction.TheVariants as actions
 
 -- whether the modifiers are locked at the press
 abbrev pub does_lock : Affect → Bool
-does_lock Lock = true
-does_lock Unlock = false
-does_lock Both = true
-does_lock Neither = false
+does_lock affect = ghosts.eq affect Lock || ghosts.eq affect Both
 
 -- whether those that were locked before are unlocked at the release
 abbrev pub does_unlock : Affect → Bool
-does_unlock Lock = false
-does_unlock Unlock = true
-does_unlock Both = true
-does_unlock Neither = false
+does_unlock affect = ghosts.eq affect Unlock || ghosts.eq affect Both
 
 -- `modmap` are the modifiers that the key is mapped to, `stands` what each virtual modifier stands for, by its number
 module _ (modmap : Mods) (stands : List Mods) where

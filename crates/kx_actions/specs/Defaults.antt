@@ -1,6 +1,6 @@
 -- The defaults that fields as `setMods.clearLocks = yes;` give the arguments of actions.
 use Rattle.std.specs.Prelude.{ℕ, List, [], ◌∷◌, Bool, true, false, fold, Option, None, Some, if◌then◌else◌}
-use Rattle.std.specs.Option.{option_and_then}
+use Rattle.std.specs.Option.{option_and_then, option_map_or}
 use Rattle.kx_include.specs.IncludeFaults.{at}
 use Rattle.kx_lex.specs.declared.fault.Fault.{Fault}
 use Rattle.kx_lex.specs.declared.fault.Fault.TheVariants.{UnknownField}
@@ -37,11 +37,6 @@ with_settings d kinds.LatchGroup s = record d { latch_group = s }
 with_settings d kinds.LockGroup s = record d { lock_group = s }
 with_settings d kinds.NoAction s = d
 
--- defaults with what an action is given
-abbrev pub taken_up : ActionDefaults → ActionKind → Option Given → ActionDefaults
-taken_up d kind None = d
-taken_up d kind (Some g) = with_settings d kind (with_given (settings_for d kind) g)
-
 abbrev pub is_same : ActionKind → ActionKind → Bool
 is_same kinds.SetMods kinds.SetMods = true
 is_same kinds.LatchMods kinds.LatchMods = true
@@ -74,26 +69,25 @@ module _ (names : List (List ℕ)) where
   defaulted statements kind = last_settings (default_given kind) no_settings statements
 
   -- the defaults behind one more statement
-  abbrev pub next_for : ActionDefaults → Field → Option ActionKind → ActionDefaults
-  next_for d field None = d
-  next_for d field (Some kind) = taken_up d kind (default_for kind field)
-
   abbrev pub next_defaults : ActionDefaults → Field → ActionDefaults
-  next_defaults d field = next_for d field (kind_of field)
+  next_defaults d field = option_map_or (λ kind. option_map_or (λ g. with_settings d kind (with_given (settings_for d kind) g)) (default_for kind field) d) (kind_of field) d
 
   -- those behind statements, from the start of a section
   abbrev pub defaults_behind : List Field → ActionDefaults
   defaults_behind statements = fold next_defaults no_defaults statements
 
 module _ (file : ℕ) (names : List (List ℕ)) (field : Field) where
-  abbrev pub kind_faults : Name → Option ActionKind → List Fault
-  kind_faults member None = UnknownField (at file field.place.word.span) ∷ []
-  kind_faults member (Some kind) = member_faults file names kind member field.place.index field.span field.setting
-
-  abbrev pub place_faults : Option Name → List Fault
-  place_faults None = UnknownField (at file field.place.word.span) ∷ []
-  place_faults (Some member) = kind_faults member (kind_of field)
+  abbrev pub member_default_faults : Name → List Fault
+  member_default_faults member = option_map_or (λ kind. member_faults file names kind member field.place.index field.span field.setting) (kind_of field) (UnknownField (at file field.place.word.span) ∷ [])
 
   -- of a field as a default for an action
   abbrev pub default_faults : List Fault
-  default_faults = place_faults field.place.member
+  default_faults = option_map_or member_default_faults field.place.member (UnknownField (at file field.place.word.span) ∷ [])
+
+-- ---- Under names, for clauses and proofs
+
+abbrev pub taken_up : ActionDefaults → ActionKind → Option Given → ActionDefaults
+taken_up d kind given = option_map_or (λ g. with_settings d kind (with_given (settings_for d kind) g)) given d
+
+abbrev pub next_for : List (List ℕ) → ActionDefaults → Field → Option ActionKind → ActionDefaults
+next_for names d field kind = option_map_or (λ k. taken_up d k (default_for names k field)) kind d

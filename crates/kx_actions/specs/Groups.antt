@@ -1,6 +1,6 @@
 -- The group that an action names: with a sign, so many groups on; without one, a group counted from 1.
 use Rattle.std.specs.Prelude.{ℕ, pos, negsuc, neg_ℤ, ◌-◌, ◌&&◌, nat_le, nat_lt, Bool, Option, None, Some, if◌then◌else◌}
-use Rattle.std.specs.Option.{option_map}
+use Rattle.std.specs.Option.{option_map, option_map_or}
 use Rattle.kx_basics.specs.declared.limits.TheConstants.{MOST_GROUPS}
 use Rattle.kx_parse.specs.declared.tree.Expression.{Expression}
 use Rattle.kx_parse.specs.declared.tree.Sign.{Sign}
@@ -29,27 +29,24 @@ term_written _ = None
 abbrev pub written : Expression → Option Written
 written e = single e.rest (term_written e.first)
 
--- from 1 to 32, kept from 0
-abbrev pub absolute : ℕ → Option GroupChange
-absolute n = if nat_lt 0 n && nat_le n MOST_GROUPS then Some (Absolute (n - 1)) else None
-
 -- from -32 to 32
 abbrev pub signed_change : Sign → ℕ → GroupChange
 signed_change Plus n = Relative (pos n)
 signed_change Minus n = Relative (neg_ℤ (pos n))
 
-abbrev pub relative : Sign → ℕ → Option GroupChange
-relative sign n = if nat_le n MOST_GROUPS then Some (signed_change sign n) else None
-
-abbrev pub change_by : Option Sign → ℕ → Option GroupChange
-change_by None n = absolute n
-change_by (Some sign) n = relative sign n
-
 abbrev pub change_of : Written → Option GroupChange
-change_of w = change_by w.0 w.1
+change_of w = option_map_or (λ sign. if nat_le w.1 MOST_GROUPS then Some (signed_change sign w.1) else None) w.0 (if nat_lt 0 w.1 && nat_le w.1 MOST_GROUPS then Some (Absolute (w.1 - 1)) else None)
 
 -- whether a change is in its range
 abbrev pub is_change : GroupChange → Bool
 is_change (Absolute group) = nat_le group (MOST_GROUPS - 1)
 is_change (Relative (pos n)) = nat_le n MOST_GROUPS
 is_change (Relative (negsuc n)) = nat_le n (MOST_GROUPS - 1)
+
+-- ---- Under names, for clauses and proofs
+
+abbrev pub absolute : ℕ → Option GroupChange
+absolute n = if nat_lt 0 n && nat_le n MOST_GROUPS then Some (Absolute (n - 1)) else None
+
+abbrev pub relative : Sign → ℕ → Option GroupChange
+relative sign n = if nat_le n MOST_GROUPS then Some (signed_change sign n) else None

@@ -20,34 +20,34 @@ with_given s (given.Affect what) = record s { affect = Some what }
 with_given s (given.ClearLocks on) = record s { clear_locks = Some on }
 with_given s (given.LatchToLock on) = record s { latch_to_lock = Some on }
 
--- what is given to a field, where it is this one
-abbrev pub given_modifiers : Given → Option ActionMods
-given_modifiers (given.Modifiers mods) = Some mods
-given_modifiers _ = None
-
-abbrev pub given_group : Given → Option GroupChange
-given_group (given.Group change) = Some change
-given_group _ = None
-
-abbrev pub given_affect : Given → Option Affect
-given_affect (given.Affect what) = Some what
-given_affect _ = None
-
-abbrev pub given_clear_locks : Given → Option Bool
-given_clear_locks (given.ClearLocks on) = Some on
-given_clear_locks _ = None
-
-abbrev pub given_latch_to_lock : Given → Option Bool
-given_latch_to_lock (given.LatchToLock on) = Some on
-given_latch_to_lock _ = None
+-- settings with what is given alone
+abbrev pub only : Given → Settings
+only g = with_given no_settings g
 
 module _ {X : Type 0} (gives : X → Option Given) where
   -- each field has what the last gives that gives it anything, else what it had before them
   abbrev pub last_settings : Settings → List X → Settings
   last_settings before xs = record {
-    modifiers = option_or (last_given (λ x. option_and_then given_modifiers (gives x)) xs) before.modifiers;
-    group = option_or (last_given (λ x. option_and_then given_group (gives x)) xs) before.group;
-    affect = option_or (last_given (λ x. option_and_then given_affect (gives x)) xs) before.affect;
-    clear_locks = option_or (last_given (λ x. option_and_then given_clear_locks (gives x)) xs) before.clear_locks;
-    latch_to_lock = option_or (last_given (λ x. option_and_then given_latch_to_lock (gives x)) xs) before.latch_to_lock;
+    modifiers = option_or (last_given (λ x. option_and_then (λ g. (only g).modifiers) (gives x)) xs) before.modifiers;
+    group = option_or (last_given (λ x. option_and_then (λ g. (only g).group) (gives x)) xs) before.group;
+    affect = option_or (last_given (λ x. option_and_then (λ g. (only g).affect) (gives x)) xs) before.affect;
+    clear_locks = option_or (last_given (λ x. option_and_then (λ g. (only g).clear_locks) (gives x)) xs) before.clear_locks;
+    latch_to_lock = option_or (last_given (λ x. option_and_then (λ g. (only g).latch_to_lock) (gives x)) xs) before.latch_to_lock;
   }
+
+-- ---- Under names, for proofs
+
+abbrev pub given_modifiers : Given → Option ActionMods
+given_modifiers g = (only g).modifiers
+
+abbrev pub given_group : Given → Option GroupChange
+given_group g = (only g).group
+
+abbrev pub given_affect : Given → Option Affect
+given_affect g = (only g).affect
+
+abbrev pub given_clear_locks : Given → Option Bool
+given_clear_locks g = (only g).clear_locks
+
+abbrev pub given_latch_to_lock : Given → Option Bool
+given_latch_to_lock g = (only g).latch_to_lock

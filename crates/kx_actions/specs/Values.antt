@@ -64,8 +64,7 @@ module _ (names : List (List ℕ)) where
 
 -- a field of an action takes no index
 abbrev pub unindexed : Option Index → Option ActionField → Option ActionField
-unindexed None field = field
-unindexed (Some index) field = None
+unindexed index field = if is_some index then None else field
 
 abbrev pub known_field : ActionKind → Name → Option Index → Option ActionField
 known_field kind word index = unindexed index (field_of kind word.bytes)

@@ -22,8 +22,7 @@ only_keysym _ = None
 
 -- an interpretation for the first level gives its virtual modifier at the first level of the first group
 abbrev pub gives : ℕ → ℕ → ℕ → Option Interpretation → Bool
-gives number group level None = false
-gives number group level (Some i) = option_map_or (nat_eq number) i.modifier false && (not i.first_level_only || group == 0 && level == 0)
+gives number group level i = option_map_or (λ i. option_map_or (nat_eq number) i.modifier false && (not i.first_level_only || group == 0 && level == 0)) i false
 
 -- `modmap` are the modifiers that the key is mapped to
 module _ (interpretations : List Interpretation) (modmap : Mods) (key : KeyGiven) where
@@ -37,8 +36,6 @@ module _ (interpretations : List Interpretation) (modmap : Mods) (key : KeyGiven
   abbrev pub deed_at : ℕ → ℕ → Option KeyAction
   deed_at group level = if has_action key then key.action group level else option_and_then (λ (i : Interpretation). i.action) (interpretation_at group level)
 
-  -- ---- Virtual modifiers
-
   -- a level of a group gives it
   abbrev pub is_given : (List ℕ → Option Definition) → ℕ → Bool
   is_given declared number = any_below (group_count key) (λ group. any_below (group_levels declared key group) (λ level. gives number group level (interpretation_at (content_group key group) level)))
@@ -47,10 +44,7 @@ module _ (interpretations : List Interpretation) (modmap : Mods) (key : KeyGiven
   unfoldable pub bears : (List ℕ → Option Definition) → ℕ → Bool
   bears declared number = option_map_or (λ set. has_virtual set number) key.virtual_mods (is_given declared number)
 
--- ---- What virtual modifiers stand for
-
--- what is read of a keymap: the names and keys of codes, what keys are mapped to, the types by name, the interpretations in
--- order, and the masks that are declared for virtual modifiers
+-- what is read of a keymap: names and keys of codes, what keys are mapped to, types by name, interpretations in order, declared masks
 pub record ReadKeymap : Type 0 where
   pub name : ℕ → Option (List ℕ)
   pub key : ℕ → KeyGiven

@@ -1,5 +1,6 @@
 -- What actions do on a key, over sets of modifiers.
-use Rattle.std.specs.Prelude.{ℕ, List, Option, None, Some}
+use Rattle.std.specs.Prelude.{ℕ, List}
+use Rattle.std.specs.Option.{option_map_or}
 use Rattle.kx_actions.specs.Becoming.{does_lock, does_unlock}
 use Rattle.kx_actions.specs.declared.action.ActionMods.{ActionMods}
 use Rattle.kx_actions.specs.declared.action.ActionMods.TheVariants.{Named, OfKey}
@@ -37,10 +38,6 @@ module _ (modmap : RealSet) (real : ℕ → RealSet) where
   action_meant (actions.LatchGroup change clear latch) = rows.LatchGroup change clear latch
   action_meant (actions.LockGroup change) = rows.LockGroup change
 
-  abbrev pub level_action : Option KeyAction → Action
-  level_action None = rows.None
-  level_action (Some action) = action_meant action
-
 -- what the levels of a key do, by its own actions or by interpretations; `modmap` are the modifiers that it is mapped to
 abbrev pub deeds_of : (ℕ → RealSet) → List Interpretation → Mods → KeyGiven → Deeds
-deeds_of real interpretations modmap key group level = level_action (has (mask modmap)) real (deed_at interpretations modmap key group level)
+deeds_of real interpretations modmap key group level = option_map_or (action_meant (has (mask modmap)) real) (deed_at interpretations modmap key group level) rows.None

@@ -20,15 +20,8 @@ fits Any keysym = true
 fits (Named wanted) keysym = nat_eq wanted keysym
 
 module _ (first : Bool) (modmap : ℕ) where
-  -- an interpretation for the first level sees no modifiers at others
-  abbrev pub seen_modmap : Interpretation → ℕ
-  seen_modmap i = if i.first_level_only && not first then 0 else modmap
-
-  abbrev pub allows : Interpretation → Bool
-  allows i = holds i.trigger.condition i.trigger.mask (seen_modmap i)
-
   abbrev pub matches : ℕ → Interpretation → Bool
-  matches keysym i = fits i.trigger.keysym keysym && allows i
+  matches keysym i = fits i.trigger.keysym keysym && (holds i.trigger.condition i.trigger.mask (if i.first_level_only && not first then 0 else modmap))
 
 abbrev pub condition_rank : Condition → ℕ
 condition_rank Exactly = 0
@@ -70,3 +63,11 @@ pub record IsFirst (test : Interpretation → Bool) (is : List Interpretation) (
 abbrev pub IsFirstOrNone : (Interpretation → Bool) → List Interpretation → Option Interpretation → Type 0
 IsFirstOrNone test is None = All (λ i. test i ≡ false) is
 IsFirstOrNone test is (Some i) = IsFirst test is i
+
+-- ---- Under names, for clauses and proofs
+
+abbrev pub seen_modmap : (first : Bool) → (modmap : ℕ) → Interpretation → ℕ
+seen_modmap first modmap i = if i.first_level_only && not first then 0 else modmap
+
+abbrev pub allows : (first : Bool) → (modmap : ℕ) → Interpretation → Bool
+allows first modmap i = holds i.trigger.condition i.trigger.mask (if i.first_level_only && not first then 0 else modmap)

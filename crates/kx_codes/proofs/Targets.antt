@@ -2,11 +2,11 @@
 use Rattle.std.proofs.Common.{◌≡◌, ℕ, Bool, true, false, cond, ◌&&◌, not, List, [], ◌∷◌, map, Option, None, Some, refl, sym, ap, ◌∙◌}
 use Rattle.std.proofs.lemmas.Slice.Eq.{bytes_eq-Decides}
 use Rattle.std.specs.Map.{lookup}
-use Rattle.std.specs.Option.{option_and_then}
+use Rattle.std.specs.Option.{option_or, option_and_then}
 use Rattle.std.specs.Str.{bytes_eq}
 use Rattle.indexmap.specs.IndexMap.{IndexMap, get, keys}
 use Rattle.kx_include.specs.Expansion.{Body}
-use Rattle.kx_merge.specs.Offers.{first_weak, is_hidden, last_strong, or_else, seen}
+use Rattle.kx_merge.specs.Offers.{first_weak, is_hidden, last_strong, seen}
 use Rattle.kx_merge.specs.Records.{Shows, cell_in}
 use Rattle.kx_codes.specs.Aliases.{AliasOffer, Aliases, alias_offers, aliases_of, target_in, target_of}
 use Rattle.kx_codes.specs.Codes.{Codes, CodesShow, name_of, paired}
@@ -30,7 +30,7 @@ module _ (target : List ℕ → Option (List ℕ)) (name : List ℕ) where
       by false same rest unseen = rest unseen
 
 aliases_found : (body : Body) (name : List ℕ) → target_in (aliases_of body) name ≡ target_of body name
-aliases_found body name = found_in (target_of body) name (alias_offers body) (ap (λ os. or_else (last_strong tt os) (first_weak tt os)))
+aliases_found body name = found_in (target_of body) name (alias_offers body) (ap (λ os. option_or (last_strong tt os) (first_weak tt os)))
 
 -- ---- Records
 

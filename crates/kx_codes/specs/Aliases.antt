@@ -1,63 +1,47 @@
 -- Aliases of names of keys, and the target that a keycodes body gives each, by precedence.
 use Rattle.std.specs.Prelude.{ℕ, List, [], ◌∷◌, ◌++◌, Option, None, Some, map}
 use Rattle.std.specs.Map.{lookup}
-use Rattle.std.specs.Option.{option_and_then}
+use Rattle.std.specs.Option.{option_and_then, option_map_or}
 use Rattle.std.specs.Str.{bytes_eq}
 use Rattle.kx_include.specs.Expansion.{Body}
 use Rattle.kx_lex.specs.declared.fault.Fault.{Fault}
 use Rattle.kx_lex.specs.declared.name.Name.{Name}
 use Rattle.kx_lex.specs.declared.token.Span.{Span}
-use Rattle.kx_merge.specs.Bodies.{Moves, Rules, offers_of}
-use Rattle.kx_merge.specs.Offers.{Offer, value_of}
+use Rattle.kx_merge.specs.Bodies.{Moves, Rules, offers_of, no_moves}
+use Rattle.kx_merge.specs.Offers.{Offer, value_of, plain_offer}
 use Rattle.kx_parse.specs.declared.tree.Item.{Item}
 use Rattle.kx_parse.specs.declared.tree.Item.TheVariants.{Include, Statement}
 use Rattle.kx_parse.specs.declared.tree.Mode.{Mode}
 use Rattle.kx_parse.specs.declared.tree.Statement.{Statement as Said}
 use Rattle.kx_parse.specs.declared.tree.Statement.TheVariants.{Alias}
-use Rattle.kx_codes.specs.CodeFaults.{name_faults}
+use Rattle.kx_values.specs.Faults.{name_faults}
 
 -- an alias has one cell, its target
 abbrev pub AliasOffer : Type 0
 AliasOffer = Offer (List ℕ) (Unit {0}) (List ℕ)
 
 abbrev pub alias_offer : Mode → List ℕ → List ℕ → AliasOffer
-alias_offer mode name target = record { mode = mode; name = name; value = λ _. Some target; width = λ _. 0 }
+alias_offer mode name target = plain_offer mode name (λ _. Some target)
 
 -- the name and the target of an alias statement
 abbrev pub alias_in : Said → Option (Name × Name)
 alias_in (Alias name target) = Some (name, target)
 alias_in _ = None
 
-abbrev pub said_offers : Mode → Option (Name × Name) → List AliasOffer
-said_offers mode None = []
-said_offers mode (Some a) = alias_offer mode a.0.bytes a.1.bytes ∷ []
-
 abbrev pub item_offers : Item → List AliasOffer
-item_offers (Statement mode statement first span) = said_offers mode (alias_in statement)
+item_offers (Statement mode statement first span) = option_map_or (λ a. alias_offer mode a.0.bytes a.1.bytes ∷ []) (alias_in statement) []
 item_offers (Include mode text span) = []
 
--- the faults of an alias' two names; `whole` is the statement
-abbrev pub said_name_faults : ℕ → Span → Option (Name × Name) → List Fault
-said_name_faults file whole None = []
-said_name_faults file whole (Some a) = name_faults file whole a.0 ++ name_faults file whole a.1
-
+-- the faults of an alias' two names
 abbrev pub item_name_faults : ℕ → Item → List Fault
-item_name_faults file (Statement mode statement first span) = said_name_faults file span (alias_in statement)
+item_name_faults file (Statement mode statement first span) = option_map_or (λ a. name_faults file span a.0 ++ name_faults file span a.1) (alias_in statement) []
 item_name_faults file (Include mode text span) = []
 
 abbrev pub alias_rules : Rules (List ℕ) (Unit {0}) (List ℕ) (Unit {0})
 alias_rules = record { start = tt; next = λ d item. tt; offers = λ d place item. item_offers item; faults = λ d place item. item_name_faults place.file item }
 
--- a move to a group leaves aliases as they are
-abbrev pub alias_moves : Moves (List ℕ) (Unit {0})
-alias_moves = record { key = λ n name. Some name; cell = λ n c. Some c; group = λ n g. Some g }
-
 abbrev pub alias_offers : Body → List AliasOffer
-alias_offers body = offers_of bytes_eq alias_rules alias_moves body
-
--- the name that a name stands for in a keycodes body
-abbrev pub target_of : Body → List ℕ → Option (List ℕ)
-target_of body name = value_of bytes_eq (alias_offers body) name tt
+alias_offers body = offers_of bytes_eq alias_rules no_moves body
 
 -- names, each with its target
 abbrev pub Aliases : Type 0
@@ -68,4 +52,18 @@ target_in aliases name = option_and_then (λ target. target) (lookup (bytes_eq n
 
 -- the aliases of a body
 abbrev pub aliases_of : Body → Aliases
-aliases_of body = map (λ (o : AliasOffer). (o.name, target_of body o.name)) (alias_offers body)
+aliases_of body = map (λ (o : AliasOffer). (o.name, value_of bytes_eq (alias_offers body) o.name tt)) (alias_offers body)
+
+-- ---- Under names, for clauses and proofs
+
+abbrev pub said_offers : Mode → Option (Name × Name) → List AliasOffer
+said_offers mode a = option_map_or (λ a. alias_offer mode a.0.bytes a.1.bytes ∷ []) a []
+
+abbrev pub said_name_faults : ℕ → Span → Option (Name × Name) → List Fault
+said_name_faults file whole a = option_map_or (λ a. name_faults file whole a.0 ++ name_faults file whole a.1) a []
+
+abbrev pub alias_moves : Moves (List ℕ) (Unit {0})
+alias_moves = no_moves
+
+abbrev pub target_of : Body → List ℕ → Option (List ℕ)
+target_of body name = value_of bytes_eq (alias_offers body) name tt

@@ -1,38 +1,26 @@
 -- The faults of the statements of a keycodes body.
-use Rattle.std.specs.Prelude.{ℕ, Bool, true, false, ◌||◌, nat_lt, List, [], ◌∷◌, ◌++◌, length, Option, None, Some, if◌then◌else◌, codes}
+use Rattle.std.specs.Prelude.{ℕ, Bool, false, ◌||◌, nat_lt, List, [], ◌∷◌, ◌++◌, if◌then◌else◌, codes, is_some}
 use Rattle.std.specs.Str.{str_eq_ignore_ascii_case}
-use Rattle.kx_basics.specs.declared.limits.TheConstants.{GREATEST_CODE, MOST_NAME_BYTES}
+use Rattle.kx_basics.specs.declared.limits.TheConstants.{GREATEST_CODE}
 use Rattle.kx_lex.specs.declared.fault.Fault.{Fault}
-use Rattle.kx_lex.specs.declared.fault.Fault.TheVariants.{TooMany, CodeRange, UnknownField}
+use Rattle.kx_lex.specs.declared.fault.Fault.TheVariants.{CodeRange, UnknownField}
 use Rattle.kx_lex.specs.declared.token.Span.{Span}
 use Rattle.kx_parse.specs.declared.tree.Item.{Item}
 use Rattle.kx_parse.specs.declared.tree.Item.TheVariants.{Include, Statement}
-use Rattle.kx_lex.specs.declared.name.Name.{Name}
 use Rattle.kx_lex.specs.declared.name.Number.{Number}
 use Rattle.kx_parse.specs.declared.tree.FieldPlace.{FieldPlace}
 use Rattle.kx_parse.specs.declared.tree.Statement.{Statement as Said}
 use Rattle.kx_parse.specs.declared.tree.Statement.TheVariants.{Keycode, Alias, IndicatorName, Field}
 use Rattle.kx_include.specs.Expansion.{Body, End, Begin, Own, Inc}
 use Rattle.kx_include.specs.IncludeFaults.{at}
-
--- a name has at most 255 bytes
-abbrev pub name_faults : ℕ → Span → Name → List Fault
-name_faults file whole name = if nat_lt MOST_NAME_BYTES (length name.bytes) then TooMany (at file whole) ∷ [] else []
-
--- the greatest keycode is 4,095
-abbrev pub code_faults : ℕ → Number → List Fault
-code_faults file code = if nat_lt GREATEST_CODE code.value then CodeRange (at file code.span) ∷ [] else []
-
-abbrev pub has_member : Option Name → Bool
-has_member None = false
-has_member (Some member) = true
+use Rattle.kx_values.specs.Faults.{name_faults}
 
 -- the fields that are read and not used
 abbrev pub is_limit : FieldPlace → Bool
-is_limit place = if has_member place.member then false else (str_eq_ignore_ascii_case place.word.bytes (codes "minimum") || str_eq_ignore_ascii_case place.word.bytes (codes "maximum"))
+is_limit place = if is_some place.member then false else (str_eq_ignore_ascii_case place.word.bytes (codes "minimum") || str_eq_ignore_ascii_case place.word.bytes (codes "maximum"))
 
 abbrev pub said_faults : ℕ → Said → Span → Span → List Fault
-said_faults file (Keycode name code) first whole = name_faults file whole name ++ code_faults file code
+said_faults file (Keycode name code) first whole = name_faults file whole name ++ (if nat_lt GREATEST_CODE code.value then CodeRange (at file code.span) ∷ [] else [])
 said_faults file (Alias name target) first whole = name_faults file whole name ++ name_faults file whole target
 said_faults file (IndicatorName number name) first whole = []
 said_faults file (Field field) first whole = if is_limit field.place then [] else UnknownField (at file field.place.word.span) ∷ []
@@ -49,3 +37,8 @@ faults_of End = []
 faults_of (Begin rest) = faults_of rest
 faults_of (Own place item rest) = own_faults place.file item ++ faults_of rest
 faults_of (Inc mode group body rest) = faults_of body ++ faults_of rest
+
+-- ---- Under names, for clauses and proofs
+
+abbrev pub code_faults : ℕ → Number → List Fault
+code_faults file code = if nat_lt GREATEST_CODE code.value then CodeRange (at file code.span) ∷ [] else []

@@ -26,9 +26,6 @@ taken Augment ps p = if list_any (shares p) ps then ps else ps ++ p ∷ []
 taken Override ps p = without p ps ++ p ∷ []
 taken Replace ps p = without p ps ++ p ∷ []
 
-abbrev pub all_taken : Mode → List Pair → List Pair → List Pair
-all_taken mode ps qs = fold (taken mode) ps qs
-
 abbrev pub said_pairs : Mode → Said → List Pair → List Pair
 said_pairs mode (Keycode name code) ps = taken mode ps (record { name = name.bytes; code = code.value })
 said_pairs mode _ ps = ps
@@ -43,7 +40,7 @@ abbrev pub pairs_from : List Pair → Body → List Pair
 pairs_from ps End = ps
 pairs_from ps (Begin rest) = pairs_from ps rest
 pairs_from ps (Own place item rest) = pairs_from (own_pairs item ps) rest
-pairs_from ps (Inc mode group body rest) = pairs_from (all_taken mode ps (pairs_from [] body)) rest
+pairs_from ps (Inc mode group body rest) = pairs_from (fold (taken mode) ps (pairs_from [] body)) rest
 
 abbrev pub pairs_of : Body → List Pair
 pairs_of body = pairs_from [] body
@@ -55,3 +52,8 @@ code_in (p ∷ ps) name = if bytes_eq name p.name then Some p.code else code_in 
 abbrev pub name_in : List Pair → ℕ → Option (List ℕ)
 name_in [] code = None
 name_in (p ∷ ps) code = if code == p.code then Some p.name else name_in ps code
+
+-- ---- Under names, for clauses and proofs
+
+abbrev pub all_taken : Mode → List Pair → List Pair → List Pair
+all_taken mode ps qs = fold (taken mode) ps qs

@@ -27,14 +27,9 @@ use Rattle.kx_compat.specs.declared.values.FieldValue.TheVariants.{Action, Modif
 -- the words of fields, read without regard to case
 abbrev pub field_words : List (List ℕ × InterpretField)
 field_words =
-    (codes "action", fields.Action)
-    ∷ (codes "virtualModifier", fields.Modifier)
-    ∷ (codes "virtualMod", fields.Modifier)
-    ∷ (codes "useModMapMods", fields.Levels)
-    ∷ (codes "useModMap", fields.Levels)
-    ∷ (codes "repeat", fields.Unused)
-    ∷ (codes "locking", fields.Unused)
-    ∷ []
+    (codes "action", fields.Action) ∷ (codes "virtualModifier", fields.Modifier) ∷ (codes "virtualMod", fields.Modifier)
+    ∷ (codes "useModMapMods", fields.Levels) ∷ (codes "useModMap", fields.Levels)
+    ∷ (codes "repeat", fields.Unused) ∷ (codes "locking", fields.Unused) ∷ []
 
 -- a field that has a meaning takes no index
 abbrev pub indexed : Option Index → InterpretField → Option InterpretField
@@ -49,31 +44,22 @@ field_named word index = option_and_then (indexed index) (among field_words word
 abbrev pub level_words : List (List ℕ × Bool)
 level_words = (codes "level1", true) ∷ (codes "levelone", true) ∷ (codes "anylevel", false) ∷ (codes "any", false) ∷ []
 
-abbrev pub levels_value : Setting → Option FieldValue
-levels_value s = option_map FirstLevelOnly (option_and_then (meaning_among level_words) (expression_in s))
-
 -- `names` are the virtual modifiers by number
 module _ (names : List (List ℕ)) where
   -- a word for real modifiers is no virtual one
   abbrev pub word_modifier : Name → Option ℕ
   word_modifier word = if is_some (real_mask word.bytes) then None else virtual_number names word.bytes
 
-  abbrev pub modifier_of : Expression → Option ℕ
-  modifier_of e = option_and_then word_modifier (lone_word e)
-
   -- under the defaults for actions before it
   abbrev pub action_value : ActionDefaults → Setting → Option FieldValue
   action_value d (To (Called call)) = Some (Action (action_of names d call))
   action_value d _ = None
 
-  abbrev pub modifier_value : Setting → Option FieldValue
-  modifier_value s = option_map Modifier (option_and_then modifier_of (expression_in s))
-
   -- what is read and not used gives nothing
   abbrev pub setting_value : ActionDefaults → Setting → InterpretField → Option FieldValue
   setting_value d setting fields.Action = action_value d setting
-  setting_value d setting fields.Modifier = modifier_value setting
-  setting_value d setting fields.Levels = levels_value setting
+  setting_value d setting fields.Modifier = option_map Modifier (option_and_then (λ e. option_and_then word_modifier (lone_word e)) (expression_in setting))
+  setting_value d setting fields.Levels = option_map FirstLevelOnly (option_and_then (meaning_among level_words) (expression_in setting))
   setting_value d setting fields.Unused = None
 
   -- `word` names the field: that of its place, or as a default the one behind the point
@@ -117,3 +103,14 @@ module _ (file : ℕ) where
 
     abbrev pub field_faults : Name → Field → List Fault
     field_faults word field = known_faults word field (field_named word.bytes field.place.index)
+
+-- ---- Under names, for clauses and proofs
+
+abbrev pub levels_value : Setting → Option FieldValue
+levels_value s = option_map FirstLevelOnly (option_and_then (meaning_among level_words) (expression_in s))
+
+abbrev pub modifier_of : (names : List (List ℕ)) → Expression → Option ℕ
+modifier_of names e = option_and_then (word_modifier names) (lone_word e)
+
+abbrev pub modifier_value : (names : List (List ℕ)) → Setting → Option FieldValue
+modifier_value names s = option_map Modifier (option_and_then (λ e. option_and_then (word_modifier names) (lone_word e)) (expression_in s))

@@ -14,19 +14,6 @@ use Rattle.kx_compat.specs.Given.{FieldValues}
 abbrev pub no_values : FieldValues
 no_values = record { action = None; modifier = None; first_level_only = None }
 
--- the value of a field, where it is this one
-abbrev pub value_action : FieldValue → Option KeyAction
-value_action (Action action) = Some action
-value_action _ = None
-
-abbrev pub value_modifier : FieldValue → Option ℕ
-value_modifier (Modifier number) = Some number
-value_modifier _ = None
-
-abbrev pub value_first_level_only : FieldValue → Option Bool
-value_first_level_only (FirstLevelOnly only) = Some only
-value_first_level_only _ = None
-
 -- a field that is given anew has what it is given
 abbrev pub with_value : FieldValues → Option FieldValue → FieldValues
 with_value v None = v
@@ -34,13 +21,17 @@ with_value v (Some (Action action)) = record v { action = Some action }
 with_value v (Some (Modifier number)) = record v { modifier = Some number }
 with_value v (Some (FirstLevelOnly only)) = record v { first_level_only = Some only }
 
+-- a value alone
+abbrev pub only : FieldValue → FieldValues
+only value = with_value no_values (Some value)
+
 module _ {X : Type 0} (gives : X → Option FieldValue) where
   -- each field has what the last gives that gives it anything, else what it had before them
   abbrev pub last_values : FieldValues → List X → FieldValues
   last_values before xs = record {
-    action = option_or (last_given (λ x. option_and_then value_action (gives x)) xs) before.action;
-    modifier = option_or (last_given (λ x. option_and_then value_modifier (gives x)) xs) before.modifier;
-    first_level_only = option_or (last_given (λ x. option_and_then value_first_level_only (gives x)) xs) before.first_level_only;
+    action = option_or (last_given (λ x. option_and_then (λ v. (only v).action) (gives x)) xs) before.action;
+    modifier = option_or (last_given (λ x. option_and_then (λ v. (only v).modifier) (gives x)) xs) before.modifier;
+    first_level_only = option_or (last_given (λ x. option_and_then (λ v. (only v).first_level_only) (gives x)) xs) before.first_level_only;
   }
 
 -- an interpretation has a cell for each field
@@ -55,3 +46,14 @@ values_width v group = 0
 -- without `useModMapMods` it is for any level
 abbrev pub interpretation_with : Trigger → FieldValues → Interpretation
 interpretation_with trigger values = record { trigger = trigger; action = values.action; modifier = values.modifier; first_level_only = unwrap_or values.first_level_only false }
+
+-- ---- Under names, for proofs
+
+abbrev pub value_action : FieldValue → Option KeyAction
+value_action value = (only value).action
+
+abbrev pub value_modifier : FieldValue → Option ℕ
+value_modifier value = (only value).modifier
+
+abbrev pub value_first_level_only : FieldValue → Option Bool
+value_first_level_only value = (only value).first_level_only

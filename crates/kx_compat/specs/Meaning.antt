@@ -1,11 +1,11 @@
 -- The interpretations that the statements of a compat body declare.
-use Rattle.std.specs.Prelude.{ℕ, false, List, [], ◌∷◌, map, Option, None, Some, unwrap_or}
-use Rattle.std.specs.Option.{option_and_then}
+use Rattle.std.specs.Prelude.{ℕ, false, List, [], ◌∷◌, map, Option, unwrap_or}
+use Rattle.std.specs.Option.{option_and_then, option_map_or}
 use Rattle.ks_core.specs.Entry.{Entry}
 use Rattle.kx_include.specs.Expansion.{Body}
 use Rattle.kx_lex.specs.declared.fault.Fault.{Fault}
-use Rattle.kx_merge.specs.Bodies.{Moves, Rules, faults_of, offers_of}
-use Rattle.kx_merge.specs.Offers.{Offer, names_of, value_of}
+use Rattle.kx_merge.specs.Bodies.{Moves, Rules, faults_of, offers_of, no_moves}
+use Rattle.kx_merge.specs.Offers.{Offer, names_of, value_of, plain_offer}
 use Rattle.kx_parse.specs.declared.tree.Item.{Item}
 use Rattle.kx_parse.specs.declared.tree.Item.TheVariants.{Include, Statement}
 use Rattle.kx_parse.specs.declared.tree.Mode.{Mode}
@@ -14,7 +14,7 @@ use Rattle.kx_choice.specs.Triggers.{same_trigger}
 use Rattle.kx_choice.specs.declared.trigger.Trigger.{Trigger}
 use Rattle.kx_compat.specs.Sections.{Interpreted, interpretation_in, item_faults, next_default, no_defaults, values_of}
 use Rattle.kx_compat.specs.Triggers.{trigger_of}
-use Rattle.kx_compat.specs.Giving.{value_action, value_first_level_only, value_modifier, values_cell}
+use Rattle.kx_compat.specs.Giving.{values_cell, only}
 use Rattle.kx_compat.specs.declared.defaults.CompatDefaults.{CompatDefaults}
 use Rattle.kx_compat.specs.declared.values.Cell.{Cell}
 use Rattle.kx_compat.specs.declared.values.Cell.TheVariants as cells
@@ -24,19 +24,15 @@ use Rattle.kx_compat.specs.Given.{FieldValues}
 abbrev pub InterpretationOffer : Type 0
 InterpretationOffer = Offer Trigger Cell FieldValue
 
-abbrev pub values_offer : Mode → Trigger → FieldValues → InterpretationOffer
-values_offer mode trigger values = record { mode = mode; name = trigger; value = values_cell values; width = λ _. 0 }
-
+-- what a statement offers the interpretations of a trigger
 abbrev pub offers_to : Mode → FieldValues → Option Trigger → List InterpretationOffer
-offers_to mode values None = []
-offers_to mode values (Some trigger) = values_offer mode trigger values ∷ []
+offers_to mode values trigger = option_map_or (λ t. plain_offer mode t (values_cell values) ∷ []) trigger []
 
 -- `table` are the names of keysyms, `names` the virtual modifiers by number
 module _ (table : List Entry) (names : List (List ℕ)) where
   -- an interpretation of an unknown keysym offers nothing
   abbrev pub said_offers : CompatDefaults → Mode → Option Interpreted → List InterpretationOffer
-  said_offers d mode None = []
-  said_offers d mode (Some i) = offers_to mode (values_of names d i.2) (trigger_of table i.0 i.1)
+  said_offers d mode i = option_map_or (λ i. offers_to mode (values_of names d i.2) (trigger_of table i.0 i.1)) i []
 
   abbrev pub item_offers : CompatDefaults → Item → List InterpretationOffer
   item_offers d (Statement mode statement first whole) = said_offers d mode (interpretation_in statement)
@@ -45,26 +41,30 @@ module _ (table : List Entry) (names : List (List ℕ)) where
   abbrev pub compat_rules : Rules Trigger Cell FieldValue CompatDefaults
   compat_rules = record { start = no_defaults; next = next_default names; offers = λ d place item. item_offers d item; faults = λ d place item. item_faults place.file names item }
 
--- a move to a group leaves what has no group
-abbrev pub compat_moves : Moves Trigger Cell
-compat_moves = record { key = λ n trigger. Some trigger; cell = λ n c. Some c; group = λ n g. None }
-
 -- what offers make of an interpretation, each field by precedence; without `useModMapMods` it is for any level
 abbrev pub interpretation_by : List InterpretationOffer → Trigger → Interpretation
 interpretation_by os trigger = record {
   trigger = trigger;
-  action = option_and_then value_action (value_of same_trigger os trigger cells.Action);
-  modifier = option_and_then value_modifier (value_of same_trigger os trigger cells.Modifier);
-  first_level_only = unwrap_or (option_and_then value_first_level_only (value_of same_trigger os trigger cells.Levels)) false;
+  action = option_and_then (λ v. (only v).action) (value_of same_trigger os trigger cells.Action);
+  modifier = option_and_then (λ v. (only v).modifier) (value_of same_trigger os trigger cells.Modifier);
+  first_level_only = unwrap_or (option_and_then (λ v. (only v).first_level_only) (value_of same_trigger os trigger cells.Levels)) false;
 }
 
 module _ (table : List Entry) (names : List (List ℕ)) (body : Body) where
   abbrev pub interpretation_offers : List InterpretationOffer
-  interpretation_offers = offers_of same_trigger (compat_rules table names) compat_moves body
+  interpretation_offers = offers_of same_trigger (compat_rules table names) no_moves body
 
   -- in the order of first appearance, hidden or not
   abbrev pub interpretations_of : List Interpretation
   interpretations_of = map (interpretation_by interpretation_offers) (names_of same_trigger interpretation_offers)
 
   abbrev pub compat_faults : List Fault
-  compat_faults = faults_of same_trigger (compat_rules table names) compat_moves body
+  compat_faults = faults_of same_trigger (compat_rules table names) no_moves body
+
+-- ---- Under names, for clauses and proofs
+
+abbrev pub values_offer : Mode → Trigger → FieldValues → InterpretationOffer
+values_offer mode trigger values = plain_offer mode trigger (values_cell values)
+
+abbrev pub compat_moves : Moves Trigger Cell
+compat_moves = no_moves

@@ -2,6 +2,7 @@
 use Rattle.std.specs.Prelude.{◌≡◌, ℕ, fold, option_to_list, Bool, true, false, List, [], ◌∷◌, ◌++◌, Option, None, Some, is_some, if◌then◌else◌, codes}
 use Rattle.std.specs.List.{flat_map}
 use Rattle.std.specs.Str.{str_eq_ignore_ascii_case}
+use Rattle.std.specs.Option.{option_and_then, option_map_or}
 use Rattle.kx_actions.specs.Defaults.{default_faults, defaults_behind, next_defaults, no_defaults as no_action_defaults}
 use Rattle.kx_actions.specs.Values.{is_faultless}
 use Rattle.kx_actions.specs.declared.defaults.ActionDefaults.{ActionDefaults}
@@ -25,6 +26,7 @@ use Rattle.kx_compat.specs.Giving.{last_values, no_values, with_value}
 use Rattle.kx_compat.specs.declared.defaults.CompatDefaults.{CompatDefaults}
 use Rattle.kx_compat.specs.declared.values.FieldValue.{FieldValue}
 use Rattle.kx_compat.specs.Given.{FieldValues}
+use Rattle.kx_symbols.specs.Keys.{field_in}
 
 -- ---- Statements
 
@@ -34,10 +36,6 @@ Interpreted = Symbol × Option Predicate × List Field
 abbrev pub interpretation_in : Said → Option Interpreted
 interpretation_in (said.Interpretation symbol predicate fields) = Some (symbol, predicate, fields)
 interpretation_in _ = None
-
-abbrev pub field_in : Said → Option Field
-field_in (said.Field field) = Some field
-field_in _ = None
 
 abbrev pub item_field : Item → Option Field
 item_field (Statement mode statement first whole) = field_in statement
@@ -53,9 +51,6 @@ is_other _ = false
 abbrev pub is_interpret : List ℕ → Bool
 is_interpret word = str_eq_ignore_ascii_case word (codes "interpret")
 
-abbrev pub is_indicator : List ℕ → Bool
-is_indicator word = str_eq_ignore_ascii_case word (codes "indicator")
-
 -- ---- Defaults: fields as `interpret.repeat = no;` and `setMods.clearLocks = yes;`
 
 abbrev pub no_defaults : CompatDefaults
@@ -63,45 +58,30 @@ no_defaults = record { actions = no_action_defaults; values = no_values }
 
 -- `names` are the virtual modifiers by number
 module _ (names : List (List ℕ)) where
-  -- a default with a fault, in whatever file it stands, gives nothing
-  abbrev pub default_value : ActionDefaults → Name → Field → Option FieldValue
-  default_value actions member field = if is_faultless (field_faults 0 names member field) then field_value names actions member field else None
-
   abbrev pub member_value : ActionDefaults → Field → Option Name → Option FieldValue
-  member_value actions field None = None
-  member_value actions field (Some member) = default_value actions member field
+  member_value actions field member = option_and_then (λ m. if is_faultless (field_faults 0 names m field) then field_value names actions m field else None) member
 
   -- what a statement gives as a default for interpretations, where it is one, under the defaults for actions before it
   abbrev pub given_value : ActionDefaults → Option Field → Option FieldValue
-  given_value actions None = None
-  given_value actions (Some field) = if is_interpret field.place.word.bytes then member_value actions field field.place.member else None
-
-  abbrev pub given_actions : ActionDefaults → Option Field → ActionDefaults
-  given_actions actions None = actions
-  given_actions actions (Some field) = next_defaults names actions field
+  given_value actions field = option_and_then (λ f. if is_interpret f.place.word.bytes then member_value actions f f.place.member else None) field
 
   -- the defaults behind one more statement
   abbrev pub next_default : CompatDefaults → Item → CompatDefaults
-  next_default d item = record { actions = given_actions d.actions (item_field item); values = with_value d.values (given_value d.actions (item_field item)) }
+  next_default d item = record { actions = option_map_or (next_defaults names d.actions) (item_field item) d.actions; values = with_value d.values (given_value d.actions (item_field item)) }
 
   -- statements, each with the defaults for actions before it
   abbrev pub standing : ActionDefaults → List Item → List (ActionDefaults × Item)
   standing actions [] = []
-  standing actions (item ∷ items) = (actions, item) ∷ standing (given_actions actions (item_field item)) items
+  standing actions (item ∷ items) = (actions, item) ∷ standing (option_map_or (next_defaults names actions) (item_field item) actions) items
 
   -- the defaults behind the statements of a section are what the last of them gives that gives a field anything
   pub record DefaultsAreLast : Type 0 where
     pub actions_are : (statements : List Item) → (fold next_default no_defaults statements).actions ≡ defaults_behind names (flat_map (λ item. option_to_list (item_field item)) statements)
     pub values_are : (statements : List Item) → (fold next_default no_defaults statements).values ≡ last_values (λ s. given_value s.0 (item_field s.1)) no_values (standing no_action_defaults statements)
+    -- what is written last in it, else the default before it
 
-  -- ---- What the fields of an interpretation give it
-
-  abbrev pub own_value : CompatDefaults → Field → Option FieldValue
-  own_value d field = if is_some field.place.member then None else field_value names d.actions field.place.word field
-
-  -- what is written last in it, else the default before it
   abbrev pub values_of : CompatDefaults → List Field → FieldValues
-  values_of d fields = last_values (own_value d) d.values fields
+  values_of d fields = last_values (λ field. if is_some field.place.member then None else field_value names d.actions field.place.word field) d.values fields
 
 -- ---- Faults
 
@@ -116,35 +96,40 @@ module _ (file : ℕ) (names : List (List ℕ)) where
   abbrev pub interpretation_faults : Interpreted → List Fault
   interpretation_faults i = symbol_faults file i.0 ++ predicate_faults file names i.1 ++ flat_map own_faults i.2
 
-  abbrev pub member_faults : Field → Option Name → List Fault
-  member_faults field None = unknown_word field.place.word
-  member_faults field (Some member) = field_faults file names member field
-
-  -- what stands behind the point is judged where indicators are read
-  abbrev pub lamp_faults : Field → Option Name → List Fault
-  lamp_faults field None = unknown_word field.place.word
-  lamp_faults field (Some member) = []
-
   -- of a field that stands alone
   abbrev pub lone_faults : Field → List Fault
   lone_faults field =
-      if is_interpret field.place.word.bytes then member_faults field field.place.member
-      else (if is_indicator field.place.word.bytes then lamp_faults field field.place.member
+      if is_interpret field.place.word.bytes then option_map_or (λ m. field_faults file names m field) field.place.member (unknown_word field.place.word)
+      else (if str_eq_ignore_ascii_case field.place.word.bytes (codes "indicator") then if is_some field.place.member then [] else unknown_word field.place.word
       else default_faults file names field)
-
-  -- `word` is what a fault of an unknown statement names
-  abbrev pub other_faults : Said → Span → List Fault
-  other_faults statement word = if is_other statement then [] else UnknownField (at file word) ∷ []
-
-  abbrev pub alone_faults : Said → Span → Option Field → List Fault
-  alone_faults statement word None = other_faults statement word
-  alone_faults statement word (Some field) = lone_faults field
-
-  abbrev pub said_faults : Said → Span → Option Interpreted → List Fault
-  said_faults statement word None = alone_faults statement word (field_in statement)
-  said_faults statement word (Some i) = interpretation_faults i
 
   -- those of a statement in a file; of an include's text there are none here
   abbrev pub item_faults : Item → List Fault
-  item_faults (Statement mode statement first whole) = said_faults statement (word_span (Statement mode statement first whole)) (interpretation_in statement)
+  item_faults (Statement mode statement first whole) = option_map_or interpretation_faults (interpretation_in statement) (option_map_or lone_faults (field_in statement) (if is_other statement then [] else UnknownField (at file (word_span (Statement mode statement first whole))) ∷ []))
   item_faults (Include mode text span) = []
+
+-- ---- Under a name, for proofs
+
+abbrev pub given_actions : List (List ℕ) → ActionDefaults → Option Field → ActionDefaults
+given_actions names actions field = option_map_or (next_defaults names actions) field actions
+
+abbrev pub alone_faults : (file : ℕ) → (names : List (List ℕ)) → Said → Span → Option Field → List Fault
+alone_faults file names statement word field = option_map_or (lone_faults file names) field (if is_other statement then [] else UnknownField (at file word) ∷ [])
+
+abbrev pub said_faults : (file : ℕ) → (names : List (List ℕ)) → Said → Span → Option Interpreted → List Fault
+said_faults file names statement word i = option_map_or (interpretation_faults file names) i (option_map_or (lone_faults file names) (field_in statement) (if is_other statement then [] else UnknownField (at file word) ∷ []))
+
+abbrev pub default_value : (names : List (List ℕ)) → ActionDefaults → Name → Field → Option FieldValue
+default_value names actions member field = if is_faultless (field_faults 0 names member field) then field_value names actions member field else None
+
+abbrev pub is_indicator : List ℕ → Bool
+is_indicator word = str_eq_ignore_ascii_case word (codes "indicator")
+
+abbrev pub lamp_faults : (file : ℕ) → (names : List (List ℕ)) → Field → Option Name → List Fault
+lamp_faults file names field member = if is_some member then [] else (unknown_word file names) field.place.word
+
+abbrev pub member_faults : (file : ℕ) → (names : List (List ℕ)) → Field → Option Name → List Fault
+member_faults file names field member = option_map_or (λ m. field_faults file names m field) member (unknown_word file names field.place.word)
+
+abbrev pub own_value : (names : List (List ℕ)) → CompatDefaults → Field → Option FieldValue
+own_value names d field = if is_some field.place.member then None else field_value names d.actions field.place.word field

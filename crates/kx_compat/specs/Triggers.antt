@@ -30,13 +30,8 @@ abbrev pub is_any : Symbol → Bool
 is_any (Word word) = is_no_symbol word.bytes
 is_any (Number number) = false
 
--- a symbol without a keysym is for any where it says so; a name that no keysym has is for none
-abbrev pub keysym_among : Symbol → Option ℕ → Option WantedKeysym
-keysym_among symbol (Some keysym) = Some (Named keysym)
-keysym_among symbol None = if is_any symbol then Some Any else None
-
 abbrev pub wanted_keysym : List Entry → Symbol → Option WantedKeysym
-wanted_keysym table symbol = keysym_among symbol (symbol_keysym table symbol)
+wanted_keysym table symbol = option_map_or (λ k. Some (Named k)) (symbol_keysym table symbol) (if is_any symbol then Some Any else None)
 
 -- ---- The modifiers, as a mask of real ones, and the condition
 
@@ -56,45 +51,21 @@ abbrev pub only_mask : List PlacedArgument → Option Expression
 only_mask (a ∷ []) = plain_mask a.argument
 only_mask _ = None
 
--- all eight
-abbrev pub all_real : ℕ
-all_real = 255
-
 abbrev pub is_any_word : Expression → Bool
 is_any_word e = option_map_or (λ w. str_eq_ignore_ascii_case w.bytes (codes "any")) (lone_word e) false
 
-abbrev pub called_with : Condition → Option Expression → Option Wanted
-called_with condition mask = option_map (λ e. (condition, mask_set [] e)) mask
-
-abbrev pub call_wants : Call → Option Wanted
-call_wants call = option_and_then (λ condition. called_with condition (only_mask call.arguments)) (among condition_words call.word.bytes)
-
-abbrev pub mask_wants : Expression → Wanted
-mask_wants e = if is_any_word e then (AnyOf, all_real) else (Exactly, mask_set [] e)
-
--- no predicate is AnyOfOrNone of all, the word Any is AnyOf of all, and a mask by itself is Exactly
+-- no predicate is AnyOfOrNone of all eight, the word Any is AnyOf of all, and a mask by itself is Exactly
 abbrev pub predicate_wants : Option Predicate → Option Wanted
-predicate_wants None = Some (AnyOfOrNone, all_real)
-predicate_wants (Some (predicates.Call call)) = call_wants call
-predicate_wants (Some (predicates.Mask e)) = Some (mask_wants e)
+predicate_wants None = Some (AnyOfOrNone, 255)
+predicate_wants (Some (predicates.Call call)) = option_and_then (λ condition. option_map (λ e. (condition, mask_set [] e)) (only_mask call.arguments)) (among condition_words call.word.bytes)
+predicate_wants (Some (predicates.Mask e)) = Some (if is_any_word e then (AnyOf, 255) else (Exactly, mask_set [] e))
 
 module _ (file : ℕ) (names : List (List ℕ)) where
-  abbrev pub only_mask_faults : Call → Option Expression → List Fault
-  only_mask_faults call None = BadValue (at file call.span) ∷ []
-  only_mask_faults call (Some e) = real_mask_faults file names e
-
-  abbrev pub condition_faults : Call → Option Condition → List Fault
-  condition_faults call None = UnknownField (at file call.word.span) ∷ []
-  condition_faults call (Some condition) = only_mask_faults call (only_mask call.arguments)
-
-  abbrev pub mask_predicate_faults : Expression → List Fault
-  mask_predicate_faults e = if is_any_word e then [] else real_mask_faults file names e
-
   -- a predicate is about real modifiers alone
   abbrev pub predicate_faults : Option Predicate → List Fault
   predicate_faults None = []
-  predicate_faults (Some (predicates.Call call)) = condition_faults call (among condition_words call.word.bytes)
-  predicate_faults (Some (predicates.Mask e)) = mask_predicate_faults e
+  predicate_faults (Some (predicates.Call call)) = option_map_or (λ _. option_map_or (real_mask_faults file names) (only_mask call.arguments) (BadValue (at file call.span) ∷ [])) (among condition_words call.word.bytes) (UnknownField (at file call.word.span) ∷ [])
+  predicate_faults (Some (predicates.Mask e)) = if is_any_word e then [] else real_mask_faults file names e
 
 -- ---- Both
 
@@ -104,3 +75,23 @@ trigger_with _ _ = None
 
 abbrev pub trigger_of : List Entry → Symbol → Option Predicate → Option Trigger
 trigger_of table symbol predicate = trigger_with (wanted_keysym table symbol) (predicate_wants predicate)
+
+-- ---- Under names, for clauses and proofs
+
+abbrev pub call_wants : Call → Option Wanted
+call_wants call = option_and_then (λ condition. option_map (λ e. (condition, mask_set [] e)) (only_mask call.arguments)) (among condition_words call.word.bytes)
+
+abbrev pub only_mask_faults : (file : ℕ) → (names : List (List ℕ)) → Call → Option Expression → List Fault
+only_mask_faults file names call mask = option_map_or (real_mask_faults file names) mask (BadValue (at file call.span) ∷ [])
+
+abbrev pub condition_faults : (file : ℕ) → (names : List (List ℕ)) → Call → Option Condition → List Fault
+condition_faults file names call condition = option_map_or (λ _. option_map_or (real_mask_faults file names) (only_mask call.arguments) (BadValue (at file call.span) ∷ [])) condition (UnknownField (at file call.word.span) ∷ [])
+
+abbrev pub mask_predicate_faults : (file : ℕ) → (names : List (List ℕ)) → Expression → List Fault
+mask_predicate_faults file names e = if is_any_word e then [] else real_mask_faults file names e
+
+abbrev pub mask_wants : Expression → Wanted
+mask_wants e = if is_any_word e then (AnyOf, 255) else (Exactly, mask_set [] e)
+
+abbrev pub keysym_among : Symbol → Option ℕ → Option WantedKeysym
+keysym_among symbol keysym = option_map_or (λ k. Some (Named k)) keysym (if is_any symbol then Some Any else None)

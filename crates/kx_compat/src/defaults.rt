@@ -1,7 +1,8 @@
 //! The defaults of a compat section.
 ghost use Rattle.std.specs.Prelude.{◌≡◌, Some};
 ghost use Rattle.std.specs.Option.{option_map};
-ghost use Rattle.kx_compat.specs.Sections.{default_value, field_in, given_value, is_interpret, item_field, member_value};
+ghost use Rattle.kx_compat.specs.Sections.{default_value, given_value, is_interpret, item_field, member_value};
+ghost use Rattle.kx_symbols.specs.Keys.{field_in};
 
 use crate::fields::read_field;
 use crate::values::{FieldValue, FieldValues};

@@ -1,10 +1,11 @@
 -- The names of groups by precedence.
 use Rattle.std.specs.Prelude.{◌≡◌, ℕ, ◌+◌, ◌-◌, ◌<◌, ◌≤◌, ◌==◌, nat_eq, List, [], ◌∷◌, length, slice_get, Option, None, Some, unwrap_or, if◌then◌else◌}
+use Rattle.std.specs.Option.{option_map_or}
 use Rattle.indexmap.specs.IndexMap.{IndexMap, get}
 use Rattle.kx_basics.specs.declared.limits.TheConstants.{MOST_GROUPS}
 use Rattle.kx_include.specs.Expansion.{Body}
 use Rattle.kx_merge.specs.Bodies.{Rules, Moves, offers_of}
-use Rattle.kx_merge.specs.Offers.{Offer, value_of}
+use Rattle.kx_merge.specs.Offers.{Offer, value_of, plain_offer}
 use Rattle.kx_merge.specs.Records.{cell_in}
 use Rattle.kx_parse.specs.declared.tree.Field.{Field}
 use Rattle.kx_parse.specs.declared.tree.Item.{Item}
@@ -14,20 +15,12 @@ use Rattle.kx_groups.specs.Fields.{indexed_group, item_faults, name_in, set_text
 use Rattle.kx_groups.specs.declared.record.GroupName.{GroupName}
 
 -- a group, counted from 1, has one cell, its name
-abbrev pub name_offer : Mode → ℕ → List ℕ → Offer ℕ (Unit {0}) (List ℕ)
-name_offer mode group text = record { mode = mode; name = group; value = λ _. Some text; width = λ _. 0 }
-
 abbrev pub offered : Mode → Option ℕ → Option (List ℕ) → List (Offer ℕ (Unit {0}) (List ℕ))
-offered mode None text = []
-offered mode (Some group) None = []
-offered mode (Some group) (Some text) = name_offer mode group text ∷ []
-
-abbrev pub named_offers : Mode → Option Field → List (Offer ℕ (Unit {0}) (List ℕ))
-named_offers mode None = []
-named_offers mode (Some field) = offered mode (indexed_group field.place.index) (set_text field.setting)
+offered mode (Some group) (Some text) = plain_offer mode group (λ _. Some text) ∷ []
+offered mode _ _ = []
 
 abbrev pub item_offers : Item → List (Offer ℕ (Unit {0}) (List ℕ))
-item_offers (Statement mode statement first whole) = named_offers mode (name_in statement)
+item_offers (Statement mode statement first whole) = option_map_or (λ field. offered mode (indexed_group field.place.index) (set_text field.setting)) (name_in statement) []
 item_offers (Include mode text span) = []
 
 abbrev pub name_rules : Rules ℕ (Unit {0}) (List ℕ) (Unit {0})
@@ -66,3 +59,11 @@ name_width r group = 0
 -- the name that records by group hold; no bytes where they hold none
 abbrev pub name_recorded : {S : Type 0} → IndexMap ℕ GroupName S → ℕ → List ℕ
 name_recorded records group = unwrap_or (cell_in name_cell (get nat_eq records group) tt) []
+
+-- ---- Under names, for clauses
+
+abbrev pub name_offer : Mode → ℕ → List ℕ → Offer ℕ (Unit {0}) (List ℕ)
+name_offer mode group text = plain_offer mode group (λ _. Some text)
+
+abbrev pub named_offers : Mode → Option Field → List (Offer ℕ (Unit {0}) (List ℕ))
+named_offers mode field = option_map_or (λ f. offered mode (indexed_group f.place.index) (set_text f.setting)) field []

@@ -2,8 +2,9 @@
 ghost use Rattle.std.specs.Prelude.{◌≡◌, ◌≤◌, ◌++◌, [], Contains, IfErr, IfOk, OnOk, Some, length};
 ghost use Rattle.std.specs.Option.{option_map};
 ghost use Rattle.kx_basics.specs.declared.limits.TheConstants.{MOST_NAME_BYTES};
-ghost use Rattle.kx_groups.specs.Fields.{expression_faults, field_faults, index_faults, indexed_group, name_in, set_text, term_text, text_faults, text_of};
+ghost use Rattle.kx_groups.specs.Fields.{expression_faults, field_faults, index_faults, indexed_group, name_in, set_text, text_faults};
 ghost use Rattle.kx_values.specs.Faults.{value_faults};
+ghost use Rattle.kx_values.specs.Words.{lone_text, term_text};
 
 use kx_basics::MOST_NAME_BYTES;
 use kx_lex::{At, Boxed, Fault, Name, Span};
@@ -63,7 +64,7 @@ fn term_text(term: &Term) -> Option<&[u8]>
 
 /// The text that an expression is, where it is one.
 fn text_of(expression: &Expression) -> Option<&[u8]>
-    ensures { option_map (λ t. t.now) result ≡ text_of expression.now }
+    ensures { option_map (λ t. t.now) result ≡ lone_text expression.now }
 {
     match expression.rest.as_slice() {
         [] => term_text(&expression.first),
@@ -77,10 +78,10 @@ fn expression_text<'a>(
     whole: Span,
     expression: &'a Expression,
 ) -> Result<&'a [u8], Fault>
-    ensures value { IfOk result (λ text. Some text.now ≡ text_of expression.now) }
+    ensures value { IfOk result (λ text. Some text.now ≡ lone_text expression.now) }
     ensures short { IfOk result (λ text. length text.now ≤ MOST_NAME_BYTES) }
-    ensures faultless { OnOk result (text_faults file whole expression.now.span (text_of expression.now) ≡ []) }
-    ensures fault { IfErr result (λ e. Contains (text_faults file whole expression.now.span (text_of expression.now)) e) }
+    ensures faultless { OnOk result (text_faults file whole expression.now.span (lone_text expression.now) ≡ []) }
+    ensures fault { IfErr result (λ e. Contains (text_faults file whole expression.now.span (lone_text expression.now)) e) }
 {
     match text_of(expression) {
         None => Err(bad_value(file, expression.span)),

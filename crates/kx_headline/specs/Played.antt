@@ -10,8 +10,7 @@ use Rattle.kx_run.specs.declared.direction.Event.{Event}
 use Rattle.kx_source.specs.Meaning.{keymap_in}
 use Rattle.kx_source.specs.Source.{statement_faults}
 
--- the source and its files are read, no include and no statement has a fault, and a keyboard with nothing held, latched or
--- locked answers each event by the keymap that the statements mean
+-- source and files are read, no include and no statement has a fault, and a keyboard that opens answers events as the statements mean
 pub record AnswersAs (source : List ℕ) (files : Handed) (names : List Entry) (events : List Event) (answers : List Answer) : Type 0 where
   pub library : Library
   pub read : IsRead source files library

@@ -1,5 +1,6 @@
 -- The expanded body of a section kind: its items in order, with the body of what it names in the place of each include.
-use Rattle.std.specs.Prelude.{ℕ, ◌+◌, suc, zero, List, [], ◌∷◌, cond, Option, None, Some}
+use Rattle.std.specs.Prelude.{ℕ, ◌+◌, suc, zero, List, [], ◌∷◌, cond, Option, None}
+use Rattle.std.specs.Option.{option_map_or}
 use Rattle.kx_parse.specs.declared.tree.Item.{Item}
 use Rattle.kx_parse.specs.declared.tree.Item.TheVariants.{Include, Statement}
 use Rattle.kx_parse.specs.declared.tree.Kind.{Kind}
@@ -7,11 +8,10 @@ use Rattle.kx_parse.specs.declared.tree.Mode.{Mode}
 use Rattle.kx_parse.specs.declared.tree.Section.{Section}
 use Rattle.kx_include.specs.IncludeText.{Part, parts_of}
 use Rattle.kx_include.specs.Library.{Library, items_in, sections_in, place_of, is_of}
-use Rattle.kx_include.specs.Limits.{most_depth}
+use Rattle.kx_include.specs.declared.expanding.TheConstants.{MOST_DEPTH}
 use Rattle.kx_include.specs.declared.place.Place.{Place}
 
--- items in order, from where each section begins: the statement of a section, or what an include brings under a mode,
--- moved to a group where one is named
+-- items in order, from where each section begins: its own, or what an include brings under a mode, moved to a group where one is named
 pub data Body : Type 0 where
   End : Body
   Begin : Body → Body
@@ -23,24 +23,16 @@ abbrev pub parts_body : (Part → Body) → List Part → Body
 parts_body inner [] = End
 parts_body inner (p ∷ ps) = Inc p.mode p.group (inner p) (parts_body inner ps)
 
-abbrev pub text_body : (Part → Body) → Option (List Part) → Body
-text_body inner None = End
-text_body inner (Some ps) = parts_body inner ps
-
 -- a section's items, and the rest behind them
 abbrev pub items_body : (Part → Body) → Place → List Item → Body → Body
 items_body inner place [] rest = rest
-items_body inner place (Include mode text span ∷ is) rest = Inc mode None (text_body inner (parts_of text.bytes)) (items_body inner place is rest)
+items_body inner place (Include mode text span ∷ is) rest = Inc mode None (option_map_or (parts_body inner) (parts_of text.bytes) End) (items_body inner place is rest)
 items_body inner place (Statement mode statement first span ∷ is) rest = Own place (Statement mode statement first span) (items_body inner place is rest)
-
-abbrev pub found_body : (Place → Body → Body) → Option Place → Body
-found_body body None = End
-found_body body (Some place) = body place End
 
 -- the body of a map, in which includes are nested less deep than a number
 abbrev pub map_body : ℕ → Library → Kind → Place → Body → Body
 map_body zero library kind place rest = rest
-map_body (suc depth) library kind place rest = Begin (items_body (λ p. found_body (map_body depth library kind) (place_of library kind p)) place (items_in library place) rest)
+map_body (suc depth) library kind place rest = Begin (items_body (λ p. option_map_or (λ found. map_body depth library kind found End) (place_of library kind p) End) place (items_in library place) rest)
 
 -- sections of a kind, counted on, one after another
 abbrev pub sections_body : (Place → Body → Body) → Kind → ℕ → List Section → Body
@@ -49,4 +41,4 @@ sections_body body kind n (s ∷ ss) = cond (is_of kind s) (body (record { file 
 
 -- the body of the source's sections of a kind
 abbrev pub body_of : Library → Kind → Body
-body_of library kind = sections_body (map_body (suc most_depth) library kind) kind 0 (sections_in library 0)
+body_of library kind = sections_body (map_body (suc MOST_DEPTH) library kind) kind 0 (sections_in library 0)

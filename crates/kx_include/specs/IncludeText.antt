@@ -3,7 +3,7 @@
 use Rattle.std.specs.Prelude.{ℕ, Bool, not, ◌==◌, ◌&&◌, nat_le, List, [], ◌∷◌, length, take, drop, Option, None, Some, codes, if◌then◌else◌}
 use Rattle.std.specs.Char.{is_ascii_digit}
 use Rattle.std.specs.List.{list_all, list_any, prefix_len}
-use Rattle.std.specs.Option.{option_map}
+use Rattle.std.specs.Option.{option_and_then, option_map}
 use Rattle.std.specs.Str.Parse.{digits_value}
 use Rattle.kx_basics.specs.declared.limits.TheConstants.{MOST_GROUPS}
 use Rattle.kx_parse.specs.declared.tree.Mode.{Mode}
@@ -23,16 +23,13 @@ is_name_byte b = not (list_any (λ m. m == b) (codes "+|():%^"))
 abbrev pub name_len : List ℕ → ℕ
 name_len = prefix_len is_name_byte
 
-abbrev pub in_groups : ℕ → Option ℕ
-in_groups n = if nat_le 1 n && nat_le n MOST_GROUPS then Some n else None
-
 -- one digit or more
 abbrev pub is_number : List ℕ → Bool
 is_number bs = nat_le 1 (length bs) && list_all is_ascii_digit bs
 
 -- a group of a key, counted from 1, in decimal; leading zeros don't count
 unfoldable pub group_number : List ℕ → Option ℕ
-group_number bs = if is_number bs then in_groups (digits_value 10 bs) else None
+group_number bs = if is_number bs then (if nat_le 1 (digits_value 10 bs) && nat_le (digits_value 10 bs) MOST_GROUPS then Some (digits_value 10 bs) else None) else None
 
 -- what may stand behind the names of a file and a map: nothing, or a colon and a group
 unfoldable pub ending : Mode → List ℕ → Option (List ℕ) → List ℕ → Option Part
@@ -65,18 +62,15 @@ abbrev pub split : List ℕ → List ℕ × List (Mode × List ℕ)
 split [] = ([], [])
 split (b ∷ bs) = split_by (join_of b) b (split bs)
 
-abbrev pub joined : Mode → List ℕ × List (Mode × List ℕ) → List (Mode × List ℕ)
-joined mode texts = (mode, texts.0) ∷ texts.1
-
 abbrev pub all_parts : List (Mode × List ℕ) → Option (List Part)
 all_parts [] = Some []
-all_parts (t ∷ ts) = with_part (part_of t.0 t.1) (all_parts ts)
-  where
-    with_part : Option Part → Option (List Part) → Option (List Part)
-    with_part (Some p) (Some ps) = Some (p ∷ ps)
-    with_part (Some p) None = None
-    with_part None ps = None
+all_parts (t ∷ ts) = option_and_then (λ p. option_map (λ ps. p ∷ ps) (all_parts ts)) (part_of t.0 t.1)
 
 -- the parts of an include's text, the first of which is joined by override; none where it names no files
 abbrev pub parts_of : List ℕ → Option (List Part)
-parts_of text = all_parts (joined Override (split text))
+parts_of text = all_parts ((Override, (split text).0) ∷ (split text).1)
+
+-- ---- Under names, for clauses and proofs
+
+abbrev pub joined : Mode → List ℕ × List (Mode × List ℕ) → List (Mode × List ℕ)
+joined mode texts = (mode, texts.0) ∷ texts.1

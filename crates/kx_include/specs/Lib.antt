@@ -5,6 +5,7 @@ pub mod MapIndex
 pub mod Expansion
 pub mod Shared
 pub mod IncludeFaults
+pub mod Chosen
 pub mod Complete
 pub mod Bodies
 pub mod Sharing

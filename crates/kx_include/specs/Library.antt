@@ -1,7 +1,7 @@
 -- The texts that includes find, and what an include's part names among them.
-use Rattle.std.specs.Prelude.{ℕ, ◌+◌, Bool, true, false, ◌==◌, ◌&&◌, List, [], ◌∷◌, ◌++◌, position, if◌then◌else◌, slice_get, Option, None, Some, Result, Ok, Err, codes}
+use Rattle.std.specs.Prelude.{ℕ, ◌+◌, Bool, true, false, ◌&&◌, List, [], ◌∷◌, ◌++◌, position, if◌then◌else◌, slice_get, Option, None, Some, Result, Ok, Err, codes}
 use Rattle.std.specs.List.{list_any}
-use Rattle.std.specs.Option.{option_and_then, option_map, option_or}
+use Rattle.std.specs.Option.{option_and_then, option_map, option_map_or, option_or}
 use Rattle.std.specs.Str.{bytes_eq}
 use Rattle.kx_lex.specs.declared.fault.Fault.{Fault}
 use Rattle.kx_parse.specs.declared.tree.Flag.{Flag}
@@ -14,6 +14,7 @@ use Rattle.kx_parse.specs.declared.tree.Section.{Section}
 use Rattle.kx_parse.specs.declared.tree.Tree.{Tree}
 use Rattle.kx_include.specs.IncludeText.{Part}
 use Rattle.kx_include.specs.declared.place.Place.{Place}
+use Rattle.kx_parse.specs.contracts.tree.KindPartialEq.TheImpl.{ghosts}
 
 -- the source's text and those of the files, by number: each its tree, or the fault for which it has none
 abbrev pub Text : Type 0
@@ -43,23 +44,15 @@ number_of names name = option_map (λ place. place + 1) (position (bytes_eq name
 abbrev pub file_of : List (List ℕ) → Kind → List ℕ → Option ℕ
 file_of names kind name = option_or (number_of names (folder kind ++ name)) (number_of names name)
 
-abbrev kind_number : Kind → ℕ
-kind_number Keycodes = 0
-kind_number Types = 1
-kind_number Compat = 2
-kind_number Symbols = 3
-kind_number Geometry = 4
-
 abbrev pub is_of : Kind → Section → Bool
-is_of kind s = kind_number s.kind == kind_number kind
+is_of kind s = ghosts.eq s.kind kind
 
 abbrev pub is_default_flag : Flag → Bool
 is_default_flag flags.Default = true
 is_default_flag _ = false
 
 abbrev pub has_name : List ℕ → Option Name → Bool
-has_name name None = false
-has_name name (Some n) = bytes_eq name n.bytes
+has_name name named = option_map_or (λ n. bytes_eq name n.bytes) named false
 
 -- the map of a name is the first of the kind that has it; without a name it is the first flagged default, else the first
 abbrev pub map_of : List Section → Kind → Option (List ℕ) → Option ℕ
@@ -74,13 +67,9 @@ sections_of None = []
 abbrev pub sections_in : Library → ℕ → List Section
 sections_in library file = sections_of (slice_get library.texts file)
 
-abbrev pub items_of : Option Section → List Item
-items_of (Some s) = s.items
-items_of None = []
-
 -- the items of a map
 abbrev pub items_in : Library → Place → List Item
-items_in library place = items_of (slice_get (sections_in library place.file) place.section)
+items_in library place = option_map_or (λ s. s.items) (slice_get (sections_in library place.file) place.section) []
 
 abbrev pub place_in : Library → Kind → Option (List ℕ) → ℕ → Option Place
 place_in library kind map file = option_map (λ section. record { file = file; section = section }) (map_of (sections_in library file) kind map)

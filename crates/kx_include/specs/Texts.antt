@@ -13,26 +13,15 @@ use Rattle.kx_lex.specs.declared.scan.TheConstants.{MOST_TEXT_BYTES}
 abbrev in_text : ℕ → At → At
 in_text file at = record { file = file; span = at.span }
 
--- the same fault, in the text of a number
+-- the same fault of a text, in the text of a number
 abbrev pub in_file : ℕ → Fault → Fault
-in_file file fault.Memory = fault.Memory
 in_file file (fault.TooLong at) = fault.TooLong (in_text file at)
 in_file file (fault.BadByte at) = fault.BadByte (in_text file at)
 in_file file (fault.OpenString at) = fault.OpenString (in_text file at)
 in_file file (fault.OpenKeyName at) = fault.OpenKeyName (in_text file at)
 in_file file (fault.Syntax at) = fault.Syntax (in_text file at)
 in_file file (fault.NumberTooBig at) = fault.NumberTooBig (in_text file at)
-in_file file (fault.BadInclude at) = fault.BadInclude (in_text file at)
-in_file file (fault.FileMissing at) = fault.FileMissing (in_text file at)
-in_file file (fault.MapMissing at) = fault.MapMissing (in_text file at)
-in_file file (fault.DepthOver16 at) = fault.DepthOver16 (in_text file at)
-in_file file (fault.UnknownModifier at) = fault.UnknownModifier (in_text file at)
-in_file file (fault.TooMany at) = fault.TooMany (in_text file at)
-in_file file (fault.UnknownField at) = fault.UnknownField (in_text file at)
-in_file file (fault.BadValue at) = fault.BadValue (in_text file at)
-in_file file (fault.GroupRange at) = fault.GroupRange (in_text file at)
-in_file file (fault.LevelRange at) = fault.LevelRange (in_text file at)
-in_file file (fault.CodeRange at) = fault.CodeRange (in_text file at)
+in_file file e = e
 
 -- a text has at most 1 MiB
 abbrev pub IsShort : List ℕ → Type 0

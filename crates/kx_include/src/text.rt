@@ -16,29 +16,18 @@ fn in_text(file: u32, at: At) -> At
     }
 }
 
-/// The same fault, in the text of a number.
+/// The same fault of a text, in the text of a number.
 fn in_file(file: u32, fault: Fault) -> Fault
     ensures { result ≡ in_file file fault }
 {
     match fault {
-        Fault::Memory => Fault::Memory,
         Fault::TooLong(at) => Fault::TooLong(in_text(file, at)),
         Fault::BadByte(at) => Fault::BadByte(in_text(file, at)),
         Fault::OpenString(at) => Fault::OpenString(in_text(file, at)),
         Fault::OpenKeyName(at) => Fault::OpenKeyName(in_text(file, at)),
         Fault::Syntax(at) => Fault::Syntax(in_text(file, at)),
         Fault::NumberTooBig(at) => Fault::NumberTooBig(in_text(file, at)),
-        Fault::BadInclude(at) => Fault::BadInclude(in_text(file, at)),
-        Fault::FileMissing(at) => Fault::FileMissing(in_text(file, at)),
-        Fault::MapMissing(at) => Fault::MapMissing(in_text(file, at)),
-        Fault::DepthOver16(at) => Fault::DepthOver16(in_text(file, at)),
-        Fault::UnknownModifier(at) => Fault::UnknownModifier(in_text(file, at)),
-        Fault::TooMany(at) => Fault::TooMany(in_text(file, at)),
-        Fault::UnknownField(at) => Fault::UnknownField(in_text(file, at)),
-        Fault::BadValue(at) => Fault::BadValue(in_text(file, at)),
-        Fault::GroupRange(at) => Fault::GroupRange(in_text(file, at)),
-        Fault::LevelRange(at) => Fault::LevelRange(in_text(file, at)),
-        Fault::CodeRange(at) => Fault::CodeRange(in_text(file, at)),
+        fault => fault,
     }
 }
 

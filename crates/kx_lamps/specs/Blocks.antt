@@ -1,12 +1,10 @@
 -- The statements of indicators in a compat section: the names that they write, the defaults behind them, and their faults.
-use Rattle.std.specs.Prelude.{◌≡◌, ℕ, fold, nat_lt, Bool, List, [], ◌∷◌, ◌++◌, length, Option, None, Some, is_some, if◌then◌else◌, codes}
+use Rattle.std.specs.Prelude.{◌≡◌, ℕ, fold, Bool, List, [], ◌∷◌, ◌++◌, Option, None, Some, is_some, if◌then◌else◌, codes}
 use Rattle.std.specs.List.{flat_map}
 use Rattle.std.specs.Str.{str_eq_ignore_ascii_case}
+use Rattle.std.specs.Option.{option_map, option_map_or, option_and_then}
 use Rattle.kx_actions.specs.Values.{is_faultless}
-use Rattle.kx_basics.specs.declared.limits.TheConstants.{MOST_NAME_BYTES}
-use Rattle.kx_include.specs.IncludeFaults.{at}
 use Rattle.kx_lex.specs.declared.fault.Fault.{Fault}
-use Rattle.kx_lex.specs.declared.fault.Fault.TheVariants.{TooMany}
 use Rattle.kx_lex.specs.declared.name.Name.{Name}
 use Rattle.kx_lex.specs.declared.token.Span.{Span}
 use Rattle.kx_parse.specs.declared.tree.Field.{Field}
@@ -18,40 +16,25 @@ use Rattle.kx_lamps.specs.Given.{LampValues}
 use Rattle.kx_lamps.specs.Giving.{last_values, no_values, with_value}
 use Rattle.kx_lamps.specs.LampFields.{field_faults, field_value}
 use Rattle.kx_lamps.specs.declared.values.LampValue.{LampValue}
+use Rattle.kx_values.specs.Faults.{name_faults}
 
 -- the name and the fields of an indicator
 abbrev pub indicator_in : Said → Option (Name × List Field)
 indicator_in (said.Indicator name fields) = Some (name, fields)
 indicator_in _ = None
 
-abbrev pub is_indicator : List ℕ → Bool
-is_indicator word = str_eq_ignore_ascii_case word (codes "indicator")
-
-abbrev pub member_of : Field → Option Name
-member_of field = if is_indicator field.place.word.bytes then field.place.member else None
-
-abbrev pub given_of : Field → Option Name → Option (Name × Field)
-given_of field None = None
-given_of field (Some member) = Some (member, field)
-
 -- a default for indicators, as `indicator.groups = all;`, and the word of its field
 abbrev pub default_in : Said → Option (Name × Field)
-default_in (said.Field field) = given_of field (member_of field)
+default_in (said.Field field) = option_map (λ member. (member, field)) (if str_eq_ignore_ascii_case field.place.word.bytes (codes "indicator") then field.place.member else None)
 default_in _ = None
 
 abbrev pub item_default : Item → Option (Name × Field)
 item_default (Statement mode statement first whole) = default_in statement
 item_default (Include mode text span) = None
 
--- ---- Names
-
-abbrev pub written_name : Option (Name × List Field) → List (List ℕ)
-written_name None = []
-written_name (Some i) = i.0.bytes ∷ []
-
 -- the name of the indicator that a statement is about
 abbrev pub lamp_names : Item → List (List ℕ)
-lamp_names (Statement mode statement first whole) = written_name (indicator_in statement)
+lamp_names (Statement mode statement first whole) = option_map_or (λ i. i.0.bytes ∷ []) (indicator_in statement) []
 lamp_names (Include mode text span) = []
 
 -- ---- Defaults
@@ -62,25 +45,17 @@ module _ (names : List (List ℕ)) where
   abbrev pub default_value : Name → Field → Option LampValue
   default_value member field = if is_faultless (field_faults 0 names member field) then field_value names member field else None
 
-  abbrev pub given_value : Option (Name × Field) → Option LampValue
-  given_value None = None
-  given_value (Some given) = default_value given.0 given.1
-
   -- the defaults behind one more statement
   abbrev pub next_default : LampValues → Item → LampValues
-  next_default d item = with_value d (given_value (item_default item))
+  next_default d item = with_value d (option_and_then (λ given. default_value given.0 given.1) (item_default item))
 
   -- the defaults behind the statements of a section are what the last of them gives that gives a field anything
   abbrev pub DefaultsAreLast : Type 0
-  DefaultsAreLast = (statements : List Item) → fold next_default no_values statements ≡ last_values (λ item. given_value (item_default item)) no_values statements
-
-  -- a field of a word of another's is read and not used
-  abbrev pub own_value : Field → Option LampValue
-  own_value field = if is_some field.place.member then None else field_value names field.place.word field
+  DefaultsAreLast = (statements : List Item) → fold next_default no_values statements ≡ last_values (λ item. option_and_then (λ given. default_value given.0 given.1) (item_default item)) no_values statements
 
   -- what is written last in an indicator, else the default before it
   abbrev pub values_of : LampValues → List Field → LampValues
-  values_of d fields = last_values own_value d fields
+  values_of d fields = last_values (λ field. if is_some field.place.member then None else field_value names field.place.word field) d fields
 
 -- ---- Faults
 
@@ -88,19 +63,33 @@ module _ (file : ℕ) (names : List (List ℕ)) where
   abbrev pub own_faults : Field → List Fault
   own_faults field = if is_some field.place.member then [] else field_faults file names field.place.word field
 
-  -- an indicator's name has at most 255 bytes; `whole` is the statement
-  abbrev pub name_faults : Span → Name → List Fault
-  name_faults whole name = if nat_lt MOST_NAME_BYTES (length name.bytes) then TooMany (at file whole) ∷ [] else []
-
-  abbrev pub default_faults : Option (Name × Field) → List Fault
-  default_faults None = []
-  default_faults (Some given) = field_faults file names given.0 given.1
-
   abbrev pub said_faults : Said → Span → Option (Name × List Field) → List Fault
-  said_faults statement whole None = default_faults (default_in statement)
-  said_faults statement whole (Some i) = name_faults whole i.0 ++ flat_map own_faults i.1
+  said_faults statement whole i = option_map_or (λ i. name_faults file whole i.0 ++ flat_map own_faults i.1) i (option_map_or (λ g. field_faults file names g.0 g.1) (default_in statement) [])
 
   -- those of indicators; those of other statements are none of these
   abbrev pub item_faults : Item → List Fault
   item_faults (Statement mode statement first whole) = said_faults statement whole (indicator_in statement)
   item_faults (Include mode text span) = []
+
+-- ---- Under names, for clauses and proofs
+
+abbrev pub given_of : Field → Option Name → Option (Name × Field)
+given_of field member = option_map (λ m. (m, field)) member
+
+abbrev pub given_value : List (List ℕ) → Option (Name × Field) → Option LampValue
+given_value names given = option_and_then (λ g. default_value names g.0 g.1) given
+
+abbrev pub written_name : Option (Name × List Field) → List (List ℕ)
+written_name i = option_map_or (λ i. i.0.bytes ∷ []) i []
+
+abbrev pub is_indicator : List ℕ → Bool
+is_indicator word = str_eq_ignore_ascii_case word (codes "indicator")
+
+abbrev pub member_of : Field → Option Name
+member_of field = if str_eq_ignore_ascii_case field.place.word.bytes (codes "indicator") then field.place.member else None
+
+abbrev pub own_value : (names : List (List ℕ)) → Field → Option LampValue
+own_value names field = if is_some field.place.member then None else field_value names field.place.word field
+
+abbrev pub default_faults : (file : ℕ) → (names : List (List ℕ)) → Option (Name × Field) → List Fault
+default_faults file names given = option_map_or (λ g. field_faults file names g.0 g.1) given []

@@ -1,7 +1,7 @@
 -- What a field of an indicator gives, written in it or as a default, and its faults. Fields of other words are read and
 -- not used, whatever they are set to.
-use Rattle.std.specs.Prelude.{ℕ, List, [], ◌∷◌, Option, None, Some, codes}
-use Rattle.std.specs.Option.{option_map}
+use Rattle.std.specs.Prelude.{ℕ, List, [], ◌∷◌, Option, codes}
+use Rattle.std.specs.Option.{option_map, option_map_or, option_and_then}
 use Rattle.kx_include.specs.IncludeFaults.{at}
 use Rattle.kx_lex.specs.declared.fault.Fault.{Fault}
 use Rattle.kx_lex.specs.declared.fault.Fault.TheVariants.{UnknownField}
@@ -31,13 +31,9 @@ module _ (names : List (List ℕ)) where
   expression_value fields.GroupStates e = values.GroupStates (mask_of States e)
   expression_value fields.Groups e = values.Groups (mask_of Groups e)
 
-  abbrev pub known_value : Setting → Option LampField → Option LampValue
-  known_value setting None = None
-  known_value setting (Some known) = option_map (expression_value known) (expression_in setting)
-
   -- `word` names the field: that of its place, or as a default the one behind the point
   abbrev pub field_value : Name → Field → Option LampValue
-  field_value word field = known_value field.setting (among field_words word.bytes)
+  field_value word field = option_and_then (λ known. option_map (expression_value known) (expression_in field.setting)) (among field_words word.bytes)
 
 module _ (file : ℕ) (names : List (List ℕ)) where
   abbrev pub expression_faults : LampField → Expression → List Fault
@@ -46,14 +42,13 @@ module _ (file : ℕ) (names : List (List ℕ)) where
   expression_faults fields.GroupStates e = mask_faults file States e
   expression_faults fields.Groups e = mask_faults file Groups e
 
-  -- a field that has a meaning takes no index
-  abbrev pub placed_faults : Name → Field → LampField → Option Index → List Fault
-  placed_faults word field known None = value_faults file (expression_faults known) field.span field.setting
-  placed_faults word field known (Some index) = UnknownField (at file word.span) ∷ []
-
-  abbrev pub known_faults : Name → Field → Option LampField → List Fault
-  known_faults word field None = []
-  known_faults word field (Some known) = placed_faults word field known field.place.index
-
   abbrev pub field_faults : Name → Field → List Fault
-  field_faults word field = known_faults word field (among field_words word.bytes)
+  field_faults word field = option_map_or (λ known. option_map_or (λ _. UnknownField (at file word.span) ∷ []) field.place.index (value_faults file (expression_faults known) field.span field.setting)) (among field_words word.bytes) []
+
+-- ---- Under a name, for clauses
+
+abbrev pub known_value : List (List ℕ) → Setting → Option LampField → Option LampValue
+known_value names setting known = option_and_then (λ k. option_map (expression_value names k) (expression_in setting)) known
+
+abbrev pub placed_faults : (file : ℕ) → (names : List (List ℕ)) → Name → Field → LampField → Option Index → List Fault
+placed_faults file names word field known index = option_map_or (λ _. UnknownField (at file word.span) ∷ []) index (value_faults file (expression_faults file names known) field.span field.setting)

@@ -4,9 +4,10 @@ ghost use Rattle.std.specs.List.{flat_map};
 ghost use Rattle.kx_lex.specs.declared.fault.Fault.TheVariants.{Memory};
 ghost use Rattle.kx_parse.specs.declared.tree.Mode.{Mode as ModeValue};
 ghost use Rattle.kx_merge.specs.Records.{AreOffered, mode_of};
-ghost use Rattle.kx_lamps.specs.Blocks.{default_faults, default_in, indicator_in, item_faults, name_faults, own_faults, own_value, said_faults, values_of};
+ghost use Rattle.kx_lamps.specs.Blocks.{default_faults, default_in, indicator_in, item_faults, own_faults, own_value, said_faults, values_of};
 ghost use Rattle.kx_lamps.specs.Giving.{values_cell, values_width};
 ghost use Rattle.kx_lamps.specs.Meaning.{item_offers, offers_to, said_offers, values_offer};
+ghost use Rattle.kx_values.specs.Faults.{name_faults};
 
 use crate::defaults::default_in;
 use crate::fields::read_field;
@@ -94,8 +95,8 @@ fn read_indicator(
     fields: &[Field],
 ) -> Result<Vec<(usize, LampValues)>, Fault>
     ensures records { (mode : ModeValue) → IfOk result (λ records. AreOffered mode (values_cell) (values_width) records.items (said_offers lamps.now names.now.names defaults mode (Some (name.now, fields.now)))) }
-    ensures faultless { OnOk result (name_faults file names.now.names whole name.now ++ flat_map (own_faults file names.now.names) fields.now ≡ []) }
-    ensures fault { IfErr result (λ e. Contains (Memory ∷ (name_faults file names.now.names whole name.now ++ flat_map (own_faults file names.now.names) fields.now)) e) }
+    ensures faultless { OnOk result (name_faults file whole name.now ++ flat_map (own_faults file names.now.names) fields.now ≡ []) }
+    ensures fault { IfErr result (λ e. Contains (Memory ∷ (name_faults file whole name.now ++ flat_map (own_faults file names.now.names) fields.now)) e) }
 {
     let bytes = name.bytes.as_slice();
     if bytes.len() > MOST_NAME_BYTES {

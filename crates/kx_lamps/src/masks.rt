@@ -4,9 +4,11 @@ ghost use Rattle.std.specs.List.{flat_map};
 ghost use Rattle.std.specs.Option.{option_and_then};
 ghost use Rattle.kx_values.specs.Numbers.{word_number};
 ghost use Rattle.kx_values.specs.declared.numbers.Counted.TheVariants.{Group};
-ghost use Rattle.kx_masks.specs.Masks.{joined, mask_among};
+ghost use Rattle.kx_masks.specs.Masks.{joined};
 ghost use Rattle.kx_lamps.specs.declared.masks.MaskKind.TheVariants.{Groups, States};
-ghost use Rattle.kx_lamps.specs.LampMasks.{group_bit, group_in, mask_faults, mask_of, named_group, number_mask, operated, operation_faults, other_faults, term_faults, term_mask, term_span, width, word_mask, words};
+ghost use Rattle.kx_lamps.specs.LampMasks.{group_bit, group_in, mask_faults, mask_of, named_group, number_mask, operated, operation_faults, other_faults, term_faults, term_mask, width, word_mask, words};
+ghost use Rattle.kx_values.specs.Words.{among};
+ghost use Rattle.kx_values.specs.Terms.{term_span};
 
 use kx_lex::{At, Fault, Span};
 use kx_parse::{Expression, Operation, Sign, Term};
@@ -20,7 +22,7 @@ pub(crate) enum MaskKind {
 }
 
 fn state_named(word: &[u8]) -> Option<u32>
-    ensures value { result ≡ mask_among (words States) word.now }
+    ensures value { result ≡ among (words States) word.now }
     ensures within { IfSome result (λ mask. mask < 16) }
 {
     if word.eq_ignore_ascii_case(b"none") {

@@ -1,5 +1,5 @@
 -- What a key type gives for effective modifiers, under what sets of names stand for (X Keyboard Extension, key types).
-use Rattle.std.specs.Prelude.{ℕ, ◌==◌, ◌||◌, ◌&&◌, not, zero, suc, Bool, true, false, Option, None, Some, find, if◌then◌else◌}
+use Rattle.std.specs.Prelude.{ℕ, ◌==◌, ◌||◌, ◌&&◌, not, Bool, false, Option, find, if◌then◌else◌}
 use Rattle.std.specs.Option.{option_map_or}
 use Rattle.kx_masks.specs.Sets.{any_below}
 use Rattle.kx_types.specs.KeyTypes.{Definition}
@@ -9,11 +9,8 @@ use Rattle.kx_types.specs.declared.entry.TypeEntry.{TypeEntry}
 abbrev pub RealSet : Type 0
 RealSet = ℕ → Bool
 
-abbrev pub differ : Bool → Bool → Bool
-differ a b = if a then not b else b
-
 abbrev pub are_same : RealSet → RealSet → Bool
-are_same a b = not (any_below 8 (λ r. differ (a r) (b r)))
+are_same a b = not (any_below 8 (λ r. if a r then not (b r) else b r))
 
 -- `real` is what a set of names stands for
 module _ (real : ℕ → RealSet) where
@@ -32,10 +29,14 @@ module _ (real : ℕ → RealSet) where
   abbrev pub level_selected : Definition → RealSet → ℕ
   level_selected t effective = option_map_or (λ e. e.level) (entry_selected t effective) 1
 
-  abbrev pub preserved_by : Option TypeEntry → RealSet
-  preserved_by None r = false
-  preserved_by (Some e) r = real e.preserve r
-
   -- the type's modifiers without those that the entry preserves
   abbrev pub consumed : Definition → RealSet → RealSet
-  consumed t effective r = real t.modifiers r && not (preserved_by (entry_selected t effective) r)
+  consumed t effective r = real t.modifiers r && not (option_map_or (λ e. real e.preserve r) (entry_selected t effective) false)
+
+-- ---- Under a name, for proofs
+
+abbrev pub preserved_by : (ℕ → RealSet) → Option TypeEntry → RealSet
+preserved_by real entry r = option_map_or (λ e. real e.preserve r) entry false
+
+abbrev pub differ : Bool → Bool → Bool
+differ a b = if a then not b else b

@@ -5,7 +5,8 @@ use Rattle.std.specs.Char.{is_ascii_digit, is_ascii_hexdigit}
 use Rattle.std.specs.List.{list_all, prefix_len}
 use Rattle.kx_basics.specs.KeyNames.{is_key_byte}
 use Rattle.kx_lex.specs.Bytes.{is_word_start, is_word_byte, is_mark, is_blank, is_not_line_feed}
-use Rattle.kx_lex.specs.Kinds.{inner_of, is_key_name, is_key_name_kind}
+use Rattle.kx_lex.specs.Kinds.{inner_of, is_key_name}
+use Rattle.kx_lex.specs.contracts.token.TokenKindPartialEq.TheImpl.{ghosts}
 use Rattle.kx_lex.specs.Pieces.{piece, begins_comment, begins_hex, extent, string_piece, number_piece, key_name_piece, word_piece}
 use Rattle.kx_lex.specs.Reading.{Reads, ended, skipped, taken, token_of, IsReading}
 use Rattle.kx_lex.specs.declared.scan.Extent.{Extent}
@@ -78,7 +79,7 @@ taken_name text offset n (b ∷ bs) here h =
     let rest : drop (offset + 1) text ≡ bs = sym (left text offset 1 (b ∷ bs) here) in
     ap₂ (λ k xs. list_all is_key_byte (take k xs)) count rest ∙ all_prefix is_key_byte bs
 
-one_token : (text : List ℕ) (kind : TokenKind) (offset n : ℕ) (bs : List ℕ) → bs ≡ drop offset text → piece bs ≡ Lexeme kind n → is_key_name_kind kind ≡ true → list_all is_key_byte (inner_of text (token_of kind offset n)) ≡ true
+one_token : (text : List ℕ) (kind : TokenKind) (offset n : ℕ) (bs : List ℕ) → bs ≡ drop offset text → piece bs ≡ Lexeme kind n → ghosts.eq kind KeyName ≡ true → list_all is_key_byte (inner_of text (token_of kind offset n)) ≡ true
 one_token text KeyName offset n bs here h key = taken_name text offset n bs here h
 one_token text (Word k) offset n bs here h key = cc
 one_token text Number offset n bs here h key = cc

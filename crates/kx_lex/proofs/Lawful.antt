@@ -1,9 +1,9 @@
 -- The laws of a production, which join what it spells, what it reads and where reading stops. Each way to build a
 -- production keeps them.
-use Rattle.std.proofs.Common.{ℕ, zero, suc, ◌+◌, ◌≤◌, ◌<◌, min, Bool, true, false, List, [], ◌∷◌, length, ◌≡◌, ◌⊎◌, Option, Some, Result, Err, refl, inl, inr, arith, sym, subst, ap, ◌∙◌}
+use Rattle.std.proofs.Common.{cond, ℕ, zero, suc, ◌+◌, ◌≤◌, ◌<◌, min, Bool, true, false, List, [], ◌∷◌, length, ◌≡◌, ◌⊎◌, Option, Some, Result, Err, refl, inl, inr, arith, sym, subst, ap, ◌∙◌}
 use Rattle.kx_lex.specs.declared.token.Token.{Token}
 use Rattle.kx_lex.specs.declared.fault.Fault.{Fault}
-use Rattle.kx_lex.specs.Parsing.{done, then_read, prepend, which, many_read, settle_read}
+use Rattle.kx_lex.specs.Parsing.{done, then_read, many_read, settle_read}
 use Rattle.kx_lex.specs.Spelling.{many_front}
 use Rattle.kx_lex.specs.Stops.{syntax_at, syntax_end, StopsAt, IsBehind, StopsWithin}
 use Rattle.kx_lex.specs.Production as productions
@@ -117,7 +117,7 @@ module _ {text : List ℕ} {A : Type 0} (test : List Token → Bool) {p q : Prod
   pub either-takes : Takes (either test p q)
   either-takes ts x rest e = go (test ts) refl e
     where
-      go : (b : Bool) → test ts ≡ b → which b (p.read ts) (q.read ts) ≡ done x rest → (either test p q).spells ts x rest
+      go : (b : Bool) → test ts ≡ b → cond b (p.read ts) (q.read ts) ≡ done x rest → (either test p q).spells ts x rest
       go true h w = inl (h, lp.takes ts x rest w)
       go false h w = inr (h, lq.takes ts x rest w)
 
@@ -128,7 +128,7 @@ module _ {text : List ℕ} {A : Type 0} (test : List Token → Bool) {p q : Prod
   pub either-fails : Fails (either test p q)
   either-fails ts e w = go (test ts) refl w
     where
-      go : (b : Bool) → test ts ≡ b → which b (p.read ts) (q.read ts) ≡ Err e → (either test p q).blames ts e
+      go : (b : Bool) → test ts ≡ b → cond b (p.read ts) (q.read ts) ≡ Err e → (either test p q).blames ts e
       go true h v = inl (h, lp.fails ts e v)
       go false h v = inr (h, lq.fails ts e v)
 
@@ -172,7 +172,7 @@ module _ {text : List ℕ} {A : Type 0} (test : List Token → Bool) {p : Produc
   shrinks ts x rest s = let h = lp.uses ts x rest s in omega arith
 
   -- one round, over what holds of the rounds after it
-  takes-round : (n : ℕ) → ((ts : List Token) (xs : List A) (rest : List Token) → length ts < n → many_read test p.read n ts ≡ done xs rest → (many test p).spells ts xs rest) → (b : Bool) (ts : List Token) (xs : List A) (rest : List Token) → length ts < suc n → test ts ≡ b → which b (then_read (p.read ts) (λ x mid. prepend x (many_read test p.read n mid))) (done [] ts) ≡ done xs rest → (many test p).spells ts xs rest
+  takes-round : (n : ℕ) → ((ts : List Token) (xs : List A) (rest : List Token) → length ts < n → many_read test p.read n ts ≡ done xs rest → (many test p).spells ts xs rest) → (b : Bool) (ts : List Token) (xs : List A) (rest : List Token) → length ts < suc n → test ts ≡ b → cond b (then_read (p.read ts) (λ x mid. then_read (many_read test p.read n mid) (λ xs. done (x ∷ xs)))) (done [] ts) ≡ done xs rest → (many test p).spells ts xs rest
   takes-round n ih true ts xs rest enough h e =
       let first = then-first (p.read ts) _ xs rest e in
       let more = prepend-done first.0 (many_read test p.read n first.1) xs rest first.3 in
@@ -193,7 +193,7 @@ module _ {text : List ℕ} {A : Type 0} (test : List Token → Bool) {p : Produc
 
   again-rounds : (n : ℕ) (ts : List Token) (xs : List A) (rest : List Token) → length ts < n → many_front test p.spells xs ts rest → test rest ≡ false → many_read test p.read n ts ≡ done xs rest
   again-rounds zero ts xs rest enough front stop = absurd (omega arith)
-  again-rounds (suc n) ts [] rest enough front stop = subst (λ (r : List Token). which (test ts) (then_read (p.read ts) (λ x mid. prepend x (many_read test p.read n mid))) (done [] ts) ≡ done [] r) front (rw (let here : test ts ≡ false = subst (λ (r : List Token). test r ≡ false) (sym front) stop in here) refl)
+  again-rounds (suc n) ts [] rest enough front stop = subst (λ (r : List Token). cond (test ts) (then_read (p.read ts) (λ x mid. then_read (many_read test p.read n mid) (λ xs. done (x ∷ xs)))) (done [] ts) ≡ done [] r) front (rw (let here : test ts ≡ false = subst (λ (r : List Token). test r ≡ false) (sym front) stop in here) refl)
   again-rounds (suc n) ts (x ∷ xs) rest enough front stop =
       let shorter = shrinks ts x front.1 front.2 in
       let after = again-rounds n front.1 xs rest (omega arith) front.3 stop in
@@ -202,10 +202,10 @@ module _ {text : List ℕ} {A : Type 0} (test : List Token → Bool) {p : Produc
   pub many-again : Again (many test p)
   many-again ts xs rest s = again-rounds (suc (length ts)) ts xs rest (omega arith) s.0 s.1
 
-  fails-round : (n : ℕ) → ((ts : List Token) (e : Fault) → length ts < n → many_read test p.read n ts ≡ Err e → (many test p).blames ts e) → (b : Bool) (ts : List Token) (e : Fault) → length ts < suc n → test ts ≡ b → which b (then_read (p.read ts) (λ x mid. prepend x (many_read test p.read n mid))) (done [] ts) ≡ Err e → (many test p).blames ts e
+  fails-round : (n : ℕ) → ((ts : List Token) (e : Fault) → length ts < n → many_read test p.read n ts ≡ Err e → (many test p).blames ts e) → (b : Bool) (ts : List Token) (e : Fault) → length ts < suc n → test ts ≡ b → cond b (then_read (p.read ts) (λ x mid. then_read (many_read test p.read n mid) (λ xs. done (x ∷ xs)))) (done [] ts) ≡ Err e → (many test p).blames ts e
   fails-round n ih true ts e enough h w = go (then-failed (p.read ts) _ e w)
     where
-      go : (p.read ts ≡ Err e) ⊎ ((x : A) × (mid : List Token) × (p.read ts ≡ done x mid) × (prepend x (many_read test p.read n mid) ≡ Err e)) → (many test p).blames ts e
+      go : (p.read ts ≡ Err e) ⊎ ((x : A) × (mid : List Token) × (p.read ts ≡ done x mid) × (then_read (many_read test p.read n mid) (λ xs. done (x ∷ xs)) ≡ Err e)) → (many test p).blames ts e
       go (inl here) = ([], ts, refl, h, lp.fails ts e here)
       go (inr later) =
           let here = lp.takes ts later.0 later.1 later.2 in
@@ -270,7 +270,7 @@ module _ (text : List ℕ) (test : Token → Bool) where
   one-takes [] t rest e = cc
   one-takes (u ∷ ts) t rest e = go (test u) refl e
     where
-      go : (b : Bool) → test u ≡ b → which b (done u ts) (Err (syntax_at u)) ≡ done t rest → (one text test).spells (u ∷ ts) t rest
+      go : (b : Bool) → test u ≡ b → cond b (done u ts) (Err (syntax_at u)) ≡ done t rest → (one text test).spells (u ∷ ts) t rest
       go true h w = let same = done-same w in ((let x : u ≡ t = same.0 in let y : ts ≡ rest = same.1 in cc), subst (λ (v : Token). test v ≡ true) same.0 h)
       go false h w = cc
 
@@ -281,7 +281,7 @@ module _ (text : List ℕ) (test : Token → Bool) where
   one-fails [] e w = inl (refl, (let h : syntax_end text ≡ e = cc in sym h))
   one-fails (u ∷ ts) e w = go (test u) refl w
     where
-      go : (b : Bool) → test u ≡ b → which b (done u ts) (Err (syntax_at u)) ≡ Err e → (one text test).blames (u ∷ ts) e
+      go : (b : Bool) → test u ≡ b → cond b (done u ts) (Err (syntax_at u)) ≡ Err e → (one text test).blames (u ∷ ts) e
       go true h v = cc
       go false h v = inr (u, ts, refl, h, (let k : syntax_at u ≡ e = cc in sym k))
 

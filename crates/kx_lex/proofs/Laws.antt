@@ -2,7 +2,7 @@
 use Rattle.std.proofs.Common.{◌+◌, ◌≤◌, List, ◌∷◌, length, ◌≡◌, ◌⊎◌, Result, Ok, Err, refl, inl, inr, arith, subst, ap}
 use Rattle.kx_lex.specs.declared.token.Token.{Token}
 use Rattle.kx_lex.specs.declared.fault.Fault.{Fault}
-use Rattle.kx_lex.specs.Parsing.{Read, done, then_read, prepend, settle_read, noted_read}
+use Rattle.kx_lex.specs.Parsing.{Read, done, then_read, settle_read}
 
 pub done-same : {A : Type 0} {x y : A} {r s : List Token} → done x r ≡ done y s → (x ≡ y) × (r ≡ s)
 done-same {A} {x} {y} {r} {s} e =
@@ -27,11 +27,11 @@ then-failed (Ok p) k f e = inr (p.0, p.1, refl, e)
 then-failed {A} (Err g) k f e = inl (let same : g ≡ f = cc in ap (λ (h : Fault). let w : Read A = Err h in w) same)
 
 -- a value and those behind it
-pub prepend-done : {A : Type 0} (x : A) (w : Read (List A)) (ys : List A) (rest : List Token) → prepend x w ≡ done ys rest → (xs : List A) × (w ≡ done xs rest) × (x ∷ xs ≡ ys)
+pub prepend-done : {A : Type 0} (x : A) (w : Read (List A)) (ys : List A) (rest : List Token) → then_read w (λ xs. done (x ∷ xs)) ≡ done ys rest → (xs : List A) × (w ≡ done xs rest) × (x ∷ xs ≡ ys)
 prepend-done x (Ok p) ys rest e = let same : (x ∷ p.0 ≡ ys) × (p.1 ≡ rest) = done-same e in (p.0, ap (λ (r : List Token). done p.0 r) same.1, same.0)
 prepend-done x (Err f) ys rest e = cc
 
-pub prepend-failed : {A : Type 0} (x : A) (w : Read (List A)) (f : Fault) → prepend x w ≡ Err f → w ≡ Err f
+pub prepend-failed : {A : Type 0} (x : A) (w : Read (List A)) (f : Fault) → then_read w (λ xs. done (x ∷ xs)) ≡ Err f → w ≡ Err f
 prepend-failed x (Ok p) f e = cc
 prepend-failed {A} x (Err g) f e = let same : g ≡ f = cc in ap (λ (h : Fault). let w : Read (List A) = Err h in w) same
 
@@ -48,13 +48,13 @@ settle-fails (Ok y) ts e w = cc
 settle-fails {A} (Err f) ts e w = let same : f ≡ e = cc in ap (λ (h : Fault). let r : Result A Fault = Err h in r) same
 
 -- a value with what is noted
-pub noted-done : {A B : Type 0} (note : List Token → List Token → B) (ts : List Token) (w : Read A) (y : A × B) (rest : List Token) → noted_read note ts w ≡ done y rest → (w ≡ done y.0 rest) × (note ts rest ≡ y.1)
+pub noted-done : {A B : Type 0} (note : List Token → List Token → B) (ts : List Token) (w : Read A) (y : A × B) (rest : List Token) → then_read w (λ x rest. done (x, note ts rest) rest) ≡ done y rest → (w ≡ done y.0 rest) × (note ts rest ≡ y.1)
 noted-done {A} {B} note ts (Ok p) y rest e = go p.1 (done-same e).1 (done-same e).0
   where
     go : (mid : List Token) → mid ≡ rest → (p.0, note ts mid) ≡ y → (done p.0 mid ≡ done y.0 rest) × (note ts rest ≡ y.1)
     go mid r s = (same-done (ap (λ (z : A × B). z.0) s) r, subst (λ (m : List Token). note ts m ≡ y.1) r (ap (λ (z : A × B). z.1) s))
 noted-done note ts (Err f) y rest e = cc
 
-pub noted-failed : {A B : Type 0} (note : List Token → List Token → B) (ts : List Token) (w : Read A) (f : Fault) → noted_read note ts w ≡ Err f → w ≡ Err f
+pub noted-failed : {A B : Type 0} (note : List Token → List Token → B) (ts : List Token) (w : Read A) (f : Fault) → then_read {B = A × B} w (λ x rest. done (x, note ts rest) rest) ≡ Err f → w ≡ Err f
 noted-failed note ts (Ok p) f e = cc
 noted-failed {A} note ts (Err g) f e = let same : g ≡ f = cc in ap (λ (h : Fault). let w : Read A = Err h in w) same

@@ -3,14 +3,14 @@ use Rattle.std.proofs.Common.{◌≡◌, ℕ, zero, suc, ◌<◌, Bool, true, fa
 use Rattle.kx_lex.specs.declared.token.Token.{Token}
 use Rattle.kx_lex.specs.declared.fault.Fault.{Fault}
 use Rattle.kx_lex.specs.declared.fault.Fault.TheVariants.{Memory}
-use Rattle.kx_lex.specs.Parsing.{Read, done, prepend, then_read, many_read}
+use Rattle.kx_lex.specs.Parsing.{Read, done, then_read, many_read}
 use Rattle.kx_lex.specs.Lists.{put_before}
 
 pub put_before-nil : {A : Type 0} (w : Read (List A)) → put_before [] w ≡ w
 put_before-nil (Ok p) = refl
 put_before-nil (Err e) = refl
 
-pub put_before-prepend : {A : Type 0} (xs : List A) (x : A) (w : Read (List A)) → put_before xs (prepend x w) ≡ put_before (xs ++ x ∷ []) w
+pub put_before-prepend : {A : Type 0} (xs : List A) (x : A) (w : Read (List A)) → put_before xs (then_read w (λ ys. done (x ∷ ys))) ≡ put_before (xs ++ x ∷ []) w
 put_before-prepend xs x (Ok p) = rw append_assoc refl
 put_before-prepend xs x (Err e) = refl
 
@@ -30,7 +30,7 @@ module _ {A : Type 0} (test : List Token → Bool) (read : List Token → Read A
   pub SoFar-none : SoFar test read start all all start
   SoFar-none = record { rounds = length all; enough = omega arith; is = refl }
 
-  round : (n : ℕ) (ts : List Token) (x : A) (mid : List Token) → test ts ≡ true → read ts ≡ done x mid → many_read test read (suc n) ts ≡ prepend x (many_read test read n mid)
+  round : (n : ℕ) (ts : List Token) (x : A) (mid : List Token) → test ts ≡ true → read ts ≡ done x mid → many_read test read (suc n) ts ≡ then_read (many_read test read n mid) (λ xs. done (x ∷ xs))
   round n ts x mid t r = rw (t, r) refl
 
   more : (n : ℕ) (ts : List Token) (items : List A) (x : A) (mid : List Token) → length ts < suc n → put_before start (many_read test read (suc (length all)) all) ≡ put_before items (many_read test read (suc n) ts) → test ts ≡ true → read ts ≡ done x mid → length mid < length ts → SoFar test read start all mid (items ++ x ∷ [])

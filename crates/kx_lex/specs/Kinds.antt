@@ -1,7 +1,7 @@
 -- Tokens by their kind and their bytes in the text.
-use Rattle.std.specs.Prelude.{ℕ, Bool, true, false, List, [], ◌∷◌, ◌+◌, ◌-◌, ◌==◌, not, drop, if◌then◌else◌, slice_range, Some}
+use Rattle.std.specs.Prelude.{ℕ, Bool, true, false, List, [], ◌∷◌, ◌+◌, ◌-◌, not, drop, if◌then◌else◌, slice_range, Some}
 use Rattle.std.specs.Str.Parse.{digits_value}
-use Rattle.kx_lex.specs.Keywords.{keyword_number}
+use Rattle.kx_lex.specs.contracts.token.TokenKindPartialEq.TheImpl.{ghosts}
 use Rattle.kx_lex.specs.Pieces.{begins_hex}
 use Rattle.kx_lex.specs.declared.keyword.Keyword.{Keyword}
 use Rattle.kx_lex.specs.declared.token.Token.{Token}
@@ -19,45 +19,29 @@ abbrev pub is_word_kind : TokenKind → Bool
 is_word_kind (Word k) = true
 is_word_kind _ = false
 
-abbrev pub is_number_kind : TokenKind → Bool
-is_number_kind Number = true
-is_number_kind _ = false
-
-abbrev pub is_key_name_kind : TokenKind → Bool
-is_key_name_kind KeyName = true
-is_key_name_kind _ = false
-
-abbrev pub is_text_kind : TokenKind → Bool
-is_text_kind Text = true
-is_text_kind _ = false
-
-abbrev pub is_mark_kind : ℕ → TokenKind → Bool
-is_mark_kind byte (Mark b) = b == byte
-is_mark_kind byte _ = false
-
-abbrev pub is_keyword_kind : Keyword → TokenKind → Bool
-is_keyword_kind keyword (Word (Some k)) = keyword_number k == keyword_number keyword
-is_keyword_kind keyword _ = false
+-- by the equality that derives
+abbrev pub is_of : TokenKind → Token → Bool
+is_of kind t = ghosts.eq t.kind kind
 
 abbrev pub is_word : Token → Bool
 is_word t = is_word_kind t.kind
 
 abbrev pub is_number : Token → Bool
-is_number t = is_number_kind t.kind
+is_number = is_of Number
 
 abbrev pub is_key_name : Token → Bool
-is_key_name t = is_key_name_kind t.kind
+is_key_name = is_of KeyName
 
 abbrev pub is_text : Token → Bool
-is_text t = is_text_kind t.kind
+is_text = is_of Text
 
 -- the mark of this byte
 abbrev pub is_mark : ℕ → Token → Bool
-is_mark byte t = is_mark_kind byte t.kind
+is_mark byte = is_of (Mark byte)
 
 -- this word, in capital letters or small
 unfoldable pub is_keyword : Keyword → Token → Bool
-is_keyword keyword t = is_keyword_kind keyword t.kind
+is_keyword keyword = is_of (Word (Some keyword))
 
 -- the first token passes the test
 abbrev pub front : (Token → Bool) → List Token → Bool

@@ -1,7 +1,7 @@
 -- What is read of lists, by what is read of one.
-use Rattle.std.specs.Prelude.{ℕ, suc, List, [], ◌∷◌, length, ◌++◌, Ok, Err}
+use Rattle.std.specs.Prelude.{cond, ℕ, suc, List, [], ◌∷◌, length, ◌++◌, Ok, Err}
 use Rattle.kx_lex.specs.declared.token.Token.{Token}
-use Rattle.kx_lex.specs.Parsing.{Read, done, then_read, which, many_read}
+use Rattle.kx_lex.specs.Parsing.{Read, done, then_read, many_read}
 use Rattle.kx_lex.specs.Kinds.{front, is_mark, before_mark}
 use Rattle.kx_lex.specs.Tokens.{mark, comma}
 
@@ -17,4 +17,4 @@ abbrev pub sequence_read : {A : Type 0} → List ℕ → (List Token → Read A)
 sequence_read text read ts = then_read (read ts) (λ x mid. then_read (many_read (front (is_mark comma)) (after_comma_read text read) (suc (length mid)) mid) (λ xs rest. done (x ∷ xs) rest))
 
 abbrev pub listed_read : {A : Type 0} → List ℕ → ℕ → (List Token → Read A) → List Token → Read (List A)
-listed_read text close read ts = which (before_mark close ts) (sequence_read text read ts) (done [] ts)
+listed_read text close read ts = cond (before_mark close ts) (sequence_read text read ts) (done [] ts)

@@ -67,13 +67,9 @@ word text = do
   t ← one text is_word
   give (record { bytes = slice_of text t; span = t.span })
 
-abbrev pub enclosed_name : List ℕ → Token → Name
-enclosed_name text t = record { bytes = inner_of text t; span = t.span }
-
--- the name between < and >, where each of its bytes is a key's; tokens that a caller gives need not be a reading of the
--- text, so they may enclose others
+-- the name between < and >, where each byte is a key's; tokens that a caller gives may enclose others, since they need be no reading
 abbrev pub enclosed : List ℕ → Token → Result Name Fault
-enclosed text t = if list_all is_key_byte (inner_of text t) then Ok (enclosed_name text t) else Err (syntax_at t)
+enclosed text t = if list_all is_key_byte (inner_of text t) then Ok (record { bytes = inner_of text t; span = t.span }) else Err (syntax_at t)
 
 -- a key's name without < and >
 unfoldable pub key_name : List ℕ → Production Name
@@ -85,12 +81,17 @@ text_name text = do
   t ← one text is_text
   give (record { bytes = text_value Plain (inner_of text t); span = t.span })
 
-abbrev pub too_big : Span → Result NumberValue Fault
-too_big span = Err (NumberTooBig (record { file = 0; span = span }))
-
 -- a number may be at most 4,294,967,295
 abbrev pub measured : ℕ → Span → Result NumberValue Fault
-measured value span = if nat_lt value (2 ^ 32) then Ok (record { value = value; span = span }) else too_big span
+measured value span = if nat_lt value (2 ^ 32) then Ok (record { value = value; span = span }) else Err (NumberTooBig (record { file = 0; span = span }))
 
 unfoldable pub number : List ℕ → Production NumberValue
 number text = one_as text is_number (λ t. measured (number_value (slice_of text t)) t.span)
+
+-- ---- Under names, for clauses and proofs
+
+abbrev pub enclosed_name : List ℕ → Token → Name
+enclosed_name text t = record { bytes = inner_of text t; span = t.span }
+
+abbrev pub too_big : Span → Result NumberValue Fault
+too_big span = Err (NumberTooBig (record { file = 0; span = span }))

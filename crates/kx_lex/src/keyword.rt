@@ -2,7 +2,7 @@
 ghost use Rattle.std.specs.Prelude.{◌≡◌, ◌==◌, false};
 ghost use Rattle.std.specs.Str.{str_eq_ignore_ascii_case};
 ghost use Rattle.kx_lex.specs.KeywordLengths.{AreLengths};
-ghost use Rattle.kx_lex.specs.Keywords.{IsByLength, keyword_of, keyword_number, of_length, rows_of, spelled_in};
+ghost use Rattle.kx_lex.specs.Keywords.{IsByLength, keyword_of, of_length, rows_of, spelled_in};
 
 /// A word that the grammar quotes; it may be written in capital letters or small.
 #[derive(Clone, Copy, Debug, PartialEq, Eq)]
@@ -38,25 +38,6 @@ pub enum Keyword {
     XkbKeymap,
     XkbSymbols,
     XkbTypes,
-}
-
-impl Keyword {
-    ghost use Rattle.std.specs.Prelude.{◌≡◌, ◌==◌};
-    ghost use Rattle.kx_lex.specs.Keywords.{keyword_number};
-
-    /// Which of the keywords it is, counted from 0.
-    fn number(self) -> u8
-        ensures { result ≡ keyword_number self }
-    {
-        self as u8
-    }
-
-    /// Whether both are one keyword.
-    pub(crate) fn is(self, other: Keyword) -> bool
-        ensures { result ≡ (keyword_number self == keyword_number other) }
-    {
-        self.number() == other.number()
-    }
 }
 
 /// A keyword as it is spelled in small letters.

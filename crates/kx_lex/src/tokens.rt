@@ -95,7 +95,7 @@ pub fn is_keyword(keyword: Keyword, token: &Token) -> bool
     ensures { result ≡ is_keyword keyword token.now }
 {
     match token.kind {
-        TokenKind::Word(Some(found)) => found.is(keyword),
+        TokenKind::Word(Some(found)) => found == keyword,
         _ => false,
     }
 }

@@ -1,7 +1,8 @@
 -- What the lists of several statements give a key together.
-use Rattle.std.specs.Prelude.{ℕ, ◌+◌, ◌-◌, ◌==◌, nat_lt, List, Option, None, Some, if◌then◌else◌, ◌≡◌}
+use Rattle.std.specs.Prelude.{ℕ, ◌-◌, nat_lt, List, Option, None, Some, if◌then◌else◌, ◌≡◌}
 use Rattle.std.specs.Option.{option_and_then, option_map_or}
 use Rattle.kx_lists.specs.Lists.{Lists, level_in, list_at, width_in}
+use Rattle.kx_values.specs.ByGroup.{group_before}
 
 -- lists by group, of which the first is that of a group from which on there are any
 pub record KeyLists (X : Type 0) : Type 0 where
@@ -19,10 +20,6 @@ module _ {X : Type 0} where
 
   abbrev pub list_in_key : KeyLists X → ℕ → Option (List (Option X))
   list_in_key key group = if nat_lt group key.from then None else list_at key.lists (group - key.from)
-
--- the group that becomes this one where a map is moved: group 1 becomes the group of the move, and the others go
-abbrev pub group_before : ℕ → ℕ → Option ℕ
-group_before n group = if group + 1 == n then Some 0 else None
 
 module _ {X : Type 0} where
   -- what a group and a level have where the map is moved to a group, counted from 1

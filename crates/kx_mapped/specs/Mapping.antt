@@ -3,6 +3,7 @@
 use Rattle.std.specs.Prelude.{ℕ, zero, suc, ◌==◌, ◌&&◌, ◌||◌, nat_eq, nat_lt, Bool, false, List, [], ◌∷◌, ◌++◌, fold, Option, None, Some, if◌then◌else◌}
 use Rattle.std.specs.List.{list_any}
 use Rattle.std.specs.Set.{is_member}
+use Rattle.std.specs.Option.{option_map_or}
 use Rattle.kx_levels.specs.Rows.{mods_of}
 use Rattle.kx_levels.specs.Selecting.{RealSet}
 use Rattle.kx_masks.specs.Sets.{has}
@@ -13,8 +14,7 @@ use Rattle.kx_typing.specs.GroupTypes.{content_group, group_count, group_levels,
 use Rattle.kx_mapped.specs.declared.places.LevelPlace.{LevelPlace}
 use Rattle.kx_basics.specs.declared.limits.TheConstants.{CODES}
 
--- what is read of a keymap: the names and keys of codes, the types by name, and what modifier maps give the keys of codes and,
--- each with a mask, keysyms
+-- what is read: names and keys of codes, types by name, and what modifier maps give the keys of codes and, each with a mask, keysyms
 pub record Mapping : Type 0 where
   pub name : ℕ → Option (List ℕ)
   pub key : ℕ → KeyGiven
@@ -67,15 +67,10 @@ module _ (keysym : ℕ) where
     unfoldable pub first_place : Option LevelPlace
     first_place = first_of (places_below CODES)
 
--- ---- What a key is mapped to
+abbrev pub modmap_of : Mapping → ℕ → Mods
+modmap_of m code = mods_of (λ real. m.key_maps code real || list_any (λ e. option_map_or (λ p. p.code == code) (first_place e.0 m) false && has e.1 real) m.keysym_maps)
+
+-- ---- Under a name, for clauses and proofs
 
 abbrev pub is_at : ℕ → Option LevelPlace → Bool
-is_at code None = false
-is_at code (Some place) = place.code == code
-
--- what modifier maps give a key by its name, and what they give the keysyms of which it has the first place
-abbrev pub mapped : Mapping → ℕ → RealSet
-mapped m code real = m.key_maps code real || list_any (λ e. is_at code (first_place e.0 m) && has e.1 real) m.keysym_maps
-
-abbrev pub modmap_of : Mapping → ℕ → Mods
-modmap_of m code = mods_of (mapped m code)
+is_at code place = option_map_or (λ p. p.code == code) place false

@@ -37,21 +37,14 @@ abbrev pub whole_span : Item → Span
 whole_span (Include mode text span) = span
 whole_span (Statement mode statement first span) = span
 
--- names, and behind them those of others that aren't there yet
-abbrev pub with_names : List Text → List Text → List Text
-with_names before more = fold (with_name bytes_eq) before more
-
 module _ (names : Item → List Text) where
   -- those before a statement, and behind them those that it writes for the first time
   abbrev pub names_with : List Text → Said → List Text
-  names_with before said = with_names before (names said.1)
-
-  abbrev pub names_behind : List Text → List Said → List Text
-  names_behind before saids = fold names_with before saids
+  names_with before said = fold (with_name bytes_eq) before (names said.1)
 
   -- each name once, in the order of first appearance
   abbrev pub names_of : List Said → List Text
-  names_of saids = names_behind [] saids
+  names_of saids = fold names_with [] saids
 
   -- the first statement with which there are more names than the limit
   abbrev pub crossing : ℕ → List Text → List Said → List Fault
@@ -62,3 +55,11 @@ module _ (names : Item → List Text) where
 
   abbrev pub count_faults : ℕ → List Said → List Fault
   count_faults limit saids = crossing limit [] saids
+
+-- ---- Under names, for clauses and proofs
+
+abbrev pub with_names : List Text → List Text → List Text
+with_names before more = fold (with_name bytes_eq) before more
+
+abbrev pub names_behind : (names : Item → List Text) → List Text → List Said → List Text
+names_behind names before saids = fold (names_with names) before saids

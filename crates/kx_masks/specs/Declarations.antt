@@ -1,7 +1,7 @@
 -- The virtual modifiers of a keymap, and their declared masks by precedence.
-use Rattle.std.specs.Prelude.{◌≡◌, ℕ, ◌<◌, ◌≤◌, ◌==◌, nat_eq, List, [], ◌∷◌, ◌++◌, fold, length, map, slice_get, Option, None, Some, is_some, unwrap_or, if◌then◌else◌}
+use Rattle.std.specs.Prelude.{◌≡◌, ℕ, ◌<◌, ◌≤◌, ◌==◌, nat_eq, List, [], ◌∷◌, ◌++◌, fold, length, map, slice_get, Option, None, is_some, unwrap_or, if◌then◌else◌}
 use Rattle.std.specs.List.{flat_map}
-use Rattle.std.specs.Option.{option_map, option_map_or}
+use Rattle.std.specs.Option.{option_or, option_map, option_map_or}
 use Rattle.kx_include.specs.Expansion.{Body}
 use Rattle.kx_include.specs.IncludeFaults.{at}
 use Rattle.kx_include.specs.Shared.{expanded_body}
@@ -9,8 +9,8 @@ use Rattle.kx_include.specs.declared.expansion.Bodies.{Bodies}
 use Rattle.kx_lex.specs.declared.fault.Fault.{Fault}
 use Rattle.kx_lex.specs.declared.fault.Fault.TheVariants.{BadValue}
 use Rattle.kx_lex.specs.declared.name.Name.{Name}
-use Rattle.kx_merge.specs.Bodies.{Rules, Moves, faults_of, offers_of}
-use Rattle.kx_merge.specs.Offers.{Offer, or_else, value_of, with_name}
+use Rattle.kx_merge.specs.Bodies.{Rules, Moves, faults_of, offers_of, no_moves}
+use Rattle.kx_merge.specs.Offers.{Offer, value_of, with_name, plain_offer}
 use Rattle.kx_merge.specs.Records.{mode_of}
 use Rattle.kx_mods.specs.Mods.{mask}
 use Rattle.kx_mods.specs.declared.mods.Mods.{Mods}
@@ -42,32 +42,18 @@ named_in item = map (λ (d : Declaration). d.word.bytes) (declarations_of item)
 abbrev pub Given : Type 0
 Given = ℕ × Option ℕ
 
-abbrev pub given_by : Option ℕ → Option Expression → List Given
-given_by None mask = []
-given_by (Some number) mask = (number, option_map (mask_set []) mask) ∷ []
-
-abbrev pub numbers_of : List Given → List ℕ
-numbers_of given = fold (with_name nat_eq) [] (map (λ (g : Given). g.0) given)
-
 -- of what is written twice the mask written last counts
 abbrev pub last_mask : List Given → ℕ → Option ℕ
 last_mask [] number = None
-last_mask (g ∷ gs) number = or_else (last_mask gs number) (if number == g.0 then g.1 else None)
+last_mask (g ∷ gs) number = option_or (last_mask gs number) (if number == g.0 then g.1 else None)
 
--- a virtual modifier has one cell, its declared mask
-abbrev pub mask_offer : Mode → List Given → ℕ → Offer ℕ (Unit {0}) ℕ
-mask_offer mode given number = record { mode = mode; name = number; value = λ _. last_mask given number; width = λ _. 0 }
-
--- a statement offers each virtual modifier that it names its mask once
+-- a statement offers each virtual modifier that it names its mask once, as its one cell
 abbrev pub mask_offers : Mode → List Given → List (Offer ℕ (Unit {0}) ℕ)
-mask_offers mode given = map (mask_offer mode given) (numbers_of given)
+mask_offers mode given = map (λ number. plain_offer mode number (λ _. last_mask given number)) (fold (with_name nat_eq) [] (map (λ (g : Given). g.0) given))
 
 module _ (names : List (List ℕ)) where
-  abbrev pub given_of : Declaration → List Given
-  given_of d = given_by (virtual_number names d.word.bytes) d.mask
-
   abbrev pub given_in : List Declaration → List Given
-  given_in declarations = flat_map given_of declarations
+  given_in declarations = flat_map (λ d. option_map_or (λ number. (number, option_map (mask_set []) d.mask) ∷ []) (virtual_number names d.word.bytes) []) declarations
 
   abbrev pub item_offers : Item → List (Offer ℕ (Unit {0}) ℕ)
   item_offers item = mask_offers (mode_of item) (given_in (declarations_of item))
@@ -78,12 +64,8 @@ module _ (file : ℕ) where
   name_faults word = if is_some (real_mask word.bytes) then BadValue (at file word.span) ∷ [] else []
 
   -- a declared mask has real modifiers only
-  abbrev pub declared_faults : List (List ℕ) → Option Expression → List Fault
-  declared_faults names None = []
-  declared_faults names (Some e) = real_mask_faults file names e
-
   abbrev pub declaration_faults : List (List ℕ) → Declaration → List Fault
-  declaration_faults names d = name_faults d.word ++ declared_faults names d.mask
+  declaration_faults names d = name_faults d.word ++ option_map_or (real_mask_faults file names) d.mask []
 
   abbrev pub item_faults : List (List ℕ) → Item → List Fault
   item_faults names item = flat_map (declaration_faults names) (declarations_of item)
@@ -91,21 +73,13 @@ module _ (file : ℕ) where
 abbrev pub mask_rules : List (List ℕ) → Rules ℕ (Unit {0}) ℕ (Unit {0})
 mask_rules names = record { start = tt; next = λ d item. tt; offers = λ d place item. item_offers names item; faults = λ d place item. item_faults place.file names item }
 
--- a move to a group leaves what has no group
-abbrev pub mask_moves : Moves ℕ (Unit {0})
-mask_moves = record { key = λ n number. Some number; cell = λ n c. Some c; group = λ n g. None }
-
 -- the bodies in which virtual modifiers are declared, in the order in which they are numbered
 abbrev pub modifier_bodies : Bodies → List Body
 modifier_bodies b = expanded_body b.types ∷ expanded_body b.compat ∷ expanded_body b.symbols ∷ []
 
--- the mask that a body declares for a virtual modifier by precedence; none where it declares none
-abbrev pub mask_in : List (List ℕ) → ℕ → Body → ℕ
-mask_in names number body = unwrap_or (value_of nat_eq (offers_of nat_eq (mask_rules names) mask_moves body) number tt) 0
-
 -- those of bodies together
 abbrev pub declared_mask : List (List ℕ) → List Body → ℕ → ℕ
-declared_mask names bodies number = fold (λ mask body. union mask (mask_in names number body)) 0 bodies
+declared_mask names bodies number = fold (λ mask body. union mask (unwrap_or (value_of nat_eq (offers_of nat_eq (mask_rules names) no_moves body) number tt) 0)) 0 bodies
 
 -- the virtual modifiers of a keymap by number, and their declared masks
 pub record ModNames : Type 0 where
@@ -129,4 +103,21 @@ pub record AreModNames (m : ModNames) (bodies : List Body) : Type 0 where
 abbrev pub modifier_faults : List Body → List Fault
 modifier_faults bodies =
     count_faults named_in MOST_VIRTUAL_MODIFIERS (all_statements bodies)
-    ++ flat_map (faults_of nat_eq (mask_rules (virtual_names bodies)) mask_moves) bodies
+    ++ flat_map (faults_of nat_eq (mask_rules (virtual_names bodies)) no_moves) bodies
+
+-- ---- Under names, for clauses and proofs
+
+abbrev pub given_by : Option ℕ → Option Expression → List Given
+given_by number mask = option_map_or (λ n. (n, option_map (mask_set []) mask) ∷ []) number []
+
+abbrev pub mask_offer : Mode → List Given → ℕ → Offer ℕ (Unit {0}) ℕ
+mask_offer mode given number = plain_offer mode number (λ _. last_mask given number)
+
+abbrev pub declared_faults : ℕ → List (List ℕ) → Option Expression → List Fault
+declared_faults file names mask = option_map_or (real_mask_faults file names) mask []
+
+abbrev pub mask_moves : Moves ℕ (Unit {0})
+mask_moves = no_moves
+
+abbrev pub numbers_of : List Given → List ℕ
+numbers_of given = fold (with_name nat_eq) [] (map (λ (g : Given). g.0) given)

@@ -1,9 +1,8 @@
 -- The set of modifiers that a mask names, and its faults. A mask is terms joined from the left: `+` for union and `-` for
 -- difference.
-use Rattle.std.specs.Prelude.{ℕ, nat_le, List, [], ◌∷◌, ◌++◌, fold, Option, None, Some, is_some, position, unwrap_or, if◌then◌else◌, codes}
-use Rattle.std.specs.List.{flat_map}
+use Rattle.std.specs.Prelude.{ℕ, nat_le, List, [], ◌∷◌, fold, Option, is_some, position, unwrap_or, if◌then◌else◌, codes}
 use Rattle.std.specs.Option.{option_map, option_or}
-use Rattle.std.specs.Str.{bytes_eq, str_eq_ignore_ascii_case}
+use Rattle.std.specs.Str.{bytes_eq}
 use Rattle.kx_include.specs.IncludeFaults.{at}
 use Rattle.kx_lex.specs.declared.fault.Fault.{Fault}
 use Rattle.kx_lex.specs.declared.fault.Fault.TheVariants.{BadValue, UnknownModifier}
@@ -13,30 +12,18 @@ use Rattle.kx_parse.specs.declared.tree.Operation.{Operation}
 use Rattle.kx_parse.specs.declared.tree.Sign.{Sign}
 use Rattle.kx_parse.specs.declared.tree.Sign.TheVariants.{Plus, Minus}
 use Rattle.kx_parse.specs.declared.tree.Term.{Term}
-use Rattle.kx_parse.specs.declared.tree.Term.TheVariants.{Number, Signed, Word, Text, KeyName}
+use Rattle.kx_parse.specs.declared.tree.Term.TheVariants.{Number, Word}
 use Rattle.kx_masks.specs.Sets.{union, without, virtual_set}
+use Rattle.kx_values.specs.Words.{among}
+use Rattle.kx_values.specs.Terms.{bad_term, terms_faults}
 
 -- the words for real modifiers, each with its mask; they are read without regard to case
 abbrev pub real_words : List (List ℕ × ℕ)
-real_words =
-    (codes "none", 0)
-    ∷ (codes "all", 255)
-    ∷ (codes "shift", 1)
-    ∷ (codes "lock", 2)
-    ∷ (codes "control", 4)
-    ∷ (codes "mod1", 8)
-    ∷ (codes "mod2", 16)
-    ∷ (codes "mod3", 32)
-    ∷ (codes "mod4", 64)
-    ∷ (codes "mod5", 128)
-    ∷ []
-
-abbrev pub mask_among : List (List ℕ × ℕ) → List ℕ → Option ℕ
-mask_among [] word = None
-mask_among (row ∷ rows) word = if str_eq_ignore_ascii_case word row.0 then Some row.1 else mask_among rows word
+real_words = (codes "none", 0) ∷ (codes "all", 255) ∷ (codes "shift", 1) ∷ (codes "lock", 2) ∷ (codes "control", 4)
+    ∷ (codes "mod1", 8) ∷ (codes "mod2", 16) ∷ (codes "mod3", 32) ∷ (codes "mod4", 64) ∷ (codes "mod5", 128) ∷ []
 
 abbrev pub real_mask : List ℕ → Option ℕ
-real_mask word = mask_among real_words word
+real_mask word = among real_words word
 
 -- `names` are the virtual modifiers by number; they are read exactly
 module _ (names : List (List ℕ)) where
@@ -65,31 +52,24 @@ mask_set names e = fold (operated names) (term_set names e.first) e.rest
 -- `words` are the faults of a word
 abbrev pub term_faults : ℕ → (Name → List Fault) → Term → List Fault
 term_faults file words (Number number) = if nat_le number.value 255 then [] else BadValue (at file number.span) ∷ []
-term_faults file words (Signed signed) = BadValue (at file signed.span) ∷ []
 term_faults file words (Word word) = words word
-term_faults file words (Text text) = BadValue (at file text.span) ∷ []
-term_faults file words (KeyName name) = BadValue (at file name.span) ∷ []
-
-abbrev pub operation_faults : ℕ → (Name → List Fault) → Operation → List Fault
-operation_faults file words o = term_faults file words o.term
-
-abbrev pub terms_faults : ℕ → (Name → List Fault) → Expression → List Fault
-terms_faults file words e = term_faults file words e.first ++ flat_map (operation_faults file words) e.rest
+term_faults file words term = bad_term file term
 
 module _ (file : ℕ) (names : List (List ℕ)) where
   abbrev pub word_faults : Name → List Fault
   word_faults word = if is_some (word_set names word.bytes) then [] else UnknownModifier (at file word.span) ∷ []
 
   abbrev pub mask_faults : Expression → List Fault
-  mask_faults e = terms_faults file word_faults e
-
-  -- a virtual modifier is no real one
-  abbrev pub unreal_faults : Name → List Fault
-  unreal_faults word = if is_some (virtual_number names word.bytes) then BadValue (at file word.span) ∷ [] else UnknownModifier (at file word.span) ∷ []
+  mask_faults e = terms_faults (term_faults file word_faults) e
 
   abbrev pub real_word_faults : Name → List Fault
-  real_word_faults word = if is_some (real_mask word.bytes) then [] else unreal_faults word
+  real_word_faults word = if is_some (real_mask word.bytes) then [] else if is_some (virtual_number names word.bytes) then BadValue (at file word.span) ∷ [] else UnknownModifier (at file word.span) ∷ []
 
   -- of a mask of real modifiers alone
   abbrev pub real_mask_faults : Expression → List Fault
-  real_mask_faults e = terms_faults file real_word_faults e
+  real_mask_faults e = terms_faults (term_faults file real_word_faults) e
+
+-- ---- Under a name, for clauses and proofs
+
+abbrev pub operation_faults : ℕ → (Name → List Fault) → Operation → List Fault
+operation_faults file words o = term_faults file words o.term

@@ -37,7 +37,6 @@ unfoldable pub any_below : ℕ → (ℕ → Bool) → Bool
 any_below zero test = false
 any_below (suc n) test = any_below n test || test n
 
--- what a set stands for, where each virtual name stands for real ones: its real names, and for each of its virtual names
--- those that the name stands for
+-- what a set stands for: its real names, and for each of its virtual names those that the name stands for
 abbrev pub real_of : (ℕ → ℕ → Bool) → ℕ → ℕ → Bool
 real_of stands set real = has (real_part set) real || any_below MOST_VIRTUAL_MODIFIERS (λ number. has_virtual set number && stands number real)

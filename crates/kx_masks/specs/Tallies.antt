@@ -2,7 +2,7 @@
 use Rattle.std.specs.Prelude.{◌≡◌, ℕ, ◌≤◌, true, List, [], ◌∷◌, IfErr, OnOk, Contains, length, Result, Some, slice_get}
 use Rattle.std.specs.List.{flat_map, list_any}
 use Rattle.std.specs.Str.{bytes_eq}
-use Rattle.kx_include.specs.Shared.{bodies_behind, body_at, links_body}
+use Rattle.kx_include.specs.Shared.{bodies_behind, body_at}
 use Rattle.kx_include.specs.declared.expansion.Entry.{Entry}
 use Rattle.kx_include.specs.declared.expansion.Entry.TheVariants.{Own, Include}
 use Rattle.kx_include.specs.declared.expansion.Link.{Link}

@@ -1,11 +1,11 @@
 //! What statements declare of virtual modifiers.
 ghost use Rattle.std.specs.Prelude.{◌≡◌, ◌==◌, ◌++◌, ◌∷◌, [], ℕ, Contains, IfErr, IfOk, None, OnOk, fold, length, map, nat_eq, slice_get, unwrap_or, if◌then◌else◌};
 ghost use Rattle.std.specs.List.{flat_map, list_any};
-ghost use Rattle.std.specs.Option.{option_map};
+ghost use Rattle.std.specs.Option.{option_or, option_map};
 ghost use Rattle.std.proofs.Common.{◌∙◌, ap, eqb-true, sym};
 ghost use Rattle.kx_lex.specs.declared.fault.Fault.TheVariants.{Memory};
 ghost use Rattle.kx_merge.specs.Moved.{moved_key, moved_value, moved_width};
-ghost use Rattle.kx_merge.specs.Offers.{or_else, taken, widened, with_name};
+ghost use Rattle.kx_merge.specs.Offers.{taken, widened, with_name};
 ghost use Rattle.kx_merge.specs.Records.{AreOffered, mode_of};
 ghost use Rattle.kx_parse.specs.declared.tree.Mode.{Mode as ModeValue};
 ghost use Rattle.kx_masks.specs.Declarations.{declaration_faults, declarations_in, declarations_of, declared_faults, given_by, given_in, item_faults, item_offers, last_mask, mask_moves, mask_offer, mask_offers, mask_rules, name_faults, named_in, numbers_of};
@@ -174,7 +174,7 @@ fn numbers_of(alloc: Global, given: &[(usize, Option<u8>)]) -> Result<Vec<usize>
 
 /// The mask of a number once a later declaration is read.
 fn later_mask(mask: Option<u8>, number: usize, one: (usize, Option<u8>)) -> Option<u8>
-    ensures { result ≡ or_else (if number == one.0 then one.1 else None) mask }
+    ensures { result ≡ option_or (if number == one.0 then one.1 else None) mask }
 {
     if number == one.0 {
         one.1.or(mask)

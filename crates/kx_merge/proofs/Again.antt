@@ -3,21 +3,22 @@ use Rattle.std.proofs.Common.{◌≡◌, ℕ, Bool, true, false, ◌||◌, cond,
 use Rattle.std.proofs.lemmas.Bool.{false≢true}
 use Rattle.std.specs.Cmp.{IsEquivalence}
 use Rattle.std.specs.List.{list_any}
+use Rattle.std.specs.Option.{option_or}
 use Rattle.kx_parse.specs.declared.tree.Mode.{Mode}
 use Rattle.kx_parse.specs.declared.tree.Mode.TheVariants.{Augment, Override, Replace}
-use Rattle.kx_merge.specs.Offers.{Offer, or_else, taken, widened, is_about, value_of, width_of, with_name, names_behind, names_of}
+use Rattle.kx_merge.specs.Offers.{Offer, taken, widened, is_about, value_of, width_of, with_name, names_behind, names_of}
 use Rattle.kx_merge.specs.Bodies.{gathered}
 use Rattle.kx_merge.specs.Records.{Shows}
 use Rattle.kx_merge.proofs.Movings.{append-none, append-inner}
 use Rattle.kx_merge.proofs.Precedence.{value-other, value-more, width-other, width-more, names_behind-append}
 use Rattle.kx_merge.proofs.Single.{Apart, a_key, gathered-names-apart, names, or-first, or-last}
 
-or-same : {X : Type 0} (a v : Option X) → or_else (or_else a v) v ≡ or_else a v
+or-same : {X : Type 0} (a v : Option X) → option_or (option_or a v) v ≡ option_or a v
 or-same (Some x) v = refl
 or-same None (Some x) = refl
 or-same None None = refl
 
-or-again : {X : Type 0} (a v : Option X) → or_else v (or_else v a) ≡ or_else v a
+or-again : {X : Type 0} (a v : Option X) → option_or v (option_or v a) ≡ option_or v a
 or-again a (Some x) = refl
 or-again a None = refl
 

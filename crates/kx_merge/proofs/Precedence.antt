@@ -1,16 +1,17 @@
 -- What one more offer makes of the values, the widths and the names.
 use Rattle.std.proofs.Common.{◌≡◌, ℕ, Bool, true, false, not, ◌&&◌, ◌||◌, cond, max, List, [], ◌∷◌, ◌++◌, Option, None, Some, refl, sym, ap, ◌∙◌, arith}
+use Rattle.std.specs.Option.{option_or}
 use Rattle.kx_parse.specs.declared.tree.Mode.{Mode}
 use Rattle.kx_parse.specs.declared.tree.Mode.TheVariants.{Augment, Override, Replace}
-use Rattle.kx_merge.specs.Offers.{Offer, or_else, taken, widened, is_replace, is_strong, is_about, is_hidden, seen, last_strong, first_weak, value_of, greatest, width_of, with_name, names_behind, names_of}
+use Rattle.kx_merge.specs.Offers.{Offer, taken, widened, is_replace, is_strong, is_about, is_hidden, seen, last_strong, first_weak, value_of, greatest, width_of, with_name, names_behind, names_of}
 
-or_else-assoc : {X : Type 0} (a b c : Option X) → or_else (or_else a b) c ≡ or_else a (or_else b c)
-or_else-assoc (Some x) b c = refl
-or_else-assoc None b c = refl
+option_or-assoc : {X : Type 0} (a b c : Option X) → option_or (option_or a b) c ≡ option_or a (option_or b c)
+option_or-assoc (Some x) b c = refl
+option_or-assoc None b c = refl
 
-or_else-none : {X : Type 0} (a : Option X) → or_else a None ≡ a
-or_else-none (Some x) = refl
-or_else-none None = refl
+option_or-none : {X : Type 0} (a : Option X) → option_or a None ≡ a
+option_or-none (Some x) = refl
+option_or-none None = refl
 
 or-false : (b : Bool) → (b || false) ≡ b
 or-false true = refl
@@ -31,28 +32,28 @@ max-none : (a : ℕ) → max a 0 ≡ a
 max-none a = omega arith
 
 module _ {K C V : Type 0} (c : C) (o : Offer K C V) where
-  last_strong-more : (os : List (Offer K C V)) → last_strong c (os ++ o ∷ []) ≡ or_else (cond (is_strong o.mode) (o.value c) None) (last_strong c os)
-  last_strong-more [] = sym (or_else-none (cond (is_strong o.mode) (o.value c) None))
-  last_strong-more (p ∷ os) = ap (λ v. or_else v (cond (is_strong p.mode) (p.value c) None)) (last_strong-more os) ∙ or_else-assoc (cond (is_strong o.mode) (o.value c) None) (last_strong c os) (cond (is_strong p.mode) (p.value c) None)
+  last_strong-more : (os : List (Offer K C V)) → last_strong c (os ++ o ∷ []) ≡ option_or (cond (is_strong o.mode) (o.value c) None) (last_strong c os)
+  last_strong-more [] = sym (option_or-none (cond (is_strong o.mode) (o.value c) None))
+  last_strong-more (p ∷ os) = ap (λ v. option_or v (cond (is_strong p.mode) (p.value c) None)) (last_strong-more os) ∙ option_or-assoc (cond (is_strong o.mode) (o.value c) None) (last_strong c os) (cond (is_strong p.mode) (p.value c) None)
 
-  first_weak-more : (os : List (Offer K C V)) → first_weak c (os ++ o ∷ []) ≡ or_else (first_weak c os) (cond (is_strong o.mode) None (o.value c))
-  first_weak-more [] = or_else-none (cond (is_strong o.mode) None (o.value c))
-  first_weak-more (p ∷ os) = ap (or_else (cond (is_strong p.mode) None (p.value c))) (first_weak-more os) ∙ sym (or_else-assoc (cond (is_strong p.mode) None (p.value c)) (first_weak c os) (cond (is_strong o.mode) None (o.value c)))
+  first_weak-more : (os : List (Offer K C V)) → first_weak c (os ++ o ∷ []) ≡ option_or (first_weak c os) (cond (is_strong o.mode) None (o.value c))
+  first_weak-more [] = option_or-none (cond (is_strong o.mode) None (o.value c))
+  first_weak-more (p ∷ os) = ap (option_or (cond (is_strong p.mode) None (p.value c))) (first_weak-more os) ∙ sym (option_or-assoc (cond (is_strong p.mode) None (p.value c)) (first_weak c os) (cond (is_strong o.mode) None (o.value c)))
 
   -- the value of offers with one more behind them
-  value-step : (m : Mode) → o.mode ≡ m → is_replace m ≡ false → (os : List (Offer K C V)) → or_else (last_strong c (os ++ o ∷ [])) (first_weak c (os ++ o ∷ [])) ≡ taken m (or_else (last_strong c os) (first_weak c os)) (o.value c)
+  value-step : (m : Mode) → o.mode ≡ m → is_replace m ≡ false → (os : List (Offer K C V)) → option_or (last_strong c (os ++ o ∷ [])) (first_weak c (os ++ o ∷ [])) ≡ taken m (option_or (last_strong c os) (first_weak c os)) (o.value c)
   value-step Augment e r os =
       let strong : cond (is_strong o.mode) (o.value c) None ≡ None = ap (λ n. cond (is_strong n) (o.value c) None) e in
       let weak : cond (is_strong o.mode) None (o.value c) ≡ o.value c = ap (λ n. cond (is_strong n) None (o.value c)) e in
-      ap (λ v. or_else v (first_weak c (os ++ o ∷ []))) (last_strong-more os ∙ ap (λ v. or_else v (last_strong c os)) strong)
-      ∙ ap (or_else (last_strong c os)) (first_weak-more os ∙ ap (or_else (first_weak c os)) weak)
-      ∙ sym (or_else-assoc (last_strong c os) (first_weak c os) (o.value c))
+      ap (λ v. option_or v (first_weak c (os ++ o ∷ []))) (last_strong-more os ∙ ap (λ v. option_or v (last_strong c os)) strong)
+      ∙ ap (option_or (last_strong c os)) (first_weak-more os ∙ ap (option_or (first_weak c os)) weak)
+      ∙ sym (option_or-assoc (last_strong c os) (first_weak c os) (o.value c))
   value-step Override e r os =
       let strong : cond (is_strong o.mode) (o.value c) None ≡ o.value c = ap (λ n. cond (is_strong n) (o.value c) None) e in
       let weak : cond (is_strong o.mode) None (o.value c) ≡ None = ap (λ n. cond (is_strong n) None (o.value c)) e in
-      ap (λ v. or_else v (first_weak c (os ++ o ∷ []))) (last_strong-more os ∙ ap (λ v. or_else v (last_strong c os)) strong)
-      ∙ ap (or_else (or_else (o.value c) (last_strong c os))) (first_weak-more os ∙ ap (or_else (first_weak c os)) weak ∙ or_else-none (first_weak c os))
-      ∙ or_else-assoc (o.value c) (last_strong c os) (first_weak c os)
+      ap (λ v. option_or v (first_weak c (os ++ o ∷ []))) (last_strong-more os ∙ ap (λ v. option_or v (last_strong c os)) strong)
+      ∙ ap (option_or (option_or (o.value c) (last_strong c os))) (first_weak-more os ∙ ap (option_or (first_weak c os)) weak ∙ option_or-none (first_weak c os))
+      ∙ option_or-assoc (o.value c) (last_strong c os) (first_weak c os)
   value-step Replace e r os = cc
 
 module _ {K C V : Type 0} (g : ℕ) (o : Offer K C V) where
@@ -103,19 +104,19 @@ module _ {K C V : Type 0} (eq : K → K → Bool) (k : K) (o : Offer K C V) wher
 
   -- of another record the value and the widths stay
   pub value-other : is_about eq k o ≡ false → (os : List (Offer K C V)) (c : C) → value_of eq (os ++ o ∷ []) k c ≡ value_of eq os k c
-  value-other h os c = ap (λ xs. or_else (last_strong c xs) (first_weak c xs)) (seen-other h os)
+  value-other h os c = ap (λ xs. option_or (last_strong c xs) (first_weak c xs)) (seen-other h os)
 
   pub width-other : is_about eq k o ≡ false → (os : List (Offer K C V)) (g : ℕ) → width_of eq (os ++ o ∷ []) k g ≡ width_of eq os k g
   width-other h os g = ap (greatest g) (seen-other h os)
 
   -- of its record they are taken by its mode
   pub value-more : (m : Mode) → o.mode ≡ m → is_about eq k o ≡ true → (os : List (Offer K C V)) (c : C) → value_of eq (os ++ o ∷ []) k c ≡ taken m (value_of eq os k c) (o.value c)
-  value-more Augment e h os c = ap (λ xs. or_else (last_strong c xs) (first_weak c xs)) (seen-kept h (ap is_replace e) os) ∙ value-step c o Augment e refl (seen eq k os)
-  value-more Override e h os c = ap (λ xs. or_else (last_strong c xs) (first_weak c xs)) (seen-kept h (ap is_replace e) os) ∙ value-step c o Override e refl (seen eq k os)
+  value-more Augment e h os c = ap (λ xs. option_or (last_strong c xs) (first_weak c xs)) (seen-kept h (ap is_replace e) os) ∙ value-step c o Augment e refl (seen eq k os)
+  value-more Override e h os c = ap (λ xs. option_or (last_strong c xs) (first_weak c xs)) (seen-kept h (ap is_replace e) os) ∙ value-step c o Override e refl (seen eq k os)
   value-more Replace e h os c =
-      ap (λ xs. or_else (last_strong c xs) (first_weak c xs)) (seen-replaced h (ap is_replace e) os)
-      ∙ ap (λ n. or_else (or_else None (cond (is_strong n) (o.value c) None)) (or_else (cond (is_strong n) None (o.value c)) None)) e
-      ∙ or_else-none (o.value c)
+      ap (λ xs. option_or (last_strong c xs) (first_weak c xs)) (seen-replaced h (ap is_replace e) os)
+      ∙ ap (λ n. option_or (option_or None (cond (is_strong n) (o.value c) None)) (option_or (cond (is_strong n) None (o.value c)) None)) e
+      ∙ option_or-none (o.value c)
 
   pub width-more : (m : Mode) → o.mode ≡ m → is_about eq k o ≡ true → (os : List (Offer K C V)) (g : ℕ) → width_of eq (os ++ o ∷ []) k g ≡ widened m (width_of eq os k g) (o.width g)
   width-more Augment e h os g = ap (greatest g) (seen-kept h (ap is_replace e) os) ∙ greatest-more g o (seen eq k os)

@@ -3,9 +3,11 @@ use Rattle.std.proofs.Common.{◌≡◌, ℕ, Bool, true, false, not, ◌&&◌, 
 use Rattle.std.proofs.lemmas.Bool.{false≢true}
 use Rattle.std.specs.Cmp.{IsEquivalence}
 use Rattle.std.specs.List.{flat_map, list_any}
+use Rattle.std.specs.Option.{option_or}
 use Rattle.kx_parse.specs.declared.tree.Mode.{Mode}
-use Rattle.kx_merge.specs.Bodies.{Moves, moved, moved_one, gather, gathered}
-use Rattle.kx_merge.specs.Offers.{Offer, or_else, is_replace, is_hidden, is_strong, seen, last_strong, first_weak, value_of, greatest, width_of, with_name, names_behind, names_of}
+use Rattle.kx_merge.specs.Moved.{moved_one}
+use Rattle.kx_merge.specs.Bodies.{Moves, moved, gather, gathered}
+use Rattle.kx_merge.specs.Offers.{Offer, is_replace, is_hidden, is_strong, seen, last_strong, first_weak, value_of, greatest, width_of, with_name, names_behind, names_of}
 use Rattle.kx_merge.proofs.Movings.{append-none, append-inner}
 
 abbrev pub names : {K C V : Type 0} → List (Offer K C V) → List K
@@ -26,7 +28,7 @@ or-both : (a b : Bool) → a ≡ false → b ≡ false → (a || b) ≡ false
 or-both true b h k = h
 or-both false b h k = k
 
-lone-value : {V : Type 0} (b : Bool) (v : Option V) → or_else (or_else None (cond b v None)) (or_else (cond b None v) None) ≡ v
+lone-value : {V : Type 0} (b : Bool) (v : Option V) → option_or (option_or None (cond b v None)) (option_or (cond b None v) None) ≡ v
 lone-value true None = refl
 lone-value true (Some x) = refl
 lone-value false None = refl
@@ -117,7 +119,7 @@ module _ {K : Type 0} (eq : K → K → Bool) (laws : IsEquivalence eq) where
 
     gather-single : (mode : Mode) (gs : List (Offer K C V)) (o : Offer K C V) → seen eq o.name gs ≡ o ∷ [] → gather eq mode gs o.name ≡ under mode o
     gather-single mode gs o alone =
-        let value : (c : C) → value_of eq gs o.name c ≡ o.value c = λ c. ap (λ xs. or_else (last_strong c xs) (first_weak c xs)) alone ∙ lone-value (is_strong o.mode) (o.value c) in
+        let value : (c : C) → value_of eq gs o.name c ≡ o.value c = λ c. ap (λ xs. option_or (last_strong c xs) (first_weak c xs)) alone ∙ lone-value (is_strong o.mode) (o.value c) in
         let width : (g : ℕ) → width_of eq gs o.name g ≡ o.width g = λ g. ap (greatest g) alone ∙ lone-width (o.width g) in
         λ i. record { mode = mode; name = o.name; value = λ c. value c i; width = λ g. width g i }
 

@@ -9,40 +9,35 @@ use Rattle.kx_include.specs.Expansion.{Body, End, Begin, Own, Inc}
 use Rattle.kx_include.specs.declared.place.Place.{Place}
 use Rattle.kx_merge.specs.Offers.{Offer, value_of, width_of, names_of}
 
--- what the statements of a section kind say: the defaults that stand at the start of a section and after a statement,
--- and what a statement offers, and its faults, under the defaults before it
+-- what statements of a kind say: the defaults at a section's start and behind a statement, its offers and its faults under those before it
 pub record Rules (K C V D : Type 0) : Type 0 where
   pub start : D
   pub next : D → Item → D
   pub offers : D → Place → Item → List (Offer K C V)
   pub faults : D → Place → Item → List Fault
 
--- what moving a map to a group does: a record to which one goes, if any, and which cell and group of the map's becomes
--- this one
+-- what moving a map to a group does: to which record one goes, if any, and which cell and group of the map's becomes this one
 pub record Moves (K C : Type 0) : Type 0 where
   pub key : ℕ → K → Option K
   pub cell : ℕ → C → Option C
   pub group : ℕ → ℕ → Option ℕ
 
+-- a move to a group leaves what has no group
+abbrev pub no_moves : {K C : Type 0} → Moves K C
+no_moves = record { key = λ n k. Some k; cell = λ n c. Some c; group = λ n g. None }
+
 module _ {K C V : Type 0} (moves : Moves K C) where
   abbrev pub moved_to : ℕ → Offer K C V → K → Offer K C V
   moved_to n o k = record { mode = o.mode; name = k; value = λ c. option_and_then o.value (moves.cell n c); width = λ g. option_map_or o.width (moves.group n g) 0 }
 
-  abbrev pub moved_one : ℕ → Offer K C V → Option K → List (Offer K C V)
-  moved_one n o None = []
-  moved_one n o (Some k) = moved_to n o k ∷ []
-
   abbrev pub moved : Option ℕ → List (Offer K C V) → List (Offer K C V)
   moved None os = os
-  moved (Some n) os = flat_map (λ o. moved_one n o (moves.key n o.name)) os
+  moved (Some n) os = flat_map (λ o. option_map_or (λ k. moved_to n o k ∷ []) (moves.key n o.name) []) os
 
 module _ {K C V : Type 0} (eq : K → K → Bool) (mode : Mode) (os : List (Offer K C V)) where
-  abbrev pub gather : K → Offer K C V
-  gather k = record { mode = mode; name = k; value = value_of eq os k; width = width_of eq os k }
-
   -- all that some offers leave, as one offer to each record
   abbrev pub gathered : List (Offer K C V)
-  gathered = map gather (names_of eq os)
+  gathered = map (λ k. record { mode = mode; name = k; value = value_of eq os k; width = width_of eq os k }) (names_of eq os)
 
 module _ {K C V D : Type 0} (eq : K → K → Bool) (rules : Rules K C V D) (moves : Moves K C) where
   -- under the defaults before it; those of a section are its own
@@ -64,3 +59,8 @@ module _ {K C V D : Type 0} (eq : K → K → Bool) (rules : Rules K C V D) (mov
 
   abbrev pub faults_of : Body → List Fault
   faults_of body = faults rules.start body
+
+-- ---- Under names, for clauses and proofs
+
+abbrev pub gather : {K C V : Type 0} → (eq : K → K → Bool) → (mode : Mode) → (os : List (Offer K C V)) → K → Offer K C V
+gather eq mode os k = record { mode = mode; name = k; value = value_of eq os k; width = width_of eq os k }

@@ -1,8 +1,8 @@
 -- What a record of a map gives where the map is moved to a group, or isn't moved.
-use Rattle.std.specs.Prelude.{◌≡◌, ℕ, Option, None, Some}
+use Rattle.std.specs.Prelude.{◌≡◌, ℕ, List, [], ◌∷◌, Option, None, Some}
 use Rattle.std.specs.Option.{option_and_then, option_map_or}
 use Rattle.kx_parse.specs.declared.tree.Mode.{Mode}
-use Rattle.kx_merge.specs.Bodies.{Moves}
+use Rattle.kx_merge.specs.Bodies.{Moves, moved_to}
 use Rattle.kx_merge.specs.Offers.{Offer}
 
 module _ {K C : Type 0} (moves : Moves K C) where
@@ -25,3 +25,7 @@ pub record IsOfferedMoved {K C V R : Type 0} (cell : R → C → Option V) (widt
   pub name_is : o.name ≡ key
   pub value_is : (c : C) → o.value c ≡ moved_value moves group (cell r) c
   pub width_is : (g : ℕ) → o.width g ≡ moved_width moves group (width r) g
+
+-- an offer moved to a record, if it goes to one
+abbrev pub moved_one : {K C V : Type 0} → Moves K C → ℕ → Offer K C V → Option K → List (Offer K C V)
+moved_one moves n o to = option_map_or (λ k. moved_to moves n o k ∷ []) to []

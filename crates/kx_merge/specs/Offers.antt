@@ -1,7 +1,8 @@
 -- Precedence: what the items of a body offer to records, and the value that a cell has by them, as libxkbcommon's merge
 -- modes have it.
-use Rattle.std.specs.Prelude.{ℕ, Bool, true, false, not, ◌&&◌, max, List, [], ◌∷◌, ◌++◌, Option, None, Some, if◌then◌else◌}
+use Rattle.std.specs.Prelude.{ℕ, Bool, true, false, not, ◌&&◌, max, List, [], ◌∷◌, ◌++◌, Option, None, if◌then◌else◌}
 use Rattle.std.specs.List.{list_any}
+use Rattle.std.specs.Option.{option_or}
 use Rattle.kx_parse.specs.declared.tree.Mode.{Mode}
 use Rattle.kx_parse.specs.declared.tree.Mode.TheVariants.{Augment, Override, Replace}
 
@@ -12,6 +13,10 @@ pub record Offer (K C V : Type 0) : Type 0 where
   pub value : C → Option V
   pub width : ℕ → ℕ
 
+-- an offer to a record that has no groups
+abbrev pub plain_offer : {K C V : Type 0} → Mode → K → (C → Option V) → Offer K C V
+plain_offer mode name value = record { mode = mode; name = name; value = value; width = λ _. 0 }
+
 abbrev pub is_replace : Mode → Bool
 is_replace Replace = true
 is_replace _ = false
@@ -20,21 +25,17 @@ abbrev pub is_strong : Mode → Bool
 is_strong Augment = false
 is_strong _ = true
 
-abbrev pub or_else : {X : Type 0} → Option X → Option X → Option X
-or_else (Some x) y = Some x
-or_else None y = y
-
 abbrev pub with_name : {K : Type 0} → (K → K → Bool) → List K → K → List K
 with_name eq ks k = if list_any (eq k) ks then ks else ks ++ k ∷ []
 
 module _ {K C V : Type 0} where
   abbrev pub last_strong : C → List (Offer K C V) → Option V
   last_strong c [] = None
-  last_strong c (o ∷ os) = or_else (last_strong c os) (if is_strong o.mode then o.value c else None)
+  last_strong c (o ∷ os) = option_or (last_strong c os) (if is_strong o.mode then o.value c else None)
 
   abbrev pub first_weak : C → List (Offer K C V) → Option V
   first_weak c [] = None
-  first_weak c (o ∷ os) = or_else (if is_strong o.mode then None else o.value c) (first_weak c os)
+  first_weak c (o ∷ os) = option_or (if is_strong o.mode then None else o.value c) (first_weak c os)
 
   abbrev pub greatest : ℕ → List (Offer K C V) → ℕ
   greatest g [] = 0
@@ -55,7 +56,7 @@ module _ {K C V : Type 0} (eq : K → K → Bool) where
 
   -- of those that define the cell the last under override or replace gives the value, else the first under augment
   abbrev pub value_of : List (Offer K C V) → K → C → Option V
-  value_of os k c = or_else (last_strong c (seen k os)) (first_weak c (seen k os))
+  value_of os k c = option_or (last_strong c (seen k os)) (first_weak c (seen k os))
 
   abbrev pub width_of : List (Offer K C V) → K → ℕ → ℕ
   width_of os k g = greatest g (seen k os)
@@ -70,8 +71,8 @@ module _ {K C V : Type 0} (eq : K → K → Bool) where
 
 -- what a later value makes of the one before it
 abbrev pub taken : {X : Type 0} → Mode → Option X → Option X → Option X
-taken Augment old new = or_else old new
-taken Override old new = or_else new old
+taken Augment old new = option_or old new
+taken Override old new = option_or new old
 taken Replace old new = new
 
 abbrev pub widened : Mode → ℕ → ℕ → ℕ

@@ -5,7 +5,7 @@ use Rattle.std.specs.Option.{option_map, option_or}
 use Rattle.std.proofs.lemmas.Bool.Decides.{nat_tests}
 use Rattle.std.proofs.lemmas.Nat.Bits.{bit_at-lt, bit_at_or}
 use Rattle.kx_masks.specs.Sets.{has, union}
-use Rattle.kx_merge.specs.Offers.{or_else, taken}
+use Rattle.kx_merge.specs.Offers.{taken}
 use Rattle.kx_mods.specs.Mods.{mask}
 use Rattle.kx_mods.specs.declared.mods.Mods.{Mods}
 use Rattle.kx_parse.specs.declared.tree.Mode.{Mode}
@@ -21,18 +21,18 @@ one-or x y small other = grind (arith, nat_tests, small, other)
 has-union : (m n i : ℕ) → has (union m n) i ≡ (has m i || has n i)
 has-union m n i = ap (λ b. b == 1) (bit_at_or m n i) ∙ one-or (bit_at m i) (bit_at n i) (bit_at-lt m i) (bit_at-lt n i)
 
-either : (b c : Bool) (x : ℕ) → cond (b || c) (Some x) None ≡ or_else (cond b (Some x) None) (cond c (Some x) None)
+either : (b c : Bool) (x : ℕ) → cond (b || c) (Some x) None ≡ option_or (cond b (Some x) None) (cond c (Some x) None)
 either true c x = refl
 either false true x = refl
 either false false x = refl
 
-other : (b c : Bool) (x : ℕ) → cond (b || c) (Some x) None ≡ or_else (cond c (Some x) None) (cond b (Some x) None)
+other : (b c : Bool) (x : ℕ) → cond (b || c) (Some x) None ≡ option_or (cond c (Some x) None) (cond b (Some x) None)
 other true true x = refl
 other true false x = refl
 other false true x = refl
 other false false x = refl
 
-first-only : (a b : Option Mods) → option_map mask (option_or a b) ≡ or_else (option_map mask a) (option_map mask b)
+first-only : (a b : Option Mods) → option_map mask (option_or a b) ≡ option_or (option_map mask a) (option_map mask b)
 first-only (Some m) b = refl
 first-only None b = refl
 

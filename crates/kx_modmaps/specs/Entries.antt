@@ -1,10 +1,10 @@
 -- What a modifier map statement names, and its faults.
-use Rattle.std.specs.Prelude.{ℕ, ◌||◌, nat_eq, Bool, false, List, [], ◌∷◌, ◌++◌, fold, Option, None, Some, is_some, if◌then◌else◌, codes}
+use Rattle.std.specs.Prelude.{ℕ, ◌||◌, Bool, List, [], ◌∷◌, ◌++◌, fold, Option, None, Some, is_some, if◌then◌else◌, codes}
 use Rattle.std.specs.List.{flat_map}
-use Rattle.std.specs.Option.{option_map}
+use Rattle.std.specs.Option.{option_map, option_map_or}
 use Rattle.std.specs.Str.{str_eq_ignore_ascii_case}
 use Rattle.ks_core.specs.Entry.{Entry as Named}
-use Rattle.kx_codes.specs.CodeFaults.{name_faults}
+use Rattle.kx_values.specs.Faults.{name_faults}
 use Rattle.kx_codes.specs.Codes.{Codes, code_of}
 use Rattle.kx_include.specs.IncludeFaults.{at}
 use Rattle.kx_lex.specs.declared.fault.Fault.{Fault}
@@ -23,12 +23,11 @@ use Rattle.kx_symbols.specs.KeyFaults.{symbol_faults}
 use Rattle.kx_symbols.specs.Keysyms.{symbol_keysym}
 use Rattle.kx_modmaps.specs.declared.target.Target.{Target}
 use Rattle.kx_modmaps.specs.declared.target.Target.TheVariants.{Key, Keysym}
+use Rattle.kx_modmaps.specs.contracts.target.TargetPartialEq.TheImpl.{ghosts}
 
+-- by the equality that derives
 abbrev pub same_target : Target → Target → Bool
-same_target (Key one) (Key two) = nat_eq one two
-same_target (Key one) (Keysym two) = false
-same_target (Keysym one) (Key two) = false
-same_target (Keysym one) (Keysym two) = nat_eq one two
+same_target = ghosts.eq
 
 -- the word and the entries of a modifier map statement
 abbrev pub map_in : Said → Option (Name × List Entry)
@@ -42,10 +41,6 @@ is_all word = str_eq_ignore_ascii_case word (codes "all")
 abbrev pub word_mask : List ℕ → Option ℕ
 word_mask word = if is_all word then None else real_mask word
 
-abbrev pub with_target : List Target → Option Target → List Target
-with_target targets None = targets
-with_target targets (Some target) = with_name same_target targets target
-
 -- an unknown name of a key and an unknown keysym name no target, and `Any` and `NoSymbol` name none
 module _ (codes : Codes) (names : List Named) where
   abbrev pub entry_target : Entry → Option Target
@@ -53,7 +48,7 @@ module _ (codes : Codes) (names : List Named) where
   entry_target (Symbol symbol) = option_map (λ keysym. Keysym keysym) (symbol_keysym names symbol)
 
   abbrev pub with_entry : List Target → Entry → List Target
-  with_entry targets entry = with_target targets (entry_target entry)
+  with_entry targets entry = option_map_or (with_name same_target targets) (entry_target entry) targets
 
   -- what entries name, each once, in order
   abbrev pub targets_of : List Entry → List Target
@@ -72,11 +67,15 @@ module _ (file : ℕ) where
   entry_faults whole (KeyName name) = name_faults file whole name
   entry_faults whole (Symbol symbol) = symbol_faults file symbol
 
-  abbrev pub map_faults : List (List ℕ) → Span → Option (Name × List Entry) → List Fault
-  map_faults modifiers whole None = []
-  map_faults modifiers whole (Some map) = word_faults modifiers map.0 ++ flat_map (entry_faults whole) map.1
-
   -- those of a modifier map; those of other statements are none of these
   abbrev pub item_faults : List (List ℕ) → Item → List Fault
-  item_faults modifiers (Statement mode statement first whole) = map_faults modifiers whole (map_in statement)
+  item_faults modifiers (Statement mode statement first whole) = option_map_or (λ map. word_faults modifiers map.0 ++ flat_map (entry_faults whole) map.1) (map_in statement) []
   item_faults modifiers (Include mode text span) = []
+
+-- ---- Under names, for clauses and proofs
+
+abbrev pub with_target : List Target → Option Target → List Target
+with_target targets target = option_map_or (with_name same_target targets) target targets
+
+abbrev pub map_faults : ℕ → List (List ℕ) → Span → Option (Name × List Entry) → List Fault
+map_faults file modifiers whole map = option_map_or (λ m. word_faults file modifiers m.0 ++ flat_map (entry_faults file whole) m.1) map []

@@ -1,5 +1,5 @@
 -- The modifiers that the modifier maps of a symbols body give keys and keysyms.
-use Rattle.std.specs.Prelude.{◌≡◌, ℕ, ◌^◌, ◌<◌, List, [], ◌∷◌, map, Option, None, Some, unwrap_or, if◌then◌else◌}
+use Rattle.std.specs.Prelude.{◌≡◌, ℕ, ◌^◌, List, [], ◌∷◌, map, Option, None, Some, unwrap_or, if◌then◌else◌}
 use Rattle.std.specs.List.{flat_map}
 use Rattle.std.specs.Map.{lookup}
 use Rattle.std.specs.Option.{option_map, option_map_or}
@@ -8,8 +8,8 @@ use Rattle.kx_codes.specs.Codes.{Codes}
 use Rattle.kx_include.specs.Expansion.{Body}
 use Rattle.kx_lex.specs.declared.name.Name.{Name}
 use Rattle.kx_masks.specs.Sets.{has}
-use Rattle.kx_merge.specs.Bodies.{Rules, Moves, offers_of}
-use Rattle.kx_merge.specs.Offers.{Offer, names_of, value_of}
+use Rattle.kx_merge.specs.Bodies.{Rules, Moves, offers_of, no_moves}
+use Rattle.kx_merge.specs.Offers.{Offer, names_of, value_of, plain_offer}
 use Rattle.kx_mods.specs.Mods.{mask}
 use Rattle.kx_parse.specs.declared.tree.Entry.{Entry}
 use Rattle.kx_parse.specs.declared.tree.Item.{Item}
@@ -34,20 +34,17 @@ given (Key code) mask Only = None
 given (Keysym keysym) mask (Present modifier) = None
 given (Keysym keysym) mask Only = Some mask
 
-abbrev pub map_offer : Mode → ℕ → Target → Offer Target Cell ℕ
-map_offer mode mask target = record { mode = mode; name = target; value = given target mask; width = λ _. 0 }
-
 abbrev pub offers_to : Mode → Option ℕ → List Target → List (Offer Target Cell ℕ)
 offers_to mode None targets = []
-offers_to mode (Some mask) targets = map (map_offer mode mask) targets
+offers_to mode (Some mask) targets = map (λ target. plain_offer mode target (given target mask)) targets
+
+abbrev pub map_offers : Codes → List Named → Mode → Option (Name × List Entry) → List (Offer Target Cell ℕ)
+map_offers codes names mode None = []
+map_offers codes names mode (Some map) = offers_to mode (word_mask map.0.bytes) (targets_of codes names map.1)
 
 module _ (codes : Codes) (names : List Named) where
-  abbrev pub map_offers : Mode → Option (Name × List Entry) → List (Offer Target Cell ℕ)
-  map_offers mode None = []
-  map_offers mode (Some map) = offers_to mode (word_mask map.0.bytes) (targets_of codes names map.1)
-
   abbrev pub item_offers : Item → List (Offer Target Cell ℕ)
-  item_offers (Statement mode statement first whole) = map_offers mode (map_in statement)
+  item_offers (Statement mode statement first whole) = map_offers codes names mode (map_in statement)
   item_offers (Include mode text span) = []
 
 -- `modifiers` are the names of virtual modifiers
@@ -55,12 +52,8 @@ module _ (codes : Codes) (names : List Named) (modifiers : List (List ℕ)) wher
   abbrev pub map_rules : Rules Target Cell ℕ (Unit {0})
   map_rules = record { start = tt; next = λ d item. tt; offers = λ d place item. item_offers codes names item; faults = λ d place item. item_faults place.file modifiers item }
 
--- a move to a group leaves what has no group
-abbrev pub map_moves : Moves Target Cell
-map_moves = record { key = λ n target. Some target; cell = λ n c. Some c; group = λ n g. None }
-
 abbrev pub map_offers_of : Codes → List Named → List (List ℕ) → Body → List (Offer Target Cell ℕ)
-map_offers_of codes names modifiers body = offers_of same_target (map_rules codes names modifiers) map_moves body
+map_offers_of codes names modifiers body = offers_of same_target (map_rules codes names modifiers) no_moves body
 
 -- what a record of a target holds
 abbrev pub assigned_cell : Assigned → Cell → Option ℕ
@@ -96,3 +89,11 @@ module _ (os : List (Offer Target Cell ℕ)) where
 pub record AreModifierMaps (maps : Maps) (codes : Codes) (names : List Named) (modifiers : List (List ℕ)) (body : Body) : Type 0 where
   pub keys_are : (code modifier : ℕ) → present (key_mask maps code) modifier ≡ value_of same_target (map_offers_of codes names modifiers body) (Key code) (Present modifier)
   pub keysyms_are : map shown_entry maps.by_keysym ≡ keysyms_given (map_offers_of codes names modifiers body)
+
+-- ---- Under names, for clauses and proofs
+
+abbrev pub map_moves : Moves Target Cell
+map_moves = no_moves
+
+abbrev pub map_offer : Mode → ℕ → Target → Offer Target Cell ℕ
+map_offer mode mask target = plain_offer mode target (given target mask)

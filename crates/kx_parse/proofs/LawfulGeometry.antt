@@ -1,15 +1,19 @@
 -- The laws of geometry.
-use Rattle.std.proofs.Common.{ℕ, zero, suc, ◌+◌, ◌≤◌, Bool, true, false, List, [], ◌∷◌, length, ◌≡◌, Ok, Err, refl, arith, sym, ◌∙◌, subst, append-nil}
+use Rattle.std.proofs.Common.{cond, ℕ, zero, suc, ◌+◌, ◌≤◌, Bool, true, false, List, [], ◌∷◌, length, ◌≡◌, Ok, Err, refl, arith, sym, ◌∙◌, subst, append-nil}
 use Rattle.kx_lex.specs.declared.token.Token.{Token}
 use Rattle.kx_lex.specs.declared.fault.Fault.{Fault}
-use Rattle.kx_lex.specs.Parsing.{Read, done, which}
+use Rattle.kx_lex.specs.Parsing.{Read, done}
 use Rattle.kx_lex.specs.Kinds.{is_mark}
 use Rattle.kx_lex.specs.Stops.{syntax_end, IsBehind, StopsWithin}
 use Rattle.kx_lex.specs.Tokens.{open_brace, close_brace}
 use Rattle.kx_lex.proofs.Laws.{done-same}
 use Rattle.kx_lex.proofs.Lawful.{Lawful}
 use Rattle.kx_lex.proofs.Reasons.{behind_self, behind_more, behind_first}
-use Rattle.kx_parse.specs.Geometry.{Balanced, nothing, other, nested, IsClosing, closing_read, geometry_read, GeometryBlames, geometry}
+use Rattle.kx_parse.specs.Geometry.{Balanced, nothing, other, nested, IsClosing, closing_read, geometry_read, geometry}
+
+-- nothing closes it
+abbrev GeometryBlames : List ℕ → List Token → Fault → Type 0
+GeometryBlames text ts e = (e ≡ syntax_end text) × ((rest : List Token) → Balanced text ts rest → IsClosing text rest → ⊥)
 
 Deep : List ℕ → ℕ → List Token → List Token → Type 0
 Deep text zero ts rest = Balanced text ts rest × IsClosing text rest
@@ -40,7 +44,7 @@ geometry-deep text (t ∷ ts) d rest e = go (is_mark open_brace t) refl (is_mark
     closes zero ho hc w ih = let same = done-same w in subst (λ (r : List Token). Balanced text (t ∷ ts) r × IsClosing text r) same.1 (nothing, (t, ts, refl, ho, hc))
     closes (suc j) ho hc w ih = (t, ts, nothing, ho, hc, ih j w)
 
-    go : (o : Bool) → is_mark open_brace t ≡ o → (c : Bool) → is_mark close_brace t ≡ c → (k : ℕ) → which o (geometry_read text (suc k) ts) (which c (closing_read k t ts (λ j. geometry_read text j ts)) (geometry_read text k ts)) ≡ done tt rest → ((j : ℕ) → geometry_read text j ts ≡ done tt rest → Deep text j ts rest) → Deep text k (t ∷ ts) rest
+    go : (o : Bool) → is_mark open_brace t ≡ o → (c : Bool) → is_mark close_brace t ≡ c → (k : ℕ) → cond o (geometry_read text (suc k) ts) (cond c (closing_read k t ts (λ j. geometry_read text j ts)) (geometry_read text k ts)) ≡ done tt rest → ((j : ℕ) → geometry_read text j ts ≡ done tt rest → Deep text j ts rest) → Deep text k (t ∷ ts) rest
     go true ho c hc k w ih = let below = ih (suc k) w in Deep-before text k (t ∷ ts) below.1 rest (λ r b. nested ho below.3 below.4 below.2 b) below.5
     go false ho true hc k w ih = closes k ho hc w ih
     go false ho false hc k w ih = Deep-before text k (t ∷ ts) ts rest (λ r b. other ho hc b) (ih k w)
@@ -57,7 +61,7 @@ geometry-fault text (t ∷ ts) d e w = go (is_mark open_brace t) (is_mark close_
     closes zero w ih = cc
     closes (suc j) w ih = ih j w
 
-    go : (o c : Bool) (k : ℕ) → which o (geometry_read text (suc k) ts) (which c (closing_read k t ts (λ j. geometry_read text j ts)) (geometry_read text k ts)) ≡ Err e → ((j : ℕ) → geometry_read text j ts ≡ Err e → e ≡ syntax_end text) → e ≡ syntax_end text
+    go : (o c : Bool) (k : ℕ) → cond o (geometry_read text (suc k) ts) (cond c (closing_read k t ts (λ j. geometry_read text j ts)) (geometry_read text k ts)) ≡ Err e → ((j : ℕ) → geometry_read text j ts ≡ Err e → e ≡ syntax_end text) → e ≡ syntax_end text
     go true c k w ih = ih (suc k) w
     go false true k w ih = closes k w ih
     go false false k w ih = ih k w

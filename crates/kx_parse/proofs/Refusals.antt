@@ -7,10 +7,10 @@ use Rattle.kx_lex.specs.declared.token.Token.{Token}
 use Rattle.kx_lex.specs.declared.fault.At.{At}
 use Rattle.kx_lex.specs.declared.fault.Fault.{Fault}
 use Rattle.kx_lex.specs.declared.fault.Fault.TheVariants.{Memory, Syntax, NumberTooBig}
-use Rattle.kx_lex.specs.Spelling.{OneBlames, ManyBlames, many_front}
+use Rattle.kx_lex.specs.Spelling.{many_front}
 use Rattle.kx_lex.specs.Parsing.{done}
-use Rattle.kx_lex.specs.Stops.{syntax_at, syntax_end, StopsWithin}
-use Rattle.kx_lex.specs.Production.{Production, at_end}
+use Rattle.kx_lex.specs.Stops.{syntax_at, StopsWithin}
+use Rattle.kx_lex.specs.Production.{Production, at_end, many, one}
 use Rattle.kx_lex.specs.Tokens.{mark, keyword, text_name, open_brace, close_brace, semicolon}
 use Rattle.kx_lex.proofs.Lawful.{Lawful, ◌>>=◌, give-lawful}
 use Rattle.kx_lex.proofs.TokenLaws.{mark-lawful, keyword-lawful}
@@ -39,7 +39,7 @@ IsSyntax e = (at : At) × (e ≡ Syntax at)
 abbrev Blames-syntax : {A : Type 0} → Production A → Type 0
 Blames-syntax p = (ts : List Token) (e : Fault) → p.blames ts e → IsSyntax e
 
-one-syntax : (text : List ℕ) (test : Token → Bool) (ts : List Token) (e : Fault) → OneBlames test syntax_at (syntax_end text) ts e → IsSyntax e
+one-syntax : (text : List ℕ) (test : Token → Bool) (ts : List Token) (e : Fault) → (one text test).blames ts e → IsSyntax e
 one-syntax text test ts e (inl h) = (_, h.1)
 one-syntax text test ts e (inr h) = (_, h.4)
 
@@ -99,7 +99,7 @@ from_front text test [] ts rest h = h
 from_front text test (x ∷ xs) ts rest h = (h.1, h.2, from_front text test xs h.1 rest h.3)
 
 -- in sections one after another
-sections-number : (text : List ℕ) (test : List Token → Bool) (at : At) (ts : List Token) → ManyBlames test (section text).spells (section text).blames ts (NumberTooBig at) → InPlainSection text ts (NumberTooBig at)
+sections-number : (text : List ℕ) (test : List Token → Bool) (at : At) (ts : List Token) → (many test (section text)).blames ts (NumberTooBig at) → InPlainSection text ts (NumberTooBig at)
 unfolding section flagged
 sections-number text test at ts h = go h.4
   where

@@ -1,8 +1,7 @@
 -- Geometry: any tokens, with their braces in pairs, up to the brace that closes the section.
-use Rattle.std.specs.Prelude.{ℕ, zero, suc, true, false, List, [], ◌∷◌, ◌≡◌, Err}
+use Rattle.std.specs.Prelude.{cond, ℕ, zero, suc, true, false, List, [], ◌∷◌, ◌≡◌, Err}
 use Rattle.kx_lex.specs.declared.token.Token.{Token}
-use Rattle.kx_lex.specs.declared.fault.Fault.{Fault}
-use Rattle.kx_lex.specs.Parsing.{Read, done, which}
+use Rattle.kx_lex.specs.Parsing.{Read, done}
 use Rattle.kx_lex.specs.Kinds.{is_mark}
 use Rattle.kx_lex.specs.Stops.{syntax_end}
 use Rattle.kx_lex.specs.Production.{Production}
@@ -27,17 +26,14 @@ closing_read (suc d) t ts more = more d
 abbrev pub geometry_read : List ℕ → ℕ → List Token → Read (Unit {0})
 geometry_read text depth [] = Err (syntax_end text)
 geometry_read text depth (t ∷ ts) =
-    which (is_mark open_brace t) (geometry_read text (suc depth) ts)
-    (which (is_mark close_brace t) (closing_read depth t ts (λ d. geometry_read text d ts))
+    cond (is_mark open_brace t) (geometry_read text (suc depth) ts)
+    (cond (is_mark close_brace t) (closing_read depth t ts (λ d. geometry_read text d ts))
     (geometry_read text depth ts))
-
--- nothing closes it
-abbrev pub GeometryBlames : List ℕ → List Token → Fault → Type 0
-GeometryBlames text ts e = (e ≡ syntax_end text) × ((rest : List Token) → Balanced text ts rest → IsClosing text rest → ⊥)
 
 unfoldable pub geometry : List ℕ → Production (Unit {0})
 geometry text = record {
   spells = λ ts x rest. Balanced text ts rest × IsClosing text rest;
   read = geometry_read text 0;
-  blames = GeometryBlames text;
+  -- nothing closes it
+  blames = λ ts e. (e ≡ syntax_end text) × ((rest : List Token) → Balanced text ts rest → IsClosing text rest → ⊥);
 }

@@ -1,5 +1,6 @@
 -- What sections hold, sections, and what a source and a file are.
-use Rattle.std.specs.Prelude.{ℕ, Bool, true, ◌&&◌, ◌||◌, List, [], Option, Some, None, is_some, if◌then◌else◌}
+use Rattle.std.specs.Prelude.{ℕ, Bool, true, ◌&&◌, ◌||◌, List, [], Option, Some, is_some, if◌then◌else◌, ◌∷◌}
+use Rattle.std.specs.Map.{lookup}
 use Rattle.kx_lex.specs.declared.keyword.Keyword.TheVariants as keywords
 use Rattle.kx_lex.specs.declared.token.Token.{Token}
 use Rattle.kx_lex.specs.declared.token.Span.{Span}
@@ -26,12 +27,7 @@ use Rattle.kx_parse.specs.declared.tree.Tree.{Tree}
 
 -- alternate is read as override
 unfoldable pub mode_of : Token → Option Mode
-mode_of t =
-    if is_keyword keywords.Augment t then Some Augment
-    else (if is_keyword keywords.Override t then Some Override
-    else (if is_keyword keywords.Replace t then Some Replace
-    else (if is_keyword keywords.Alternate t then Some Override
-    else None)))
+mode_of t = lookup (λ k. is_keyword k t) ((keywords.Augment, Augment) ∷ (keywords.Override, Override) ∷ (keywords.Replace, Replace) ∷ (keywords.Alternate, Override) ∷ [])
 
 -- include means override
 unfoldable pub join_of : Token → Option Mode
@@ -56,15 +52,10 @@ include text = placed (λ i span. items.Include i.0 i.1 span) (both (join text) 
 
 -- a statement in a mode, with its first token and its ;
 unfoldable pub moded : List ℕ → Mode → Production (Mode × Statement × Span)
-moded text m = do
-  s ← fronted (statement text)
-  _ ← mark text semicolon
-  give (m, s.0, s.1)
+moded text m = fronted (statement text) >>= (λ s. after (mark text semicolon) (give (m, s.0, s.1)))
 
 unfoldable pub modal : List ℕ → Production (Mode × Statement × Span)
-modal text = do
-  m ← mode text
-  moded text m
+modal text = mode text >>= moded text
 
 unfoldable pub own : List ℕ → Production Item
 own text = placed (λ s span. items.Statement s.0 s.1 s.2 span) (either begins_moded (modal text) (moded text Override))
@@ -72,35 +63,22 @@ own text = placed (λ s span. items.Statement s.0 s.1 s.2 span) (either begins_m
 unfoldable pub item : List ℕ → Production Item
 item text = either begins_include (include text) (own text)
 
--- the word that a fault of an unknown field names: a field's word, of another statement its first token, and an include
--- with its text
+-- the word that a fault of an unknown field names: a field's word, of another statement its first token, of an include all of it
 abbrev pub word_span : Item → Span
 word_span (items.Include mode name span) = span
 word_span (items.Statement mode (statements.Field f) first span) = f.place.word.span
 word_span (items.Statement mode _ first span) = first
 
 unfoldable pub kind_of : Token → Option Kind
-kind_of t =
-    if is_keyword keywords.XkbKeycodes t then Some Keycodes
-    else (if is_keyword keywords.XkbTypes t then Some Types
-    else (if is_keyword keywords.XkbSymbols t then Some Symbols
-    else (if is_keyword keywords.XkbCompatibility t then Some Compat
-    else (if is_keyword keywords.XkbCompat t then Some Compat
-    else (if is_keyword keywords.XkbCompatMap t then Some Compat
-    else (if is_keyword keywords.XkbCompatibilityMap t then Some Compat
-    else None))))))
+kind_of t = lookup (λ k. is_keyword k t) (
+    (keywords.XkbKeycodes, Keycodes) ∷ (keywords.XkbTypes, Types) ∷ (keywords.XkbSymbols, Symbols) ∷ (keywords.XkbCompatibility, Compat)
+    ∷ (keywords.XkbCompat, Compat) ∷ (keywords.XkbCompatMap, Compat) ∷ (keywords.XkbCompatibilityMap, Compat) ∷ [])
 
 unfoldable pub flag_of : Token → Option Flag
-flag_of t =
-    if is_keyword keywords.Default t then Some Default
-    else (if is_keyword keywords.Partial t then Some Partial
-    else (if is_keyword keywords.Hidden t then Some Hidden
-    else (if is_keyword keywords.AlphanumericKeys t then Some AlphanumericKeys
-    else (if is_keyword keywords.ModifierKeys t then Some ModifierKeys
-    else (if is_keyword keywords.KeypadKeys t then Some KeypadKeys
-    else (if is_keyword keywords.FunctionKeys t then Some FunctionKeys
-    else (if is_keyword keywords.AlternateGroup t then Some AlternateGroup
-    else None)))))))
+flag_of t = lookup (λ k. is_keyword k t) (
+    (keywords.Default, Default) ∷ (keywords.Partial, Partial) ∷ (keywords.Hidden, Hidden) ∷ (keywords.AlphanumericKeys, AlphanumericKeys)
+    ∷ (keywords.ModifierKeys, ModifierKeys) ∷ (keywords.KeypadKeys, KeypadKeys) ∷ (keywords.FunctionKeys, FunctionKeys)
+    ∷ (keywords.AlternateGroup, AlternateGroup) ∷ [])
 
 unfoldable pub kind : List ℕ → Production Kind
 kind text = known text kind_of
@@ -125,19 +103,14 @@ geometry_body text = after (mark text open_brace) (ended text close_brace (geome
 
 -- geometry is read over, and kept as an empty section
 unfoldable pub geometry_section : List ℕ → List Flag → Production Section
-geometry_section text fs = do
-  _ ← keyword text keywords.XkbGeometry
-  n ← optional_text text
-  _ ← geometry_body text
-  give (record { flags = fs; kind = Geometry; name = n; items = [] })
+geometry_section text fs = after (keyword text keywords.XkbGeometry)
+    (optional_text text >>= (λ n. after (geometry_body text) (give (record { flags = fs; kind = Geometry; name = n; items = [] }))))
 
 unfoldable pub flagged : List ℕ → List Flag → Production Section
 flagged text fs = either (front (is_keyword keywords.XkbGeometry)) (geometry_section text fs) (plain_section text fs)
 
 unfoldable pub section : List ℕ → Production Section
-section text = do
-  fs ← flags text
-  ended text semicolon (flagged text fs)
+section text = flags text >>= (λ fs. ended text semicolon (flagged text fs))
 
 unfoldable pub held_sections : List ℕ → Production (List Section)
 held_sections text = between text open_brace close_brace (many (before_mark close_brace) (section text))

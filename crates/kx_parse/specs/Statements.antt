@@ -26,17 +26,9 @@ use Rattle.kx_parse.specs.declared.tree.Statement.TheVariants as statements
 unfoldable pub setting : List ℕ → Production Setting
 setting text = either (front (is_mark equals)) (after (mark text equals) (made settings.To (value text))) (give settings.On)
 
-abbrev pub off_field : List ℕ → Production (FieldPlace × Setting)
-off_field text = after (mark text bang) (made (λ p. (p, settings.Off)) (place text))
-
-abbrev pub on_field : List ℕ → Production (FieldPlace × Setting)
-on_field text = both (place text) (setting text)
-
-abbrev pub bare_field : List ℕ → Production (FieldPlace × Setting)
-bare_field text = either (front (is_mark bang)) (off_field text) (on_field text)
-
 unfoldable pub field : List ℕ → Production Field
-field text = placed (λ f span. record { place = f.0; setting = f.1; span = span }) (bare_field text)
+field text = placed (λ f span. record { place = f.0; setting = f.1; span = span })
+    (either (front (is_mark bang)) (after (mark text bang) (made {B = FieldPlace × Setting} (λ p. (p, settings.Off)) (place text))) (both (place text) (setting text)))
 
 unfoldable pub block_field : List ℕ → Production Field
 block_field text = ended text semicolon (field text)
@@ -47,11 +39,8 @@ block text = between text open_brace close_brace (many (before_mark close_brace)
 unfoldable pub key_field : List ℕ → Production KeyField
 key_field text = either (front (is_mark open_bracket)) (made key_fields.List (list text)) (made key_fields.Field (field text))
 
-abbrev pub declared_mask : List ℕ → Production (Option Expression)
-declared_mask text = optional (front (is_mark equals)) (after (mark text equals) (expression text))
-
 unfoldable pub declaration : List ℕ → Production Declaration
-declaration text = made2 (λ w m. record { word = w; mask = m }) (word text) (declared_mask text)
+declaration text = made2 (λ w m. record { word = w; mask = m }) (word text) (optional (front (is_mark equals)) (after (mark text equals) (expression text)))
 
 unfoldable pub predicate : List ℕ → Production Predicate
 predicate text = either begins_call (made predicates.Call (call text)) (made predicates.Mask (expression text))
@@ -84,12 +73,9 @@ key_type text = after (keyword text keywords.Type) (made2 statements.KeyType (te
 unfoldable pub wanted_modifiers : List ℕ → Production Predicate
 wanted_modifiers text = after (mark text plus) (predicate text)
 
-abbrev pub optional_modifiers : List ℕ → Production (Option Predicate)
-optional_modifiers text = optional (front (is_mark plus)) (wanted_modifiers text)
-
 unfoldable pub interpretation : List ℕ → Production Statement
 interpretation text =
-    after (keyword text keywords.Interpret) (made3 statements.Interpretation (symbol text) (optional_modifiers text) (block text))
+    after (keyword text keywords.Interpret) (made3 statements.Interpretation (symbol text) (optional (front (is_mark plus)) (wanted_modifiers text)) (block text))
 
 unfoldable pub indicator : List ℕ → Production Statement
 indicator text = after (keyword text keywords.Indicator) (made2 statements.Indicator (text_name text) (block text))
@@ -133,3 +119,20 @@ symbols_statement text = either (begins keywords.Key is_key_name) (key text)
 
 unfoldable pub statement : List ℕ → Production Statement
 statement text = keycodes_statement text (types_statement text (symbols_statement text))
+
+-- ---- Under names, for clauses and proofs
+
+abbrev pub off_field : List ℕ → Production (FieldPlace × Setting)
+off_field text = after (mark text bang) (made (λ p. (p, settings.Off)) (place text))
+
+abbrev pub on_field : List ℕ → Production (FieldPlace × Setting)
+on_field text = both (place text) (setting text)
+
+abbrev pub bare_field : List ℕ → Production (FieldPlace × Setting)
+bare_field text = either (front (is_mark bang)) (after (mark text bang) (made (λ p. (p, settings.Off)) (place text))) (both (place text) (setting text))
+
+abbrev pub declared_mask : List ℕ → Production (Option Expression)
+declared_mask text = optional (front (is_mark equals)) (after (mark text equals) (expression text))
+
+abbrev pub optional_modifiers : List ℕ → Production (Option Predicate)
+optional_modifiers text = optional (front (is_mark plus)) (wanted_modifiers text)

@@ -59,8 +59,7 @@ unfoldable pub operation : List ℕ → Production Operation
 operation text = made2 (λ s t. record { sign = s; term = t }) (sign text) (term text)
 
 unfoldable pub expression : List ℕ → Production Expression
-expression text = placed (λ e span. record { first = e.0; rest = e.1; span = span })
-    (both (term text) (many (front is_sign) (operation text)))
+expression text = placed (λ e span. record { first = e.0; rest = e.1; span = span }) (both (term text) (many (front is_sign) (operation text)))
 
 unfoldable pub index : List ℕ → Production Index
 index text = placed (λ value span. record { value = value; span = span }) (between text open_bracket close_bracket (expression text))
@@ -71,47 +70,34 @@ optional_index text = optional (front (is_mark open_bracket)) (index text)
 unfoldable pub member : List ℕ → Production Name
 member text = after (mark text point) (word text)
 
-abbrev pub optional_member : List ℕ → Production (Option Name)
-optional_member text = optional (front (is_mark point)) (member text)
-
 unfoldable pub place : List ℕ → Production FieldPlace
-place text = made3 (λ w m i. record { word = w; member = m; index = i }) (word text) (optional_member text) (optional_index text)
+place text = made3 (λ w m i. record { word = w; member = m; index = i }) (word text) (optional (front (is_mark point)) (member text)) (optional_index text)
 
 -- a word that = or an index follows
 abbrev pub begins_set : List Token → Bool
 begins_set ts = front is_word ts && (second (is_mark equals) ts || second (is_mark open_bracket) ts)
 
 unfoldable pub set_argument : List ℕ → Production Argument
-set_argument text = do
-  w ← word text
-  assigned text (arguments.Set w) (optional_index text) (expression text)
+set_argument text = word text >>= (λ w. assigned text (arguments.Set w) (optional_index text) (expression text))
 
 unfoldable pub off_argument : List ℕ → Production Argument
 off_argument text = after (mark text bang) (made arguments.Off (word text))
 
-abbrev pub bare_argument : List ℕ → Production Argument
-bare_argument text = either (front (is_mark bang)) (off_argument text)
-    (either begins_set (set_argument text) (made arguments.Plain (expression text)))
-
 unfoldable pub argument : List ℕ → Production PlacedArgument
-argument text = placed (λ a span. record { argument = a; span = span }) (bare_argument text)
+argument text = placed (λ a span. record { argument = a; span = span }) (either (front (is_mark bang)) (off_argument text) (either begins_set (set_argument text) (made arguments.Plain (expression text))))
 
 -- a word that a parenthesis follows
 abbrev pub begins_call : List Token → Bool
 begins_call ts = front is_word ts && second (is_mark open_paren) ts
 
-abbrev pub called : List ℕ → Production (Name × List PlacedArgument)
-called text = headed text open_paren close_paren (λ w xs. (w, xs)) (word text) (listed text close_paren (argument text))
-
 unfoldable pub call : List ℕ → Production Call
-call text = placed (λ c span. record { word = c.0; arguments = c.1; span = span }) (called text)
+call text = placed (λ c span. record { word = c.0; arguments = c.1; span = span }) (headed {C = Name × List PlacedArgument} text open_paren close_paren (λ w xs. (w, xs)) (word text) (listed text close_paren (argument text)))
 
 unfoldable pub part : List ℕ → Production BracePart
 part text = either begins_call (made parts.Call (call text)) (made parts.Symbol (symbol text))
 
 unfoldable pub braces : List ℕ → Production Braces
-braces text = placed (λ xs span. record { parts = xs; span = span })
-    (between text open_brace close_brace (listed text close_brace (part text)))
+braces text = placed (λ xs span. record { parts = xs; span = span }) (between text open_brace close_brace (listed text close_brace (part text)))
 
 unfoldable pub element : List ℕ → Production Element
 element text = either (front (is_mark open_brace)) (made elements.Braces (braces text))
@@ -124,3 +110,11 @@ list text = placed (λ xs span. record { elements = xs; span = span })
 unfoldable pub value : List ℕ → Production Value
 value text = either (front (is_mark open_bracket)) (made values.List (list text))
     (either begins_call (made values.Call (call text)) (made values.Expression (expression text)))
+
+-- ---- Under names, for clauses and proofs
+
+abbrev pub optional_member : List ℕ → Production (Option Name)
+optional_member text = optional (front (is_mark point)) (member text)
+
+abbrev pub bare_argument : List ℕ → Production Argument
+bare_argument text = either (front (is_mark bang)) (off_argument text) (either begins_set (set_argument text) (made arguments.Plain (expression text)))

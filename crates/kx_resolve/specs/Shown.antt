@@ -1,6 +1,7 @@
 -- The keymap that keys and types mean: for a code, an effective group and effective modifiers what the key gives (X
 -- Keyboard Extension, keyboard mapping: key types and groups).
-use Rattle.std.specs.Prelude.{ℕ, zero, suc, pos, ◌-◌, ◌==◌, nat_lt, List, [], max, Option, None, Some, is_some, unwrap_or, if◌then◌else◌}
+use Rattle.std.specs.Prelude.{ℕ, zero, suc, pos, ◌-◌, ◌==◌, nat_lt, List, [], max, Option, None, is_some, unwrap_or, if◌then◌else◌}
+use Rattle.std.specs.Option.{option_map_or}
 use Rattle.kx_levels.specs.Rows.{set_mask}
 use Rattle.kx_levels.specs.Selecting.{RealSet, consumed, level_selected}
 use Rattle.kx_masks.specs.Sets.{has, real_part}
@@ -35,24 +36,24 @@ abbrev pub name_within : (ℕ → Option (List ℕ)) → ℕ → Option (List �
 name_within name code = if nat_lt code CODES then name code else None
 
 module _ (name : ℕ → Option (List ℕ)) (key : ℕ → KeyGiven) where
-  abbrev pub groups_if : Option (List ℕ) → ℕ → ℕ
-  groups_if None code = 0
-  groups_if (Some of_key) code = group_count (key code)
-
   -- the greatest number of groups of a key of a code below a number
   unfoldable pub most_groups_below : ℕ → ℕ
   most_groups_below zero = 0
-  most_groups_below (suc code) = max (most_groups_below code) (groups_if (name code) code)
+  most_groups_below (suc code) = max (most_groups_below code) (option_map_or (λ _. group_count (key code)) (name code) 0)
 
 module _ (real : ℕ → RealSet) (declared : List ℕ → Option Definition) (keyed : Keyed) where
-  abbrev pub shown_if : Option (List ℕ) → ℕ → ℕ → ℕ → Shown
-  shown_if None code group mods = nothing_shown
-  shown_if (Some of_key) code group mods = shown_for real declared (keyed.deeds code) (keyed.key code) group mods
-
   abbrev pub keymap_meant : Keymap
   keymap_meant = record {
     groups = max 1 (most_groups_below keyed.name keyed.key CODES);
     known = λ code. is_some (name_within keyed.name code);
-    shown = λ code group mods. shown_if (name_within keyed.name code) code group mods;
+    shown = λ code group mods. option_map_or (λ _. shown_for real declared (keyed.deeds code) (keyed.key code) group mods) (name_within keyed.name code) nothing_shown;
     lamps = [];
   }
+
+-- ---- Under names, for proofs
+
+abbrev pub groups_if : (ℕ → Option (List ℕ)) → (ℕ → KeyGiven) → Option (List ℕ) → ℕ → ℕ
+groups_if name key of_key code = option_map_or (λ _. group_count (key code)) of_key 0
+
+abbrev pub shown_if : (ℕ → RealSet) → (List ℕ → Option Definition) → Keyed → Option (List ℕ) → ℕ → ℕ → ℕ → Shown
+shown_if real declared keyed of_key code group mods = option_map_or (λ _. shown_for real declared (keyed.deeds code) (keyed.key code) group mods) of_key nothing_shown

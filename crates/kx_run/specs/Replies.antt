@@ -48,8 +48,7 @@ told c =
       effective_group = c.effective_group;
     }
 
--- the modifiers and the group that keys take in a state: the three together. The effective group that a state
--- was told with isn't read
+-- the modifiers and the group that keys take in a state: the three together; the effective group that it was told with isn't read
 abbrev pub status_mods : Status → ℕ
 status_mods s = bit_or (bit_or s.base s.latched) s.locked
 
@@ -78,9 +77,7 @@ has_chosen_group count groups parts s =
 
 -- an indicator is lit when its modifiers meet those of the parts that it looks at, or its groups hold the group of one
 abbrev pub is_lit : ℕ → Status → Lamp → Bool
-is_lit count s lamp =
-    not (bit_and lamp.mods (chosen_mods lamp.mod_states s) == 0)
-    || has_chosen_group count lamp.groups lamp.group_states s
+is_lit count s lamp = not (bit_and lamp.mods (chosen_mods lamp.mod_states s) == 0) || has_chosen_group count lamp.groups lamp.group_states s
 
 -- the lit indicators as a mask: bit i is indicator i
 abbrev pub lit_mask : ℕ → Status → List Lamp → ℕ
@@ -95,17 +92,11 @@ pub record Glance : Type 0 where
   pub syms : List ℕ
   pub consumed : ℕ
 
-abbrev pub unknown : Glance
-unknown = record { known = false; syms = []; consumed = 0 }
-
-abbrev pub glance : Keymap → ℕ → ℕ → ℕ → Glance
-glance keymap code group mods =
-    if keymap.known code
-    then record { known = true; syms = (keymap.shown code group mods).syms; consumed = (keymap.shown code group mods).consumed }
-    else unknown
-
 abbrev pub look_at : Keymap → Status → ℕ → Glance
-look_at keymap s code = glance keymap code (status_group keymap.groups s) (status_mods s)
+look_at keymap s code =
+    let shown = keymap.shown code (status_group keymap.groups s) (status_mods s) in
+    if keymap.known code then record { known = true; syms = shown.syms; consumed = shown.consumed }
+    else record { known = false; syms = []; consumed = 0 }
 
 abbrev pub looked : Look → Glance
 looked look = record { known = look.known; syms = look.syms.items; consumed = mask look.consumed }
@@ -116,16 +107,13 @@ pub record Answer : Type 0 where
   pub state : Status
   pub lit : ℕ
 
-abbrev pub lit_in : Keymap → Status → ℕ
-lit_in keymap s = lit_mask keymap.groups s keymap.lamps
-
 abbrev pub status_in : Keymap → World → Status
 status_in keymap world = status_of keymap.groups world
 
 abbrev pub answer : Keymap → World → ℕ → Direction → Answer
 answer keymap world code direction =
     let after = status_in keymap (step keymap world code direction) in
-    record { look = look_at keymap (status_in keymap world) code; state = after; lit = lit_in keymap after }
+    record { look = look_at keymap (status_in keymap world) code; state = after; lit = lit_mask keymap.groups after keymap.lamps }
 
 abbrev pub answered : Reply → Answer
 answered reply =
@@ -139,12 +127,18 @@ answered reply =
 
 abbrev pub run : Keymap → World → List Event → List Answer
 run keymap world [] = []
-run keymap world (event ∷ events) =
-    answer keymap world event.code event.direction
-    ∷ run keymap (step keymap world event.code event.direction) events
+run keymap world (event ∷ events) = answer keymap world event.code event.direction ∷ run keymap (step keymap world event.code event.direction) events
 
 -- the state after a list of events
 abbrev pub world_after : Keymap → World → List Event → World
 world_after keymap world [] = world
 world_after keymap world (event ∷ events) =
     world_after keymap (step keymap world event.code event.direction) events
+
+-- ---- Under names, for clauses and proofs
+
+abbrev pub unknown : Glance
+unknown = record { known = false; syms = []; consumed = 0 }
+
+abbrev pub lit_in : Keymap → Status → ℕ
+lit_in keymap s = lit_mask keymap.groups s keymap.lamps

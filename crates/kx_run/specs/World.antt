@@ -4,7 +4,6 @@ use Rattle.std.specs.Prelude.{ℕ, ◌==◌, Bool, false, not, ◌&&◌, if◌th
 use Rattle.std.specs.Int.{int_rem_euclid}
 use Rattle.std.specs.Int.RustNames.{bit_and, bit_or, unsigned_abs}
 use Rattle.kx_mods.specs.Mods.{mask, mask_without}
-use Rattle.kx_mods.specs.declared.mods.Mods.{Mods}
 use Rattle.kx_tables.specs.Keymap.{Keymap}
 use Rattle.kx_tables.specs.declared.rows.Action.{Action}
 use Rattle.kx_tables.specs.declared.rows.Action.TheVariants.{SetMods, LatchMods, LockMods, SetGroup, LatchGroup, LockGroup}
@@ -37,8 +36,7 @@ abbrev pub effective_mods : World → ℕ
 effective_mods world = bit_or (bit_or (base_mods world.held) world.latched) world.locked
 
 abbrev pub effective_group : ℕ → World → ℕ
-effective_group groups world =
-    group_modulo groups (base_group world.held +ℤ pos world.latched_group +ℤ pos world.locked_group)
+effective_group groups world = group_modulo groups (base_group world.held +ℤ pos world.latched_group +ℤ pos world.locked_group)
 
 -- ---- A press
 
@@ -47,27 +45,18 @@ abbrev pub recorded_mods : Action → ℕ → ℕ
 recorded_mods (LockMods mods locks unlocks) locked = bit_and (mask mods) locked
 recorded_mods _ locked = 0
 
--- what a press does beyond holding its key: a lock takes effect at once, and a key that is none of the six actions'
--- ends both latches
+-- what a press does beyond holding its key: a lock takes effect at once, and a key of none of the six actions ends both latches
 abbrev pub press_effect : ℕ → Action → World → World
 press_effect groups NoAction world = record world { latched = 0; latched_group = 0 }
-press_effect groups (LockMods mods locks unlocks) world =
-    record world { locked = if locks then bit_or world.locked (mask mods) else world.locked }
-press_effect groups (LockGroup change) world =
-    record world { locked_group = group_modulo groups (group_after change (pos world.locked_group)) }
+press_effect groups (LockMods mods locks unlocks) world = record world { locked = if locks then bit_or world.locked (mask mods) else world.locked }
+press_effect groups (LockGroup change) world = record world { locked_group = group_modulo groups (group_after change (pos world.locked_group)) }
 press_effect groups _ world = world
-
--- the set of a mask
-abbrev pub set_of : ℕ → Mods
-set_of mods = record { 0 = mods }
 
 -- the key as it is held from its press on
 abbrev pub held_key : ℕ → Action → ℕ → HeldKey
-held_key code action locked =
-    record { code = code; action = action; recorded = set_of (recorded_mods action locked); disturbed = false }
+held_key code action locked = record { code = code; action = action; recorded = record { 0 = recorded_mods action locked }; disturbed = false }
 
--- a press of a key that is up: all held keys are disturbed, the key is held, undisturbed, and then its action
--- takes effect
+-- a press of a key that is up: all held keys are disturbed, it is held, undisturbed, and then its action takes effect
 abbrev pub pressed : ℕ → ℕ → Action → World → World
 pressed groups code action world =
     press_effect groups action (record world { held = map disturbed world.held ++ held_key code action world.locked ∷ [] })
@@ -130,8 +119,7 @@ released groups code world = let_go groups code (held_at code world.held) world
 
 -- ---- Events
 
--- what an event does to a known key, whose action in the state before it is this one: a press of a held key and a
--- release of a key that is up change nothing
+-- what an event does to a known key of an action: a press of a held key and a release of a key that is up change nothing
 abbrev pub moved : ℕ → World → ℕ → Direction → Action → World
 moved groups world code Down action = if is_held code world.held then world else pressed groups code action world
 moved groups world code Up action = released groups code world
@@ -147,5 +135,4 @@ action_in keymap world code = (keymap.shown code (effective_group keymap.groups 
 
 -- a step: an unknown code changes nothing
 abbrev pub step : Keymap → World → ℕ → Direction → World
-step keymap world code direction =
-    if keymap.known code then moved keymap.groups world code direction (action_in keymap world code) else world
+step keymap world code direction = if keymap.known code then moved keymap.groups world code direction (action_in keymap world code) else world

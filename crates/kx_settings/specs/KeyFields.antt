@@ -1,7 +1,7 @@
 -- What the fields of a key statement, and the default statements before it in its section, say of the key besides its lists.
-use Rattle.std.specs.Prelude.{ℕ, ◌||◌, List, [], ◌∷◌, fold, Option, None, Some, is_some, if◌then◌else◌}
+use Rattle.std.specs.Prelude.{ℕ, ◌||◌, List, [], ◌∷◌, fold, Option, None, is_some, if◌then◌else◌}
 use Rattle.std.specs.List.{flat_map}
-use Rattle.std.specs.Option.{option_and_then, option_or}
+use Rattle.std.specs.Option.{option_and_then, option_or, option_map_or}
 use Rattle.kx_include.specs.IncludeFaults.{at}
 use Rattle.kx_lex.specs.declared.fault.Fault.{Fault}
 use Rattle.kx_lex.specs.declared.fault.Fault.TheVariants.{UnknownField}
@@ -18,16 +18,9 @@ use Rattle.kx_settings.specs.declared.cells.SettingValue.{SettingValue}
 use Rattle.kx_settings.specs.declared.given.Given.{Given}
 
 module _ (names : List (List ℕ)) where
-  -- inside a key a field has no member, as `w.f`; one of lists says nothing else
-  abbrev pub own_given : Field → Option Given
-  own_given field = if is_some field.place.member || is_list_word field.place.word.bytes then None else named_given names field.place.word field
-
   abbrev pub key_given : KeyField → Option Given
-  key_given (keys.Field field) = own_given field
+  key_given (keys.Field field) = if is_some field.place.member || is_list_word field.place.word.bytes then None else named_given names field.place.word field
   key_given (keys.List list) = None
-
-  abbrev pub cell_given : SettingCell → KeyField → Option SettingValue
-  cell_given cell field = option_and_then (given_to cell) (key_given field)
 
   -- what a field of a section gives keys as a default: `key.F`
   abbrev pub default_given : Field → Option Given
@@ -45,7 +38,7 @@ module _ (names : List (List ℕ)) where
 
   -- a cell has the value that is written last in the statement, else its default
   abbrev pub effective : Settings → List KeyField → SettingCell → Option SettingValue
-  effective defaults fields cell = option_or (last_given (cell_given cell) fields) (setting_in defaults cell)
+  effective defaults fields cell = option_or (last_given (λ field. option_and_then (given_to cell) (key_given field)) fields) (setting_in defaults cell)
 
 module _ (file : ℕ) (names : List (List ℕ)) where
   -- a field of lists is another's to judge
@@ -62,9 +55,16 @@ module _ (file : ℕ) (names : List (List ℕ)) where
   setting_faults fields = flat_map key_field_faults fields
 
   abbrev pub member_faults : Field → Option Name → List Fault
-  member_faults field None = UnknownField (at file field.place.word.span) ∷ []
-  member_faults field (Some member) = named_faults file names member field
+  member_faults field member = option_map_or (λ m. named_faults file names m field) member (UnknownField (at file field.place.word.span) ∷ [])
 
   -- of a field of a section as a default for keys
   abbrev pub default_faults : Field → List Fault
   default_faults field = if is_key_word field.place.word.bytes then member_faults field field.place.member else UnknownField (at file field.place.word.span) ∷ []
+
+-- ---- Under names, for clauses and proofs
+
+abbrev pub cell_given : (names : List (List ℕ)) → SettingCell → KeyField → Option SettingValue
+cell_given names cell field = option_and_then (given_to cell) (key_given names field)
+
+abbrev pub own_given : (names : List (List ℕ)) → Field → Option Given
+own_given names field = if is_some field.place.member || is_list_word field.place.word.bytes then None else named_given names field.place.word field

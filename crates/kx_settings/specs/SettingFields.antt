@@ -12,13 +12,12 @@ use Rattle.kx_parse.specs.declared.tree.Index.{Index}
 use Rattle.kx_parse.specs.declared.tree.Setting.{Setting}
 use Rattle.kx_parse.specs.declared.tree.Setting.TheVariants.{Off, On, To}
 use Rattle.kx_parse.specs.declared.tree.Term.{Term}
-use Rattle.kx_parse.specs.declared.tree.Term.TheVariants.{Text}
 use Rattle.kx_parse.specs.declared.tree.Value.TheVariants.{Expression as Expressed}
 use Rattle.kx_tables.specs.declared.rows.Range.{Range}
 use Rattle.kx_tables.specs.declared.rows.Range.TheVariants as ranges
 use Rattle.kx_values.specs.Faults.{expression_in, value_faults}
 use Rattle.kx_values.specs.Numbers.{number_faults}
-use Rattle.kx_values.specs.Words.{meaning_among, single, truth_words}
+use Rattle.kx_values.specs.Words.{meaning_among, truth_words, lone_text, term_text as lone_term_text}
 use Rattle.kx_values.specs.declared.numbers.Counted.TheVariants.{Group}
 use Rattle.kx_settings.specs.Groups.{group_at}
 use Rattle.kx_settings.specs.Settings.{kept_name}
@@ -31,13 +30,9 @@ use Rattle.kx_settings.specs.declared.words.RangeField.TheVariants as words
 use Rattle.kx_settings.specs.declared.words.SettingField.{SettingField}
 use Rattle.kx_settings.specs.declared.words.SettingField.TheVariants as fields
 
-abbrev pub term_text : Term → Option (List ℕ)
-term_text (Text text) = Some (kept_name text.bytes)
-term_text _ = None
-
 -- a type is named by one text
 abbrev pub text_of : Expression → Option (List ℕ)
-text_of e = single e.rest (term_text e.first)
+text_of e = option_map kept_name (lone_text e)
 
 -- a field without a value is true, with `!` false
 abbrev pub truth_in : Setting → Option Bool
@@ -45,15 +40,6 @@ truth_in Off = Some false
 truth_in On = Some true
 truth_in (To (Expressed e)) = meaning_among truth_words e
 truth_in (To _) = None
-
--- false means the other of the two
-abbrev pub wrap_if : Bool → Range
-wrap_if true = ranges.Wrap
-wrap_if false = ranges.Clamp
-
-abbrev pub clamp_if : Bool → Range
-clamp_if true = ranges.Clamp
-clamp_if false = ranges.Wrap
 
 abbrev pub name_in : Setting → Option (List ℕ)
 name_in s = option_and_then text_of (expression_in s)
@@ -63,9 +49,10 @@ abbrev pub type_given : Option Index → Setting → Option Given
 type_given None s = option_map gives.KeyType (name_in s)
 type_given (Some index) s = option_and_then (λ group. option_map (gives.GroupType group) (name_in s)) (group_at index.value)
 
+-- false means the other of the two
 abbrev pub range_in : RangeField → Setting → Option Range
-range_in words.Wrap s = option_map wrap_if (truth_in s)
-range_in words.Clamp s = option_map clamp_if (truth_in s)
+range_in words.Wrap s = option_map (λ b. if b then ranges.Wrap else ranges.Clamp) (truth_in s)
+range_in words.Clamp s = option_map (λ b. if b then ranges.Clamp else ranges.Wrap) (truth_in s)
 range_in words.Redirect s = option_map ranges.Redirect (option_and_then group_at (expression_in s))
 
 -- what is read of a field that may give nothing
@@ -77,12 +64,9 @@ abbrev pub unindexed : Option Index → Option Given → Option Given
 unindexed index given = if is_some index then None else given
 
 module _ (names : List (List ℕ)) where
-  abbrev pub mods_in : Setting → Option ℕ
-  mods_in s = option_and_then (virtual_mask names) (expression_in s)
-
   abbrev pub field_given : Option SettingField → Option Index → Setting → Option Given
   field_given (Some fields.KeyType) index s = type_given index s
-  field_given (Some fields.VirtualMods) index s = unindexed index (option_map gives.VirtualMods (mods_in s))
+  field_given (Some fields.VirtualMods) index s = unindexed index (option_map gives.VirtualMods (option_and_then (virtual_mask names) (expression_in s)))
   field_given (Some (fields.Range which)) index s = unindexed index (option_map gives.Range (range_in which s))
   field_given (Some fields.Unused) index s = None
   field_given None index s = None
@@ -132,3 +116,17 @@ module _ (file : ℕ) where
     -- of a field whose word is this one
     abbrev pub named_faults : Name → Field → List Fault
     named_faults word field = field_faults word field (field_named word.bytes)
+
+-- ---- Under names, for clauses
+
+abbrev pub wrap_if : Bool → Range
+wrap_if b = if b then ranges.Wrap else ranges.Clamp
+
+abbrev pub clamp_if : Bool → Range
+clamp_if b = if b then ranges.Clamp else ranges.Wrap
+
+abbrev pub term_text : Term → Option (List ℕ)
+term_text term = option_map kept_name (lone_term_text term)
+
+abbrev pub mods_in : (names : List (List ℕ)) → Setting → Option ℕ
+mods_in names s = option_and_then (virtual_mask names) (expression_in s)

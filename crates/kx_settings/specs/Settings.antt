@@ -1,7 +1,7 @@
 -- What statements say of a key besides its lists: the types of its groups, its own type, the virtual modifiers that it bears,
 -- and what becomes of groups that it doesn't have.
-use Rattle.std.specs.Prelude.{ℕ, ◌+◌, ◌-◌, ◌==◌, ◌++◌, List, [], length, replicate, slice_get, slice_set, take, Option, None, Some, if◌then◌else◌}
-use Rattle.std.specs.Option.{option_and_then, option_map}
+use Rattle.std.specs.Prelude.{ℕ, ◌+◌, ◌-◌, ◌==◌, ◌++◌, List, [], length, replicate, take, Option, None, Some, if◌then◌else◌}
+use Rattle.std.specs.Option.{option_map}
 use Rattle.kx_basics.specs.declared.limits.TheConstants.{MOST_NAME_BYTES}
 use Rattle.kx_merge.specs.Bodies.{Moves}
 use Rattle.kx_tables.specs.declared.rows.Range.{Range}
@@ -11,13 +11,11 @@ use Rattle.kx_settings.specs.declared.cells.SettingValue.{SettingValue}
 use Rattle.kx_settings.specs.declared.cells.SettingValue.TheVariants as values
 use Rattle.kx_settings.specs.declared.given.Given.{Given}
 use Rattle.kx_settings.specs.declared.given.Given.TheVariants as given
-
--- by group, counted from 0, the name of its type, where it is given one
-abbrev pub GroupTypes : Type 0
-GroupTypes = List (Option (List ℕ))
+use Rattle.kx_values.specs.ByGroup.{at_group, with_group, group_before}
 
 pub record Settings : Type 0 where
-  pub group_types : GroupTypes
+  -- by group, counted from 0, the name of its type, where it is given one
+  pub group_types : List (Option (List ℕ))
   pub key_type : Option (List ℕ)
   pub virtual_mods : Option ℕ
   pub range : Option Range
@@ -25,12 +23,9 @@ pub record Settings : Type 0 where
 abbrev pub no_settings : Settings
 no_settings = record { group_types = []; key_type = None; virtual_mods = None; range = None }
 
-abbrev pub type_at : GroupTypes → ℕ → Option (List ℕ)
-type_at types group = option_and_then (λ o. o) (slice_get types group)
-
 -- the value of a cell, where it has one
 abbrev pub setting_in : Settings → SettingCell → Option SettingValue
-setting_in s (cells.GroupType group) = option_map values.Type (type_at s.group_types group)
+setting_in s (cells.GroupType group) = option_map values.Type (at_group s.group_types group)
 setting_in s cells.KeyType = option_map values.Type s.key_type
 setting_in s cells.VirtualMods = option_map values.Mods s.virtual_mods
 setting_in s cells.Range = option_map values.Range s.range
@@ -48,24 +43,14 @@ given_to cells.Range (given.Range range) = Some (values.Range range)
 given_to _ _ = None
 
 -- settings once a field gives something: its cell has what it gives, and the others what they had
-abbrev pub widened_to : ℕ → GroupTypes → GroupTypes
-widened_to count types = types ++ replicate (count - length types) None
-
-abbrev pub with_type : GroupTypes → ℕ → List ℕ → GroupTypes
-with_type types group name = slice_set (widened_to (group + 1) types) group (Some name)
-
 abbrev pub with_given : Settings → Option Given → Settings
 with_given s None = s
-with_given s (Some (given.GroupType group name)) = record s { group_types = with_type s.group_types group name }
+with_given s (Some (given.GroupType group name)) = record s { group_types = with_group s.group_types group name }
 with_given s (Some (given.KeyType name)) = record s { key_type = Some name }
 with_given s (Some (given.VirtualMods set)) = record s { virtual_mods = Some set }
 with_given s (Some (given.Range range)) = record s { range = Some range }
 
--- a map that is moved to a group, counted from 1: the type of the first group becomes that of this one, those of the other
--- groups go, and what isn't about a group stays
-abbrev pub group_before : ℕ → ℕ → Option ℕ
-group_before n group = if group + 1 == n then Some 0 else None
-
+-- where a map is moved to a group, what isn't about a group stays
 abbrev pub setting_before : ℕ → SettingCell → Option SettingCell
 setting_before n (cells.GroupType group) = option_map cells.GroupType (group_before n group)
 setting_before n cell = Some cell
@@ -73,3 +58,17 @@ setting_before n cell = Some cell
 -- of keys, whose records stay where they are
 abbrev pub setting_moves : Moves ℕ SettingCell
 setting_moves = record { key = λ n k. Some k; cell = setting_before; group = group_before }
+
+-- ---- Under names, for clauses and proofs
+
+abbrev pub GroupTypes : Type 0
+GroupTypes = List (Option (List ℕ))
+
+abbrev pub type_at : GroupTypes → ℕ → Option (List ℕ)
+type_at types group = at_group types group
+
+abbrev pub widened_to : ℕ → GroupTypes → GroupTypes
+widened_to count types = types ++ replicate (count - length types) None
+
+abbrev pub with_type : GroupTypes → ℕ → List ℕ → GroupTypes
+with_type types group name = with_group types group name

@@ -1,8 +1,7 @@
 -- The virtual modifiers that a mask of these alone names, and its faults: terms joined from the left, `+` for union and `-`
 -- for difference.
-use Rattle.std.specs.Prelude.{ℕ, List, [], ◌∷◌, ◌++◌, fold, Option, None, Some, is_some, if◌then◌else◌}
-use Rattle.std.specs.List.{flat_map}
-use Rattle.std.specs.Option.{option_map}
+use Rattle.std.specs.Prelude.{ℕ, List, [], ◌∷◌, fold, Option, None, is_some, if◌then◌else◌}
+use Rattle.std.specs.Option.{option_map, option_and_then}
 use Rattle.kx_include.specs.IncludeFaults.{at}
 use Rattle.kx_lex.specs.declared.fault.Fault.{Fault}
 use Rattle.kx_lex.specs.declared.fault.Fault.TheVariants.{BadValue, UnknownModifier}
@@ -12,21 +11,17 @@ use Rattle.kx_masks.specs.Sets.{virtual_set}
 use Rattle.kx_parse.specs.declared.tree.Expression.{Expression}
 use Rattle.kx_parse.specs.declared.tree.Operation.{Operation}
 use Rattle.kx_parse.specs.declared.tree.Term.{Term}
-use Rattle.kx_parse.specs.declared.tree.Term.TheVariants.{Number, Signed, Word, Text, KeyName}
+use Rattle.kx_parse.specs.declared.tree.Term.TheVariants.{Word}
+use Rattle.kx_values.specs.Terms.{bad_term, terms_faults}
 
 -- `names` are the virtual modifiers by number
 module _ (names : List (List ℕ)) where
-  -- the set of a virtual name; a name of real modifiers is none
-  abbrev pub word_virtual : List ℕ → Option ℕ
-  word_virtual word = if is_some (real_mask word) then None else option_map virtual_set (virtual_number names word)
-
   abbrev pub term_virtual : Term → Option ℕ
-  term_virtual (Word word) = word_virtual word.bytes
+  term_virtual (Word word) = if is_some (real_mask word.bytes) then None else option_map virtual_set (virtual_number names word.bytes)
   term_virtual _ = None
 
   abbrev pub with_term : Option ℕ → Operation → Option ℕ
-  with_term None o = None
-  with_term (Some set) o = option_map (joined o.sign set) (term_virtual o.term)
+  with_term set o = option_and_then (λ s. option_map (joined o.sign s) (term_virtual o.term)) set
 
   -- the set that a mask names, where each of its terms is a virtual name
   abbrev pub virtual_mask : Expression → Option ℕ
@@ -41,13 +36,15 @@ module _ (names : List (List ℕ)) where
 
     abbrev pub virtual_term_faults : Term → List Fault
     virtual_term_faults (Word word) = virtual_word_faults word
-    virtual_term_faults (Number number) = BadValue (at file number.span) ∷ []
-    virtual_term_faults (Signed signed) = BadValue (at file signed.span) ∷ []
-    virtual_term_faults (Text text) = BadValue (at file text.span) ∷ []
-    virtual_term_faults (KeyName name) = BadValue (at file name.span) ∷ []
-
-    abbrev pub virtual_operation_faults : Operation → List Fault
-    virtual_operation_faults o = virtual_term_faults o.term
+    virtual_term_faults term = bad_term file term
 
     abbrev pub virtual_mask_faults : Expression → List Fault
-    virtual_mask_faults e = virtual_term_faults e.first ++ flat_map virtual_operation_faults e.rest
+    virtual_mask_faults e = terms_faults virtual_term_faults e
+
+-- ---- Under names, for clauses and proofs
+
+abbrev pub word_virtual : (names : List (List ℕ)) → List ℕ → Option ℕ
+word_virtual names word = if is_some (real_mask word) then None else option_map virtual_set (virtual_number names word)
+
+abbrev pub virtual_operation_faults : (names : List (List ℕ)) → (file : ℕ) → Operation → List Fault
+virtual_operation_faults names file o = virtual_term_faults names file o.term

@@ -1,14 +1,15 @@
 -- What is read of a source is what its statements mean.
-use Rattle.std.proofs.Common.{ℕ, zero, suc, ◌≡◌, ◌<◌, ◌≤◌, ◌||◌, ◌&&◌, Bool, true, false, List, [], ◌∷◌, Option, None, Some, ◌+◌, fold, length, slice_get, nat_eq, refl, ap, ◌∙◌, arith, lt_trans, lt-suc_self}
+use Rattle.std.proofs.Common.{ℕ, zero, suc, ◌≡◌, ◌<◌, ◌≤◌, ◌||◌, ◌&&◌, Bool, true, false, List, [], ◌∷◌, Option, None, Some, ◌+◌, fold, length, map, slice_get, nat_eq, refl, ap, ◌∙◌, arith, lt_trans, lt-suc_self}
 use Rattle.std.proofs.lemmas.Option.{same_Some}
 use Rattle.kx_modmaps.specs.Entries.{same_target}
 use Rattle.std.proofs.Math.Path.{fun_ext}
+use Rattle.std.specs.List.{zip}
 use Rattle.std.specs.Option.{option_and_then, option_map, option_or}
 use Rattle.ks_core.specs.Entry.{Entry}
 use Rattle.kx_bearing.specs.Bearing.{ReadKeymap, brings, stands}
 use Rattle.kx_bearing.specs.Deeds.{deeds_of}
 use Rattle.kx_bearing.specs.Read.{read_keymap_of}
-use Rattle.kx_builder.specs.Lamps.{ResolvedIndicator, keymap_with}
+use Rattle.kx_builder.specs.Lamps.{ResolvedIndicator, keymap_with, lamp_of_indicator}
 use Rattle.kx_builder.specs.Resolved.{Resolved}
 use Rattle.kx_choice.specs.Interpretations.{Interpretation}
 use Rattle.kx_codes.proofs.Targets.{target_same as alias_same}
@@ -43,9 +44,9 @@ use Rattle.kx_parse.specs.declared.tree.Kind.TheVariants.{Compat, Keycodes, Symb
 use Rattle.kx_parse.specs.declared.tree.KeyField.{KeyField}
 use Rattle.kx_parse.specs.declared.tree.Mode.{Mode}
 use Rattle.kx_resolve.specs.Keys.{Keyed, keyed_of, resolved_of}
-use Rattle.kx_resolve.specs.Lit.{indicators_of}
+use Rattle.kx_resolve.specs.Lit.{indicator_lit, indicators_of}
 use Rattle.kx_resolve.specs.Shown.{keymap_meant}
-use Rattle.kx_source.specs.Meaning.{codes_in, codes_of, declared_in, declared_masks_of, indicators_by, indicators_in, interpretations_in, key_given, key_in, keyed_in, keymap_in, lamps_from, mapping_by, mapping_in, modifier_bodies_of, modifiers_of, modmap_in, read_keymap_in, real_in, resolved_in}
+use Rattle.kx_source.specs.Meaning.{codes_in, codes_of, declared_in, declared_masks_of, indicators_by, indicators_in, interpretations_in, key_given, key_in, keyed_in, keymap_by, keymap_in, lamps_from, lit_by, mapping_by, modifier_bodies_of, modifiers_of, modmap_in, read_keymap_in, real_in, resolved_in}
 use Rattle.kx_source.specs.Source.{keys_faults, maps_faults}
 use Rattle.kx_symbols.specs.KeyFaults.{item_faults, key_in as key_said}
 use Rattle.kx_symbols.specs.Keys.{KeyContent, KeysShow, item_next, item_offers, key_at, key_moves, key_rules, known_under, offered, said_offers}
@@ -116,6 +117,14 @@ module _ (c : Codes) (body : Body) (shows : CodesShow c body) where
     }
 
 -- ---- Indicators
+
+lamps_lit : (real : ℕ → RealSet) (lamp : ℕ → Lamp) (n : ℕ) (names : List (List ℕ)) → map lamp_of_indicator (map (λ (d : List ℕ × Lamp). indicator_lit real d.0 d.1) (zip names (lamps_from lamp n names))) ≡ lamps_from (λ k. lit_by real (lamp k)) n names
+lamps_lit real lamp n [] = refl
+lamps_lit real lamp n (name ∷ names) = ap (λ ls. lit_by real (lamp n) ∷ ls) (lamps_lit real lamp (suc n) names)
+
+-- what tables show is what is meant
+keymap_meant-in : (names : List Entry) (library : Library) → keymap_with (keymap_meant (real_in names library) (declared_in library) (keyed_in names library)) (indicators_in names library) ≡ keymap_in names library
+keymap_meant-in names library = ap (keymap_by (real_in names library) (read_keymap_in names library)) (lamps_lit (real_in names library) (lamp_of (modifiers_of library) (body_of library Compat)) 0 (indicator_names (body_of library Compat)))
 
 lamps_by : (lamp : ℕ → Lamp) (n : ℕ) (names : List (List ℕ)) (lamps : List Lamp) → length lamps ≡ length names → ((k : ℕ) → k < length names → slice_get lamps k ≡ Some (lamp (k + n))) → lamps ≡ lamps_from lamp n names
 lamps_by lamp n [] [] same are = refl
@@ -243,4 +252,6 @@ module _ (library : Library) (bodies : Bodies) (are : AreBodies library bodies) 
                   lit_same = λ i. indicators_of (real_same i) (indicators_same lamps lamps_are i)
 
                   pub keymap_same : keymap_with (keymap_meant (real_of (stands_for found)) (type_named types) (keyed_of (real_of (stands_for found)) c keys modmaps interpretations)) (indicators_of (real_of (stands_for found)) lamps) ≡ keymap_in names library
-                  keymap_same = λ i. keymap_with (keymap_meant (real_same i) (declared_same i) (keyed_same i)) (lit_same i)
+                  keymap_same =
+                      let joined : keymap_with (keymap_meant (real_of (stands_for found)) (type_named types) (keyed_of (real_of (stands_for found)) c keys modmaps interpretations)) (indicators_of (real_of (stands_for found)) lamps) ≡ keymap_with (keymap_meant (real_in names library) (declared_in library) (keyed_in names library)) (indicators_in names library) = λ i. keymap_with (keymap_meant (real_same i) (declared_same i) (keyed_same i)) (lit_same i) in
+                      joined ∙ keymap_meant-in names library

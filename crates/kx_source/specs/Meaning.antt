@@ -1,9 +1,11 @@
 -- The keymap that the statements of a keymap's text mean, with the files that it includes.
-use Rattle.std.specs.Prelude.{ℕ, suc, List, [], ◌∷◌, Option, is_some, nat_eq}
+use Rattle.std.specs.Prelude.{ℕ, max, suc, List, [], ◌∷◌, Option, is_some, nat_eq}
+use Rattle.std.specs.Option.{option_map_or}
 use Rattle.ks_core.specs.Entry.{Entry}
+use Rattle.kx_basics.specs.declared.limits.TheConstants.{CODES}
 use Rattle.kx_bearing.specs.Bearing.{ReadKeymap, stands}
 use Rattle.kx_bearing.specs.Deeds.{deeds_of}
-use Rattle.kx_builder.specs.Lamps.{ResolvedIndicator, keymap_with}
+use Rattle.kx_builder.specs.Lamps.{ResolvedIndicator}
 use Rattle.kx_builder.specs.Resolved.{Resolved}
 use Rattle.kx_choice.specs.Interpretations.{Interpretation}
 use Rattle.kx_codes.specs.Aliases.{aliases_of}
@@ -14,6 +16,7 @@ use Rattle.kx_include.specs.Expansion.{Body, body_of}
 use Rattle.kx_include.specs.Library.{Library}
 use Rattle.kx_lamps.specs.Lamps.{Lamp}
 use Rattle.kx_lamps.specs.Meaning.{Indicators, indicator_names, lamp_of}
+use Rattle.kx_levels.specs.Rows.{set_mask}
 use Rattle.kx_levels.specs.Selecting.{RealSet}
 use Rattle.kx_mapped.specs.Mapping.{Mapping, modmap_of}
 use Rattle.kx_masks.specs.Declarations.{declared_mask, virtual_names}
@@ -30,11 +33,11 @@ use Rattle.kx_mods.specs.declared.mods.Mods.{Mods}
 use Rattle.kx_parse.specs.declared.tree.Kind.TheVariants.{Compat, Keycodes, Symbols, Types}
 use Rattle.kx_resolve.specs.Keys.{Keyed, resolved_of}
 use Rattle.kx_resolve.specs.Lit.{indicators_of}
-use Rattle.kx_resolve.specs.Shown.{keymap_meant}
+use Rattle.kx_resolve.specs.Shown.{most_groups_below, name_within, shown_for}
 use Rattle.kx_symbols.specs.Keys.{key_moves, key_rules}
 use Rattle.kx_symbols.specs.declared.cells.Cell.{Cell}
 use Rattle.kx_symbols.specs.declared.cells.CellValue.{CellValue}
-use Rattle.kx_tables.specs.Keymap.{Keymap}
+use Rattle.kx_tables.specs.Keymap.{Keymap, Lamp as LitLamp, nothing_shown}
 use Rattle.kx_types.specs.KeyTypes.{Definition}
 use Rattle.kx_types.specs.Types.{declared_type}
 use Rattle.kx_typing.specs.Given.{KeyGiven, given_by}
@@ -48,10 +51,6 @@ modifier_bodies_of library = body_of library Types ∷ body_of library Compat �
 -- the virtual modifiers by number
 abbrev pub modifiers_of : Library → List (List ℕ)
 modifiers_of library = virtual_names (modifier_bodies_of library)
-
--- the masks that are declared for them
-abbrev pub declared_masks_of : Library → ℕ → RealSet
-declared_masks_of library number = has (declared_mask (modifiers_of library) (modifier_bodies_of library) number)
 
 -- ---- Types, codes and keys
 
@@ -90,11 +89,8 @@ module _ (names : List Entry) (library : Library) where
 
   -- ---- Modifier maps
 
-  abbrev pub mapping_in : Mapping
-  mapping_in = mapping_by (name_of (codes_in library)) key_in (declared_in library) (map_offers_of (codes_in library) names (modifiers_of library) (body_of library Symbols))
-
   abbrev pub modmap_in : ℕ → Mods
-  modmap_in = modmap_of mapping_in
+  modmap_in = modmap_of (mapping_by (name_of (codes_in library)) key_in (declared_in library) (map_offers_of (codes_in library) names (modifiers_of library) (body_of library Symbols)))
 
   -- ---- Interpretations, and what virtual modifiers stand for
 
@@ -108,27 +104,43 @@ module _ (names : List Entry) (library : Library) where
     modmap = modmap_in;
     declared = declared_in library;
     interpretations = interpretations_in;
-    masks = declared_masks_of library;
+    masks = λ number. has (declared_mask (modifiers_of library) (modifier_bodies_of library) number);
   }
 
   -- the real modifiers that a set of modifiers stands for
   abbrev pub real_in : ℕ → RealSet
   real_in = real_of (stands read_keymap_in)
 
-  abbrev pub keyed_in : Keyed
-  keyed_in = record {
-    name = name_of (codes_in library);
-    key = key_in;
-    modmap = modmap_in;
-    deeds = λ code. deeds_of real_in interpretations_in (modmap_in code) (key_in code);
-  }
-
--- ---- Indicators
-
--- what lights each of some indicators, of which the first has this number
-abbrev pub lamps_from : (ℕ → Lamp) → ℕ → List (List ℕ) → List Lamp
+-- what each of some indicators has, of which the first has this number
+abbrev pub lamps_from : {X : Type 0} → (ℕ → X) → ℕ → List (List ℕ) → List X
 lamps_from lamp number [] = []
 lamps_from lamp number (name ∷ names) = lamp number ∷ lamps_from lamp (suc number) names
+
+-- what lights an indicator, where each modifier stands for real ones
+abbrev pub lit_by : (ℕ → RealSet) → Lamp → LitLamp
+lit_by real lamp = record { mods = set_mask (real lamp.modifiers); mod_states = lamp.mod_states; group_states = lamp.group_states; groups = lamp.groups }
+
+-- the keymap of what is read
+abbrev pub keymap_by : (ℕ → RealSet) → ReadKeymap → List LitLamp → Keymap
+keymap_by real r lamps = record {
+  groups = max 1 (most_groups_below r.name r.key CODES);
+  known = λ code. is_some (name_within r.name code);
+  shown = λ code group mods. option_map_or (λ _. shown_for real r.declared (deeds_of real r.interpretations (r.modmap code) (r.key code)) (r.key code) group mods) (name_within r.name code) nothing_shown;
+  lamps = lamps;
+}
+
+abbrev pub keymap_in : List Entry → Library → Keymap
+keymap_in names library = keymap_by (real_in names library) (read_keymap_in names library) (lamps_from (λ number. lit_by (real_in names library) (lamp_of (modifiers_of library) (body_of library Compat) number)) 0 (indicator_names (body_of library Compat)))
+
+-- ---- What tables hold
+
+abbrev pub keyed_in : List Entry → Library → Keyed
+keyed_in names library = record {
+  name = name_of (codes_in library);
+  key = key_in names library;
+  modmap = modmap_in names library;
+  deeds = λ code. deeds_of (real_in names library) (interpretations_in names library) (modmap_in names library code) (key_in names library code);
+}
 
 abbrev pub indicators_by : List (List ℕ) → Body → Indicators
 indicators_by modifiers body = record { names = indicator_names body; lamps = lamps_from (lamp_of modifiers body) 0 (indicator_names body) }
@@ -136,11 +148,11 @@ indicators_by modifiers body = record { names = indicator_names body; lamps = la
 abbrev pub indicators_in : List Entry → Library → List ResolvedIndicator
 indicators_in names library = indicators_of (real_in names library) (indicators_by (modifiers_of library) (body_of library Compat))
 
--- ---- All together
-
--- what tables hold of types and keys
+-- of types and keys
 abbrev pub resolved_in : List Entry → Library → Resolved
 resolved_in names library = resolved_of (real_in names library) (declared_in library) (keyed_in names library)
 
-abbrev pub keymap_in : List Entry → Library → Keymap
-keymap_in names library = keymap_with (keymap_meant (real_in names library) (declared_in library) (keyed_in names library)) (indicators_in names library)
+-- ---- Under names, for clauses and proofs
+
+abbrev pub declared_masks_of : Library → ℕ → RealSet
+declared_masks_of library number = has (declared_mask (modifiers_of library) (modifier_bodies_of library) number)

@@ -14,9 +14,9 @@ use Rattle.kx_include.specs.Source.{Handed, HasNoTree, HasTooManyFiles, IsRead}
 use Rattle.kx_lamps.specs.Meaning.{lamps_faults}
 use Rattle.kx_lex.specs.declared.fault.Fault.{Fault}
 use Rattle.kx_masks.specs.Declarations.{modifier_faults}
-use Rattle.kx_merge.specs.Bodies.{faults_of}
+use Rattle.kx_merge.specs.Bodies.{faults_of, no_moves}
 use Rattle.kx_modmaps.specs.Entries.{same_target}
-use Rattle.kx_modmaps.specs.Maps.{map_moves, map_rules}
+use Rattle.kx_modmaps.specs.Maps.{map_rules}
 use Rattle.kx_parse.specs.declared.tree.Kind.TheVariants.{Compat, Keycodes, Symbols, Types}
 use Rattle.kx_source.specs.Meaning.{codes_in, indicators_in, keymap_in, modifier_bodies_of, modifiers_of, resolved_in}
 use Rattle.kx_symbols.specs.Keys.{key_moves, key_rules}
@@ -26,27 +26,16 @@ use Rattle.kx_types.specs.Types.{types_faults}
 
 -- ---- Faults
 
--- of key statements, and of what a symbols section doesn't have; `modifiers` are the virtual modifiers
-abbrev pub keys_faults : Codes → List Entry → List (List ℕ) → Body → List Fault
-keys_faults codes names modifiers body = faults_of nat_eq (key_rules codes names modifiers) key_moves body
-
-abbrev pub maps_faults : Codes → List Entry → List (List ℕ) → Body → List Fault
-maps_faults codes names modifiers body = faults_of same_target (map_rules codes names modifiers) map_moves body
-
-abbrev pub names_faults : Body → List Fault
-names_faults body = faults_of nat_eq name_rules name_moves body
-
--- the faults of the statements, in the source and in what it includes: of declarations of virtual modifiers, keycodes, key
--- types, keys, modifier maps, interpretations, names of groups and indicators
+-- of declared modifiers, keycodes, types, keys, modifier maps, interpretations, names of groups and indicators, here and in includes
 abbrev pub statement_faults : List Entry → Library → List Fault
 statement_faults names library =
     modifier_faults (modifier_bodies_of library)
     ++ (keycodes_faults (body_of library Keycodes)
     ++ (types_faults (modifiers_of library) (body_of library Types)
-    ++ ((keys_faults (codes_in library) names (modifiers_of library) (body_of library Symbols)
-    ++ maps_faults (codes_in library) names (modifiers_of library) (body_of library Symbols))
+    ++ ((faults_of nat_eq (key_rules (codes_in library) names (modifiers_of library)) key_moves (body_of library Symbols)
+    ++ faults_of same_target (map_rules (codes_in library) names (modifiers_of library)) no_moves (body_of library Symbols))
     ++ (compat_faults names (modifiers_of library) (body_of library Compat)
-    ++ (names_faults (body_of library Symbols)
+    ++ (faults_of nat_eq name_rules name_moves (body_of library Symbols)
     ++ lamps_faults (modifiers_of library) (body_of library Compat))))))
 
 abbrev pub HasFaultIn : List Entry → Library → Fault → Type 0
@@ -78,3 +67,14 @@ pub record Means (source : List ℕ) (files : Handed) (names : List Entry) (cont
   pub holds : HoldsAll names library content
   -- the tables show the keymap
   pub keymap : keymap_of content ≡ keymap_in names library
+
+-- ---- Under names, for clauses and proofs
+
+abbrev pub names_faults : Body → List Fault
+names_faults body = faults_of nat_eq name_rules name_moves body
+
+abbrev pub maps_faults : Codes → List Entry → List (List ℕ) → Body → List Fault
+maps_faults codes names modifiers body = faults_of same_target (map_rules codes names modifiers) no_moves body
+
+abbrev pub keys_faults : Codes → List Entry → List (List ℕ) → Body → List Fault
+keys_faults codes names modifiers body = faults_of nat_eq (key_rules codes names modifiers) key_moves body

@@ -3,6 +3,7 @@
 -- groups are judged elsewhere.
 use Rattle.std.specs.Prelude.{ℕ, nat_lt, List, [], ◌∷◌, ◌++◌, length, Option, None, Some, if◌then◌else◌}
 use Rattle.std.specs.List.{flat_map}
+use Rattle.std.specs.Option.{option_map_or}
 use Rattle.kx_actions.specs.Arguments.{action_faults}
 use Rattle.kx_actions.specs.Defaults.{default_faults as action_default_faults}
 use Rattle.kx_basics.specs.declared.limits.TheConstants.{GREATEST_KEYSYM, MOST_KEYSYMS}
@@ -31,7 +32,7 @@ use Rattle.kx_parse.specs.declared.tree.Symbol.{Symbol}
 use Rattle.kx_parse.specs.declared.tree.Symbol.TheVariants.{Word, Number}
 use Rattle.kx_parse.specs.declared.tree.Value.TheVariants as values
 use Rattle.kx_parse.specs.Sections.{word_span}
-use Rattle.kx_codes.specs.CodeFaults.{name_faults}
+use Rattle.kx_values.specs.Faults.{name_faults}
 use Rattle.kx_include.specs.IncludeFaults.{at}
 use Rattle.kx_settings.specs.KeyFields.{default_faults as key_default_faults, setting_faults}
 use Rattle.kx_settings.specs.Words.{is_group_name, is_key_word}
@@ -105,8 +106,7 @@ module _ (file : ℕ) where
 
     -- of a field of lists; what another field says is no list
     abbrev pub named_faults : Span → StatementLists → Field → Option ListKind → List Fault
-    named_faults whole s field None = []
-    named_faults whole s field (Some kind) = set_faults whole s field.place.index field.span kind field.setting
+    named_faults whole s field kind = option_map_or (λ k. set_faults whole s field.place.index field.span k field.setting) kind []
 
     abbrev pub field_faults : Span → StatementLists → KeyField → List Fault
     field_faults whole s (fields.List list) = list_faults whole s None list (bare_kind list)
@@ -118,29 +118,26 @@ module _ (file : ℕ) where
   fields_faults known whole s [] = []
   fields_faults known whole s (f ∷ fs) = field_faults file known.modifiers whole s f ++ fields_faults known whole (field_lists known s f) fs
 
-  -- a field of the section that names no group is a default, for keys or for an action, or none that it has
-  abbrev pub default_faults : List (List ℕ) → Field → List Fault
-  default_faults modifiers field = if is_key_word field.place.word.bytes then key_default_faults file modifiers field else action_default_faults file modifiers field
-
-  abbrev pub section_field_faults : List (List ℕ) → Field → List Fault
-  section_field_faults modifiers field = if is_group_name field.place then [] else default_faults modifiers field
-
   -- of a statement that is about no key; `word` is the word that names it
   abbrev pub other_faults : List (List ℕ) → Span → Said → List Fault
   other_faults modifiers word (said.VirtualModifiers declarations) = []
   other_faults modifiers word (said.ModifierMap modifier entries) = []
-  other_faults modifiers word (said.Field field) = section_field_faults modifiers field
+  other_faults modifiers word (said.Field field) = if is_group_name field.place then [] else if is_key_word field.place.word.bytes then key_default_faults file modifiers field else action_default_faults file modifiers field
   other_faults modifiers word _ = UnknownField (at file word) ∷ []
 
   -- of the lists of a key statement, and of what it says besides
   abbrev pub content_faults : Known → Span → List KeyField → List Fault
   content_faults known whole fs = fields_faults known whole no_lists fs ++ setting_faults file known.modifiers fs
 
-  abbrev pub said_faults : Known → Said → Span → Span → Option (Name × List KeyField) → List Fault
-  said_faults known statement word whole (Some key) = name_faults file whole key.0 ++ content_faults known whole key.1
-  said_faults known statement word whole None = other_faults known.modifiers word statement
-
   -- those of a statement in a file; of an include's text there are none here
   abbrev pub item_faults : Known → Item → List Fault
-  item_faults known (Statement mode statement first whole) = said_faults known statement (word_span (Statement mode statement first whole)) whole (key_in statement)
+  item_faults known (Statement mode statement first whole) = option_map_or (λ key. name_faults file whole key.0 ++ content_faults known whole key.1) (key_in statement) (other_faults known.modifiers (word_span (Statement mode statement first whole)) statement)
   item_faults known (Include mode text span) = []
+
+-- ---- Under a name, for clauses and proofs
+
+abbrev pub said_faults : ℕ → Known → Said → Span → Span → Option (Name × List KeyField) → List Fault
+said_faults file known statement word whole key = option_map_or (λ k. name_faults file whole k.0 ++ content_faults file known whole k.1) key (other_faults file known.modifiers word statement)
+
+abbrev pub section_field_faults : (file : ℕ) → List (List ℕ) → Field → List Fault
+section_field_faults file modifiers field = if is_group_name field.place then [] else if is_key_word field.place.word.bytes then key_default_faults file modifiers field else action_default_faults file modifiers field

@@ -9,7 +9,8 @@ use Rattle.kx_codes.specs.Codes.{Codes, code_of}
 use Rattle.kx_include.specs.Expansion.{Body}
 use Rattle.kx_lex.specs.declared.name.Name.{Name}
 use Rattle.kx_lists.specs.Lists.{level_in, width_in}
-use Rattle.kx_lists.specs.Records.{KeyLists, group_before, value_in, width_in_key as list_width}
+use Rattle.kx_lists.specs.Records.{KeyLists, value_in, width_in_key as list_width}
+use Rattle.kx_values.specs.ByGroup.{group_before}
 use Rattle.kx_merge.specs.Bodies.{Rules, Moves, offers_of}
 use Rattle.kx_merge.specs.Offers.{Offer, value_of, width_of}
 use Rattle.kx_parse.specs.declared.tree.Field.{Field}
@@ -55,24 +56,19 @@ module _ (known : Known) (fs : List KeyField) where
   given_cell (cells.Action group level) = option_map values.Action (level_in (lists_of known fs).actions group level)
   given_cell (cells.Setting cell) = option_map values.Setting (effective known.modifiers known.defaults.keys fs cell)
 
-  abbrev pub given_width : ℕ → ℕ
-  given_width group = max (width_in (lists_of known fs).symbols group) (width_in (lists_of known fs).actions group)
-
   abbrev pub key_offer : Mode → ℕ → Offer ℕ Cell CellValue
-  key_offer mode code = record { mode = mode; name = code; value = given_cell; width = given_width }
+  key_offer mode code = record { mode = mode; name = code; value = given_cell; width = λ group. max (width_in (lists_of known fs).symbols group) (width_in (lists_of known fs).actions group) }
 
   -- a statement of a key that no keycode has gives nothing
   abbrev pub offered : Mode → Option ℕ → List (Offer ℕ Cell CellValue)
-  offered mode None = []
-  offered mode (Some code) = key_offer mode code ∷ []
+  offered mode code = option_map_or (λ c. key_offer mode c ∷ []) code []
+
+abbrev pub said_offers : Codes → Known → Mode → Option (Name × List KeyField) → List (Offer ℕ Cell CellValue)
+said_offers codes known mode key = option_map_or (λ k. offered known k.1 mode (code_of codes k.0.bytes)) key []
 
 module _ (codes : Codes) (known : Known) where
-  abbrev pub said_offers : Mode → Option (Name × List KeyField) → List (Offer ℕ Cell CellValue)
-  said_offers mode (Some key) = offered known key.1 mode (code_of codes key.0.bytes)
-  said_offers mode None = []
-
   abbrev pub item_offers : Item → List (Offer ℕ Cell CellValue)
-  item_offers (Statement mode statement first span) = said_offers mode (key_in statement)
+  item_offers (Statement mode statement first span) = said_offers codes known mode (key_in statement)
   item_offers (Include mode text span) = []
 
 abbrev pub field_in : Said → Option Field
@@ -80,12 +76,9 @@ field_in (said.Field field) = Some field
 field_in _ = None
 
 module _ (modifiers : List (List ℕ)) where
-  abbrev pub behind_field : Defaults → Field → Defaults
-  behind_field d field = record { actions = next_action_defaults modifiers d.actions field; keys = next_key_defaults modifiers d.keys field }
-
   -- the defaults behind a statement
   abbrev pub item_next : Defaults → Item → Defaults
-  item_next d (Statement mode statement first span) = option_map_or (behind_field d) (field_in statement) d
+  item_next d (Statement mode statement first span) = option_map_or (λ field. record { actions = next_action_defaults modifiers d.actions field; keys = next_key_defaults modifiers d.keys field }) (field_in statement) d
   item_next d (Include mode text span) = d
 
 -- `modifiers` are the virtual modifiers by number
@@ -112,8 +105,7 @@ width_in_any (Some key) group = width_in_key key group
 abbrev pub key_at : List (ℕ × KeyContent) → ℕ → Option KeyContent
 key_at keys code = lookup (nat_eq code) keys
 
--- where a map is moved to a group, what its group 1 has goes to that group, the other groups go, and what is about no
--- group stays
+-- where a map is moved to a group, its group 1 goes to that group, the other groups go, and what is about no group stays
 abbrev pub cell_before : ℕ → Cell → Option Cell
 cell_before n (cells.Keysyms group level) = option_map (λ g. cells.Keysyms g level) (group_before n group)
 cell_before n (cells.Action group level) = option_map (λ g. cells.Action g level) (group_before n group)
@@ -130,3 +122,11 @@ HasAction key = (group : ℕ) × (level : ℕ) × (action : KeyAction) × (cell_
 pub record KeysShow (keys : List (ℕ × KeyContent)) (codes : Codes) (names : List Entry) (modifiers : List (List ℕ)) (body : Body) : Type 0 where
   pub cells_are : (code : ℕ) (c : Cell) → cell_in_any (key_at keys code) c ≡ value_of nat_eq (offers_of nat_eq (key_rules codes names modifiers) key_moves body) code c
   pub widths_are : (code group : ℕ) → width_in_any (key_at keys code) group ≡ width_of nat_eq (offers_of nat_eq (key_rules codes names modifiers) key_moves body) code group
+
+-- ---- Under names, for clauses and proofs
+
+abbrev pub behind_field : (modifiers : List (List ℕ)) → Defaults → Field → Defaults
+behind_field modifiers d field = record { actions = next_action_defaults modifiers d.actions field; keys = next_key_defaults modifiers d.keys field }
+
+abbrev pub given_width : (known : Known) → (fs : List KeyField) → ℕ → ℕ
+given_width known fs group = max (width_in (lists_of known fs).symbols group) (width_in (lists_of known fs).actions group)

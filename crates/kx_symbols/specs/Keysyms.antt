@@ -1,7 +1,7 @@
 -- The keysyms that a key's lists stand for, level by level (libxkbcommon's keymap text format, key statements).
 use Rattle.std.specs.Prelude.{ℕ, ◌+◌, ◌==◌, ◌||◌, nat_lt, Bool, List, [], ◌∷◌, map, Option, None, Some, if◌then◌else◌, codes}
 use Rattle.std.specs.List.{flat_map}
-use Rattle.std.specs.Option.{option_and_then}
+use Rattle.std.specs.Option.{option_and_then, option_to_list}
 use Rattle.std.specs.Str.{is_utf8, str_eq_ignore_ascii_case}
 use Rattle.ks_core.specs.Entry.{Entry}
 use Rattle.ks_core.specs.Names.{keysym_named}
@@ -23,34 +23,19 @@ is_no_symbol word = str_eq_ignore_ascii_case word (codes "any") || str_eq_ignore
 abbrev pub is_void_symbol : List ℕ → Bool
 is_void_symbol word = str_eq_ignore_ascii_case word (codes "none") || str_eq_ignore_ascii_case word (codes "voidsymbol")
 
--- keysym 0 is NoSymbol
-abbrev pub other_than_none : ℕ → Option ℕ
-other_than_none keysym = if keysym == 0 then None else Some keysym
-
-abbrev pub keysym_of_text : List Entry → List ℕ → Option ℕ
-keysym_of_text names word = if is_utf8 word then keysym_named names word else None
-
 -- a name that no keysym has stands for none
 abbrev pub named : List Entry → List ℕ → Option ℕ
-named names word = option_and_then other_than_none (keysym_of_text names word)
+named names word = option_and_then (λ keysym. if keysym == 0 then None else Some keysym) (if is_utf8 word then keysym_named names word else None)
 
 abbrev pub word_keysym : List Entry → List ℕ → Option ℕ
 word_keysym names word = if is_no_symbol word then None else (if is_void_symbol word then Some 16777215 else named names word)
 
--- a number of one digit is that digit's keysym, another is the keysym of that number
-abbrev pub number_keysym : ℕ → ℕ
-number_keysym n = if nat_lt n 10 then 48 + n else n
-
 abbrev pub symbol_keysym : List Entry → Symbol → Option ℕ
 symbol_keysym names (Word word) = word_keysym names word.bytes
-symbol_keysym names (Number number) = Some (number_keysym number.value)
-
-abbrev pub one : Option ℕ → List ℕ
-one None = []
-one (Some keysym) = keysym ∷ []
+symbol_keysym names (Number number) = Some (if nat_lt number.value 10 then 48 + number.value else number.value)
 
 abbrev pub part_keysyms : List Entry → BracePart → List ℕ
-part_keysyms names (parts.Symbol symbol) = one (symbol_keysym names symbol)
+part_keysyms names (parts.Symbol symbol) = option_to_list (symbol_keysym names symbol)
 part_keysyms names (parts.Call call) = []
 
 -- where no keysym is left, nothing is given
@@ -59,9 +44,17 @@ given [] = None
 given (keysym ∷ keysyms) = Some (keysym ∷ keysyms)
 
 abbrev pub element_level : List Entry → Element → Level
-element_level names (elements.Symbol symbol) = given (one (symbol_keysym names symbol))
+element_level names (elements.Symbol symbol) = given (option_to_list (symbol_keysym names symbol))
 element_level names (elements.Call call) = None
 element_level names (elements.Braces braces) = given (flat_map (part_keysyms names) braces.parts)
 
 abbrev pub levels_of : List Entry → Listed → List Level
 levels_of names list = map (element_level names) list.elements
+
+-- ---- Under names, for clauses and proofs
+
+abbrev pub keysym_of_text : List Entry → List ℕ → Option ℕ
+keysym_of_text names word = if is_utf8 word then keysym_named names word else None
+
+abbrev pub number_keysym : ℕ → ℕ
+number_keysym n = if nat_lt n 10 then 48 + n else n

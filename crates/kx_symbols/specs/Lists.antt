@@ -2,6 +2,7 @@
 use Rattle.std.specs.Prelude.{ℕ, Bool, true, false, List, [], fold, Option, None, Some, is_some, if◌then◌else◌, codes}
 use Rattle.std.specs.List.{list_any}
 use Rattle.std.specs.Str.{str_eq_ignore_ascii_case}
+use Rattle.std.specs.Option.{option_map_or}
 use Rattle.kx_actions.specs.declared.action.KeyAction.{KeyAction}
 use Rattle.kx_lists.specs.Lists.{Lists}
 use Rattle.kx_lists.specs.Places.{given_list, group_for}
@@ -67,14 +68,15 @@ module _ (known : Known) where
   set_lists s index kind (To (values.List list)) = with_listed s index list kind
   set_lists s index kind _ = s
 
-  abbrev pub named_lists : StatementLists → Field → Option ListKind → StatementLists
-  named_lists s field None = s
-  named_lists s field (Some kind) = set_lists s field.place.index kind field.setting
-
   abbrev pub field_lists : StatementLists → KeyField → StatementLists
   field_lists s (fields.List list) = with_listed s None list (bare_kind list)
-  field_lists s (fields.Field field) = named_lists s field (field_kind field.place)
+  field_lists s (fields.Field field) = option_map_or (λ kind. set_lists s field.place.index kind field.setting) (field_kind field.place) s
 
   -- the lists that a key statement gives
   abbrev pub lists_of : List KeyField → StatementLists
   lists_of fs = fold field_lists no_lists fs
+
+-- ---- Under a name, for clauses
+
+abbrev pub named_lists : Known → StatementLists → Field → Option ListKind → StatementLists
+named_lists known s field kind = option_map_or (λ k. set_lists known s field.place.index k field.setting) kind s

@@ -10,7 +10,7 @@ ghost use Rattle.kx_merge.specs.Moved.{moved_key, moved_value, moved_width};
 ghost use Rattle.kx_merge.specs.Offers.{Offer, taken, widened};
 ghost use Rattle.kx_merge.specs.Records.{AreOffered, IsOffered, mode_of};
 ghost use Rattle.kx_symbols.specs.KeyFaults.{content_faults, item_faults, key_in, said_faults};
-ghost use Rattle.kx_codes.specs.CodeFaults.{name_faults};
+ghost use Rattle.kx_values.specs.Faults.{name_faults};
 ghost use Rattle.kx_codes.specs.Codes.{code_of};
 ghost use Rattle.kx_symbols.specs.Keys.{KeysShow, cell_in, item_offers, key_at, key_moves, key_offer, key_rules, offered, said_offers, width_in_key};
 

@@ -5,10 +5,11 @@ use Rattle.std.specs.Int.RustNames.{bit_and}
 use Rattle.std.specs.Int.Bits.{and_self}
 use Rattle.std.proofs.lemmas.Nat.{and_assoc}
 use Rattle.std.proofs.lemmas.List.Elements.{All-nil, All-push, All-map, All-weaker, All-head, All-tail}
+use Rattle.std.specs.Option.{option_or}
 use Rattle.indexmap.specs.IndexSet.{insert_key}
 use Rattle.kx_basics.specs.declared.limits.TheConstants.{MOST_LEVELS}
 use Rattle.kx_masks.specs.Sets.{meet}
-use Rattle.kx_types.specs.Firsts.{or_else, last_given, with_key, each_once}
+use Rattle.kx_types.specs.Firsts.{last_given, with_key, each_once}
 use Rattle.kx_types.specs.KeyTypes.{Definition, definition_of, entry_of, level_in, levels_of, mapped, mask_in, modifiers_of, preserved}
 use Rattle.kx_types.specs.Lawful.{EntryIsLawful, IsLawful, NamesLevel}
 use Rattle.kx_types.specs.declared.saying.Saying.{Saying}
@@ -54,19 +55,19 @@ few_named (s ∷ said) most few all = few_named said (max most (level_in s)) (he
 
 module _ (modifiers mask : ℕ) where
   last_within : (said : List Saying) (most : ℕ) (last : Option ℕ) → IsWithin most last → All NamesLevel said
-      → IsWithin (fold (λ most s. max most (level_in s)) most said) (fold (λ last x. or_else (mapped modifiers mask x) last) last said)
+      → IsWithin (fold (λ most s. max most (level_in s)) most said) (fold (λ last x. option_or (mapped modifiers mask x) last) last said)
   last_within [] most last h all = h
-  last_within (s ∷ said) most last h all = last_within said (max most (level_in s)) (or_else (mapped modifiers mask s) last) (here s (All-head NamesLevel s said all)) (All-tail NamesLevel s said all)
+  last_within (s ∷ said) most last h all = last_within said (max most (level_in s)) (option_or (mapped modifiers mask s) last) (here s (All-head NamesLevel s said all)) (All-tail NamesLevel s said all)
     where
       kept : (n : ℕ) → IsWithin (max most n) last
       kept n = raised most (max most n) last (omega arith) h
 
-      here : (s : Saying) → NamesLevel s → IsWithin (max most (level_in s)) (or_else (mapped modifiers mask s) last)
+      here : (s : Saying) → NamesLevel s → IsWithin (max most (level_in s)) (option_or (mapped modifiers mask s) last)
       here (Modifiers names) g = kept 0
       here (Preserve written names) g = kept 0
       here (LevelName level) g = kept level
       here (Map written level) g =
-          elim (meet written modifiers == mask) as (λ b. IsWithin (max most level) (or_else (if b then Some level else None) last))
+          elim (meet written modifiers == mask) as (λ b. IsWithin (max most level) (option_or (if b then Some level else None) last))
           [ true ↦ (g.0, omega arith) | false ↦ kept level ]
 
 or_first : (most : ℕ) (o : Option ℕ) → 1 ≤ most → IsWithin most o → (1 ≤ unwrap_or o 1) × (unwrap_or o 1 ≤ most)

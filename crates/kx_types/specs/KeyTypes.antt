@@ -31,10 +31,6 @@ level_in _ = 0
 abbrev pub levels_of : List Saying → ℕ
 levels_of said = fold (λ most s. max most (level_in s)) 1 said
 
--- the entry of a mask by what it maps to, else level 1, and by what it preserves, as far as the entry has it
-abbrev pub entry_with : (ℕ → Option ℕ) → (ℕ → Option ℕ) → ℕ → TypeEntry
-entry_with level kept mask = record { mask = mask; level = unwrap_or (level mask) 1; preserve = meet (unwrap_or (kept mask) 0) mask }
-
 -- a mask counts only as far as it lies within the type's modifiers
 module _ (modifiers : ℕ) where
   -- the entry that a field is about
@@ -51,9 +47,9 @@ module _ (modifiers : ℕ) where
   preserved mask (Preserve written kept) = if meet written modifiers == mask then Some kept else None
   preserved mask _ = None
 
-  -- the entry of a mask, by what is mapped last and preserved last
+  -- the entry of a mask by what it maps to last, else level 1, and by what it preserves last, as far as the entry has it
   abbrev pub entry_of : List Saying → ℕ → TypeEntry
-  entry_of said mask = entry_with (λ m. last_given (mapped m) said) (λ m. last_given (preserved m) said) mask
+  entry_of said mask = record { mask = mask; level = unwrap_or (last_given (mapped mask) said) 1; preserve = meet (unwrap_or (last_given (preserved mask) said) 0) mask }
 
   -- in the order in which their masks are first mentioned
   abbrev pub entries_of : List Saying → List TypeEntry
@@ -61,3 +57,8 @@ module _ (modifiers : ℕ) where
 
 abbrev pub definition_of : List Saying → Definition
 definition_of said = record { modifiers = modifiers_of said; levels = levels_of said; entries = entries_of (modifiers_of said) said }
+
+-- ---- Under names, for clauses and proofs
+
+abbrev pub entry_with : (ℕ → Option ℕ) → (ℕ → Option ℕ) → ℕ → TypeEntry
+entry_with level kept mask = record { mask = mask; level = unwrap_or (level mask) 1; preserve = meet (unwrap_or (kept mask) 0) mask }

@@ -1,14 +1,14 @@
 -- The key types that the statements of a types body declare.
-use Rattle.std.specs.Prelude.{◌≡◌, ℕ, List, [], ◌∷◌, ◌++◌, Option, None, Some, map}
+use Rattle.std.specs.Prelude.{◌≡◌, ℕ, List, [], ◌∷◌, ◌++◌, Option, Some, map}
 use Rattle.std.specs.Map.{lookup}
-use Rattle.std.specs.Option.{option_and_then}
+use Rattle.std.specs.Option.{option_and_then, option_map_or}
 use Rattle.std.specs.Str.{bytes_eq}
 use Rattle.kx_include.specs.Expansion.{Body}
 use Rattle.kx_lex.specs.declared.fault.Fault.{Fault}
 use Rattle.kx_lex.specs.declared.name.Name.{Name}
 use Rattle.kx_masks.specs.Counted.{count_faults, statements_of}
-use Rattle.kx_merge.specs.Bodies.{Moves, Rules, faults_of, offers_of}
-use Rattle.kx_merge.specs.Offers.{Offer, names_of, value_of}
+use Rattle.kx_merge.specs.Bodies.{Moves, Rules, faults_of, offers_of, no_moves}
+use Rattle.kx_merge.specs.Offers.{Offer, names_of, value_of, plain_offer}
 use Rattle.kx_parse.specs.declared.tree.Field.{Field}
 use Rattle.kx_parse.specs.declared.tree.Item.{Item}
 use Rattle.kx_parse.specs.declared.tree.Item.TheVariants.{Include, Statement}
@@ -23,37 +23,28 @@ abbrev pub TypeOffer : Type 0
 TypeOffer = Offer (List ℕ) (Unit {0}) Definition
 
 abbrev pub type_offer : Mode → List ℕ → Definition → TypeOffer
-type_offer mode name definition = record { mode = mode; name = name; value = λ _. Some definition; width = λ _. 0 }
+type_offer mode name definition = plain_offer mode name (λ _. Some definition)
+
+abbrev pub said_offers : List (List ℕ) → Mode → Option (Name × List Field) → List TypeOffer
+said_offers names mode t = option_map_or (λ t. type_offer mode t.0.bytes (definition_of (sayings_of names t.1)) ∷ []) t []
 
 -- `names` are the virtual modifiers by number
 module _ (names : List (List ℕ)) where
-  abbrev pub said_offers : Mode → Option (Name × List Field) → List TypeOffer
-  said_offers mode None = []
-  said_offers mode (Some t) = type_offer mode t.0.bytes (definition_of (sayings_of names t.1)) ∷ []
-
   abbrev pub item_offers : Item → List TypeOffer
-  item_offers (Statement mode statement first span) = said_offers mode (type_in statement)
+  item_offers (Statement mode statement first span) = said_offers names mode (type_in statement)
   item_offers (Include mode text span) = []
 
   abbrev pub type_rules : Rules (List ℕ) (Unit {0}) Definition (Unit {0})
   type_rules = record { start = tt; next = λ d item. tt; offers = λ d place item. item_offers item; faults = λ d place item. item_faults names place.file item }
 
--- a move to a group leaves what has no group
-abbrev pub type_moves : Moves (List ℕ) (Unit {0})
-type_moves = record { key = λ n name. Some name; cell = λ n c. Some c; group = λ n g. None }
-
 -- the name that a type statement writes
-abbrev pub written_name : Option (Name × List Field) → List (List ℕ)
-written_name None = []
-written_name (Some t) = t.0.bytes ∷ []
-
 abbrev pub type_names : Item → List (List ℕ)
-type_names (Statement mode statement first span) = written_name (type_in statement)
+type_names (Statement mode statement first span) = option_map_or (λ t. t.0.bytes ∷ []) (type_in statement) []
 type_names (Include mode text span) = []
 
 module _ (names : List (List ℕ)) (body : Body) where
   abbrev pub type_offers : List TypeOffer
-  type_offers = offers_of bytes_eq (type_rules names) type_moves body
+  type_offers = offers_of bytes_eq (type_rules names) no_moves body
 
   -- the definition of a type by precedence
   abbrev pub declared_type : List ℕ → Option Definition
@@ -65,7 +56,7 @@ module _ (names : List (List ℕ)) (body : Body) where
 
   -- the statement with which there are too many types, and the faults of the statements
   abbrev pub types_faults : List Fault
-  types_faults = count_faults type_names MOST_TYPES (statements_of body) ++ faults_of bytes_eq (type_rules names) type_moves body
+  types_faults = count_faults type_names MOST_TYPES (statements_of body) ++ faults_of bytes_eq (type_rules names) no_moves body
 
 -- types by name
 abbrev pub NamedTypes : Type 0
@@ -81,3 +72,11 @@ type_named types name = option_and_then (λ d. d) (lookup (bytes_eq name) types)
 pub record TypesShow (types : NamedTypes) (names : List (List ℕ)) (body : Body) : Type 0 where
   pub names_are : names_in types ≡ declared_names names body
   pub definitions_are : (name : List ℕ) → type_named types name ≡ declared_type names body name
+
+-- ---- Under names, for clauses and proofs
+
+abbrev pub written_name : Option (Name × List Field) → List (List ℕ)
+written_name t = option_map_or (λ t. t.0.bytes ∷ []) t []
+
+abbrev pub type_moves : Moves (List ℕ) (Unit {0})
+type_moves = no_moves

@@ -14,10 +14,11 @@ ghost use Rattle.kx_merge.specs.Records.{AreOffered, mode_of};
 ghost use Rattle.kx_parse.specs.Sections.{word_span};
 ghost use Rattle.kx_parse.specs.declared.tree.Mode.{Mode as ModeValue};
 ghost use Rattle.kx_types.specs.KeyTypes.{Definition, definition_of};
-ghost use Rattle.kx_types.specs.TypeFaults.{declares_modifiers, item_faults, name_faults, said_faults, type_in};
+ghost use Rattle.kx_types.specs.TypeFaults.{declares_modifiers, item_faults, said_faults, type_in};
 ghost use Rattle.kx_types.specs.TypeFields.{field_faults, sayings_of};
 ghost use Rattle.kx_types.specs.Types.{NamedTypes, TypesShow, item_offers, said_offers, type_moves, type_named, type_names, type_offer, type_rules, types_faults};
 ghost use Rattle.kx_types.specs.Records.{declared_cell, declared_width};
+ghost use Rattle.kx_values.specs.Faults.{name_faults};
 
 use crate::definition::KeyType;
 use crate::fields::read_fields;
@@ -109,8 +110,8 @@ fn read_type(
     fields: &[Field],
 ) -> Result<Vec<(TypeName, DeclaredType)>, Fault>
     ensures records { (mode : ModeValue) → IfOk result (λ records. AreOffered mode declared_cell declared_width records.items (type_offer mode name.now.bytes (definition_of (sayings_of modifiers.now.names fields.now)) ∷ [])) }
-    ensures faultless { OnOk result (name_faults modifiers.now.names file whole name.now ++ flat_map (field_faults modifiers.now.names file) fields.now ≡ []) }
-    ensures fault { IfErr result (λ e. Contains (Memory ∷ (name_faults modifiers.now.names file whole name.now ++ flat_map (field_faults modifiers.now.names file) fields.now)) e) }
+    ensures faultless { OnOk result (name_faults file whole name.now ++ flat_map (field_faults modifiers.now.names file) fields.now ≡ []) }
+    ensures fault { IfErr result (λ e. Contains (Memory ∷ (name_faults file whole name.now ++ flat_map (field_faults modifiers.now.names file) fields.now)) e) }
 {
     let bytes = name.bytes.as_slice();
     if bytes.len() > MOST_NAME_BYTES {

@@ -1,7 +1,8 @@
 //! What the fields of a type say together.
 ghost use Rattle.std.specs.Prelude.{◌≡◌, [], All, ℕ, Option, None, Some, IfOk, OnOk, map, nat_eq, unwrap_or};
+ghost use Rattle.std.specs.Option.{option_or};
 ghost use Rattle.indexmap.specs.IndexMap.{get};
-ghost use Rattle.kx_types.specs.Firsts.{each_once, last_given, or_else, with_key};
+ghost use Rattle.kx_types.specs.Firsts.{each_once, last_given, with_key};
 ghost use Rattle.kx_types.specs.Lawful.{IsLawful, NamesLevel};
 ghost use Rattle.kx_types.specs.KeyTypes.{definition_of, entries_of, entry_with, level_in, levels_of, mapped, mask_in, modifiers_of, preserved, written_modifiers};
 
@@ -114,7 +115,7 @@ fn add_level(
     modifiers: NameSet,
     saying: Saying,
 ) -> Result<(), AllocError>
-    ensures { OnOk result ((mask : ℕ) → get nat_eq levels.new mask ≡ or_else (mapped modifiers mask saying) (get nat_eq levels.old mask)) }
+    ensures { OnOk result ((mask : ℕ) → get nat_eq levels.new mask ≡ option_or (mapped modifiers mask saying) (get nat_eq levels.old mask)) }
 {
     if let Saying::Map(mask, level) = saying {
         levels.insert(mask.meet(modifiers), level)?;
@@ -143,7 +144,7 @@ fn add_preserved(
     modifiers: NameSet,
     saying: Saying,
 ) -> Result<(), AllocError>
-    ensures { OnOk result ((mask : ℕ) → get nat_eq kept.new mask ≡ or_else (preserved modifiers mask saying) (get nat_eq kept.old mask)) }
+    ensures { OnOk result ((mask : ℕ) → get nat_eq kept.new mask ≡ option_or (preserved modifiers mask saying) (get nat_eq kept.old mask)) }
 {
     if let Saying::Preserve(mask, names) = saying {
         kept.insert(mask.meet(modifiers), names)?;

@@ -1,7 +1,7 @@
 -- The groups of a key, and the key type of each (X Keyboard Extension, core keyboard mapping; libxkbcommon's automatic
 -- types).
-use Rattle.std.specs.Prelude.{ℕ, zero, suc, ◌+◌, ◌==◌, nat_le, nat_lt, Bool, true, not, ◌&&◌, ◌||◌, List, [], ◌∷◌, Option, None, Some, codes, is_some, length, unwrap_or, if◌then◌else◌}
-use Rattle.std.specs.Option.{option_map_or, option_or}
+use Rattle.std.specs.Prelude.{ℕ, zero, suc, ◌+◌, ◌==◌, nat_le, nat_lt, Bool, true, not, ◌&&◌, ◌||◌, List, [], Option, None, Some, codes, is_some, length, unwrap_or, if◌then◌else◌, slice_index}
+use Rattle.std.specs.Option.{option_or}
 use Rattle.std.specs.Str.{bytes_eq}
 use Rattle.ks_core.specs.Keysym.{is_keypad, is_lower, is_upper}
 use Rattle.kx_basics.specs.declared.limits.TheConstants.{MOST_NAME_BYTES}
@@ -35,16 +35,6 @@ level_keysyms key group level = unwrap_or (key.keysyms group level) []
 unfoldable pub has_action : KeyGiven → Bool
 has_action key = any_below (group_count key) (λ group. any_below (key.width group) (λ level. is_some (key.action group level)))
 
--- ---- The type that is wanted
-
-abbrev pub first_of : List ℕ → ℕ
-first_of [] = 0
-first_of (keysym ∷ keysyms) = keysym
-
--- the first keysym of a level, 0 where it has none
-abbrev pub first_keysym : KeyGiven → ℕ → ℕ → ℕ
-first_keysym key group level = option_map_or first_of (key.keysyms group level) 0
-
 abbrev pub one_level_name : List ℕ
 one_level_name = codes "ONE_LEVEL"
 
@@ -75,13 +65,7 @@ module _ (first : ℕ → ℕ) where
 
 -- the type that is written for the group, else that for the key, else the automatic one
 abbrev pub wanted_type : KeyGiven → ℕ → Option (List ℕ)
-wanted_type key group = option_or (key.group_type group) (option_or key.key_type (automatic (first_keysym key group) (key.width group)))
-
--- ---- The type that there is
-
--- the built-in type: no modifiers, one level
-abbrev pub one_level : Definition
-one_level = record { modifiers = 0; levels = 1; entries = [] }
+wanted_type key group = option_or (key.group_type group) (option_or key.key_type (automatic (λ level. slice_index (level_keysyms key group level) 0) (key.width group)))
 
 -- `declared` are the types by name
 module _ (declared : List ℕ → Option Definition) where
@@ -96,7 +80,7 @@ module _ (declared : List ℕ → Option Definition) where
 
   -- ONE_LEVEL is built in where it isn't declared
   abbrev pub type_definition : List ℕ → Definition
-  type_definition name = unwrap_or (declared name) one_level
+  type_definition name = unwrap_or (declared name) (record { modifiers = 0; levels = 1; entries = [] })
 
   abbrev pub group_type_name : KeyGiven → ℕ → List ℕ
   group_type_name key group = type_name (wanted_type key (content_group key group))
@@ -112,3 +96,8 @@ module _ (declared : List ℕ → Option Definition) where
 
   abbrev pub falls_back : KeyGiven → ℕ → Bool
   falls_back key group = is_fallback (wanted_type key group)
+
+-- ---- Under names, for clauses and proofs
+
+abbrev pub first_keysym : KeyGiven → ℕ → ℕ → ℕ
+first_keysym key group level = slice_index (level_keysyms key group level) 0

@@ -1,14 +1,20 @@
 -- The faults of fields whose values are of another kind.
-use Rattle.std.specs.Prelude.{ℕ, ◌++◌, List, [], ◌∷◌, Option, Some, None}
+use Rattle.std.specs.Prelude.{ℕ, if◌then◌else◌, length, nat_lt, ◌++◌, List, [], ◌∷◌, Option, Some, None}
 use Rattle.std.specs.Option.{option_map_or}
 use Rattle.kx_lex.specs.declared.fault.Fault.{Fault}
-use Rattle.kx_lex.specs.declared.fault.Fault.TheVariants.{BadValue}
+use Rattle.kx_lex.specs.declared.fault.Fault.TheVariants.{BadValue, TooMany}
 use Rattle.kx_lex.specs.declared.token.Span.{Span}
 use Rattle.kx_include.specs.IncludeFaults.{at}
 use Rattle.kx_parse.specs.declared.tree.Expression.{Expression}
 use Rattle.kx_parse.specs.declared.tree.Setting.{Setting}
 use Rattle.kx_parse.specs.declared.tree.Setting.TheVariants.{Off, On, To}
 use Rattle.kx_parse.specs.declared.tree.Value.TheVariants.{Expression as Expressed, Call as Called, List as Listed}
+use Rattle.kx_lex.specs.declared.name.Name.{Name}
+use Rattle.kx_basics.specs.declared.limits.TheConstants.{MOST_NAME_BYTES}
+
+-- a name has at most 255 bytes; `whole` is the statement
+abbrev pub name_faults : ℕ → Span → Name → List Fault
+name_faults file whole name = if nat_lt MOST_NAME_BYTES (length name.bytes) then TooMany (at file whole) ∷ [] else []
 
 abbrev pub expression_in : Setting → Option Expression
 expression_in (To (Expressed e)) = Some e

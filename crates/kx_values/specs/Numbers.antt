@@ -1,11 +1,11 @@
 -- Values that are the number of a group or a level, as it is written or behind the word Group or Level.
-use Rattle.std.specs.Prelude.{ℕ, Bool, ◌&&◌, List, [], ◌∷◌, Option, Some, None, codes, drop, if◌then◌else◌, length, nat_le, nat_lt, take}
-use Rattle.std.specs.Char.{is_ascii_digit}
-use Rattle.std.specs.List.{list_all}
+use Rattle.std.specs.Prelude.{ℕ, Bool, ◌&&◌, List, [], ◌∷◌, Option, Some, None, codes, drop, if◌then◌else◌, nat_le, nat_lt, take}
 use Rattle.std.specs.Str.{str_eq_ignore_ascii_case}
 use Rattle.std.specs.Str.Parse.{digits_value}
+use Rattle.std.specs.Option.{option_and_then, option_map_or}
 use Rattle.kx_basics.specs.declared.limits.TheConstants.{MOST_GROUPS, MOST_LEVELS}
 use Rattle.kx_include.specs.IncludeFaults.{at}
+use Rattle.kx_include.specs.IncludeText.{is_number}
 use Rattle.kx_lex.specs.declared.fault.At.{At}
 use Rattle.kx_lex.specs.declared.fault.Fault.{Fault}
 use Rattle.kx_lex.specs.declared.fault.Fault.TheVariants.{BadValue, GroupRange, LevelRange}
@@ -20,10 +20,6 @@ use Rattle.kx_values.specs.declared.numbers.Counted.TheVariants.{Group, Level}
 abbrev pub counted_word : Counted → List ℕ
 counted_word Group = codes "group"
 counted_word Level = codes "level"
-
--- one digit or more
-abbrev pub is_number : List ℕ → Bool
-is_number digits = nat_lt 0 (length digits) && list_all is_ascii_digit digits
 
 -- the number behind the word in any case; leading zeros don't count
 abbrev pub word_number : Counted → List ℕ → Option ℕ
@@ -46,21 +42,13 @@ abbrev pub is_within : Counted → ℕ → Bool
 is_within what n = nat_lt 0 n && nat_le n (most_of what)
 
 -- the same, where it is within the range
-abbrev pub known_number : Counted → Option ℕ → Option ℕ
-known_number what None = None
-known_number what (Some n) = if is_within what n then Some n else None
-
 abbrev pub number_at : Counted → Expression → Option ℕ
-number_at what e = known_number what (number_named what e)
+number_at what e = option_and_then (λ n. if is_within what n then Some n else None) (number_named what e)
 
 abbrev pub range_fault : Counted → At → Fault
 range_fault Group at = GroupRange at
 range_fault Level at = LevelRange at
 
-abbrev pub range_faults : Counted → At → Option ℕ → List Fault
-range_faults what at None = BadValue at ∷ []
-range_faults what at (Some n) = if is_within what n then [] else range_fault what at ∷ []
-
 -- of an expression that is to name a group or a level
 abbrev pub number_faults : ℕ → Counted → Expression → List Fault
-number_faults file what e = range_faults what (at file e.span) (number_named what e)
+number_faults file what e = option_map_or (λ n. if is_within what n then [] else range_fault what (at file e.span) ∷ []) (number_named what e) (BadValue (at file e.span) ∷ [])

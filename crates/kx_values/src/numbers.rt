@@ -2,7 +2,7 @@
 ghost use Rattle.std.specs.Prelude.{◌≡◌};
 ghost use Rattle.std.specs.Char.{is_ascii_digit};
 ghost use Rattle.std.specs.List.{list_all};
-ghost use Rattle.kx_values.specs.Numbers.{is_number};
+ghost use Rattle.kx_include.specs.IncludeText.{is_number};
 
 use kx_basics::{MOST_GROUPS, MOST_LEVELS, digits_value};
 use kx_lex::{At, Fault};

@@ -1,7 +1,8 @@
 use Rattle.std.proofs.Common.{ap, subst, sym, ◌∷◌, ◌∙◌, Contains}
 use Rattle.std.specs.Option.{option_map}
 use Rattle.kx_lex.specs.declared.fault.Fault.TheVariants.{Memory}
-use Rattle.kx_compat.specs.Sections.{alone_faults, field_in, interpretation_in, said_faults}
+use Rattle.kx_compat.specs.Sections.{alone_faults, interpretation_in, said_faults}
+use Rattle.kx_symbols.specs.Keys.{field_in}
 use Rattle.kx_compat.proofs.Going.{beside, passed}
 use Rattle.kx_compat.proofs.Offering.{said_offered}
 use Rattle.kx_compat.proofs.statements.read_statement.Goals as goal

@@ -2,15 +2,16 @@ use Rattle.std.proofs.Common.{◌∷◌, ◌++◌, ap, ◌∙◌, position}
 use Rattle.std.specs.List.{flat_map}
 use Rattle.std.specs.Str.{bytes_eq}
 use Rattle.kx_lex.specs.declared.fault.Fault.TheVariants.{Memory}
-use Rattle.kx_lamps.specs.Blocks.{name_faults, own_faults, values_of}
+use Rattle.kx_lamps.specs.Blocks.{own_faults, values_of}
 use Rattle.kx_lamps.proofs.Going.{blamed_behind, passed}
 use Rattle.kx_lamps.proofs.Offering.{same_offered}
 use Rattle.kx_lamps.proofs.blocks.read_indicator.Goals as goal
+use Rattle.kx_values.specs.Faults.{name_faults}
 
 pub returns-in_err-values-clause-fault : goal.returns-in_err-values-clause-fault
 returns-in_err-values-clause-fault c =
     let names = c.args.names.now.names in
-    let front = name_faults c.args.file names c.args.whole c.args.name.now in
+    let front = name_faults c.args.file c.args.whole c.args.name.now in
     let fields = flat_map (own_faults c.args.file names) c.args.fields.now in
     passed c.from_residual.result (Memory ∷ (front ++ fields)) c.in_err-values.field-0.0 c.from_residual.ensures.1 (blamed_behind Memory front fields c.in_err-values.field-0.0 c.in_err-values.ensures.fault)
 
