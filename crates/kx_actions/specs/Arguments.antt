@@ -42,7 +42,7 @@ named (arguments.Off word) = Some (record { word = word; index = None; setting =
 named (arguments.Set word index value) = Some (record { word = word; index = index; setting = To (Expressed value) })
 named (arguments.Plain e) = option_map (λ word. record { word = word; index = None; setting = On }) (lone_word e)
 
--- absent modifiers are none, an absent group is the same one, an absent affect is both, absent flags are false
+-- absent modifiers are none, an absent group is a change by 0, an absent affect is both, absent flags are false
 abbrev pub action_with : ActionKind → Settings → KeyAction
 action_with kinds.SetMods s = actions.SetMods (unwrap_or s.modifiers (Named 0)) (unwrap_or s.clear_locks false)
 action_with kinds.LatchMods s = actions.LatchMods (unwrap_or s.modifiers (Named 0)) (unwrap_or s.clear_locks false) (unwrap_or s.latch_to_lock false)
@@ -53,7 +53,7 @@ action_with kinds.LockGroup s = actions.LockGroup (unwrap_or s.group (Relative (
 action_with kinds.NoAction s = actions.NoAction
 
 module _ (names : List (List ℕ)) where
-  -- each field has what the call's last argument for it gives, else its default; an action of another name has no effect
+  -- each field has what the call's last argument for it gives, else its default; an action of an unknown name has no effect
   abbrev pub action_for : ActionDefaults → List PlacedArgument → Option ActionKind → KeyAction
   action_for d xs None = actions.Other
   action_for d xs (Some kind) = action_with kind (last_settings (λ a. option_and_then (λ n. member_given names kind n.word n.index n.setting) (named a.argument)) (settings_for d kind) xs)
@@ -69,7 +69,7 @@ module _ (file : ℕ) (names : List (List ℕ)) where
   abbrev pub argument_faults : ActionKind → PlacedArgument → List Fault
   argument_faults kind a = named_faults kind a.span (named a.argument)
 
-  -- the arguments of an action of another name are only read
+  -- the arguments of an action of an unknown name are only read
   abbrev pub arguments_faults : List PlacedArgument → Option ActionKind → List Fault
   arguments_faults xs None = []
   arguments_faults xs (Some kind) = flat_map (argument_faults kind) xs

@@ -1,4 +1,5 @@
--- The statements of a compat section: the defaults behind them, and their faults.
+-- What the statements of a compat section say of interpretations, the defaults behind them, for interpretations and for actions, and
+-- their faults. Virtual modifiers and indicators are judged elsewhere; a group statement is read and not used.
 use Rattle.std.specs.Prelude.{◌≡◌, ℕ, fold, option_to_list, Bool, true, false, List, [], ◌∷◌, ◌++◌, Option, None, Some, is_some, if◌then◌else◌, codes}
 use Rattle.std.specs.List.{flat_map}
 use Rattle.std.specs.Str.{str_eq_ignore_ascii_case}
@@ -41,7 +42,7 @@ abbrev pub item_field : Item → Option Field
 item_field (Statement mode statement first whole) = field_in statement
 item_field (Include mode text span) = None
 
--- statements of a compat section that say nothing of interpretations
+-- statements but fields that say nothing of interpretations
 abbrev pub is_other : Said → Bool
 is_other (said.VirtualModifiers declarations) = true
 is_other (said.Indicator name fields) = true
@@ -58,6 +59,7 @@ no_defaults = record { actions = no_action_defaults; values = no_values }
 
 -- `names` are the virtual modifiers by number
 module _ (names : List (List ℕ)) where
+  -- a default with a fault, in whatever file it stands, gives nothing
   abbrev pub member_value : ActionDefaults → Field → Option Name → Option FieldValue
   member_value actions field member = option_and_then (λ m. if is_faultless (field_faults 0 names m field) then field_value names actions m field else None) member
 
@@ -74,12 +76,13 @@ module _ (names : List (List ℕ)) where
   standing actions [] = []
   standing actions (item ∷ items) = (actions, item) ∷ standing (option_map_or (next_defaults names actions) (item_field item) actions) items
 
-  -- the defaults behind the statements of a section are what the last of them gives that gives a field anything
+  -- a law, a clause of `interpretations`: the defaults behind the statements of a section are what the last of them gives that gives a
+  -- field anything
   pub record DefaultsAreLast : Type 0 where
     pub actions_are : (statements : List Item) → (fold next_default no_defaults statements).actions ≡ defaults_behind names (flat_map (λ item. option_to_list (item_field item)) statements)
     pub values_are : (statements : List Item) → (fold next_default no_defaults statements).values ≡ last_values (λ s. given_value s.0 (item_field s.1)) no_values (standing no_action_defaults statements)
-    -- what is written last in it, else the default before it
 
+  -- what is written last in an interpretation, else the default before it
   abbrev pub values_of : CompatDefaults → List Field → FieldValues
   values_of d fields = last_values (λ field. if is_some field.place.member then None else field_value names d.actions field.place.word field) d.values fields
 
@@ -96,7 +99,7 @@ module _ (file : ℕ) (names : List (List ℕ)) where
   abbrev pub interpretation_faults : Interpreted → List Fault
   interpretation_faults i = symbol_faults file i.0 ++ predicate_faults file names i.1 ++ flat_map own_faults i.2
 
-  -- of a field that stands alone
+  -- of a field that stands alone; one of `indicator` is judged with indicators, one of another word is a default for an action
   abbrev pub lone_faults : Field → List Fault
   lone_faults field =
       if is_interpret field.place.word.bytes then option_map_or (λ m. field_faults file names m field) field.place.member (unknown_word field.place.word)

@@ -1,4 +1,5 @@
--- For which keys an interpretation is: for those with a keysym, where their modifiers meet a condition.
+-- For which keys an interpretation is: for those with its keysym, or with any, where the modifiers that they are mapped to meet its
+-- condition. `table` are the names of keysyms, `names` the virtual modifiers by number.
 use Rattle.std.specs.Prelude.{ℕ, Bool, false, List, [], ◌∷◌, Option, None, Some, if◌then◌else◌, codes}
 use Rattle.std.specs.Option.{option_and_then, option_map, option_map_or}
 use Rattle.std.specs.Str.{str_eq_ignore_ascii_case}
@@ -24,8 +25,6 @@ use Rattle.kx_choice.specs.declared.trigger.Trigger.{Trigger}
 use Rattle.kx_choice.specs.declared.trigger.WantedKeysym.{WantedKeysym}
 use Rattle.kx_choice.specs.declared.trigger.WantedKeysym.TheVariants.{Any, Named}
 
--- ---- The keysym
-
 abbrev pub is_any : Symbol → Bool
 is_any (Word word) = is_no_symbol word.bytes
 is_any (Number number) = false
@@ -33,7 +32,7 @@ is_any (Number number) = false
 abbrev pub wanted_keysym : List Entry → Symbol → Option WantedKeysym
 wanted_keysym table symbol = option_map_or (λ k. Some (Named k)) (symbol_keysym table symbol) (if is_any symbol then Some Any else None)
 
--- ---- The modifiers, as a mask of real ones, and the condition
+-- ---- The condition, and the modifiers as a mask of real ones
 
 abbrev pub Wanted : Type 0
 Wanted = Condition × ℕ
@@ -46,7 +45,7 @@ abbrev pub plain_mask : Argument → Option Expression
 plain_mask (Plain e) = Some e
 plain_mask _ = None
 
--- the mask of a call with one argument, a mask without a name
+-- the one argument of a call, where it is a mask without a name
 abbrev pub only_mask : List PlacedArgument → Option Expression
 only_mask (a ∷ []) = plain_mask a.argument
 only_mask _ = None
@@ -66,8 +65,6 @@ module _ (file : ℕ) (names : List (List ℕ)) where
   predicate_faults None = []
   predicate_faults (Some (predicates.Call call)) = option_map_or (λ _. option_map_or (real_mask_faults file names) (only_mask call.arguments) (BadValue (at file call.span) ∷ [])) (among condition_words call.word.bytes) (UnknownField (at file call.word.span) ∷ [])
   predicate_faults (Some (predicates.Mask e)) = if is_any_word e then [] else real_mask_faults file names e
-
--- ---- Both
 
 abbrev pub trigger_with : Option WantedKeysym → Option Wanted → Option Trigger
 trigger_with (Some keysym) (Some wanted) = Some (record { keysym = keysym; condition = wanted.0; mask = wanted.1 })

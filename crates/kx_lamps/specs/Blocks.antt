@@ -23,7 +23,7 @@ abbrev pub indicator_in : Said → Option (Name × List Field)
 indicator_in (said.Indicator name fields) = Some (name, fields)
 indicator_in _ = None
 
--- a default for indicators, as `indicator.groups = all;`, and the word of its field
+-- the word and the field of a default for indicators, as `indicator.groups = all;`
 abbrev pub default_in : Said → Option (Name × Field)
 default_in (said.Field field) = option_map (λ member. (member, field)) (if str_eq_ignore_ascii_case field.place.word.bytes (codes "indicator") then field.place.member else None)
 default_in _ = None
@@ -49,11 +49,12 @@ module _ (names : List (List ℕ)) where
   abbrev pub next_default : LampValues → Item → LampValues
   next_default d item = with_value d (option_and_then (λ given. default_value given.0 given.1) (item_default item))
 
-  -- the defaults behind the statements of a section are what the last of them gives that gives a field anything
+  -- a law, a clause of the listing: the defaults behind the statements of a section are what the last of them gives that gives a field
+  -- anything
   abbrev pub DefaultsAreLast : Type 0
   DefaultsAreLast = (statements : List Item) → fold next_default no_values statements ≡ last_values (λ item. option_and_then (λ given. default_value given.0 given.1) (item_default item)) no_values statements
 
-  -- what is written last in an indicator, else the default before it
+  -- what is written last in an indicator, else the default before it; a field of two words is read and not used
   abbrev pub values_of : LampValues → List Field → LampValues
   values_of d fields = last_values (λ field. if is_some field.place.member then None else field_value names field.place.word field) d fields
 
@@ -66,7 +67,7 @@ module _ (file : ℕ) (names : List (List ℕ)) where
   abbrev pub said_faults : Said → Span → Option (Name × List Field) → List Fault
   said_faults statement whole i = option_map_or (λ i. name_faults file whole i.0 ++ flat_map own_faults i.1) i (option_map_or (λ g. field_faults file names g.0 g.1) (default_in statement) [])
 
-  -- those of indicators; those of other statements are none of these
+  -- of an indicator or of a default for indicators; another statement has none here
   abbrev pub item_faults : Item → List Fault
   item_faults (Statement mode statement first whole) = said_faults statement whole (indicator_in statement)
   item_faults (Include mode text span) = []

@@ -23,7 +23,7 @@ abbrev pub width : MaskKind → ℕ
 width States = 4
 width Groups = 32
 
--- words are read without regard to case
+-- words are read without regard to case; of states the bits are 1 base, 2 latched, 4 locked, 8 effective
 abbrev pub words : MaskKind → List (List ℕ × ℕ)
 words States = (codes "none", 0) ∷ (codes "base", 1) ∷ (codes "latched", 2) ∷ (codes "locked", 4) ∷ (codes "effective", 8) ∷ (codes "any", 8) ∷ (codes "compat", 8) ∷ []
 words Groups = (codes "none", 0) ∷ (codes "all", 4294967295) ∷ []
@@ -32,7 +32,7 @@ abbrev pub named_group : MaskKind → List ℕ → Option ℕ
 named_group States word = None
 named_group Groups word = word_number Group word
 
--- a number is a mask of groups
+-- a number is itself a mask of groups, and no mask of states
 abbrev pub number_mask : MaskKind → ℕ → Option ℕ
 number_mask States n = None
 number_mask Groups n = Some n
@@ -48,7 +48,7 @@ operated kind mask o = joined o.sign mask (unwrap_or (term_mask kind o.term) 0)
 abbrev pub mask_of : MaskKind → Expression → ℕ
 mask_of kind e = fold (operated kind) (unwrap_or (term_mask kind e.first) 0) e.rest
 
--- the group that a term names, whatever its range
+-- the group that a term names, in range or not
 abbrev pub group_in : MaskKind → Term → Option ℕ
 group_in kind (Word word) = named_group kind word.bytes
 group_in kind _ = None

@@ -56,10 +56,11 @@ module _ (names : Item → List Text) where
   abbrev pub count_faults : ℕ → List Said → List Fault
   count_faults limit saids = crossing limit [] saids
 
--- ---- Under names, for clauses and proofs
-
+-- names, and behind them those of others that aren't there yet
 abbrev pub with_names : List Text → List Text → List Text
 with_names before more = fold (with_name bytes_eq) before more
+
+-- ---- Under a name, for clauses and proofs
 
 abbrev pub names_behind : (names : Item → List Text) → List Text → List Said → List Text
 names_behind names before saids = fold (names_with names) before saids

@@ -44,7 +44,7 @@ use Rattle.kx_typing.specs.Given.{KeyGiven, given_by}
 
 -- ---- Modifiers
 
--- the bodies that declare virtual modifiers
+-- the bodies that declare virtual modifiers, in the order in which these are numbered
 abbrev pub modifier_bodies_of : Library → List Body
 modifier_bodies_of library = body_of library Types ∷ body_of library Compat ∷ body_of library Symbols ∷ []
 
@@ -87,12 +87,8 @@ module _ (names : List Entry) (library : Library) where
   abbrev pub key_in : ℕ → KeyGiven
   key_in = key_given (codes_in library) names (modifiers_of library) (body_of library Symbols)
 
-  -- ---- Modifier maps
-
   abbrev pub modmap_in : ℕ → Mods
   modmap_in = modmap_of (mapping_by (name_of (codes_in library)) key_in (declared_in library) (map_offers_of (codes_in library) names (modifiers_of library) (body_of library Symbols)))
-
-  -- ---- Interpretations, and what virtual modifiers stand for
 
   abbrev pub interpretations_in : List Interpretation
   interpretations_in = interpretations_of names (modifiers_of library) (body_of library Compat)
@@ -110,6 +106,8 @@ module _ (names : List Entry) (library : Library) where
   -- the real modifiers that a set of modifiers stands for
   abbrev pub real_in : ℕ → RealSet
   real_in = real_of (stands read_keymap_in)
+
+-- ---- Indicators, and the keymap
 
 -- what each of some indicators has, of which the first has this number
 abbrev pub lamps_from : {X : Type 0} → (ℕ → X) → ℕ → List (List ℕ) → List X

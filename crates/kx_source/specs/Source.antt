@@ -26,7 +26,7 @@ use Rattle.kx_types.specs.Types.{types_faults}
 
 -- ---- Faults
 
--- of declared modifiers, keycodes, types, keys, modifier maps, interpretations, names of groups and indicators, here and in includes
+-- of declared modifiers, keycodes, types, keys, modifier maps, interpretations, names of groups and indicators, in the source and its files
 abbrev pub statement_faults : List Entry → Library → List Fault
 statement_faults names library =
     modifier_faults (modifier_bodies_of library)
@@ -51,8 +51,8 @@ HasFault source files names e = HasNoTree source e ⊎ (HasTooManyFiles source f
 
 -- ---- Meaning
 
--- tables hold the keys, with their names, that the statements resolve to, the indicators and the names of groups, and nothing
--- else
+-- tables hold the key types and the keys, with their names, that the statements resolve to, the indicators and the names of groups, and
+-- nothing else
 pub record HoldsAll (names : List Entry) (library : Library) (content : Content) : Type 0 where
   pub groups : List (List ℕ)
   pub groups_are : AreGroupNames groups (body_of library Symbols)

@@ -21,6 +21,9 @@ abbrev pub call_in : BracePart → List Call
 call_in (parts.Symbol symbol) = []
 call_in (parts.Call call) = call ∷ []
 
+abbrev pub calls_in : List BracePart → List Call
+calls_in ps = flat_map call_in ps
+
 abbrev pub call_action : Known → Call → Option KeyAction
 call_action known call = defined (action_of known.modifiers known.defaults.actions call)
 
@@ -32,12 +35,7 @@ only_action known calls = None
 abbrev pub element_action : Known → Element → Option KeyAction
 element_action known (elements.Symbol symbol) = None
 element_action known (elements.Call call) = call_action known call
-element_action known (elements.Braces braces) = only_action known (flat_map call_in braces.parts)
+element_action known (elements.Braces braces) = only_action known (calls_in braces.parts)
 
 abbrev pub actions_of : Known → Listed → List (Option KeyAction)
 actions_of known list = map (element_action known) list.elements
-
--- ---- Under names, for clauses and proofs
-
-abbrev pub calls_in : List BracePart → List Call
-calls_in ps = flat_map call_in ps

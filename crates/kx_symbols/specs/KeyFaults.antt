@@ -52,7 +52,7 @@ symbol_span (Word word) = word.span
 symbol_span (Number number) = number.span
 
 module _ (file : ℕ) where
-  -- the greatest keysym is 1fffffff
+  -- a number is at most 1fffffff, the greatest keysym
   abbrev pub symbol_faults : Symbol → List Fault
   symbol_faults (Word word) = []
   symbol_faults (Number number) = if nat_lt GREATEST_KEYSYM number.value then BadValue (at file number.span) ∷ [] else []
@@ -118,7 +118,7 @@ module _ (file : ℕ) where
   fields_faults known whole s [] = []
   fields_faults known whole s (f ∷ fs) = field_faults file known.modifiers whole s f ++ fields_faults known whole (field_lists known s f) fs
 
-  -- of a statement that is about no key; `word` is the word that names it
+  -- of a statement that is about no key; `word` is where the fault of one is that such a section doesn't have
   abbrev pub other_faults : List (List ℕ) → Span → Said → List Fault
   other_faults modifiers word (said.VirtualModifiers declarations) = []
   other_faults modifiers word (said.ModifierMap modifier entries) = []

@@ -23,13 +23,14 @@ is_no_symbol word = str_eq_ignore_ascii_case word (codes "any") || str_eq_ignore
 abbrev pub is_void_symbol : List ℕ → Bool
 is_void_symbol word = str_eq_ignore_ascii_case word (codes "none") || str_eq_ignore_ascii_case word (codes "voidsymbol")
 
--- a name that no keysym has stands for none
+-- a name that no keysym has stands for none, and so does one of keysym 0; 16777215 is VoidSymbol
 abbrev pub named : List Entry → List ℕ → Option ℕ
 named names word = option_and_then (λ keysym. if keysym == 0 then None else Some keysym) (if is_utf8 word then keysym_named names word else None)
 
 abbrev pub word_keysym : List Entry → List ℕ → Option ℕ
 word_keysym names word = if is_no_symbol word then None else (if is_void_symbol word then Some 16777215 else named names word)
 
+-- a number of one digit is that digit's keysym, another is the keysym of that number
 abbrev pub symbol_keysym : List Entry → Symbol → Option ℕ
 symbol_keysym names (Word word) = word_keysym names word.bytes
 symbol_keysym names (Number number) = Some (if nat_lt number.value 10 then 48 + number.value else number.value)

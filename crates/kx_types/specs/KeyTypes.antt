@@ -33,7 +33,7 @@ levels_of said = fold (λ most s. max most (level_in s)) 1 said
 
 -- a mask counts only as far as it lies within the type's modifiers
 module _ (modifiers : ℕ) where
-  -- the entry that a field is about
+  -- the mask of the entry that a field is about
   abbrev pub mask_in : Saying → Option ℕ
   mask_in (Map mask level) = Some (meet mask modifiers)
   mask_in (Preserve mask kept) = Some (meet mask modifiers)
@@ -47,7 +47,7 @@ module _ (modifiers : ℕ) where
   preserved mask (Preserve written kept) = if meet written modifiers == mask then Some kept else None
   preserved mask _ = None
 
-  -- the entry of a mask by what it maps to last, else level 1, and by what it preserves last, as far as the entry has it
+  -- a mask's entry: the level that it is mapped to last, else 1, and of what it preserves last what lies within the mask
   abbrev pub entry_of : List Saying → ℕ → TypeEntry
   entry_of said mask = record { mask = mask; level = unwrap_or (last_given (mapped mask) said) 1; preserve = meet (unwrap_or (last_given (preserved mask) said) 0) mask }
 
