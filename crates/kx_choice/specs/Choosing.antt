@@ -19,9 +19,8 @@ abbrev pub fits : WantedKeysym → ℕ → Bool
 fits Any keysym = true
 fits (Named wanted) keysym = nat_eq wanted keysym
 
-module _ (first : Bool) (modmap : ℕ) where
-  abbrev pub matches : ℕ → Interpretation → Bool
-  matches keysym i = fits i.trigger.keysym keysym && (holds i.trigger.condition i.trigger.mask (if i.first_level_only && not first then 0 else modmap))
+abbrev pub matches : Bool → ℕ → ℕ → Interpretation → Bool
+matches first modmap keysym i = fits i.trigger.keysym keysym && (holds i.trigger.condition i.trigger.mask (if i.first_level_only && not first then 0 else modmap))
 
 abbrev pub condition_rank : Condition → ℕ
 condition_rank Exactly = 0

@@ -39,18 +39,15 @@ offers_to mode None targets = []
 offers_to mode (Some mask) targets = map (λ target. plain_offer mode target (given target mask)) targets
 
 abbrev pub map_offers : Codes → List Named → Mode → Option (Name × List Entry) → List (Offer Target Cell ℕ)
-map_offers codes names mode None = []
-map_offers codes names mode (Some map) = offers_to mode (word_mask map.0.bytes) (targets_of codes names map.1)
+map_offers codes names mode map = option_map_or (λ m. offers_to mode (word_mask m.0.bytes) (targets_of codes names m.1)) map []
 
-module _ (codes : Codes) (names : List Named) where
-  abbrev pub item_offers : Item → List (Offer Target Cell ℕ)
-  item_offers (Statement mode statement first whole) = map_offers codes names mode (map_in statement)
-  item_offers (Include mode text span) = []
+abbrev pub item_offers : Codes → List Named → Item → List (Offer Target Cell ℕ)
+item_offers codes names (Statement mode statement first whole) = map_offers codes names mode (map_in statement)
+item_offers codes names (Include mode text span) = []
 
 -- `modifiers` are the names of virtual modifiers
-module _ (codes : Codes) (names : List Named) (modifiers : List (List ℕ)) where
-  abbrev pub map_rules : Rules Target Cell ℕ (Unit {0})
-  map_rules = record { start = tt; next = λ d item. tt; offers = λ d place item. item_offers codes names item; faults = λ d place item. item_faults place.file modifiers item }
+abbrev pub map_rules : Codes → List Named → List (List ℕ) → Rules Target Cell ℕ (Unit {0})
+map_rules codes names modifiers = record { start = tt; next = λ d item. tt; offers = λ d place item. item_offers codes names item; faults = λ d place item. item_faults place.file modifiers item }
 
 abbrev pub map_offers_of : Codes → List Named → List (List ℕ) → Body → List (Offer Target Cell ℕ)
 map_offers_of codes names modifiers body = offers_of same_target (map_rules codes names modifiers) no_moves body

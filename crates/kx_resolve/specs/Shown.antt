@@ -41,6 +41,8 @@ module _ (name : ℕ → Option (List ℕ)) (key : ℕ → KeyGiven) where
   most_groups_below zero = 0
   most_groups_below (suc code) = max (most_groups_below code) (option_map_or (λ _. group_count (key code)) (name code) 0)
 
+-- ---- Under names, for clauses and proofs
+
 module _ (real : ℕ → RealSet) (declared : List ℕ → Option Definition) (keyed : Keyed) where
   abbrev pub keymap_meant : Keymap
   keymap_meant = record {
@@ -49,8 +51,6 @@ module _ (real : ℕ → RealSet) (declared : List ℕ → Option Definition) (k
     shown = λ code group mods. option_map_or (λ _. shown_for real declared (keyed.deeds code) (keyed.key code) group mods) (name_within keyed.name code) nothing_shown;
     lamps = [];
   }
-
--- ---- Under names, for proofs
 
 abbrev pub groups_if : (ℕ → Option (List ℕ)) → (ℕ → KeyGiven) → Option (List ℕ) → ℕ → ℕ
 groups_if name key of_key code = option_map_or (λ _. group_count (key code)) of_key 0

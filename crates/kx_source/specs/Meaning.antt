@@ -57,12 +57,9 @@ modifiers_of library = virtual_names (modifier_bodies_of library)
 abbrev pub declared_in : Library → List ℕ → Option Definition
 declared_in library = declared_type (modifiers_of library) (body_of library Types)
 
--- the pairs and the aliases that a keycodes body leaves at its end
-abbrev pub codes_of : Body → Codes
-codes_of body = record { by_name = pairs_of body; by_code = pairs_of body; aliases = aliases_of body }
-
+-- the pairs and the aliases that the keycodes sections leave at their end
 abbrev pub codes_in : Library → Codes
-codes_in library = codes_of (body_of library Keycodes)
+codes_in library = record { by_name = pairs_of (body_of library Keycodes); by_code = pairs_of (body_of library Keycodes); aliases = aliases_of (body_of library Keycodes) }
 
 -- what the statements of a symbols body offer the keys that have these codes; `modifiers` are the virtual modifiers
 abbrev pub key_offers : Codes → List Entry → List (List ℕ) → Body → List (Offer ℕ Cell CellValue)
@@ -151,6 +148,9 @@ abbrev pub resolved_in : List Entry → Library → Resolved
 resolved_in names library = resolved_of (real_in names library) (declared_in library) (keyed_in names library)
 
 -- ---- Under names, for clauses and proofs
+
+abbrev pub codes_of : Body → Codes
+codes_of body = record { by_name = pairs_of body; by_code = pairs_of body; aliases = aliases_of body }
 
 abbrev pub declared_masks_of : Library → ℕ → RealSet
 declared_masks_of library number = has (declared_mask (modifiers_of library) (modifier_bodies_of library) number)

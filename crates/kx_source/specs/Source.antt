@@ -26,7 +26,7 @@ use Rattle.kx_types.specs.Types.{types_faults}
 
 -- ---- Faults
 
--- of declared modifiers, keycodes, types, keys, modifier maps, interpretations, names of groups and indicators, in the source and its files
+-- of declared modifiers, keycodes, types, keys, modifier maps, interpretations, names of groups and indicators, in the source and what it includes
 abbrev pub statement_faults : List Entry → Library → List Fault
 statement_faults names library =
     modifier_faults (modifier_bodies_of library)
@@ -38,13 +38,10 @@ statement_faults names library =
     ++ (faults_of nat_eq name_rules name_moves (body_of library Symbols)
     ++ lamps_faults (modifiers_of library) (body_of library Compat))))))
 
-abbrev pub HasFaultIn : List Entry → Library → Fault → Type 0
-HasFaultIn names library e = HasIncludeFault library e ⊎ Contains (statement_faults names library) e
-
 pub record HasFaultInside (source : List ℕ) (files : Handed) (names : List Entry) (e : Fault) : Type 0 where
   pub library : Library
   pub read : IsRead source files library
-  pub has : HasFaultIn names library e
+  pub has : HasIncludeFault library e ⊎ Contains (statement_faults names library) e
 
 abbrev pub HasFault : List ℕ → Handed → List Entry → Fault → Type 0
 HasFault source files names e = HasNoTree source e ⊎ (HasTooManyFiles source files e ⊎ HasFaultInside source files names e)
@@ -69,6 +66,9 @@ pub record Means (source : List ℕ) (files : Handed) (names : List Entry) (cont
   pub keymap : keymap_of content ≡ keymap_in names library
 
 -- ---- Under names, for clauses and proofs
+
+abbrev pub HasFaultIn : List Entry → Library → Fault → Type 0
+HasFaultIn names library e = HasIncludeFault library e ⊎ Contains (statement_faults names library) e
 
 abbrev pub names_faults : Body → List Fault
 names_faults body = faults_of nat_eq name_rules name_moves body

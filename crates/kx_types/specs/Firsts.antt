@@ -6,12 +6,12 @@ use Rattle.indexmap.specs.IndexSet.{insert_key}
 abbrev pub last_given : {X Y : Type 0} → (X → Option Y) → List X → Option Y
 last_given f xs = fold (λ last x. option_or (f x) last) None xs
 
+-- what is given, each once, in the order of first appearance
+abbrev pub each_once : {X K : Type 0} → (K → K → Bool) → (X → Option K) → List X → List K
+each_once eq f xs = fold (λ ks x. option_map_or (insert_key eq ks) (f x) ks) [] xs
+
+-- ---- Under a name, for clauses and proofs
+
 module _ {X K : Type 0} (eq : K → K → Bool) (f : X → Option K) where
-  -- what is given, each once, in the order of first appearance
-  abbrev pub each_once : List X → List K
-  each_once xs = fold (λ ks x. option_map_or (insert_key eq ks) (f x) ks) [] xs
-
-  -- ---- Under a name, for clauses and proofs
-
   abbrev pub with_key : List K → Option K → List K
   with_key ks k = option_map_or (insert_key eq ks) k ks

@@ -4,7 +4,7 @@ use Rattle.std.specs.Prelude.{ℕ, zero, suc, ◌+◌, ◌==◌, nat_le, nat_lt,
 use Rattle.std.specs.Option.{option_or}
 use Rattle.std.specs.Str.{bytes_eq}
 use Rattle.ks_core.specs.Keysym.{is_keypad, is_lower, is_upper}
-use Rattle.kx_basics.specs.declared.limits.TheConstants.{MOST_NAME_BYTES}
+use Rattle.kx_basics.specs.declared.limits.TheConstants.{MOST_GROUPS, MOST_NAME_BYTES}
 use Rattle.kx_masks.specs.Sets.{any_below}
 use Rattle.kx_typing.specs.Given.{KeyGiven}
 use Rattle.kx_types.specs.KeyTypes.{Definition}
@@ -19,9 +19,9 @@ unfoldable pub groups_within : KeyGiven → ℕ → ℕ
 groups_within key zero = 0
 groups_within key (suc n) = if has_level key n then suc n else groups_within key n
 
--- a key has at most 32 groups
+-- behind the most that a key may have there are none
 unfoldable pub group_count : KeyGiven → ℕ
-group_count key = groups_within key 32
+group_count key = groups_within key MOST_GROUPS
 
 -- a group without levels takes the type and the content of the first
 abbrev pub content_group : KeyGiven → ℕ → ℕ
