@@ -11,7 +11,7 @@ ghost use Rattle.kx_tables.specs.Content.{Content};
 use kx_lex::one_reading;
 use kx_parse::{one_stop, one_tree};
 
-/// A source means one content of tables at most, and its keyboard has one answer to each list of events.
+/// A source means one content of tables at most, and its keyboard one list of answers to each list of events.
 pub fn one_meaning()
     ensures content { (source : List ℕ) (files : Handed) (names : List Entry) (one other : Content) → Means source files names one → Means source files names other → one ≡ other }
     ensures answers { (source : List ℕ) (files : Handed) (names : List Entry) (events : List Event) (one other : List Answer) → AnswersAs source files names events one → AnswersAs source files names events other → one ≡ other }
@@ -21,9 +21,10 @@ pub fn one_meaning()
     one_stop();
 }
 
-/// A source with a fault means nothing.
+/// A source with a fault means no tables, and no answers.
 pub fn faults_mean_nothing()
-    ensures { (source : List ℕ) (files : Handed) (names : List Entry) (fault : Fault) (content : Content) → HasFault source files names fault → Means source files names content → ⊥ }
+    ensures tables { (source : List ℕ) (files : Handed) (names : List Entry) (fault : Fault) (content : Content) → HasFault source files names fault → Means source files names content → ⊥ }
+    ensures answers { (source : List ℕ) (files : Handed) (names : List Entry) (fault : Fault) (events : List Event) (answers : List Answer) → HasFault source files names fault → AnswersAs source files names events answers → ⊥ }
 {
     one_reading();
     one_tree();

@@ -8,3 +8,4 @@ pub mod ReadingSources
 pub mod SessionLemmas
 pub mod TailTexts
 pub mod Waits
+pub mod Written

@@ -4,7 +4,8 @@ ghost use Rattle.kx_image.specs.declared.header.Edition.TheVariants.{Two};
 ghost use Rattle.kx_source.specs.Source.{HasFault};
 ghost use Rattle.kx_lex.specs.declared.fault.Fault.TheVariants.{Memory};
 ghost use Rattle.kx_tables.specs.Content.{Content};
-ghost use Rattle.kx_tool.specs.Compiled.{IsCompiled};
+ghost use Rattle.kx_tables.specs.Keymap.{keymap_of};
+ghost use Rattle.kx_tool.specs.Compiled.{IsCompiled, IsWritten};
 
 use ks_core::{Lent, NameTable, Notes};
 use kx_include::Files;
@@ -27,8 +28,8 @@ fn image_of(alloc: Global, tables: &Owned) -> Result<Vec<u8>, Fault>
     }
 }
 
-/// The image of a source, version 2, and what was passed over. A player over it answers every list of events as the
-/// source's statements mean, since the image's keymap is theirs.
+/// The image of a source, version 2, and what was passed over. A player over whatever tables are found in the image
+/// answers every list of events as the source's statements mean.
 ///
 /// # Errors
 /// A fault of the source with its place, or `Memory`.
@@ -38,7 +39,8 @@ pub fn compile(
     files: &Files,
     names: &NameTable,
 ) -> Result<(Vec<u8>, Notes), Fault>
-    ensures image { IfOk result (λ made. (content : Content) × IsCompiled source.now files.now names.now content made.0.items) }
+    ensures answers { IfOk result (λ made. (content : Content) → IsImage content made.0.items → IsCompiled source.now files.now names.now (keymap_of content)) }
+    ensures image { IfOk result (λ made. (content : Content) × IsWritten source.now files.now names.now content made.0.items) }
     ensures fault { IfErr result (λ e. (e ≡ Memory) ⊎ HasFault source.now files.now names.now e) }
 {
     let (tables, notes) = tables(alloc, source, files, names)?;

@@ -1,5 +1,4 @@
-use Rattle.std.proofs.Common.{ap}
-use Rattle.kx_run.specs.Replies.{run}
+use Rattle.kx_tool.proofs.Written.{found_is_compiled}
 use Rattle.kx_tool.proofs.compiler.compile.Goals as goal
 
 pub returns-clause-image : goal.returns-clause-image
@@ -9,6 +8,8 @@ returns-clause-image c = (
     image = c.in_ok-image.ensures.image;
     version_2 = c.in_ok-image.ensures.version_2;
     means = c.in_ok-tables.ensures.means;
-    runs = λ world events. ap (λ keymap. run keymap world events) c.in_ok-tables.ensures.means.keymap;
   },
 )
+
+pub returns-clause-answers : goal.returns-clause-answers
+returns-clause-answers c = λ content found. found_is_compiled (returns-clause-image c).1 content found

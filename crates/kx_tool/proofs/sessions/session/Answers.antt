@@ -3,7 +3,7 @@ use Rattle.kx_image.specs.Image.{IsImage}
 use Rattle.kx_source.specs.Source.{HasFault}
 use Rattle.kx_lex.specs.declared.fault.Fault.TheVariants.{Memory}
 use Rattle.kx_tables.specs.Content.{Content}
-use Rattle.kx_tool.specs.Compiled.{IsCompiled}
+use Rattle.kx_tool.specs.Compiled.{IsWritten}
 use Rattle.kx_tool.specs.Input.{FailsBehind, IsWithin, Waiting, budget, coming}
 use Rattle.kx_tool.specs.Sources.{ReadsSource}
 use Rattle.kx_tool.specs.declared.fault.ReplayFault.{ReplayFault}
@@ -16,8 +16,8 @@ use Rattle.kx_tool.proofs.sessions.session.Goals.{in-Ok-open, in-Err-open}
 pub returns-in-Ok-answered-clause-answers : goal.returns-in-Ok-answered-clause-answers
 returns-in-Ok-answered-clause-answers g c =
     let read = subst (λ b. ReadsSource (coming c.new-input.result (g.F.Feed.left c.args.feed.now)) (budget c.new-input.result) (coming c.read_source.new.input (g.F.Feed.left c.read_source.new.feed)) (budget c.read_source.new.input) c.in_ok-source.source.text.items b) c.if-not-source.false c.in_ok-source.ensures.source in
-    let compiled = subst (λ s. (made : Content) × IsCompiled s c.args.files.now c.args.names.now made c.in-Ok.image.items) c.as_slice.ensures.value c.in-Ok.ensures.image in
-    let made = subst (λ b. (made : Content) × IsCompiled c.in_ok-source.source.text.items c.args.files.now c.args.names.now made b) (sym c.as_slice-2.ensures.value) compiled in
+    let compiled = subst (λ s. (made : Content) × IsWritten s c.args.files.now c.args.names.now made c.in-Ok.image.items) c.as_slice.ensures.value c.in-Ok.ensures.image in
+    let made = subst (λ b. (made : Content) × IsWritten c.in_ok-source.source.text.items c.args.files.now c.args.names.now made b) (sym c.as_slice-2.ensures.value) compiled in
     elim c.match-open.branch [
       | in-Ok-open w ↦
           rw w.out-is
@@ -28,8 +28,8 @@ returns-in-Ok-answered-clause-answers g c =
 pub returns-clause-answers : goal.returns-clause-answers
 returns-clause-answers g c =
     let read = subst (λ b. ReadsSource (coming c.new-input.result (g.F.Feed.left c.args.feed.now)) (budget c.new-input.result) (coming c.read_source.new.input (g.F.Feed.left c.read_source.new.feed)) (budget c.read_source.new.input) c.in_ok-source.source.text.items b) c.if-not-source.false c.in_ok-source.ensures.source in
-    let compiled = subst (λ s. (made : Content) × IsCompiled s c.args.files.now c.args.names.now made c.in-Ok.image.items) c.as_slice.ensures.value c.in-Ok.ensures.image in
-    let made = subst (λ b. (made : Content) × IsCompiled c.in_ok-source.source.text.items c.args.files.now c.args.names.now made b) (sym c.as_slice-2.ensures.value) compiled in
+    let compiled = subst (λ s. (made : Content) × IsWritten s c.args.files.now c.args.names.now made c.in-Ok.image.items) c.as_slice.ensures.value c.in-Ok.ensures.image in
+    let made = subst (λ b. (made : Content) × IsWritten c.in_ok-source.source.text.items c.args.files.now c.args.names.now made b) (sym c.as_slice-2.ensures.value) compiled in
     elim c.match-open.branch [
       | in-Ok-open w ↦
           rw w.out-is
@@ -63,7 +63,7 @@ returns-in-Err-clause-answers g c =
 pub returns-then-not-source-clause-answers : goal.returns-then-not-source-clause-answers
 returns-then-not-source-clause-answers g c =
     let read = subst (λ b. ReadsSource (coming c.new-input.result (g.F.Feed.left c.args.feed.now)) (budget c.new-input.result) (coming c.read_source.new.input (g.F.Feed.left c.read_source.new.feed)) (budget c.read_source.new.input) c.in_ok-source.source.text.items b) c.if-not-source.true c.in_ok-source.ensures.source in
-    let made = subst (λ s. (made : Content) × IsCompiled s c.args.files.now c.args.names.now made c.in-Ok.image.items) c.as_slice.ensures.value c.in-Ok.ensures.image in
+    let made = subst (λ s. (made : Content) × IsWritten s c.args.files.now c.args.names.now made c.in-Ok.image.items) c.as_slice.ensures.value c.in-Ok.ensures.image in
     session_silent g.O.Out.written g.O.Out.failures c.args.files.now c.args.names.now _ _ _ _ _ _ _ c.args.out.now c.new-input.ensures read made
 
 pub returns-in-Ok-answered-clause-whole : goal.returns-in-Ok-answered-clause-whole
