@@ -101,6 +101,7 @@ impl NameTable {
         ensures written { text.new.bytes ≡ name_of_keysym self.now keysym.0 }
         ensures read_back { is_written_back keysym.0 ≡ true → keysym_named self.now text.new.bytes ≡ Some keysym.0 }
         ensures lexical { is_word_or_number text.new.bytes ≡ true }
+        ensures sound { list_all is_sound self.now ≡ true }
     {
         let number = keysym.0;
         text.clear();
