@@ -3,6 +3,7 @@ pub mod Ends
 pub mod EventLemmas
 pub mod Lines
 pub mod Listings
+pub mod PrintedAgain
 pub mod Reading
 pub mod ReadingSources
 pub mod SessionLemmas

@@ -6,10 +6,13 @@ ghost use Rattle.kx_lex.specs.declared.fault.Fault.TheVariants.{Memory};
 ghost use Rattle.kx_tables.specs.Content.{Content};
 ghost use Rattle.kx_tables.specs.Keymap.{keymap_of};
 ghost use Rattle.kx_tool.specs.Compiled.{IsCompiled, IsWritten};
+ghost use Rattle.kx_tool.specs.PrintedSource.{CompilesBack, HasNoFault, IsImageAgain, IsMemoryAlone};
 
-use ks_core::{Lent, NameTable, Notes};
+use arrayvec::ArrayString;
+use ks_core::{Keysym, Lent, NameTable, Notes};
 use kx_include::Files;
 use kx_lex::Fault;
+use kx_roundtrip::printed_means_itself;
 use kx_source::tables;
 use kx_tables::{Owned, Tables};
 use std::alloc::Global;
@@ -28,6 +31,16 @@ fn image_of(alloc: Global, tables: &Owned) -> Result<Vec<u8>, Fault>
     }
 }
 
+/// No effect: what the proof of `compile` reads of printed texts under these names.
+fn read_printed_again(names: &NameTable)
+    ensures content { CompilesBack names.now }
+    ensures faultless { HasNoFault names.now }
+{
+    let mut name = ArrayString::new();
+    names.write_name(Keysym(0), &mut name);
+    printed_means_itself();
+}
+
 /// The image of a source, version 2, and what was passed over. A player over whatever tables are found in the image
 /// answers every list of events as the source's statements mean.
 ///
@@ -42,7 +55,12 @@ pub fn compile(
     ensures answers { IfOk result (λ made. (content : Content) → IsImage content made.0.items → IsCompiled source.now files.now names.now (keymap_of content)) }
     ensures image { IfOk result (λ made. (content : Content) × IsWritten source.now files.now names.now content made.0.items) }
     ensures fault { IfErr result (λ e. (e ≡ Memory) ⊎ HasFault source.now files.now names.now e) }
+
+    // The printed text of tables gives their own image, and nothing but want of memory refuses it.
+    ensures printed { IfOk result (λ made. IsImageAgain source.now files.now made.0.items) }
+    ensures printed_memory { IfErr result (IsMemoryAlone source.now files.now) }
 {
+    read_printed_again(names);
     let (tables, notes) = tables(alloc, source, files, names)?;
     let image = image_of(alloc, &tables)?;
     Ok((image, notes))

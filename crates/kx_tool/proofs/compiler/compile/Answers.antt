@@ -1,3 +1,4 @@
+use Rattle.kx_tool.proofs.PrintedAgain.{image_again, memory_alone}
 use Rattle.kx_tool.proofs.Written.{found_is_compiled}
 use Rattle.kx_tool.proofs.compiler.compile.Goals as goal
 
@@ -13,3 +14,6 @@ returns-clause-image c = (
 
 pub returns-clause-answers : goal.returns-clause-answers
 returns-clause-answers c = λ content found. found_is_compiled (returns-clause-image c).1 content found
+
+pub returns-clause-printed : goal.returns-clause-printed
+returns-clause-printed c = image_again _ _ _ c.read_printed_again.ensures.content _ _ (returns-clause-image c).1

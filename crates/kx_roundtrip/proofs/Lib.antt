@@ -1,0 +1,5 @@
+mod Written
+mod Bodies
+mod Faults
+mod Meaning
+mod Itself

@@ -1,0 +1,10 @@
+pub mod Bodies
+pub mod Keycodes
+pub mod Single
+pub mod Alone
+pub mod Order
+pub mod Section
+pub mod Silent
+pub mod Offered
+pub mod Codes
+pub mod Sources

@@ -1,0 +1,15 @@
+pub mod Pushed
+pub mod Groups
+pub mod Keysyms
+pub mod ActionMasks
+pub mod Actions
+pub mod KeyShown
+pub mod KeyLists
+pub mod KeySettings
+pub mod KeyFaults
+pub mod KeyOffers
+pub mod KeyStatements
+pub mod Keys
+pub mod ModifierMaps
+pub mod KeySection
+pub mod ActionLocks

@@ -1,0 +1,6 @@
+pub mod ResolvingMasks
+pub mod ResolvingTypes
+pub mod ResolvingKeys
+pub mod ResolvingOrder
+pub mod ResolvingDeeds
+pub mod Resolving

@@ -1,0 +1,4 @@
+pub mod Joined
+pub mod Tables
+pub mod TablesHold
+pub mod TablesLists

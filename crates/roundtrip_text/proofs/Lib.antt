@@ -1,0 +1,11 @@
+pub mod Lines
+pub mod Bits
+pub mod Blocks
+pub mod Keysyms
+pub mod Actions
+pub mod Keys
+pub mod ModifierMaps
+pub mod Types
+pub mod Indicators
+pub mod GroupNames
+pub mod Sections

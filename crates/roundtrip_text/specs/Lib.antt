@@ -1,0 +1,9 @@
+pub mod Spelled
+pub mod Bits
+pub mod KeyPhrases
+pub mod Keys
+pub mod ModifierMaps
+pub mod Types
+pub mod Indicators
+pub mod GroupNames
+pub mod Sections
