@@ -1,28 +1,20 @@
-//! Tests of the program's calls: sources compiled and sessions answered, devices, printed faults and their places.
+//! Tests of the public calls of `kx_tool`, `kx_headline`, `kx_run` and `kx_print` that need devices or values: failing readers and
+//! writers, the lines of faults, a keymap of as many keys as there are codes, keyboards and followers, and printed texts by chance.
+//! What a source gives stands in the files of cases.
 #![tactic(auto)]
 
-#[cfg(test)]
-mod answers;
 #[cfg(test)]
 mod faults;
 #[cfg(test)]
 mod headline;
 #[cfg(test)]
-mod images;
-#[cfg(test)]
-mod lamps;
-#[cfg(test)]
-mod limits;
+mod keyboards;
 #[cfg(test)]
 mod many;
 #[cfg(test)]
-mod nesting;
-#[cfg(test)]
 mod places;
 #[cfg(test)]
-mod refused;
-#[cfg(test)]
-mod samples;
+mod printing;
 #[cfg(test)]
 mod sessions;
 #[cfg(test)]

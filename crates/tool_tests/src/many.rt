@@ -1,5 +1,4 @@
 //! As many keys and types as there can be.
-use crate::limits::repeated;
 use crate::sources::{builtin, no_files};
 use kx_tool::compile;
 use std::alloc::{AllocError, Global};
@@ -10,6 +9,33 @@ const COUNT: u32 = 4096;
 
 /// The bytes of the names of all keys, and of all types.
 const NAME_BYTES: u32 = 19_370;
+
+/// A piece of text in which this number stands for each `#`.
+fn numbered(alloc: Global, piece: &str, number: u32) -> Result<String, AllocError> {
+    let digits = number.to_string(alloc)?;
+    piece.replace(alloc, "#", digits.as_str())
+}
+
+/// A text, a piece that is numbered and repeated, and a text behind it.
+fn repeated(
+    alloc: Global,
+    front: &str,
+    piece: &str,
+    count: u32,
+    back: &str,
+) -> Result<String, AllocError> {
+    let is_numbered = piece.contains("#");
+    let mut source = String::from_str(alloc, front)?;
+    for number in 0..count {
+        if is_numbered {
+            source.push_str(numbered(alloc, piece, number)?.as_str())?;
+        } else {
+            source.push_str(piece)?;
+        }
+    }
+    source.push_str(back)?;
+    Ok(source)
+}
 
 /// A keymap of keys, each of a type of its own.
 fn source(alloc: Global) -> Result<String, AllocError> {

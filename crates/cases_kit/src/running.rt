@@ -1,0 +1,115 @@
+//! Cases are run line by line.
+use crate::case::Case;
+use crate::entries::{Entry, entries_in};
+use crate::trouble::Trouble;
+use std::alloc::{AllocError, Global};
+use std::rt::{Env, Files as FileSystem};
+use std::{env, fs};
+
+/// What cases are about.
+pub trait Subject {
+    /// What a case gives where a line with this word tells it; nothing where none does. Of what is wanted stand there the
+    /// words that say what to show.
+    fn shown(
+        &self,
+        alloc: Global,
+        case: &Case,
+        word: &str,
+        wanted: &str,
+    ) -> Result<Option<String>, Trouble>;
+}
+
+/// How many lines were compared, and how many of them differ.
+#[derive(Clone, Copy)]
+struct Tally {
+    compared: u32,
+    other: u32,
+}
+
+/// What a line wants: of bytes, the digits without the blanks and line feeds between them.
+fn wanted_of(alloc: Global, entry: &Entry) -> Result<String, AllocError> {
+    let is_bytes = entry.word == "image" || entry.word == "bytes";
+    let mut wanted = String::new(alloc);
+    for part in entry
+        .text
+        .split(|letter| is_bytes && (letter == ' ' || letter == '\n'))
+    {
+        wanted.push_str(part)?;
+    }
+    Ok(wanted)
+}
+
+/// What a case gives where a line with this word tells it: of a source with a fault, that fault.
+fn found_in<S: Subject>(
+    alloc: Global,
+    subject: &S,
+    case: &Case,
+    entry: &Entry,
+    wanted: &str,
+) -> Result<String, Trouble> {
+    match subject.shown(alloc, case, entry.word, wanted) {
+        Ok(Some(found)) => Ok(found),
+        Ok(None) => Err(Trouble::Line(entry.line)),
+        Err(Trouble::Fault(fault)) => Ok(format!(in alloc; "{fault}")?),
+        Err(trouble) => Err(trouble),
+    }
+}
+
+/// Compares what a case gives with what a line wants, and prints where they differ.
+fn compare<S: Subject>(
+    rt: &(impl Print + AllocGlobal),
+    subject: &S,
+    path: &str,
+    case: &Case,
+    entry: &Entry,
+) -> Result<bool, Trouble> {
+    let wanted = wanted_of(rt.alloc(), entry)?;
+    let found = found_in(rt.alloc(), subject, case, entry, wanted.as_str())?;
+    let is_other = found.as_str().trim_end() != wanted.as_str().trim_end();
+    if is_other {
+        let line = entry.line;
+        let word = entry.word;
+        println!(rt; "{path}:{line}: {word}\n  wanted {wanted}\n  found  {found}")?;
+    }
+    Ok(is_other)
+}
+
+/// Runs the cases of a file, and prints what differs and how many lines were compared.
+fn run_file<S: Subject>(
+    rt: &(impl Print + AllocGlobal),
+    subject: &S,
+    path: &str,
+    text: &str,
+) -> Result<(), Trouble> {
+    let entries = entries_in(rt.alloc(), text)?;
+    let mut case = Case::new(rt.alloc())?;
+    let mut tally = Tally {
+        compared: 0,
+        other: 0,
+    };
+    for entry in entries.as_slice() {
+        if !case.take(rt.alloc(), entry.word, entry.text.as_str())? {
+            let is_other = compare(rt, subject, path, &case, entry)?;
+            tally = Tally {
+                compared: tally.compared.saturating_add(1),
+                other: tally.other.saturating_add(u32::from(is_other)),
+            };
+        }
+    }
+    let Tally { compared, other } = tally;
+    println!(rt; "{path}: {compared} lines, {other} of them otherwise")?;
+    Ok(())
+}
+
+/// Runs the cases of each file that the words of the program name, and prints what differs and how many lines were compared.
+pub fn run_files<S: Subject>(
+    rt: &(impl Env + FileSystem + Print + AllocGlobal),
+    subject: &S,
+) -> Result<(), Trouble> {
+    let words: Vec<String> = env::args(rt)?.collect(rt.alloc())?;
+    for path in words.iter().skip(1) {
+        let text = fs::read_to_string(rt, path.as_str())?;
+        run_file(rt, subject, path.as_str(), text.as_str())?;
+    }
+    Ok(())
+}

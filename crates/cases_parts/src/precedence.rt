@@ -1,0 +1,228 @@
+//! Rows of precedence, on records with a cell a group, which keycode statements fill: `<A>=1` gives 1 to the first group
+//! of the record A, and `<A>=0` names it and gives nothing. Each statement that is read is noted.
+ghost use Rattle.std.specs.Prelude.{◌≡◌, ℕ, ◌∷◌, [], slice_index, unwrap_or, IfOk, IfErr};
+ghost use Rattle.std.proofs.Common.{◌∙◌, ap, eqb-true, sym};
+ghost use Rattle.kx_lex.specs.declared.fault.Fault.TheVariants.{Memory};
+ghost use Rattle.kx_parse.specs.declared.tree.Mode.{Mode as ModeValue};
+ghost use Rattle.kx_merge.specs.Moved.{moved_value};
+ghost use Rattle.kx_merge.specs.Offers.{taken};
+ghost use Rattle.kx_merge.specs.Records.{AreOffered};
+ghost use Rattle.cases_parts.specs.Sheet.{keycode_in, sheet_cell, sheet_moves, sheet_offer, sheet_rules};
+
+use crate::sources::{bodies_of, library_of, text_of};
+use cases_kit::{Case, Trouble};
+use kx_include::{Expansion, Place};
+use kx_lex::Fault;
+use kx_merge::{Fields, Merged, merge};
+use kx_parse::{Item, Mode, Statement};
+use std::alloc::Global;
+use std::fmt::Write;
+
+/// The values of two groups.
+#[derive(Debug, Drop)]
+struct Sheet {
+    one: Option<u32>,
+    two: Option<u32>,
+}
+
+/// What a value under a mode makes of the one before it.
+fn taken(mode: Mode, old: Option<u32>, new: Option<u32>) -> Option<u32>
+    ensures { result ≡ taken mode old new }
+{
+    match mode {
+        Mode::Augment => old.or(new),
+        Mode::Override => new.or(old),
+        Mode::Replace => new,
+    }
+}
+
+fn first_byte(name: &[u8]) -> u8
+    ensures { result ≡ slice_index name.now 0 }
+{
+    match name.first() {
+        Some(byte) => *byte,
+        None => 0,
+    }
+}
+
+/// The first byte of the name and the number of a keycode statement.
+fn keycode_in(statement: &Statement) -> Option<(u8, u32)>
+    ensures { result ≡ keycode_in statement.now }
+{
+    match statement {
+        Statement::Keycode { name, code } => Some((first_byte(name.as_slice()), code.value)),
+        Statement::Alias { .. } => None,
+        Statement::IndicatorName { .. } => None,
+        Statement::VirtualModifiers(_) => None,
+        Statement::KeyType { .. } => None,
+        Statement::Interpretation { .. } => None,
+        Statement::Indicator { .. } => None,
+        Statement::Group { .. } => None,
+        Statement::Key { .. } => None,
+        Statement::ModifierMap { .. } => None,
+        Statement::Field(_) => None,
+    }
+}
+
+impl Sheet {
+    /// The values of the two groups where the map is moved to a group.
+    fn moved(&self, group: Option<u8>) -> (Option<u32>, Option<u32>)
+        ensures { (c : ℕ) → sheet_cell result.0 result.1 c ≡ moved_value sheet_moves group (sheet_cell self.now.one self.now.two) c }
+    {
+        match group {
+            None => (self.one, self.two),
+            Some(1) => (self.one, None),
+            Some(2) => (None, self.one),
+            Some(_) => (None, None),
+        }
+    }
+}
+
+/// The record that a keycode statement gives.
+#[tactic(auto, using(crate::proofs::Sheets::one_offered))]
+fn one_sheet(alloc: Global, key: u8, number: u32) -> Result<Vec<(u8, Sheet)>, Fault>
+    ensures given { (mode : ModeValue) → IfOk result (λ records. AreOffered mode (λ s c. sheet_cell s.one s.two c) (λ s g. 0) records.items (sheet_offer mode key number ∷ [])) }
+    ensures err { IfErr result (λ e. e ≡ Memory) }
+{
+    let one = if number == 0 { None } else { Some(number) };
+    let mut records = Vec::new(alloc);
+    records.push((key, Sheet { one, two: None }))?;
+    Ok(records)
+}
+
+/// No records.
+#[tactic(auto, using(crate::proofs::Sheets::nothing_offered))]
+fn no_sheets(alloc: Global) -> Vec<(u8, Sheet)>
+    ensures { (mode : ModeValue) → AreOffered mode (λ s c. sheet_cell s.one s.two c) (λ s g. 0) result.items [] }
+{
+    Vec::new(alloc)
+}
+
+impl Fields<()> for Sheet {
+    type Key = u8;
+
+    type Cell = u8;
+
+    type Value = u32;
+
+    type Defaults = ();
+
+    type Notes = u32;
+
+    ghost rules = { λ context. sheet_rules };
+
+    ghost moves = { sheet_moves };
+
+    ghost cell = { λ s c. sheet_cell s.one s.two c };
+
+    ghost width = { λ s g. 0 };
+
+    fn start(_alloc: Global, _context: &()) {}
+
+    fn next(_alloc: Global, _context: &(), _defaults: (), _item: &Item) -> Result<(), Fault> {
+        Ok(())
+    }
+
+    fn read(
+        alloc: Global,
+        _context: &(),
+        _defaults: &(),
+        _place: Place,
+        item: &Item,
+        notes: &mut u32,
+    ) -> Result<Vec<(u8, Sheet)>, Fault> {
+        *notes = notes.saturating_add(1);
+        match item {
+            Item::Include { .. } => Ok(no_sheets(alloc)),
+            Item::Statement { statement, .. } => match keycode_in(statement) {
+                None => Ok(no_sheets(alloc)),
+                Some((key, number)) => one_sheet(alloc, key, number),
+            },
+        }
+    }
+
+    fn absorb(&mut self, _alloc: Global, other: Sheet, mode: Mode) -> Result<(), Fault> {
+        self.one = taken(mode, self.one, other.one);
+        self.two = taken(mode, self.two, other.two);
+        Ok(())
+    }
+
+    fn none(_alloc: Global) -> Sheet {
+        Sheet {
+            one: None,
+            two: None,
+        }
+    }
+
+    fn absorb_moved(
+        &mut self,
+        _alloc: Global,
+        other: &Sheet,
+        group: Option<u8>,
+        mode: Mode,
+    ) -> Result<(), Fault> {
+        let (one, two) = other.moved(group);
+        self.one = taken(mode, self.one, one);
+        self.two = taken(mode, self.two, two);
+        Ok(())
+    }
+
+    fn key_in(key: &u8, _group: Option<u8>) -> Option<u8> {
+        Some(*key)
+    }
+
+    fn no_notes() -> u32 {
+        0
+    }
+
+    fn add_notes(notes: &mut u32, other: &u32) {
+        *notes = notes.saturating_add(*other);
+    }
+
+    ghost apart = { λ n j k to one two. ap (λ key. unwrap_or key 0) (one ∙ sym two) };
+
+    ghost same = { λ j k e. eqb-true j k e };
+}
+
+/// A box with what the bodies of some sections are merged to.
+fn records_of(alloc: Global, body: &Expansion) -> Result<Box<Merged<u8, Sheet, u32>>, Fault> {
+    Ok(Box::new(alloc, merge::<(), Sheet>(alloc, &(), body)?)?)
+}
+
+/// Puts a record: its name, and the values of its two groups, with `-` for none.
+fn push_sheet(all: &mut String, name: u8, sheet: &Sheet) -> Result<(), Trouble> {
+    let name = [name];
+    let name = text_of(&name);
+    write!(all, " {name}")?;
+    for value in [sheet.one, sheet.two] {
+        match value {
+            Some(number) => write!(all, "/{number}")?,
+            None => all.push_str("/-")?,
+        }
+    }
+    Ok(())
+}
+
+/// The notes and the records of merged bodies.
+fn text(alloc: Global, kind: &str, merged: &Merged<u8, Sheet, u32>) -> Result<String, Trouble> {
+    let mut all = String::new(alloc);
+    let notes = merged.notes;
+    write!(all, "{kind}: {notes}")?;
+    for (name, sheet) in merged.records.iter() {
+        push_sheet(&mut all, *name, sheet)?;
+    }
+    Ok(all)
+}
+
+/// How many statements of symbols or of types, the kind before the colon, were read, and each record in order.
+pub fn shown(alloc: Global, case: &Case, wanted: &str) -> Result<String, Trouble> {
+    let (kind, _records) = wanted.split_once(":").unwrap_or((wanted, ""));
+    let library = library_of(alloc, case)?;
+    let bodies = bodies_of(alloc, &library)?;
+    let merged = if kind == "types" {
+        records_of(alloc, &bodies.types)?
+    } else {
+        records_of(alloc, &bodies.symbols)?
+    };
+    text(alloc, kind, &merged)
+}

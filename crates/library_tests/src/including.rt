@@ -1,0 +1,182 @@
+use kx_include::{Bodies, Entry, Expansion, Files, Library, Link, Place, include_parts};
+use kx_lex::Fault;
+use kx_parse::{Kind, Mode};
+use std::alloc::Global;
+use std::process::Abort;
+use std::test::Fail;
+
+// What owns much memory stands in a box: a function that holds it is proved much sooner.
+
+fn add(alloc: Global, files: &mut Files, name: &[u8], bytes: &[u8]) -> Result<(), Fault> {
+    let name = Vec::from_slice(alloc, name)?;
+    let bytes = Vec::from_slice(alloc, bytes)?;
+    files.insert(name, bytes)
+}
+
+/// The files handed in under these names.
+fn handed(rt: &impl AllocGlobal, given: &[(&[u8], &[u8])]) -> Result<Box<Files>, Fail> {
+    let mut files = Box::new(rt.alloc(), Files::new(rt.alloc()))?;
+    for (name, bytes) in given {
+        add(rt.alloc(), &mut files, name, bytes)?;
+    }
+    Ok(files)
+}
+
+fn library_of<'f>(alloc: Global, text: &[u8], files: &'f Files) -> Result<Box<Library<'f>>, Fault> {
+    Ok(Box::new(alloc, Library::of_source(alloc, text, files)?)?)
+}
+
+fn bodies_of<'l>(alloc: Global, library: &'l Library) -> Result<Box<Bodies<'l>>, Fault> {
+    Ok(Box::new(alloc, library.expand(alloc)?)?)
+}
+
+/// A source whose symbols are these items, which begin at byte 27.
+fn symbols_of(rt: &(impl Abort + AllocGlobal), items: &[u8]) -> Result<Vec<u8>, Fail> {
+    let before = b"xkb_keymap { xkb_symbols { ".as_slice();
+    Ok([before, items, b" }; };".as_slice()].concat(rt.alloc())?)
+}
+
+/// A text so many times, one behind another.
+fn repeated(rt: &(impl Abort + AllocGlobal), times: usize, text: &[u8]) -> Result<Vec<u8>, Fail> {
+    let mut all = Vec::new(rt.alloc());
+    for _ in 0..times {
+        all.extend_from_slice(text)?;
+    }
+    Ok(all)
+}
+
+/// Asserts that the one section of a body includes one map, the first of the file 1, 4,096 times.
+fn stands_once(rt: &impl Abort, symbols: &Expansion) {
+    assert!(rt; symbols.maps.len() == 1);
+    let map = &symbols.maps[0];
+    assert!(rt;
+        map.place
+            == Place {
+                file: 1,
+                section: 0
+            }
+    );
+    assert!(rt; map.entries.len() == 1);
+    assert!(rt; symbols.sections.len() == 1);
+    assert!(rt; symbols.sections[0].entries.len() == 4096);
+}
+
+#[test]
+fn a_map_stands_once_however_often_it_is_included(rt: HostRuntime) -> Result<(), Fail> {
+    let us = b"xkb_symbols { key <A> { [ a ] }; };".as_slice();
+    let files = handed(&rt, &[(b"us".as_slice(), us)])?;
+    let items = repeated(&rt, 4096, b"include \"us\" ")?;
+    let text = symbols_of(&rt, items.as_slice())?;
+    let library = library_of(rt.alloc(), text.as_slice(), &files)?;
+    let bodies = bodies_of(rt.alloc(), &library)?;
+    stands_once(&rt, &bodies.symbols);
+    Ok(())
+}
+
+/// The mode and the links of the include that a body begins with.
+fn first_include<'b>(body: &'b Expansion) -> Option<(Mode, &'b [Link])> {
+    let section = body.sections.first()?;
+    match section.entries.first()? {
+        Entry::Own(_) => None,
+        Entry::Include { mode, links } => Some((*mode, links.as_slice())),
+    }
+}
+
+/// Asserts that an include augments, by the first map in three groups.
+fn is_in_three_groups(rt: &impl Abort, include: Option<(Mode, &[Link])>) {
+    let (mode, links) = include.expect(rt, "no include");
+    assert!(rt; mode == Mode::Augment);
+    let wanted = [
+        (Mode::Override, None),
+        (Mode::Override, Some(2)),
+        (Mode::Augment, Some(3)),
+    ];
+    assert!(rt; links.len() == wanted.len());
+    for (link, (mode, group)) in links.iter().zip(wanted) {
+        assert!(rt; link.mode == mode);
+        assert!(rt; link.group == group);
+        assert!(rt; link.map == 0);
+    }
+}
+
+#[test]
+fn a_map_in_three_groups_has_three_links(rt: HostRuntime) -> Result<(), Fail> {
+    let us = b"xkb_symbols { };".as_slice();
+    let files = handed(&rt, &[(b"us".as_slice(), us)])?;
+    let text = symbols_of(&rt, b"augment \"us+us:2|us:3\"")?;
+    let library = library_of(rt.alloc(), text.as_slice(), &files)?;
+    let bodies = bodies_of(rt.alloc(), &library)?;
+    is_in_three_groups(&rt, first_include(&bodies.symbols));
+    Ok(())
+}
+
+/// The map that the one part of an include names.
+fn place_named(
+    rt: &(impl Abort + AllocGlobal),
+    library: &Library,
+    kind: Kind,
+    name: &[u8],
+) -> Result<Option<Place>, Fail> {
+    let parts = include_parts(rt.alloc(), name)?.unwrap_or(Vec::new(rt.alloc()));
+    assert!(rt; parts.len() == 1);
+    Ok(library.place_of(rt.alloc(), kind, &parts[0])?)
+}
+
+fn finds_maps(rt: &(impl Abort + AllocGlobal), library: &Library) -> Result<(), Fail> {
+    let rows: [(Kind, &[u8], Option<Place>); 6] = [
+        (
+            Kind::Symbols,
+            b"us",
+            Some(Place {
+                file: 2,
+                section: 1,
+            }),
+        ),
+        (
+            Kind::Types,
+            b"us",
+            Some(Place {
+                file: 1,
+                section: 1,
+            }),
+        ),
+        (Kind::Compat, b"us", None),
+        (
+            Kind::Symbols,
+            b"symbols/us(z)",
+            Some(Place {
+                file: 2,
+                section: 1,
+            }),
+        ),
+        (Kind::Symbols, b"us(x)", None),
+        (Kind::Types, b"nope", None),
+    ];
+    for (kind, name, wanted) in rows {
+        assert!(rt; place_named(rt, library, kind, name)? == wanted);
+    }
+    let first = Place {
+        file: 1,
+        section: 0,
+    };
+    assert!(rt; library.sections_in(1).len() == 4);
+    assert!(rt; library.items_in(first).len() == 0);
+    Ok(())
+}
+
+#[test]
+fn maps_by_name_and_without(rt: HostRuntime) -> Result<(), Fail> {
+    let us =
+        b"xkb_symbols \"x\" {}; xkb_types {}; default xkb_symbols \"y\" {}; xkb_symbols \"x\" {};";
+    let given = [
+        (b"us".as_slice(), us.as_slice()),
+        (
+            b"symbols/us".as_slice(),
+            b"xkb_types {}; xkb_symbols \"z\" {};".as_slice(),
+        ),
+    ];
+    let files = handed(&rt, &given)?;
+    assert!(rt; files.len() == 2);
+    let library = library_of(rt.alloc(), b"xkb_keymap { };", &files)?;
+    finds_maps(&rt, &library)
+}

@@ -1,0 +1,176 @@
+use kx_lex::{Fault, Span, lex};
+use kx_parse::{Item, Kind, Mode, Statement, Tree, parse};
+use std::alloc::Global;
+use std::process::Abort;
+use std::test::Fail;
+
+/// A source's tree; in a box, since a function that holds it is proved much sooner then.
+fn tree_of(alloc: Global, text: &[u8]) -> Result<Box<Tree>, Fault> {
+    let tokens = lex(alloc, text)?;
+    Ok(Box::new(alloc, parse(alloc, text, tokens.as_slice())?)?)
+}
+
+/// What the first section holds.
+fn first_items(tree: &Tree) -> &[Item] {
+    match tree.sections.as_slice() {
+        [first, ..] => first.items.as_slice(),
+        [] => &[],
+    }
+}
+
+#[test]
+fn geometry_nests_as_deep_as_a_text_allows(rt: HostRuntime) -> Result<(), Fail> {
+    let opened = vec![in rt.alloc(); b'{'; 500_000]?;
+    let closed = vec![in rt.alloc(); b'}'; 500_000]?;
+    let text = [
+        b"xkb_keymap { xkb_geometry ".as_slice(),
+        opened.as_slice(),
+        closed.as_slice(),
+        b"; };".as_slice(),
+    ]
+    .concat(rt.alloc())?;
+    assert!(rt; tree_of(rt.alloc(), text.as_slice()).is_ok());
+    Ok(())
+}
+
+const ONE_KEY: &[u8] = b"xkb_keymap { xkb_keycodes { <A>=38; }; xkb_symbols { key <A> {[a]}; }; };";
+
+const RANGES: &[u8] = b"xkb_keymap { xkb_keycodes { <W>=20; <C>=21; <R>=22; <X>=23; <N>=24; };
+xkb_symbols { key <W> {[a],[b]}; key <C> {[a],[b],groupsClamp};
+key <R> {[a],[b],groupsRedirect=2}; key <X> {[a],[b],groupsRedirect=3};
+key <N> {[c],[d],[e],actions[1]=[LockGroup(group=3)]}; }; };";
+
+const DESKTOP: &[u8] = b"xkb_keymap {
+xkb_keycodes { <AE01>=10; <AC01>=38; <LFSH>=50; <RTSH>=62; <GRP>=64; <CAPS>=66; <LAT>=94; <LVL3>=108; };
+xkb_types { virtual_modifiers LevelThree;
+type \"ONE_LEVEL\" { modifiers=none; };
+type \"TWO_LEVEL\" { modifiers=Shift; map[Shift]=Level2; };
+type \"ALPHABETIC\" { modifiers=Shift+Lock; map[Shift]=Level2; map[Lock]=Level2; };
+type \"FOUR_LEVEL\" { modifiers=Shift+LevelThree; map[Shift]=Level2; map[LevelThree]=Level3;
+map[Shift+LevelThree]=Level4; }; };
+xkb_compat {
+interpret ISO_Level2_Latch+Exactly(Shift) { useModMapMods=level1;
+action=LatchMods(modifiers=Shift,clearLocks,latchToLock); };
+interpret ISO_Level3_Shift+Any { useModMapMods=level1; virtualModifier=LevelThree;
+action=SetMods(modifiers=LevelThree,clearLocks); };
+interpret ISO_Next_Group { useModMapMods=level1; action=LockGroup(group=+1); };
+interpret Caps_Lock+AnyOfOrNone(all) { action=LockMods(modifiers=Lock); };
+interpret Any+Exactly(Lock) { action=LockMods(modifiers=Lock); };
+interpret Any+AnyOf(all) { action=SetMods(modifiers=modMapMods,clearLocks); }; };
+xkb_symbols {
+key <AE01> {[1,exclam,onesuperior,exclamdown]}; key <AC01> {[a,A]};
+key <LFSH> {[Shift_L]}; key <RTSH> {[Shift_R]}; key <GRP> {[ISO_Next_Group]};
+key <CAPS> {[Caps_Lock]}; key <LAT> {[ISO_Level2_Latch]}; key <LVL3> {[ISO_Level3_Shift]};
+modifier_map Shift { <LFSH>, <RTSH>, <LAT> };
+modifier_map Lock { <CAPS> };
+modifier_map Mod5 { <LVL3> }; };
+};
+";
+
+/// Asserts that sections have these kinds and counts of items.
+fn has_sections(rt: &impl Abort, tree: &Tree, kinds: &[Kind], counts: &[usize]) {
+    let sections = tree.sections.as_slice();
+    assert!(rt; sections.len() == kinds.len());
+    for ((section, kind), count) in sections.iter().zip(kinds).zip(counts) {
+        assert!(rt; section.kind == *kind);
+        assert!(rt; section.items.as_slice().len() == *count);
+    }
+}
+
+#[test]
+fn sample_keymaps_have_their_sections(rt: HostRuntime) -> Result<(), Fail> {
+    let samples: [(&[u8], &[Kind], &[usize]); 3] = [
+        (ONE_KEY, &[Kind::Keycodes, Kind::Symbols], &[1, 1]),
+        (RANGES, &[Kind::Keycodes, Kind::Symbols], &[5, 5]),
+        (
+            DESKTOP,
+            &[Kind::Keycodes, Kind::Types, Kind::Compat, Kind::Symbols],
+            &[8, 5, 6, 11],
+        ),
+    ];
+    for (text, kinds, counts) in samples {
+        let tree = tree_of(rt.alloc(), text)?;
+        has_sections(&rt, &tree, kinds, counts);
+    }
+    Ok(())
+}
+
+/// Asserts that items begin with the keycode of `ONE_KEY`.
+fn begin_with_its_code(rt: &impl Abort, items: &[Item]) {
+    let Some(
+        Item::Statement {
+            mode,
+            statement: Statement::Keycode { name, code },
+            first,
+            span,
+        },
+    ) = items.first()
+    else {
+        assert!(rt; false);
+        return;
+    };
+    assert!(rt; *mode == Mode::Override);
+    assert!(rt; name.as_slice() == b"A".as_slice());
+    assert!(rt;
+        name.span()
+            == Span {
+                start: 28,
+                stop: 31
+            }
+    );
+    assert!(rt; code.value == 38);
+    assert!(rt;
+        *first
+            == Span {
+                start: 28,
+                stop: 31
+            }
+    );
+    assert!(rt;
+        *span
+            == Span {
+                start: 28,
+                stop: 35
+            }
+    );
+}
+
+#[test]
+fn trees_keep_bytes_values_and_places(rt: HostRuntime) -> Result<(), Fail> {
+    let tree = tree_of(rt.alloc(), ONE_KEY)?;
+    begin_with_its_code(&rt, first_items(&tree));
+    Ok(())
+}
+
+/// Asserts that the words of items stand from and to these bytes.
+fn words_stand(rt: &impl Abort, items: &[Item], wanted: &[(u32, u32)]) {
+    assert!(rt; items.len() == wanted.len());
+    for (item, (start, stop)) in items.iter().zip(wanted) {
+        let span = Span {
+            start: *start,
+            stop: *stop,
+        };
+        assert!(rt; item.word_span() == span);
+    }
+}
+
+#[test]
+fn faults_of_unknown_fields_name_their_words(rt: HostRuntime) -> Result<(), Fail> {
+    let tree = tree_of(
+        rt.alloc(),
+        b"xkb_keymap { xkb_symbols { include \"us\" !a.b; augment key <A> {}; }; };",
+    )?;
+    words_stand(&rt, first_items(&tree), &[(27, 39), (41, 42), (54, 57)]);
+    Ok(())
+}
+
+#[test]
+fn kinds_of_sections(rt: HostRuntime) -> Result<(), Fail> {
+    let text = b"xkb_keymap { xkb_types { }; xkb_compat { }; };".as_slice();
+    let tree = tree_of(rt.alloc(), text)?;
+    let sections = tree.sections.as_slice();
+    assert!(rt; sections.len() == 2);
+    assert!(rt; matches!(sections[0].kind, Kind::Types));
+    assert!(rt; matches!(sections[1].kind, Kind::Compat));
+    Ok(())
+}
