@@ -1,4 +1,5 @@
 //! Files that are written whole or not at all.
+use std::alloc::{AllocError, Global};
 use std::fs::File;
 use std::io::Write;
 use std::rt::Files as FileSystem;
@@ -39,7 +40,19 @@ fn put_in_place(rt: &impl FileSystem, beside: &str, path: &str) -> io::Result<()
     }
 }
 
-/// Writes a file: beside it first, as `PATH.part`, and then in its place, so that it is never cut.
+/// How many names of a new file beside another are tried.
+const MOST_PARTS: u32 = 10;
+
+/// The name of a new file beside another: `PATH.part`, then `PATH.part1` and so on.
+fn part_of(alloc: Global, path: &str, number: u32) -> Result<String, AllocError> {
+    match number {
+        0 => format!(in alloc; "{path}.part"),
+        _ => format!(in alloc; "{path}.part{number}"),
+    }
+}
+
+/// Writes a file: beside it first, and then in its place, so that it is never cut. A part that is there already is left
+/// alone, since it may be another's: another run writes it, or left it where it was killed.
 pub fn write_whole(
     rt: &(impl FileSystem + AllocGlobal),
     path: &str,
@@ -48,7 +61,13 @@ pub fn write_whole(
     if !is_replaced(rt, path) {
         return fs::write(rt, path, bytes);
     }
-    let beside = format!(in rt.alloc(); "{path}.part")?;
-    write_new(rt, beside.as_str(), bytes)?;
-    put_in_place(rt, beside.as_str(), path)
+    for number in 0..MOST_PARTS {
+        let beside = part_of(rt.alloc(), path, number)?;
+        match write_new(rt, beside.as_str(), bytes) {
+            Ok(()) => return put_in_place(rt, beside.as_str(), path),
+            Err(fault) if fault.kind() == io::ErrorKind::AlreadyExists => {}
+            Err(fault) => return Err(fault),
+        }
+    }
+    Err(io::Error::from(io::ErrorKind::AlreadyExists))
 }

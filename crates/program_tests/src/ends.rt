@@ -4,7 +4,7 @@ use kx_lex::Fault;
 use kx_program::{Failure, run, run_words, task_in, write_whole};
 use kx_tool::ReplayFault;
 use std::test::Fail;
-use std::{env, fs};
+use std::{env, fs, process};
 
 /// The line with which the task of words ends early.
 fn ends(rt: &HostRuntime, line: &str) -> Result<String, Fail> {
@@ -75,20 +75,44 @@ fn programs_end_with_their_status(rt: HostRuntime) -> Result<(), Fail> {
     Ok(())
 }
 
+/// A new folder, which no other run of the tests has.
+fn new_folder(rt: &HostRuntime) -> Result<String, Fail> {
+    let temporary = env::temp_dir(rt)?;
+    let id = process::id(rt.process());
+    let folder = format!(in rt.alloc(); "{}/xkc_tests_{id}", temporary.as_path().as_str())?;
+    if fs::exists(rt, folder.as_str())? {
+        fs::remove_dir_all(rt, folder.as_str())?;
+    }
+    fs::create_dir(rt, folder.as_str())?;
+    Ok(folder)
+}
+
 #[test]
 fn files_are_written_whole(rt: HostRuntime) -> Result<(), Fail> {
-    let folder = env::temp_dir(&rt)?;
-    let path = folder.as_path().join(rt.alloc(), "xkc_written_whole")?;
-    let path = path.as_path();
-    let part = folder.as_path().join(rt.alloc(), "xkc_written_whole.part")?;
+    let folder = new_folder(&rt)?;
+    let path = format!(in rt.alloc(); "{folder}/image")?;
+    let path = path.as_str();
     fs::write(&rt, path, b"old".as_slice())?;
-    fs::create_dir(&rt, part.as_path())?;
-    assert!(rt; write_whole(&rt, path.as_str(), b"new").is_err());
-    assert!(rt; fs::read(&rt, path)?.as_slice() == b"old".as_slice());
-    fs::remove_dir(&rt, part.as_path())?;
-    write_whole(&rt, path.as_str(), b"newer")?;
+    // What stands beside it is left alone, whatever it is.
+    let part = format!(in rt.alloc(); "{path}.part")?;
+    fs::create_dir(&rt, part.as_str())?;
+    let first = format!(in rt.alloc(); "{path}.part1")?;
+    fs::write(&rt, first.as_str(), b"other".as_slice())?;
+    write_whole(&rt, path, b"new")?;
+    assert!(rt; fs::read(&rt, path)?.as_slice() == b"new".as_slice());
+    assert!(rt; fs::read(&rt, first.as_str())?.as_slice() == b"other".as_slice());
+    // Of the names beside it that are tried none is free.
+    for number in 2..10 {
+        let next = format!(in rt.alloc(); "{path}.part{number}")?;
+        assert!(rt; !fs::exists(&rt, next.as_str())?);
+        fs::write(&rt, next.as_str(), b"other".as_slice())?;
+    }
+    assert!(rt; write_whole(&rt, path, b"newer").is_err());
+    assert!(rt; fs::read(&rt, path)?.as_slice() == b"new".as_slice());
+    fs::remove_dir(&rt, part.as_str())?;
+    write_whole(&rt, path, b"newer")?;
     assert!(rt; fs::read(&rt, path)?.as_slice() == b"newer".as_slice());
-    assert!(rt; !part.as_path().exists(&rt));
-    fs::remove_file(&rt, path)?;
+    assert!(rt; !fs::exists(&rt, part.as_str())?);
+    fs::remove_dir_all(&rt, folder.as_str())?;
     Ok(())
 }

@@ -1,5 +1,6 @@
 //! Sessions over devices.
 mod devices;
+mod once;
 mod prompt;
 
 const SAMPLE: &[u8] =

@@ -10,16 +10,16 @@ use std::io;
 use std::test::Fail;
 
 /// The image of the sample in version 1.
-const IMAGE: [u8; 94] = [
+pub const IMAGE: [u8; 94] = [
     0x4b, 0x58, 0x49, 0x0a, 1, 0, 1, 0, 1, 0, 1, 0, 0, 0, 0, 0, 1, 0, 0, 0, 1, 0, 0, 0, 10, 0, 0,
     0, 0, 1, 0, 0, 9, 0, 0, 0, 0, 0, 0, 0, 0, 0, 0, 0, 0x26, 0, 0, 0, 0, 1, 1, 0, 9, 0, 0, 0, 0, 0,
     0, 0, 0, 0, 0, 0, 0, 0, 0, 0, 1, 0, 0, 0, 0, 0, 0, 0, 0, 0, 0, 0, 0x61, 0, 0, 0, 0x4f, 0x4e,
     0x45, 0x5f, 0x4c, 0x45, 0x56, 0x45, 0x4c, 0x41,
 ];
 
-const LINES: &[u8] = b"down 38\n\nup 38\ndown 9";
+pub const LINES: &[u8] = b"down 38\n\nup 38\ndown 9";
 
-const ANSWERS: &[u8] =
+pub const ANSWERS: &[u8] =
     b"38 down a consumed=none base=none latched=none locked=none group=1\n38 up a consumed=none base=none latched=none locked=none group=1\n9 down ? consumed=none base=none latched=none locked=none group=1\n";
 
 /// A reader that gives line feeds, and ends only where they can't be counted.
@@ -71,11 +71,12 @@ fn replay_refuses_what_is_no_image(rt: HostRuntime) -> Result<(), Fail> {
     Ok(())
 }
 
+/// Readers fail at each byte, and behind the last in place of the end.
 #[test]
 fn readers_that_fail_at_each_byte(rt: HostRuntime) -> Result<(), Fail> {
     let names = builtin(rt.alloc())?;
     let files = no_files(rt.alloc())?;
-    for place in 0..LINES.len() {
+    for place in 0..=LINES.len() {
         let mut feed = MemFeed::new(LINES).failing_after(place);
         let mut room = [0u8; 512];
         let mut out = MemOut::new(&mut room);
@@ -84,7 +85,7 @@ fn readers_that_fail_at_each_byte(rt: HostRuntime) -> Result<(), Fail> {
         assert!(rt; ANSWERS.starts_with(out.written()), "at {place}");
     }
     let input = [SAMPLE, b"%%\n".as_slice(), LINES].concat(rt.alloc())?;
-    for place in 0..input.len() {
+    for place in 0..=input.len() {
         let mut feed = MemFeed::new(input.as_slice()).failing_after(place);
         let mut room = [0u8; 512];
         let mut out = MemOut::new(&mut room);
