@@ -21,9 +21,17 @@ impl<F: Feed> Kept<F> {
         }
     }
 
-    /// The first bytes that were taken, as far as there is memory for them.
-    pub fn bytes(&self) -> &[u8] {
-        self.bytes.as_slice()
+    /// The source among the first bytes that were taken, as far as there is memory for them: all before a line `%%`.
+    pub fn source(&self) -> &[u8] {
+        let bytes = self.bytes.as_slice();
+        let mut start: usize = 0;
+        for line in bytes.split(|byte| *byte == b'\n') {
+            if line == b"%%".as_slice() {
+                return bytes.get(..start).unwrap_or(bytes);
+            }
+            start = start.saturating_add(line.len()).saturating_add(1);
+        }
+        bytes
     }
 }
 

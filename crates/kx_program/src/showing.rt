@@ -1,7 +1,9 @@
-//! What a layout author sees of a fault on standard error: where it stands, what it means, and the line of the text
-//! with a mark.
+//! What a layout author sees of a fault on standard error: where it stands, what is wrong, the line of the text with a
+//! mark, and the includes that led there.
+use kx_explain::{Explanation, Text, Texts, explain, place_of, plain_message, write_shown};
 use kx_lex::{At, Fault};
 use kx_tool::locate;
+use std::alloc::Global;
 use std::fmt;
 use std::fmt::{Formatter, Write};
 
@@ -11,59 +13,38 @@ const MOST_BEFORE: usize = 60;
 /// How many bytes of a line are shown from a mark on.
 const MOST_BEHIND: usize = 100;
 
-/// A fault, and the text in which it stands with its path.
-#[derive(Clone, Copy, Debug)]
+/// A fault, and the texts in which it is found.
+#[derive(Debug, Drop)]
 pub struct Shown<'a> {
-    pub fault: Fault,
-    pub path: &'a str,
-    pub text: &'a [u8],
+    fault: Fault,
+    texts: Texts<'a>,
+    /// What is wrong; nothing, where no memory is left to say it.
+    explanation: Option<Explanation>,
 }
 
-/// Where a fault stands; want of memory stands nowhere.
-pub fn fault_place(fault: Fault) -> Option<At> {
-    match fault {
-        Fault::Memory => None,
-        Fault::TooLong(at)
-        | Fault::BadByte(at)
-        | Fault::OpenString(at)
-        | Fault::OpenKeyName(at)
-        | Fault::Syntax(at)
-        | Fault::NumberTooBig(at)
-        | Fault::BadInclude(at)
-        | Fault::FileMissing(at)
-        | Fault::MapMissing(at)
-        | Fault::DepthOver16(at)
-        | Fault::UnknownModifier(at)
-        | Fault::TooMany(at)
-        | Fault::UnknownField(at)
-        | Fault::BadValue(at)
-        | Fault::GroupRange(at)
-        | Fault::LevelRange(at)
-        | Fault::CodeRange(at) => Some(at),
+impl<'a> Shown<'a> {
+    /// A fault of texts. Where memory is refused, it is shown as others of its kind.
+    pub fn of(alloc: Global, fault: Fault, texts: Texts<'a>) -> Shown<'a> {
+        Shown {
+            fault,
+            texts,
+            explanation: explain(alloc, fault, texts).ok(),
+        }
     }
-}
 
-/// What a fault means.
-fn meaning_of(fault: Fault) -> &'static str {
-    match fault {
-        Fault::Memory => "no memory is left",
-        Fault::TooLong(_) => "the text has more than 1,048,576 bytes",
-        Fault::BadByte(_) => "no keymap has this byte here",
-        Fault::OpenString(_) => "text that is not closed on its line",
-        Fault::OpenKeyName(_) => "a key name that is not closed",
-        Fault::Syntax(_) => "a keymap does not go on like this",
-        Fault::NumberTooBig(_) => "a number above 4,294,967,295",
-        Fault::BadInclude(_) => "an include that names no files",
-        Fault::FileMissing(_) => "no file of this name is handed in",
-        Fault::MapMissing(_) => "the file has no such map",
-        Fault::DepthOver16(_) => "includes more than 16 deep",
-        Fault::UnknownModifier(_) => "a modifier that is neither real nor declared",
-        Fault::TooMany(_) => "one more than a limit allows",
-        Fault::UnknownField(_) => "nothing that is read here",
-        Fault::BadValue(_) => "a value of the wrong kind or range",
-        Fault::GroupRange(_) => "a group outside its range",
-        Fault::LevelRange(_) => "a level outside 1 to 64",
-        Fault::CodeRange(_) => "a keycode above 4,095",
+    fn message(&self) -> &str {
+        match &self.explanation {
+            Some(explanation) => explanation.message.as_str(),
+            None => plain_message(self.fault),
+        }
+    }
+
+    /// The includes that led to the fault, the innermost first.
+    fn chain(&self) -> &[At] {
+        match &self.explanation {
+            Some(explanation) => explanation.chain.as_slice(),
+            None => &[],
+        }
     }
 }
 
@@ -87,28 +68,6 @@ fn width(bytes: &[u8]) -> usize {
     }
 }
 
-/// Bytes as a terminal may show them: text without control characters.
-fn show<W: Write>(f: &mut Formatter<W>, bytes: &[u8]) -> fmt::Result {
-    match str::from_utf8(bytes) {
-        Ok(text) => {
-            for character in text.chars() {
-                f.write_char(if character.is_control() {
-                    ' '
-                } else {
-                    character
-                })?;
-            }
-        }
-        Err(_) => {
-            for byte in bytes {
-                let is_shown = byte.is_ascii() && !byte.is_ascii_control();
-                f.write_char(if is_shown { char::from(*byte) } else { '?' })?;
-            }
-        }
-    }
-    Ok(())
-}
-
 /// The line in which a place stands, and below it marks from the place on, one at least.
 fn show_line<W: Write>(
     f: &mut Formatter<W>,
@@ -117,8 +76,8 @@ fn show_line<W: Write>(
     length: usize,
 ) -> fmt::Result {
     let (before, behind) = line_around(text, place);
-    show(f, before)?;
-    show(f, behind)?;
+    write_shown(f, before, before.len())?;
+    write_shown(f, behind, behind.len())?;
     f.write_str("\n")?;
     for _ in 0..width(before) {
         f.write_char(' ')?;
@@ -129,19 +88,43 @@ fn show_line<W: Write>(
     f.write_str("\n")
 }
 
+/// The path of a text, and the line and column of a place in it.
+fn show_place<W: Write>(f: &mut Formatter<W>, text: Text, at: At) -> fmt::Result {
+    let path = text.path;
+    let position = locate(text.bytes, at.span.start as usize);
+    let line = position.line;
+    let column = position.column;
+    write!(f, "{path}:{line}:{column}")
+}
+
+/// The include that led to what is shown above.
+fn show_include<W: Write>(f: &mut Formatter<W>, texts: Texts, at: At) -> fmt::Result {
+    let Some(text) = texts.text_of(at.file) else {
+        return Ok(());
+    };
+    f.write_str("included from ")?;
+    show_place(f, text, at)?;
+    f.write_str("\n")
+}
+
 impl fmt::Display for Shown<'_> {
     fn fmt<W: Write>(&self, f: &mut Formatter<W>) -> fmt::Result {
-        let meaning = meaning_of(self.fault);
-        let Some(at) = fault_place(self.fault) else {
-            return writeln!(f, "error: {meaning}");
+        let message = self.message();
+        let place = place_of(self.fault);
+        let Some(at) = place else {
+            return writeln!(f, "error: {message}");
         };
-        let path = self.path;
-        let place = at.span.start as usize;
-        let position = locate(self.text, place);
-        let line = position.line;
-        let column = position.column;
-        writeln!(f, "{path}:{line}:{column}: error: {meaning}")?;
-        let length = (at.span.stop as usize).saturating_sub(place);
-        show_line(f, self.text, place, length)
+        let Some(text) = self.texts.text_of(at.file) else {
+            return writeln!(f, "error: {message}");
+        };
+        show_place(f, text, at)?;
+        writeln!(f, ": error: {message}")?;
+        let start = at.span.start as usize;
+        let length = (at.span.stop as usize).saturating_sub(start);
+        show_line(f, text.bytes, start, length)?;
+        for link in self.chain() {
+            show_include(f, self.texts, *link)?;
+        }
+        Ok(())
     }
 }

@@ -1,15 +1,17 @@
 //! What the program does.
 use crate::keeping::Kept;
-use crate::showing::{Shown, fault_place};
+use crate::showing::Shown;
 use crate::usage::explain;
 use crate::words::{Included, Task, task_in};
 use crate::writing::write_whole;
 use ks_core::{Lent, NameTable, Notes};
+use kx_explain::{Text, Texts};
 use kx_failure::Failure;
 use kx_image::{UpgradeFault, View, upgrade};
 use kx_lex::Fault;
 use kx_print::print;
 use kx_tool::{Files, ReplayFault, SessionFault, compile, dump, replay, session};
+use std::alloc::{AllocError, Global};
 use std::rt::Files as FileSystem;
 use std::{fs, io};
 
@@ -36,44 +38,53 @@ fn read_names<'a>(
     }
 }
 
-/// The files that a source may include.
-fn read_files<'a>(
+/// The bytes of the files that a source may include.
+fn read_included<'a>(
     rt: &(impl FileSystem + AllocGlobal),
     included: &[Included<'a>],
-) -> Result<Files, Failure<'a>> {
-    let mut files = Files::new(rt.alloc());
+) -> Result<Vec<Vec<u8>>, Failure<'a>> {
+    let mut bytes = Vec::new(rt.alloc());
     for file in included {
-        let bytes = read(rt, file.path)?;
-        let name = Vec::from_slice(rt.alloc(), file.name.as_bytes())?;
+        let read_bytes = read(rt, file.path)?;
+        if bytes.push(read_bytes).is_err() {
+            return Err(Failure::from(AllocError));
+        }
+    }
+    Ok(bytes)
+}
+
+/// The files that a source may include, as texts.
+fn texts_of<'t, 'a: 't>(
+    alloc: Global,
+    included: &[Included<'a>],
+    bytes: &'t [Vec<u8>],
+) -> Result<Vec<Text<'t>>, AllocError> {
+    let mut texts = Vec::new(alloc);
+    for (file, bytes) in included.iter().zip(bytes.iter()) {
+        let name = file.name;
+        let path = file.path;
+        let bytes = bytes.as_slice();
+        texts.push(Text { name, path, bytes })?;
+    }
+    Ok(texts)
+}
+
+/// The files that a source may include, as they are handed in. The texts stay, so that a fault can be shown in them.
+fn files_of(alloc: Global, texts: &[Text]) -> Result<Files, AllocError> {
+    let mut files = Files::new(alloc);
+    for text in texts {
+        let name = Vec::from_slice(alloc, text.name.as_bytes())?;
+        let bytes = Vec::from_slice(alloc, text.bytes)?;
         if files.insert(name, bytes).is_err() {
-            return Err(Failure::from(std::alloc::AllocError));
+            return Err(AllocError);
         }
     }
     Ok(files)
 }
 
-/// Shows a fault on standard error, in the source or in the included file in which it stands.
-fn show_fault(
-    rt: &(impl FileSystem + Eprint + AllocGlobal),
-    fault: Fault,
-    path: &str,
-    source: &[u8],
-    included: &[Included],
-) {
-    let file = fault_place(fault).map_or(0, |at| at.file as usize);
-    if file == 0 {
-        let text = source;
-        let _ = rt.eprint(Shown { fault, path, text });
-        return;
-    }
-    let Some(found) = included.get(file - 1) else {
-        return;
-    };
-    if let Ok(bytes) = fs::read(rt, found.path) {
-        let path = found.path;
-        let text = bytes.as_slice();
-        let _ = rt.eprint(Shown { fault, path, text });
-    }
+/// Shows a fault on standard error, in the text in which it stands.
+fn show_fault(rt: &(impl Eprint + AllocGlobal), fault: Fault, texts: Texts) {
+    let _ = rt.eprint(Shown::of(rt.alloc(), fault, texts));
 }
 
 fn print_notes<'a>(rt: &impl Print, notes: Notes) -> Result<(), Failure<'a>> {
@@ -102,26 +113,34 @@ fn compile_to<'a>(
 ) -> Result<(), Failure<'a>> {
     let names = read_names(rt, names)?;
     let source = read(rt, path)?;
-    compile_source(rt, &names, source.as_slice(), path, image, included)
+    let included_bytes = read_included(rt, included)?;
+    let files = texts_of(rt.alloc(), included, included_bytes.as_slice())?;
+    let texts = Texts {
+        source: Text {
+            name: "",
+            path,
+            bytes: source.as_slice(),
+        },
+        files: files.as_slice(),
+    };
+    compile_texts(rt, &names, texts, image)
 }
 
-/// Compiles a source that was read from a path.
-fn compile_source<'a>(
+/// Compiles a source with the files that it may include.
+fn compile_texts<'a>(
     rt: &(impl FileSystem + Print + Eprint + AllocGlobal),
     names: &NameTable,
-    source: &[u8],
-    path: &'a str,
+    texts: Texts,
     image: &'a str,
-    included: &[Included<'a>],
 ) -> Result<(), Failure<'a>> {
-    let files = read_files(rt, included)?;
-    match compile(rt.alloc(), source, &files, names) {
+    let files = files_of(rt.alloc(), texts.files)?;
+    match compile(rt.alloc(), texts.source.bytes, &files, names) {
         Ok((bytes, notes)) => {
             put_file(rt, image, bytes.as_slice())?;
             print_notes(rt, notes)
         }
         Err(fault) => {
-            show_fault(rt, fault, path, source, included);
+            show_fault(rt, fault, texts);
             Err(Failure::Source(fault))
         }
     }
@@ -145,14 +164,22 @@ fn answer_source<'a>(
     included: &[Included<'a>],
 ) -> Result<(), Failure<'a>> {
     let names = read_names(rt, names)?;
-    let files = read_files(rt, included)?;
+    let included_bytes = read_included(rt, included)?;
+    let texts = texts_of(rt.alloc(), included, included_bytes.as_slice())?;
+    let files = files_of(rt.alloc(), texts.as_slice())?;
     let mut feed = Kept::new(rt.alloc(), Lent::new(rt.reader()));
     let mut out = Lent::new(io::writer(rt));
     match session(rt.alloc(), &mut feed, &files, &names, &mut out) {
         Ok(()) => Ok(()),
         Err(fault) => {
             if let SessionFault::Compile(fault) = fault {
-                show_fault(rt, fault, "<stdin>", feed.bytes(), included);
+                let source = Text {
+                    name: "",
+                    path: "<stdin>",
+                    bytes: feed.source(),
+                };
+                let files = texts.as_slice();
+                show_fault(rt, fault, Texts { source, files });
             }
             Err(Failure::of_session(fault))
         }

@@ -5,6 +5,10 @@
 #[cfg(test)]
 mod ends;
 #[cfg(test)]
+mod passed;
+#[cfg(test)]
+mod said;
+#[cfg(test)]
 mod shown;
 #[cfg(test)]
 mod words;

@@ -1,4 +1,5 @@
 //! What is shown of faults on standard error.
+use kx_explain::{Text, Texts};
 use kx_lex::{At, Fault, Span};
 use kx_program::Shown;
 use std::alloc::{AllocError, Global};
@@ -8,8 +9,13 @@ use std::test::Fail;
 fn shown(alloc: Global, text: &[u8], start: u32, stop: u32) -> Result<String, AllocError> {
     let span = Span { start, stop };
     let fault = Fault::CodeRange(At { file: 0, span });
-    let path = "a.xkb";
-    Shown { fault, path, text }.to_string(alloc)
+    let source = Text {
+        name: "",
+        path: "a.xkb",
+        bytes: text,
+    };
+    let texts = Texts { source, files: &[] };
+    Shown::of(alloc, fault, texts).to_string(alloc)
 }
 
 #[test]

@@ -1,0 +1,200 @@
+//! Fields, arguments and statements that their place doesn't have.
+use crate::actions::action_named;
+use crate::maps::kind_name;
+use crate::quoted::quoted;
+use crate::site::{Owner, Site, argument_at, call_in_field, call_in_list, site_at};
+use crate::wanted::{is_list_word, wanted_value};
+use kx_lex::Span;
+use kx_parse::{Call, Field, Kind, Predicate, Statement};
+use std::alloc::AllocError;
+
+const OF_KEY: &str = "type, symbols, actions, vmods, groupsWrap, groupsClamp, groupsRedirect, \
+repeat, lock, radioGroup, allowNone, overlay";
+
+const OF_KEY_DEFAULT: &str =
+    "type, vmods, groupsWrap, groupsClamp, groupsRedirect, repeat, lock, radioGroup, allowNone, \
+overlay";
+
+const OF_INTERPRETATION: &str = "action, virtualModifier, useModMapMods, repeat, locking";
+
+const OF_INDICATOR: &str = "modifiers, whichModState, groups, whichGroupState";
+
+const OF_TYPE: &str = "modifiers, map[..], preserve[..], level_name[..]";
+
+const CONDITIONS: &str = "Exactly, AllOf, NoneOf, AnyOf, AnyOfOrNone";
+
+/// A word, what it isn't of what, and what that has.
+#[derive(Clone, Copy)]
+struct Unknown<'a> {
+    word: &'a [u8],
+    what: &'static str,
+    known: &'static str,
+}
+
+fn write_unknown(out: &mut String, unknown: Unknown) -> Result<(), AllocError> {
+    let word = quoted(unknown.word);
+    let what = unknown.what;
+    let known = unknown.known;
+    if known.is_empty() {
+        write!(out, "{word} is no {what}, which has none")
+    } else {
+        write!(out, "{word} is no {what}; there are {known}")
+    }
+}
+
+/// Says that a field stands with an index or without one where that can't be.
+fn write_index(out: &mut String, word: &[u8], has_index: bool) -> Result<(), AllocError> {
+    let word = quoted(word);
+    let how = if has_index { "takes no" } else { "needs an" };
+    write!(out, "{word} {how} index here")
+}
+
+/// What a section may hold.
+fn statements_of(kind: Kind) -> &'static str {
+    match kind {
+        Kind::Keycodes => "<NAME>=CODE, alias, indicator, minimum, maximum",
+        Kind::Types => "type, virtual_modifiers",
+        Kind::Compat => {
+            "interpret, indicator, group, virtual_modifiers, interpret.FIELD, indicator.FIELD, \
+ACTION.ARGUMENT"
+        }
+        Kind::Symbols => {
+            "key, modifier_map, name[..], virtual_modifiers, key.FIELD, ACTION.ARGUMENT"
+        }
+        Kind::Geometry => "anything",
+    }
+}
+
+/// Says that a section doesn't have a statement.
+fn write_statement(out: &mut String, kind: Kind, word: &[u8]) -> Result<(), AllocError> {
+    let word = quoted(word);
+    let section = kind_name(kind);
+    let known = statements_of(kind);
+    write!(
+        out,
+        "{word} is no statement of {section}; there are {known}"
+    )
+}
+
+/// The fields of what has them.
+fn fields_of(owner: Owner) -> (&'static str, &'static str) {
+    match owner {
+        Owner::Type => ("field of a type", OF_TYPE),
+        Owner::Key => ("field of a key", OF_KEY),
+        Owner::Interpretation => ("field of an interpretation", OF_INTERPRETATION),
+        Owner::Indicator => ("field of an indicator", OF_INDICATOR),
+        Owner::Section => ("default", "key.FIELD, ACTION.ARGUMENT"),
+    }
+}
+
+/// Whether what has fields has one of a word, with an index or without.
+fn has_field(owner: Owner, word: &[u8]) -> bool {
+    let (_, known) = fields_of(owner);
+    known.split(", ").any(|name| {
+        let name = name.as_bytes();
+        let name = name.strip_suffix(b"[..]").unwrap_or(name);
+        name.eq_ignore_ascii_case(word)
+    })
+}
+
+/// Says that an action doesn't have an argument.
+fn write_argument(out: &mut String, action: &[u8], word: &[u8]) -> Result<(), AllocError> {
+    let Some((name, known)) = action_named(action) else {
+        return Ok(());
+    };
+    let is_known = known
+        .split(", ")
+        .any(|argument| argument.as_bytes().eq_ignore_ascii_case(word));
+    if is_known {
+        return write_index(out, word, true);
+    }
+    let word = quoted(word);
+    if known.is_empty() {
+        write!(out, "{word} is no argument of {name}, which has none")
+    } else {
+        write!(out, "{word} is no argument of {name}; there are {known}")
+    }
+}
+
+/// Says that a call in a field doesn't have an argument.
+fn write_in_call(out: &mut String, call: &Call, word: &[u8], span: Span) -> Result<(), AllocError> {
+    match argument_at(call, span) {
+        Some(_) => write_argument(out, call.word.bytes.as_slice(), word),
+        None => Ok(()),
+    }
+}
+
+/// Says that a default is of no field: `word` is the word behind the point.
+fn write_default(out: &mut String, field: &Field, word: &[u8]) -> Result<(), AllocError> {
+    let owner = field.place.word.bytes.as_slice();
+    if action_named(owner).is_some() {
+        return write_argument(out, owner, word);
+    }
+    let is_key = owner.eq_ignore_ascii_case(b"key");
+    let is_interpretation = owner.eq_ignore_ascii_case(b"interpret");
+    let known = if is_key {
+        OF_KEY_DEFAULT
+    } else if is_interpretation {
+        OF_INTERPRETATION
+    } else {
+        OF_INDICATOR
+    };
+    if wanted_value(word).is_some() && field.place.index.is_some() {
+        return write_index(out, word, true);
+    }
+    let what = "field that has a default here";
+    write_unknown(out, Unknown { word, what, known })
+}
+
+/// Says that a field isn't one that its place has.
+fn write_in_field(
+    out: &mut String,
+    kind: Kind,
+    owner: Owner,
+    field: &Field,
+    word: &[u8],
+    span: Span,
+) -> Result<(), AllocError> {
+    if let Some(call) = call_in_field(field, span) {
+        return write_in_call(out, call, word, span);
+    }
+    if field.place.word.span != span {
+        return write_default(out, field, word);
+    }
+    if owner == Owner::Section {
+        let is_name = word.eq_ignore_ascii_case(b"name") && kind == Kind::Symbols;
+        return match is_name && field.place.member.is_none() {
+            true => write_index(out, word, false),
+            false => write_statement(out, kind, word),
+        };
+    }
+    let has_index = field.place.index.is_some();
+    if field.place.member.is_none() && has_field(owner, word) && !is_list_word(word) {
+        return write_index(out, word, has_index);
+    }
+    let (what, known) = fields_of(owner);
+    write_unknown(out, Unknown { word, what, known })
+}
+
+/// Says which word of a statement its place doesn't have, and what it has.
+pub(crate) fn write_unknown_field(
+    out: &mut String,
+    kind: Kind,
+    statement: &Statement,
+    word: &[u8],
+    span: Span,
+) -> Result<(), AllocError> {
+    match site_at(statement, span) {
+        Site::Field(owner, field) => write_in_field(out, kind, owner, field, word, span),
+        Site::List(list) => match call_in_list(list, span) {
+            Some(call) => write_in_call(out, call, word, span),
+            None => Ok(()),
+        },
+        Site::Condition(Predicate::Call(_)) => {
+            let what = "condition";
+            let known = CONDITIONS;
+            write_unknown(out, Unknown { word, what, known })
+        }
+        _ => write_statement(out, kind, word),
+    }
+}
