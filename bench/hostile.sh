@@ -106,3 +106,23 @@ run '4,000 of 45,000 maps of a file, each included once' a="$work/named"
 
 awk 'BEGIN { print "xkb_keymap { xkb_keycodes { <A>=1; }; xkb_symbols { key <A> {[a"; for (i = 1; i < 200000; i++) printf ",a"; print "]};"; for (i = 0; i < 40000; i++) print "key<A>{[b]};"; print "}; };" }' > "$work/source"
 run 'a key of 200,000 levels, and 40,000 statements that change its first'
+
+# Names and keysyms by chance, and ones that fall into one place of a table that finds them by their hash.
+cc -O2 -o "$work/collide" "$top/bench/collide.c"
+for how in any alike; do
+    "$work/collide" "$how" names 75000 > "$work/words"
+    awk 'BEGIN { print "xkb_keymap { xkb_keycodes {" } { printf "<%s>=%d;", $0, NR % 4096 } END { print "}; };" }' "$work/words" > "$work/source"
+    run "75,000 names of keys, $how"
+    awk 'BEGIN { print "xkb_keymap { xkb_keycodes { <A>=1;" } NR <= 55000 { printf "alias<%s>=<A>;", $0 } END { print "}; };" }' "$work/words" > "$work/source"
+    run "55,000 aliases, $how"
+    awk 'BEGIN { print "xkb_keymap { xkb_types {" } { name[NR % 4096] = $0 } END { for (i = 0; i < 50000; i++) printf "type\"%s\"{};", name[i % 4096]; print "}; };" }' "$work/words" > "$work/source"
+    run "50,000 statements of 4,096 key types, $how"
+    awk 'NR <= 42000 { printf "xkb_symbols\"%s\"{};\n", $0 } END { print "default xkb_symbols{};" }' "$work/words" > "$work/named"
+    including symbols a 1
+    run "42,000 maps of a file, $how" a="$work/named"
+    "$work/collide" "$how" keysyms 30000 > "$work/words"
+    awk 'BEGIN { print "xkb_keymap { xkb_compat {" } { printf "interpret %s{};", $0 } END { print "}; };" }' "$work/words" > "$work/source"
+    run "30,000 interpretations, $how"
+    awk 'BEGIN { print "xkb_keymap { xkb_symbols { modifier_map Mod1 {" } { printf "%s%s", (NR > 1 ? "," : ""), $0 } END { print "}; }; };" }' "$work/words" > "$work/source"
+    run "30,000 keysyms of modifier maps, $how"
+done

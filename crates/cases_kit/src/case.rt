@@ -120,14 +120,10 @@ fn unescaped(alloc: Global, text: &str) -> Result<Vec<u8>, AllocError> {
     Ok(bytes)
 }
 
-/// A piece so often, in which each `#` stands for the number of the repeat, from 0. What stands before a `{*` and behind a
-/// `*}` stands once.
-fn repeated(alloc: Global, text: &str) -> Result<String, AllocError> {
-    let (front, rest) = text.split_once("{*").unwrap_or(("", text));
-    let (inner, back) = rest.split_once("*}").unwrap_or((rest, ""));
-    let (count, piece) = inner.split_once(" ").unwrap_or(("0", ""));
+/// A piece so often as the number before it says, in which each `#` stands for the number of the repeat, from 0.
+fn push_repeats(alloc: Global, all: &mut String, text: &str) -> Result<(), AllocError> {
+    let (count, piece) = text.split_once(" ").unwrap_or(("0", ""));
     let is_numbered = piece.contains("#");
-    let mut all = String::from_str(alloc, front)?;
     for number in 0..count.parse::<u32>().unwrap_or(0) {
         if is_numbered {
             let digits = number.to_string(alloc)?;
@@ -136,6 +132,26 @@ fn repeated(alloc: Global, text: &str) -> Result<String, AllocError> {
             all.push_str(piece)?;
         }
     }
-    all.push_str(back)?;
+    Ok(())
+}
+
+/// A repeated piece. Where there are several, each stands between a `{*` and a `*}`, and the text round them once.
+fn repeated(alloc: Global, text: &str) -> Result<String, AllocError> {
+    let mut all = String::new(alloc);
+    if !text.contains("{*") {
+        push_repeats(alloc, &mut all, text)?;
+        return Ok(all);
+    }
+    let mut rest = text;
+    for _ in 0..text.len() {
+        let Some((front, inner)) = rest.split_once("{*") else {
+            break;
+        };
+        let (piece, back) = inner.split_once("*}").unwrap_or((inner, ""));
+        all.push_str(front)?;
+        push_repeats(alloc, &mut all, piece)?;
+        rest = back;
+    }
+    all.push_str(rest)?;
     Ok(all)
 }
