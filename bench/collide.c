@@ -17,7 +17,7 @@ static uint64_t fold(uint64_t a, uint64_t b)
     return (uint64_t)product ^ (uint64_t)(product >> 64);
 }
 
-/* A state once a number of so many bytes is fed, which is read up to three or four bytes from each end. */
+/* A state once so many bytes, 8 at most, are fed, which the hash reads as this one number. */
 static uint64_t fed(uint64_t state, uint64_t short_read, unsigned bytes)
 {
     return fold(state ^ short_read, FACTOR ^ (2 * bytes));
