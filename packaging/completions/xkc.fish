@@ -1,11 +1,18 @@
 # Completions of xkc for fish.
-set -l commands try compile replay print dump upgrade help
+set -l commands try compile replay print show find names dump upgrade help
 complete -c xkc -n "not __fish_seen_subcommand_from $commands" -f -a try -d 'Answer events from a source on standard input'
 complete -c xkc -n "not __fish_seen_subcommand_from $commands" -f -a compile -d 'Compile a source to an image'
 complete -c xkc -n "not __fish_seen_subcommand_from $commands" -f -a replay -d 'Answer lines of events by an image'
 complete -c xkc -n "not __fish_seen_subcommand_from $commands" -f -a print -d 'Print all that an image tells as keymap text'
+complete -c xkc -n "not __fish_seen_subcommand_from $commands" -f -a show -d 'Print a picture of the keyboard'
+complete -c xkc -n "not __fish_seen_subcommand_from $commands" -f -a find -d 'Print the keys that give a keysym'
+complete -c xkc -n "not __fish_seen_subcommand_from $commands" -f -a names -d 'Print the names of keysyms in C headers'
 complete -c xkc -n "not __fish_seen_subcommand_from $commands" -f -a dump -d 'Print the bytes of an image in hexadecimal'
 complete -c xkc -n "not __fish_seen_subcommand_from $commands" -f -a upgrade -d 'Write an image anew, in the newest version'
 complete -c xkc -l names -r -d 'A file of names of keysyms'
+complete -c xkc -s I -l include -r -a '(__fish_complete_directories)' -d 'A folder of included files'
+complete -c xkc -n '__fish_seen_subcommand_from compile' -l quiet -d 'Say nothing of what is passed over'
+complete -c xkc -n '__fish_seen_subcommand_from show' -l group -x -d 'The group that is shown'
+complete -c xkc -n '__fish_seen_subcommand_from show' -l svg -d 'Print a drawing'
 complete -c xkc -l help -d 'Print what the words are'
 complete -c xkc -l version -d 'Print the version'

@@ -25,6 +25,8 @@ unwritten
 unwritten try
 unwritten print two
 unwritten dump two
+unwritten show two
+unwritten find two a
 unwritten compile source out
 holds 'OUT is whole where standard output is not' cmp -s out two
 unwritten --help

@@ -21,7 +21,34 @@ wrong "'kept'" upgrade kept kept
 wrong "'a'" try a
 wrong "'a=c'" try a=b a=c
 wrong IMAGE print
+wrong "'33'" show --group 33 two
+wrong "'x'" show --group x two
+wrong KEYSYM find two
+wrong HEADER names
+wrong --quiet try --quiet
 wrong kept dump two kept
 wrong --names print --names names two
 wrong "'a\\377'" compile source "$(printf 'a\377')"
+wrong "'0'" show --group 0 two
+wrong "'o'" print two o
+wrong IMAGE dump
 keeps 'words that are wrong' kept
+
+# Words that are well: the first file that they name isn't there.
+gives 3 'cannot use nothing' try --names nothing a=b
+gives 3 'cannot use nothing' try -I nothing
+gives 3 'cannot use nothing' compile nothing out a==b
+gives 3 'cannot use nothing' compile -I . --include=. --quiet nothing out
+gives 3 'cannot use nothing' show --group 32 --svg nothing
+gives 3 'cannot use nothing' find nothing a
+gives 3 'cannot use nothing' names nothing nothing
+gives 3 'cannot use nothing' print nothing
+gives 3 'cannot use nothing' upgrade nothing out
+"$program" --help > ../out 2> ../err
+holds 'xkc --help: status 0' [ $? -eq 0 ]
+for word in try compile replay print show find names dump upgrade; do
+    holds "xkc --help names $word" grep -q "^  $word " ../out
+    "$program" "$word" --help > ../help 2> ../err
+    holds "xkc $word --help: status 0" [ $? -eq 0 ]
+    holds "xkc $word --help shows its usage" grep -q "^Usage: xkc $word" ../help
+done

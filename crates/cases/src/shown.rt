@@ -1,10 +1,17 @@
 //! What a source gives, as text.
+ghost use Rattle.std.specs.Prelude.{◌≤◌, IfOk, IsTrue, length};
+ghost use Rattle.kx_lex.specs.declared.scan.TheConstants.{MOST_TEXT_BYTES};
+ghost use Rattle.kx_print.specs.Printed.{printed};
+ghost use Rattle.kx_types.specs.declared.limits.TheConstants.{MOST_TYPES};
+
 use cases_kit::{Case, Subject, Trouble};
 use ks_core::{Lent, MemFeed, Notes};
 use kx_image::View;
-use kx_lex::Fault;
+use kx_lex::{Fault, MOST_TEXT_BYTES};
 use kx_print::print;
-use kx_tool::{Files, SessionFault, compile, session};
+use kx_tables::Tables;
+use kx_tool::{SessionFault, compile, compile_printed, session};
+use kx_types::MOST_TYPES;
 use std::alloc::{AllocError, Global};
 
 /// Cases over whole keymaps.
@@ -26,6 +33,7 @@ impl Subject for Keymaps {
             "length" => image_of(alloc, case)?.len().to_string(alloc)?,
             "image" => hex::encode(alloc, image_of(alloc, case)?.as_slice())?,
             "bytes" => bytes_from(alloc, case, wanted)?,
+            "changed" => opened_changed(alloc, case, wanted)?,
             "notes" => notes_of(alloc, case)?,
             "prints" => printed(alloc, image_of(alloc, case)?.as_slice())?,
             "again" => again(alloc, case)?,
@@ -122,6 +130,30 @@ fn bytes_from(alloc: Global, case: &Case, wanted: &str) -> Result<String, Troubl
     Ok([place.as_str(), ":", digits.as_str()].concat(alloc)?)
 }
 
+/// How the image is opened once the bytes from a place on are these, which stand behind the place and a colon: the fault, or
+/// `taken`.
+fn opened_changed(alloc: Global, case: &Case, wanted: &str) -> Result<String, Trouble> {
+    let (change, _) = wanted.split_once(" ").unwrap_or((wanted, ""));
+    let (place, digits) = change.split_once(":").unwrap_or(("0", change));
+    let Ok(bytes) = hex::decode(alloc, digits) else {
+        return Ok(String::from_str(alloc, "no bytes")?);
+    };
+    let place = place.parse::<usize>().unwrap_or(0);
+    let mut image = image_of(alloc, case)?;
+    for (old, new) in image
+        .as_mut_slice()
+        .iter_mut()
+        .skip(place)
+        .zip(bytes.iter())
+    {
+        *old = *new;
+    }
+    Ok(match View::open(image.as_slice()) {
+        Ok(_) => format!(in alloc; "{change} taken")?,
+        Err(fault) => format!(in alloc; "{change} {fault}")?,
+    })
+}
+
 /// What is noted, by its counts.
 fn notes_of(alloc: Global, case: &Case) -> Result<String, Trouble> {
     let (_image, notes) = compiled(alloc, case)?;
@@ -148,12 +180,30 @@ fn printed(alloc: Global, image: &[u8]) -> Result<String, Trouble> {
     Ok(String::from_str(alloc, text)?)
 }
 
+/// Whether the printed text of tables has no more types and no more bytes than a source may have.
+fn can_be_compiled<T: Tables>(alloc: Global, tables: &T) -> Result<bool, Trouble>
+    ensures few_types { IfOk result (λ can. IsTrue can
+        → length (T.content tables.now).types ≤ MOST_TYPES) }
+    ensures short { IfOk result (λ can. IsTrue can
+        → length (printed (T.content tables.now)) ≤ MOST_TEXT_BYTES) }
+{
+    let mut text = Lent::new(Vec::new(alloc));
+    if print(tables, &mut text).is_err() {
+        return Err(Trouble::Memory);
+    }
+    Ok(usize::from(tables.counts().types) <= MOST_TYPES && text.device.len() <= MOST_TEXT_BYTES)
+}
+
 /// Whether the printed text of the source's image compiles to that image, without files: `the same`, or `another`.
 fn again(alloc: Global, case: &Case) -> Result<String, Trouble> {
     let image = image_of(alloc, case)?;
-    let text = printed(alloc, image.as_slice())?;
-    let files = Box::new(alloc, Files::new(alloc))?;
-    let (second, _notes) = compile(alloc, text.as_bytes(), &files, &case.names)?;
+    let Ok(view) = View::open(image.as_slice()) else {
+        return Ok(String::from_str(alloc, "no image")?);
+    };
+    if !can_be_compiled(alloc, &view)? {
+        return Ok(String::from_str(alloc, "too long")?);
+    }
+    let second = compile_printed(alloc, &view, &case.names)?;
     let is_same = second.as_slice() == image.as_slice();
     let found = if is_same { "the same" } else { "another" };
     Ok(String::from_str(alloc, found)?)

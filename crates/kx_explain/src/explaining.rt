@@ -1,5 +1,4 @@
 //! What a person reads of a fault.
-use crate::chain::chain_to;
 use crate::fields::write_unknown_field;
 use crate::includes::{
     include_at, write_bad_include, write_file_missing, write_map_missing, write_too_deep,
@@ -12,13 +11,11 @@ use crate::modifiers::write_unknown_modifier;
 use crate::plain::{place_of, plain_message};
 use crate::ranges::{write_code, write_group, write_level};
 use crate::syntax::write_syntax;
-use crate::text::{Texts, bytes_in};
-use crate::trees::{Trees, item_at};
 use crate::values::write_bad_value;
-use crate::walk::{Reached, reached_maps};
 use kx_include::include_parts;
 use kx_lex::{At, Fault};
 use kx_parse::{Item, Kind, Statement};
+use kx_reach::{Reached, Texts, Trees, bytes_in, chain_to, item_at, reached_maps};
 use std::alloc::{AllocError, Global};
 
 /// What a person reads of a fault: what is wrong, on one line, and the texts of the includes that led to its place, the

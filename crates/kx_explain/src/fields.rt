@@ -1,11 +1,11 @@
 //! Fields, arguments and statements that their place doesn't have.
 use crate::actions::action_named;
-use crate::maps::kind_name;
-use crate::quoted::quoted;
+use crate::quotes::quoted;
 use crate::site::{Owner, Site, argument_at, call_in_field, call_in_list, site_at};
 use crate::wanted::{is_list_word, wanted_value};
 use kx_lex::Span;
 use kx_parse::{Call, Field, Kind, Predicate, Statement};
+use kx_reach::kind_name;
 use std::alloc::AllocError;
 
 const OF_KEY: &str = "type, symbols, actions, vmods, groupsWrap, groupsClamp, groupsRedirect, \

@@ -1,7 +1,7 @@
 //! What stands at the place of a fault.
-use crate::quoted::quoted;
-use crate::text::bytes_in;
+use crate::quotes::quoted;
 use kx_lex::Span;
+use kx_reach::bytes_in;
 use std::fmt;
 use std::fmt::{Formatter, Write};
 

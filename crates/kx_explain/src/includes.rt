@@ -1,13 +1,11 @@
 //! What is wrong with includes.
-use crate::chain::is_in;
-use crate::maps::{file_named, kind_name, map_named};
-use crate::quoted::quoted;
-use crate::text::Texts;
-use crate::trees::Trees;
-use crate::walk::{Reached, place_named, reached_from};
+use crate::quotes::quoted;
 use kx_include::{Part, include_parts};
 use kx_lex::At;
 use kx_parse::{Item, Kind, Section};
+use kx_reach::{
+    Reached, Texts, Trees, file_named, is_in, kind_name, map_named, place_named, reached_from,
+};
 use std::alloc::{AllocError, Global};
 
 /// So many names of maps are listed of a kind.
@@ -67,8 +65,12 @@ pub(crate) fn write_file_missing(
         }
         let file = quoted(part.file());
         write!(out, "no file {file} is handed in")?;
+        let folder = kind_name(kind);
         return match str::from_utf8(part.file()) {
-            Ok(name) if !name.contains('=') => write!(out, ": add {name}=PATH"),
+            Ok(name) if !name.contains('=') => write!(
+                out,
+                ": add {name}=PATH, or -I DIR where DIR/{folder}/{name} is"
+            ),
             _ => Ok(()),
         };
     }

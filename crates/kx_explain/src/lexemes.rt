@@ -1,7 +1,7 @@
 //! What is wrong with bytes that are no token.
-use crate::quoted::quoted;
-use crate::text::bytes_in;
+use crate::quotes::quoted;
 use kx_lex::Span;
+use kx_reach::bytes_in;
 use std::alloc::AllocError;
 
 /// Says how long a text is that is too long.

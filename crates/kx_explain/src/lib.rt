@@ -2,7 +2,6 @@
 #![tactic(auto)]
 
 mod actions;
-mod chain;
 mod cursor;
 mod explaining;
 mod fields;
@@ -10,24 +9,20 @@ mod found;
 mod includes;
 mod lexemes;
 mod limits;
-mod maps;
 mod modifiers;
 mod near;
 mod plain;
-mod quoted;
+mod quotes;
 mod ranges;
 mod section_rules;
 mod site;
 mod statement_rules;
 mod syntax;
-mod text;
-mod trees;
 mod value_rules;
 mod values;
-mod walk;
 mod wanted;
 
 pub use explaining::{Explanation, explain};
+pub use kx_reach::{Text, Texts};
 pub use plain::{place_of, plain_message};
-pub use quoted::write_shown;
-pub use text::{Text, Texts};
+pub use quotes::{Quotation, quoted, write_shown};

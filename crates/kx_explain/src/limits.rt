@@ -1,11 +1,11 @@
 //! Which limit a keymap passes.
-use crate::trees::item_at;
 use kx_basics::{MOST_KEYSYMS, MOST_NAME_BYTES};
 use kx_lex::Span;
 use kx_parse::{
     Element, Entry, Expression, Field, Item, KeyField, List, Section, Setting, Statement, Term,
     Value,
 };
+use kx_reach::item_at;
 
 const NAME: &str = "a name of more than 255 bytes";
 

@@ -1,9 +1,8 @@
 //! Words that are no modifiers, and the modifiers that they are near to.
 use crate::near::letters_apart;
-use crate::quoted::quoted;
-use crate::trees::Trees;
-use crate::walk::Reached;
+use crate::quotes::quoted;
 use kx_parse::{Declaration, Item, Section, Statement};
+use kx_reach::{Reached, Trees};
 use std::alloc::AllocError;
 
 /// The words for real modifiers.

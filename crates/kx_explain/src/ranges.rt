@@ -1,9 +1,9 @@
 //! Groups, levels and keycodes outside their ranges.
 use crate::found::Found;
 use crate::site::{Site, site_at};
-use crate::text::bytes_in;
 use kx_lex::Span;
 use kx_parse::{Setting, Statement, Value};
+use kx_reach::bytes_in;
 use std::alloc::AllocError;
 
 /// Whether a range is all of a list of a key.

@@ -1,10 +1,10 @@
 //! Where in a statement a range stands.
-use crate::text::is_within;
 use kx_lex::Span;
 use kx_parse::{
     BracePart, Call, Element, Field, KeyField, List, Name, PlacedArgument, Predicate, Setting,
     Statement, Value,
 };
+use kx_reach::is_within;
 
 /// What has fields.
 #[derive(Clone, Copy, PartialEq, Eq, Debug)]

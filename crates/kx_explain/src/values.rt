@@ -1,12 +1,12 @@
 //! Values of the wrong kind.
 use crate::actions::{argument_word, has_value};
 use crate::found::Found;
-use crate::quoted::quoted;
+use crate::quotes::quoted;
 use crate::site::{Site, argument_at, call_in_field, call_in_list, site_at, word_of};
-use crate::text::is_within;
 use crate::wanted::{is_list_word, wanted_index, wanted_value};
 use kx_lex::Span;
 use kx_parse::{BracePart, Call, Element, Field, List, Predicate, Setting, Statement, Value};
+use kx_reach::is_within;
 use std::alloc::AllocError;
 
 const KEYSYM: &str = "a keysym, at most 0x1fffffff";

@@ -23,6 +23,10 @@ pub const DEVICE: u8 = 3;
 pub enum Failure<'a> {
     /// A file at this path can't be read or written.
     File(&'a str),
+    /// A file that was found at this path can't be read.
+    Found(String),
+    /// No keysym has this name.
+    Keysym(&'a str),
     Names(NameFault),
     Image(ImageFault),
     Source(Fault),
@@ -35,7 +39,7 @@ impl Failure<'_> {
         ensures { result ≡ status_of self.now }
     {
         match self {
-            Failure::File(_) => DEVICE,
+            Failure::File(_) | Failure::Found(_) => DEVICE,
             Failure::Replay(ReplayFault::Read | ReplayFault::Write) => DEVICE,
             _ => REFUSED,
         }
@@ -77,6 +81,8 @@ impl fmt::Display for Failure<'_> {
     fn fmt<W: fmt::Write>(&self, f: &mut fmt::Formatter<W>) -> fmt::Result {
         match self {
             Failure::File(path) => write!(f, "cannot use {path}"),
+            Failure::Found(path) => write!(f, "cannot use {path}"),
+            Failure::Keysym(word) => write!(f, "no keysym is named {word}"),
             Failure::Names(fault) => write!(f, "{fault}"),
             Failure::Image(fault) => write!(f, "{fault}"),
             Failure::Source(fault) => write!(f, "{fault}"),

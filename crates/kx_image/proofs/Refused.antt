@@ -265,3 +265,7 @@ refusal_only s (Err f) has = fault_refuses s f has
 -- bytes are the image of one content at most
 pub one_content : (s : List ℕ) (c d : Content) → IsImage c s → IsImage d s → c ≡ d
 one_content s c d p q = let told = told_of c s p in let other = told_of d s q in sym told.content ∙ other.content
+
+-- what the bytes tell is what they are the image of
+pub content_is : (s : List ℕ) (c : Content) → IsImage c s → content_in s ≡ c
+content_is s c p = let told = told_of c s p in told.content

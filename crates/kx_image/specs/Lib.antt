@@ -6,3 +6,4 @@ pub mod Shape
 pub mod Starts
 pub mod Canonical
 pub mod Upgrade
+pub mod Owned

@@ -1,6 +1,7 @@
 //! Rows read from the bytes of an image.
 ghost use Rattle.std.specs.Prelude.{◌≡◌, ◌+◌, ◌≤◌, length};
 ghost use Rattle.kx_image.specs.Image.{content_in};
+ghost use Rattle.kx_image.specs.LayoutHolds.{LayoutHolds, header_counts};
 ghost use Rattle.kx_image.specs.Starts.{IsShape};
 ghost use Rattle.kx_tables.specs.Content.{part};
 
@@ -46,6 +47,23 @@ fn record(bytes: &[u8], place: usize, size: usize) -> &[u8]
     &bytes[place..place + size]
 }
 
+/// How many rows each table has in an image with this header and so many groups.
+pub fn counts_of(header: Header, groups: u32) -> Counts
+    ensures { result ≡ header_counts header groups }
+{
+    Counts {
+        types: header.types,
+        entries: header.entries,
+        keys: header.keys,
+        groups,
+        cells: header.cells,
+        keysyms: header.keysyms,
+        indicators: header.indicators,
+        group_names: header.group_names,
+        names: header.names,
+    }
+}
+
 impl<'a> Layout<'a> {
     /// The rows of bytes whose form has no fault.
     pub fn new(bytes: &'a [u8], header: Header, groups: u32) -> Layout<'a>
@@ -54,19 +72,28 @@ impl<'a> Layout<'a> {
     {
         Layout {
             bytes,
-            counts: Counts {
-                types: header.types,
-                entries: header.entries,
-                keys: header.keys,
-                groups,
-                cells: header.cells,
-                keysyms: header.keysyms,
-                indicators: header.indicators,
-                group_names: header.group_names,
-                names: header.names,
-            },
+            counts: counts_of(header, groups),
             starts: Starts::of(header, groups),
         }
+    }
+
+    /// The rows of bytes whose counts and places are known.
+    pub fn again(bytes: &'a [u8], counts: Counts, starts: Starts) -> Layout<'a>
+        requires { LayoutHolds bytes.now counts starts }
+        ensures { result ≡ content_in bytes.now }
+    {
+        Layout {
+            bytes,
+            counts,
+            starts,
+        }
+    }
+
+    /// The bytes of all names, which outlive the rows.
+    pub fn all_names(&self) -> &'a [u8]
+        ensures { result.now ≡ self.now.names }
+    {
+        record(self.bytes, self.starts.names, self.counts.names as usize)
     }
 }
 
@@ -130,6 +157,6 @@ impl Rows for Layout<'_> {
     }
 
     fn names(&self) -> &[u8] {
-        record(self.bytes, self.starts.names, self.counts.names as usize)
+        self.all_names()
     }
 }

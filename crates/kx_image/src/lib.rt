@@ -6,6 +6,7 @@ mod fault;
 mod header;
 mod layout;
 mod numbers;
+mod owned;
 mod records;
 mod shape;
 mod upgrading;
@@ -13,6 +14,7 @@ mod view;
 mod writer;
 
 pub use fault::ImageFault;
+pub use owned::OwnedView;
 pub use upgrading::{UpgradeFault, upgrade};
 pub use view::{View, one_content};
 pub use writer::write;

@@ -1,5 +1,6 @@
 //! A reader whose first bytes are kept.
 use ks_core::Feed;
+use kx_finding::source_in;
 use kx_lex::MOST_TEXT_BYTES;
 use std::alloc::Global;
 use std::io;
@@ -23,15 +24,7 @@ impl<F: Feed> Kept<F> {
 
     /// The source among the first bytes that were taken, as far as there is memory for them: all before a line `%%`.
     pub fn source(&self) -> &[u8] {
-        let bytes = self.bytes.as_slice();
-        let mut start: usize = 0;
-        for line in bytes.split(|byte| *byte == b'\n') {
-            if line == b"%%".as_slice() {
-                return bytes.get(..start).unwrap_or(bytes);
-            }
-            start = start.saturating_add(line.len()).saturating_add(1);
-        }
-        bytes
+        source_in(self.bytes.as_slice())
     }
 }
 

@@ -2,15 +2,17 @@
 #![tactic(auto)]
 
 mod keeping;
+mod looking;
 mod showing;
+mod sources;
 mod tasks;
 mod usage;
 mod words;
 mod writing;
 
 pub use kx_failure::Failure;
-pub use showing::Shown;
+pub use showing::{Shown, Warned};
 pub use tasks::{run, run_words};
 pub use usage::{out_of_memory, word_that_is_not_text};
-pub use words::{Included, Task, task_in};
+pub use words::{Included, Includes, Task, task_in};
 pub use writing::write_whole;

@@ -2,6 +2,7 @@
 //! mark, and the includes that led there.
 use kx_explain::{Explanation, Text, Texts, explain, place_of, plain_message, write_shown};
 use kx_lex::{At, Fault};
+use kx_noted::Listed;
 use kx_tool::locate;
 use std::alloc::Global;
 use std::fmt;
@@ -124,6 +125,30 @@ impl fmt::Display for Shown<'_> {
         show_line(f, text.bytes, start, length)?;
         for link in self.chain() {
             show_include(f, self.texts, *link)?;
+        }
+        Ok(())
+    }
+}
+
+/// What was passed over, by kind, and the texts in which it stands.
+#[derive(Drop)]
+pub struct Warned<'a> {
+    pub listed: &'a Listed,
+    pub texts: Texts<'a>,
+}
+
+impl fmt::Display for Warned<'_> {
+    fn fmt<W: Write>(&self, f: &mut Formatter<W>) -> fmt::Result {
+        for warning in self.listed.shown.as_slice() {
+            if let Some(text) = self.texts.text_of(warning.at.file) {
+                show_place(f, text, warning.at)?;
+                let message = warning.message.as_str();
+                writeln!(f, ": warning: {message}")?;
+            }
+        }
+        let more = self.listed.more;
+        if more > 0 {
+            writeln!(f, "and {more} more")?;
         }
         Ok(())
     }

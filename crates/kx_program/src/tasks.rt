@@ -1,90 +1,54 @@
 //! What the program does.
 use crate::keeping::Kept;
-use crate::showing::Shown;
+use crate::looking::{find_in_image, print_names, show_image};
+use crate::showing::{Shown, Warned};
+use crate::sources::{files_of, find, read, read_included, read_names, texts_of};
 use crate::usage::explain;
-use crate::words::{Included, Task, task_in};
+use crate::words::{Includes, Task, task_in};
 use crate::writing::write_whole;
-use ks_core::{Lent, NameTable, Notes};
+use ks_core::{Feed, Lent, NameTable, Notes};
 use kx_explain::{Text, Texts};
 use kx_failure::Failure;
+use kx_finding::Ahead;
 use kx_image::{UpgradeFault, View, upgrade};
 use kx_lex::Fault;
+use kx_noted::{Listed, warnings};
 use kx_print::print;
 use kx_tool::{Files, ReplayFault, SessionFault, compile, dump, replay, session};
-use std::alloc::{AllocError, Global};
+use std::alloc::AllocError;
+use std::io;
 use std::rt::Files as FileSystem;
-use std::{fs, io};
-
-/// Reads a file.
-fn read<'a>(rt: &(impl FileSystem + AllocGlobal), path: &'a str) -> Result<Vec<u8>, Failure<'a>> {
-    match fs::read(rt, path) {
-        Ok(bytes) => Ok(bytes),
-        Err(fault) => Err(Failure::of_file(&fault, path)),
-    }
-}
-
-/// The names of keysyms, with those of a file where one is given.
-fn read_names<'a>(
-    rt: &(impl FileSystem + AllocGlobal),
-    path: Option<&'a str>,
-) -> Result<NameTable, Failure<'a>> {
-    let Some(path) = path else {
-        return Ok(NameTable::builtin());
-    };
-    let lines = read(rt, path)?;
-    match NameTable::with_lines(rt.alloc(), lines.as_slice()) {
-        Ok(names) => Ok(names),
-        Err(fault) => Err(Failure::Names(fault)),
-    }
-}
-
-/// The bytes of the files that a source may include.
-fn read_included<'a>(
-    rt: &(impl FileSystem + AllocGlobal),
-    included: &[Included<'a>],
-) -> Result<Vec<Vec<u8>>, Failure<'a>> {
-    let mut bytes = Vec::new(rt.alloc());
-    for file in included {
-        let read_bytes = read(rt, file.path)?;
-        if bytes.push(read_bytes).is_err() {
-            return Err(Failure::from(AllocError));
-        }
-    }
-    Ok(bytes)
-}
-
-/// The files that a source may include, as texts.
-fn texts_of<'t, 'a: 't>(
-    alloc: Global,
-    included: &[Included<'a>],
-    bytes: &'t [Vec<u8>],
-) -> Result<Vec<Text<'t>>, AllocError> {
-    let mut texts = Vec::new(alloc);
-    for (file, bytes) in included.iter().zip(bytes.iter()) {
-        let name = file.name;
-        let path = file.path;
-        let bytes = bytes.as_slice();
-        texts.push(Text { name, path, bytes })?;
-    }
-    Ok(texts)
-}
-
-/// The files that a source may include, as they are handed in. The texts stay, so that a fault can be shown in them.
-fn files_of(alloc: Global, texts: &[Text]) -> Result<Files, AllocError> {
-    let mut files = Files::new(alloc);
-    for text in texts {
-        let name = Vec::from_slice(alloc, text.name.as_bytes())?;
-        let bytes = Vec::from_slice(alloc, text.bytes)?;
-        if files.insert(name, bytes).is_err() {
-            return Err(AllocError);
-        }
-    }
-    Ok(files)
-}
 
 /// Shows a fault on standard error, in the text in which it stands.
 fn show_fault(rt: &(impl Eprint + AllocGlobal), fault: Fault, texts: Texts) {
     let _ = rt.eprint(Shown::of(rt.alloc(), fault, texts));
+}
+
+/// Shows warnings of a kind on standard error, where some were counted.
+fn show_warnings(rt: &(impl Eprint + AllocGlobal), count: u32, listed: &Listed, texts: Texts) {
+    if count > 0 {
+        let _ = rt.eprint(Warned { listed, texts });
+    }
+}
+
+/// Shows on standard error where what was noted stands. Nothing is shown where memory is refused for that.
+fn show_notes(
+    rt: &(impl Eprint + AllocGlobal),
+    texts: Texts,
+    files: &Files,
+    names: &NameTable,
+    notes: Notes,
+) {
+    let Ok(warnings) = warnings(rt.alloc(), texts.source.bytes, files, names) else {
+        return;
+    };
+    show_warnings(rt, notes.keysyms, &warnings.keysyms, texts);
+    show_warnings(rt, notes.keys, &warnings.keys, texts);
+    show_warnings(rt, notes.types, &warnings.types, texts);
+    show_warnings(rt, notes.levels, &warnings.levels, texts);
+    if let Ok(actions) = warnings.actions() {
+        show_warnings(rt, notes.actions, &actions, texts);
+    }
 }
 
 fn print_notes<'a>(rt: &impl Print, notes: Notes) -> Result<(), Failure<'a>> {
@@ -109,21 +73,29 @@ fn compile_to<'a>(
     names: Option<&'a str>,
     path: &'a str,
     image: &'a str,
-    included: &[Included<'a>],
+    includes: &Includes<'a>,
+    is_quiet: bool,
 ) -> Result<(), Failure<'a>> {
     let names = read_names(rt, names)?;
-    let source = read(rt, path)?;
-    let included_bytes = read_included(rt, included)?;
-    let files = texts_of(rt.alloc(), included, included_bytes.as_slice())?;
+    let bytes = read(rt, path)?;
+    let included_bytes = read_included(rt, includes.files.as_slice())?;
+    let handed = included_bytes.as_slice();
+    let found = find(rt, includes, handed, bytes.as_slice())?;
+    let files = texts_of(
+        rt.alloc(),
+        includes.files.as_slice(),
+        handed,
+        found.as_slice(),
+    )?;
     let texts = Texts {
         source: Text {
             name: "",
             path,
-            bytes: source.as_slice(),
+            bytes: bytes.as_slice(),
         },
         files: files.as_slice(),
     };
-    compile_texts(rt, &names, texts, image)
+    compile_texts(rt, &names, texts, image, is_quiet)
 }
 
 /// Compiles a source with the files that it may include.
@@ -132,11 +104,15 @@ fn compile_texts<'a>(
     names: &NameTable,
     texts: Texts,
     image: &'a str,
+    is_quiet: bool,
 ) -> Result<(), Failure<'a>> {
     let files = files_of(rt.alloc(), texts.files)?;
     match compile(rt.alloc(), texts.source.bytes, &files, names) {
         Ok((bytes, notes)) => {
             put_file(rt, image, bytes.as_slice())?;
+            if !is_quiet && notes != Notes::new() {
+                show_notes(rt, texts, &files, names, notes);
+            }
             print_notes(rt, notes)
         }
         Err(fault) => {
@@ -158,18 +134,17 @@ fn put_file<'a>(
     }
 }
 
-fn answer_source<'a>(
-    rt: &(impl FileSystem + Input + Print + Eprint + AllocGlobal),
-    names: Option<&'a str>,
-    included: &[Included<'a>],
+/// Answers a source and the events behind it.
+fn answer_feed<'a, F: Feed + Drop>(
+    rt: &(impl Print + Eprint + AllocGlobal),
+    feed: F,
+    names: &NameTable,
+    texts: &[Text],
 ) -> Result<(), Failure<'a>> {
-    let names = read_names(rt, names)?;
-    let included_bytes = read_included(rt, included)?;
-    let texts = texts_of(rt.alloc(), included, included_bytes.as_slice())?;
-    let files = files_of(rt.alloc(), texts.as_slice())?;
-    let mut feed = Kept::new(rt.alloc(), Lent::new(rt.reader()));
+    let files = files_of(rt.alloc(), texts)?;
+    let mut feed = Kept::new(rt.alloc(), feed);
     let mut out = Lent::new(io::writer(rt));
-    match session(rt.alloc(), &mut feed, &files, &names, &mut out) {
+    match session(rt.alloc(), &mut feed, &files, names, &mut out) {
         Ok(()) => Ok(()),
         Err(fault) => {
             if let SessionFault::Compile(fault) = fault {
@@ -178,12 +153,51 @@ fn answer_source<'a>(
                     path: "<stdin>",
                     bytes: feed.source(),
                 };
-                let files = texts.as_slice();
+                let files = texts;
                 show_fault(rt, fault, Texts { source, files });
             }
             Err(Failure::of_session(fault))
         }
     }
+}
+
+/// Answers a source and the events behind it, with the files that it includes from folders. The source is read first.
+fn answer_found<'a>(
+    rt: &(impl FileSystem + Input + Print + Eprint + AllocGlobal),
+    names: &NameTable,
+    includes: &Includes<'a>,
+    handed: &[Vec<u8>],
+) -> Result<(), Failure<'a>> {
+    let feed = match Ahead::read(rt.alloc(), Lent::new(rt.reader())) {
+        Ok(feed) => feed,
+        Err(fault) if fault.kind() == io::ErrorKind::OutOfMemory => {
+            return Err(Failure::from(AllocError));
+        }
+        Err(_) => return Err(Failure::Replay(ReplayFault::Read)),
+    };
+    let found = find(rt, includes, handed, feed.source())?;
+    let texts = texts_of(
+        rt.alloc(),
+        includes.files.as_slice(),
+        handed,
+        found.as_slice(),
+    )?;
+    answer_feed(rt, feed, names, texts.as_slice())
+}
+
+fn answer_source<'a>(
+    rt: &(impl FileSystem + Input + Print + Eprint + AllocGlobal),
+    names: Option<&'a str>,
+    includes: &Includes<'a>,
+) -> Result<(), Failure<'a>> {
+    let names = read_names(rt, names)?;
+    let included_bytes = read_included(rt, includes.files.as_slice())?;
+    let handed = included_bytes.as_slice();
+    if !includes.folders.is_empty() {
+        return answer_found(rt, &names, includes, handed);
+    }
+    let texts = texts_of(rt.alloc(), includes.files.as_slice(), handed, &[])?;
+    answer_feed(rt, Lent::new(rt.reader()), &names, texts.as_slice())
 }
 
 fn answer_image<'a>(
@@ -256,17 +270,30 @@ pub fn run<'a>(
     task: Task<'a>,
 ) -> Result<(), Failure<'a>> {
     match task {
-        Task::Try { names, files } => answer_source(rt, names, files.as_slice()),
+        Task::Try { names, includes } => answer_source(rt, names, &includes),
         Task::Compile {
             names,
             source,
             image,
-            files,
-        } => compile_to(rt, names, source, image, files.as_slice()),
+            includes,
+            is_quiet,
+        } => compile_to(rt, names, source, image, &includes, is_quiet),
         Task::Replay { names, image } => answer_image(rt, names, image),
         Task::Print { image } => print_image(rt, image),
         Task::Dump { image } => dump_image(rt, image),
         Task::Upgrade { image, newer } => upgrade_image(rt, image, newer),
+        Task::Show {
+            names,
+            image,
+            group,
+            is_drawn,
+        } => show_image(rt, names, image, group, is_drawn),
+        Task::Find {
+            names,
+            image,
+            keysym,
+        } => find_in_image(rt, names, image, keysym),
+        Task::Names { headers } => print_names(rt, headers.as_slice()),
     }
 }
 

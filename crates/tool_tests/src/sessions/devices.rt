@@ -5,8 +5,9 @@ use super::SAMPLE;
 use crate::sources::{builtin, no_files};
 use ks_core::{Feed, MemFeed, MemOut};
 use kx_image::ImageFault;
-use kx_tool::{ReplayFault, SessionFault, dump, replay, session};
+use kx_tool::{MOST_BYTES, ReplayFault, SessionFault, dump, replay, session};
 use std::io;
+use std::process::Abort;
 use std::test::Fail;
 
 /// The image of the sample in version 1.
@@ -22,13 +23,14 @@ pub const LINES: &[u8] = b"down 38\n\nup 38\ndown 9";
 pub const ANSWERS: &[u8] =
     b"38 down a consumed=none base=none latched=none locked=none group=1\n38 up a consumed=none base=none latched=none locked=none group=1\n9 down ? consumed=none base=none latched=none locked=none group=1\n";
 
-/// A reader that gives line feeds, and ends only where they can't be counted.
+/// A reader that gives these bytes and then line feeds, and ends only where they can't be counted.
 #[derive(Drop)]
-struct Endless {
+struct Endless<'a> {
+    front: &'a [u8],
     taken: u64,
 }
 
-impl Feed for Endless {
+impl Feed for Endless<'_> {
     ghost left = { λ s. None };
 
     ghost taken = { λ s. s.taken };
@@ -36,14 +38,29 @@ impl Feed for Endless {
     ghost failures = { λ s. 0 };
 
     fn take(&mut self, buffer: &mut [u8]) -> io::Result<usize> {
-        let Some(taken) = self.taken.checked_add(buffer.len() as u64) else {
+        buffer.fill(b'\n');
+        let count = match self.front.len().min(buffer.len()) {
+            0 => buffer.len(),
+            count => count,
+        };
+        let Some(taken) = self.taken.checked_add(count as u64) else {
             return Ok(0);
         };
         self.taken = taken;
-        buffer.fill(b'\n');
-        Ok(buffer.len())
+        let (piece, front) = self.front.split_at(count.min(self.front.len()));
+        buffer[..piece.len()].copy_from_slice(piece);
+        self.front = front;
+        Ok(count)
     }
 }
+
+/// A reader without end that begins with these bytes.
+fn without_end(front: &[u8]) -> Endless<'_> {
+    Endless { front, taken: 0 }
+}
+
+/// The limit of what is taken, and the piece that passes it.
+const MOST_TAKEN: u64 = MOST_BYTES + 4096;
 
 #[test]
 fn replay_answers_lines(rt: HostRuntime) -> Result<(), Fail> {
@@ -125,20 +142,41 @@ fn writers_that_fail_at_each_byte(rt: HostRuntime) -> Result<(), Fail> {
 }
 
 #[test]
-fn a_reader_without_end_is_refused(rt: HostRuntime) -> Result<(), Fail> {
+fn replay_of_a_reader_without_end_is_refused(rt: HostRuntime) -> Result<(), Fail> {
     let names = builtin(rt.alloc())?;
+    let mut feed = without_end(b"");
     let mut room = [0u8; 16];
     let mut out = MemOut::new(&mut room);
-    let ended = replay(
-        rt.alloc(),
-        &mut Endless { taken: 0 },
-        &IMAGE,
-        &names,
-        &mut out,
-    );
+    let ended = replay(rt.alloc(), &mut feed, &IMAGE, &names, &mut out);
     assert!(rt; ended == Err(ReplayFault::Read));
+    assert!(rt; feed.taken <= MOST_TAKEN);
     assert!(rt; out.written().is_empty());
     Ok(())
+}
+
+/// A session of a reader without end that begins with these bytes is refused, and nothing is answered.
+fn session_is_refused(rt: &(impl Abort + AllocGlobal), front: &[u8]) -> Result<(), Fail> {
+    let names = builtin(rt.alloc())?;
+    let files = no_files(rt.alloc())?;
+    let mut feed = without_end(front);
+    let mut room = [0u8; 16];
+    let mut out = MemOut::new(&mut room);
+    let ended = session(rt.alloc(), &mut feed, &files, &names, &mut out);
+    assert!(rt; ended == Err(SessionFault::Replay(ReplayFault::Read)));
+    assert!(rt; feed.taken <= MOST_TAKEN);
+    assert!(rt; out.written().is_empty());
+    Ok(())
+}
+
+#[test]
+fn a_session_whose_source_has_no_end_is_refused(rt: HostRuntime) -> Result<(), Fail> {
+    session_is_refused(&rt, b"")
+}
+
+#[test]
+fn a_session_whose_lines_have_no_end_is_refused(rt: HostRuntime) -> Result<(), Fail> {
+    let source = [SAMPLE, b"%%".as_slice()].concat(rt.alloc())?;
+    session_is_refused(&rt, source.as_slice())
 }
 
 #[test]

@@ -1,0 +1,84 @@
+#!/bin/sh
+# Proves and builds the library for C: c/build.sh FOLDER leaves there libxkc.a, libxkc.so.0 with the name libxkc.so, and, where
+# libxkbcommon's header is installed, libxkc-xkbcommon.so. A second word names a repository in which `rt ci` has passed: then
+# its libraries are taken as they stand there, and else `rt lib` proves and builds what isn't. CC names the compiler, cc where
+# it isn't set.
+set -eu
+top=$(cd "$(dirname "$0")/.." && pwd)
+mkdir -p "$1"
+out=$(cd "$1" && pwd)
+repository=$(cd "${2:-$top}" && pwd)
+crates=$repository/crates
+archive=$crates/xkc_c/out/libxkc_c.a
+compiler=${CC:-cc}
+kit=$(dirname "$(rt doc)")
+work=$(mktemp -d)
+trap 'rm -rf "$work"' EXIT
+
+# The libraries that xkc_c stands on: `own NAME` and `kit NAME` for those that it names, `below NAME` for those below.
+libraries() {
+    awk '
+        function reach(name,    count, i, names) {
+            if (name in reached) return
+            reached[name] = 1
+            print "below", name
+            count = split(below[name], names, " ")
+            for (i = 1; i <= count; i++) if (names[i] in below) reach(names[i])
+        }
+        /^[a-z]/ { name = $1; sub(/:.*/, "", name); sub(/^[^:]*:/, ""); below[name] = $0 }
+        END {
+            count = split("std " below["xkc_c"], names, " ")
+            for (i = 1; i <= count; i++) {
+                print (names[i] in below ? "own" : "kit"), names[i]
+                if (names[i] in below) reach(names[i])
+            }
+        }' "$repository/crates.txt"
+}
+
+mkdir -p "$crates/xkc_c/out"
+if [ -f "$archive" ] && [ -z "$(find "$repository/crates.txt" "$crates" -name out -prune -o \( -name '*.rt' -o -name '*.antt' -o -name crates.txt \) -newer "$archive" -print)" ]; then
+    echo "c/build.sh: $archive is there"
+elif [ $# -gt 1 ]; then
+    # The crate alone is proved and compiled, in the words of `rt lib`.
+    libraries > "$work/libraries"
+    set --
+    while read -r kind name; do
+        case $kind in
+            own) set -- "$@" --extern "$name=$crates/$name/out/rlib/$name.rlib" ;;
+            kit) set -- "$@" --extern "$name=$kit/rlibs/$name.rlib" ;;
+            below) set -- "$@" -L "dependency=$crates/$name/out/rlib" ;;
+        esac
+    done < "$work/libraries"
+    (cd "$crates/xkc_c" && "$kit/bin/rattle" build --crate-name xkc_c --crate-type staticlib src/lib.rt "$@" -L "dependency=$kit/rlibs" \
+        --antt-project "$kit/rattle/logic/antt-project.json" --logic-built "$kit/logic_built" --toolchain "$kit/toolchain" \
+        --jobs 2 --backend llvm -o "$work/libxkc_c.a")
+    mv "$work/libxkc_c.a" "$archive"
+else
+    (cd "$crates/xkc_c" && rt lib)
+fi
+
+# The toolchain's archive has the calls of malloc that the library makes.
+cd "$work"
+mkdir objects
+cd objects
+ar x "$archive"
+ar x "$kit/c/liblibc_c.a"
+rm -f "$out/libxkc.a"
+ar rcs "$out/libxkc.a" ./*.o
+echo '{ global: xkc_*; local: *; };' > exports
+"$compiler" -shared -Wl,-soname,libxkc.so.0 -Wl,--version-script=exports -Wl,--no-undefined -o "$out/libxkc.so.0" ./*.o
+ln -sf libxkc.so.0 "$out/libxkc.so"
+
+if ! flags=$(pkg-config --cflags xkbcommon 2> /dev/null); then
+    echo 'c/build.sh: xkbcommon.h is not installed, so libxkc-xkbcommon.so is not built'
+    exit 0
+fi
+# Each name of the header with its keysym is a line; digits begin no name here, and U forms name characters.
+header=$(pkg-config --variable=includedir xkbcommon)/xkbcommon/xkbcommon-keysyms.h
+awk '$1 == "#define" && $2 ~ /^XKB_KEY_/ && length($3) > 3 {
+    name = substr($2, 9)
+    if (name !~ /^[0-9]/ && name !~ /^U[0-9A-Fa-f]+$/ && name != "NoSymbol") printf "\"%s %s\\n\"\n", name, $3
+}' "$header" > xkbcommon-names.inc
+# shellcheck disable=SC2086
+"$compiler" -std=c11 -O2 -Wall -Wextra -Werror -fPIC -shared -I"$top/include" -I. $flags -o "$out/libxkc-xkbcommon.so" \
+    "$top/c/xkbcommon.c" "$out/libxkc.a" -Wl,--exclude-libs,ALL -ldl

@@ -1,0 +1,10 @@
+//! The files that a source's includes reach, as they lie under folders.
+#![tactic(auto)]
+
+mod ahead;
+mod folder;
+mod search;
+
+pub use ahead::{Ahead, source_in};
+pub use folder::Folder;
+pub use search::{FindFault, Found, find_files};

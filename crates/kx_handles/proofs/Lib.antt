@@ -1,0 +1,6 @@
+pub mod RawBoxes
+pub mod Slots
+pub mod KeymapHandleValues
+pub mod KeyboardHandleValues
+pub mod FollowerHandleValues
+pub mod NamesHandleValues

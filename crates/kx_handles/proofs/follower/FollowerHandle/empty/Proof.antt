@@ -1,0 +1,48 @@
+-- `empty` owns nothing.
+use Rattle.std.proofs.Common.{◌≡◌, List, [], ◌∷◌, ◌++◌, refl, sym, subst}
+use base.Fml.{ftrue}
+use base.Logic.{SProp, emp, ent, id⊢}
+use contract.Monad.{fact, fact_i}
+use contract.Running.{tables}
+use denote.Exit.{yes}
+use denote.RattleType.{owns}
+use denote.RawPtr.{Ptr, null_ptr, ptr_val}
+use denote.Signature.{plain, types_at}
+use denote.Steps.{nothing}
+use denote.Triple.Walked.{Goes-dropped, Stays, stay_dropped, walk_of}
+use mir.Val.{Val}
+use prog.Wp.{WpFn}
+use types.ByLocal.{alloc_all, free_all, get, look_at, pass_all, sets}
+use types.Kit.{‵, raw, ◌⊛◌, ◌$◌, ◌∵◌, !, by, feq_i, fjoin, fsplit, keep, move, qed, split, suffices, use0}
+use types.Part.{agg}
+use types.Run.{and_then, enter, lit, no_more, returns}
+use Rattle.core.proofs.alloc.Calls.{handle_tells}
+use Rattle.std.proofs.raw_atomic.Walks.{leaves, proved_at}
+use Rattle.std.specs.declared.option.Option.{Option}
+use Rattle.std.specs.declared.option.Option.TheVariants.{None}
+use Rattle.kx_handles.proofs.RawBoxes.{two}
+use Rattle.kx_handles.proofs.Slots.{Heap, allocator, null_fits}
+use Rattle.kx_handles.proofs.FollowerHandleValues.{R, handle_in}
+use Rattle.kx_handles.proofs.follower.FollowerHandle.empty.Code as code
+use Rattle.kx_handles.proofs.follower.FollowerHandle.empty.Statement.{statement}
+use Rattle.kx_handles.specs.contracts.follower.FollowerHandle.empty.{clauses, ended}
+use Rattle.kx_handles.specs.contracts.follower.FollowerHandle.empty.Key.{name as #empty}
+
+pub empty_spec : {M : Type 1} → statement M
+empty_spec 𝓤 𝓛 𝓜 𝓡 wired =
+    let 𝓣 = tables 𝓤 𝓛.H 𝓜 𝓡 𝓡.env in let fn = code.function in let c = clauses 𝓛 𝓜.mem 𝓡.returns in
+    let stays : Stays ended.signature.params ended.kept = (stay_dropped (plain (λ _. Heap)) yes, tt) in
+    proved_at 𝓛 ended stays c 𝓜 𝓡 (Goes-dropped 𝓛 0 (plain (λ _. Heap)) yes (λ κs x f. refl), tt) #empty fn (code.unfolded 𝓤 𝓛.H 𝓜 𝓡 wired) (λ z are.
+    let κs = z.0.0 in let a = z.0.3.0 in let none : Option R.Denot = None in
+    let Post : Val → SProp 𝓤 = (walk_of 𝓛 ended stays c).post z in
+    let Run : List Val → SProp 𝓤 = λ ws. WpFn 𝓤 𝓛.H 𝓣.C 𝓣.Λ fn ws Post in
+    qed 𝓛 ((‵ ftrue ⊛ ‵ (owns (types_at ended.signature.params κs) z.0.3 z.0.4)) ∷ raw ((c κs z.0.3).requires z.1) ∷ []) ∵
+    split ! $ move ! (1 ∷ []) $ fsplit ! $
+    handle_tells allocator ! a z.0.4.0 (λ h spelled fits.
+    suffices ! (Run (h ∷ [])) (subst (λ us. ent 𝓤 (Run (h ∷ [])) (Run us)) (sym (λ i. spelled i ++ [])) (id⊢ 𝓤 (Run (h ∷ [])))) $
+    enter ! 𝓣.C 𝓣.Λ fn (h ∷ []) Post $ alloc_all ! (λ l. pass_all ! refl (fits, tt) $
+    sets ! (agg ! (and_then ! (lit ! tt) (and_then ! (get ! refl) (no_more !)))) refl (null_fits h fits) $
+    feq_i ! Ptr null_ptr null_ptr refl $ handle_in ! null_ptr h a none $
+    use0 𝓛 (raw (fact 𝓤 (none ≡ None))) (fact_i 𝓤 (none ≡ None) (emp 𝓤) refl) $ nothing ! $ nothing ! $ fjoin ! $
+    returns ! (look_at ! 0 refl) $ free_all ! refl $ keep ! (4 ∷ 0 ∷ 2 ∷ 1 ∷ []) $
+    by ! (leaves 𝓛 ended stays c z (two (ptr_val null_ptr) h) (record { at = null_ptr; alloc = a; value = none }) (tt, tt) (tt, tt)))))

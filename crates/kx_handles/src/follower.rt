@@ -1,0 +1,92 @@
+ghost use Rattle.std.specs.Prelude.{◌≡◌, MatchOption, None, Option, Some};
+ghost use Rattle.kx_run.specs.Player.{Followed};
+ghost use Rattle.kx_shared.specs.contracts.follower.SharedFollower.{the_row};
+ghost use Rattle.kx_handles.specs.Slot.{slot};
+
+use crate::raw_box::RawBox;
+use kx_shared::SharedFollower;
+use std::alloc::Global;
+use std::marker::Model;
+use std::mem::replace;
+use std::ptr::null_mut;
+
+/// Empty, or a follower on the heap. In C a struct of one pointer.
+#[repr(C)]
+pub struct FollowerHandle {
+    at: *mut u8,
+    alloc: Global,
+    pub ghost value: { Option Followed },
+}
+
+impl Model for FollowerHandle {
+    ghost also_owns = { λ h. slot h.alloc the_row h.at h.value };
+}
+
+impl FollowerHandle {
+    /// Takes what the handle has, and leaves it empty.
+    pub fn take(&mut self, alloc: Global) -> Option<Box<SharedFollower>>
+        ensures empty { self.new.value ≡ None }
+        ensures taken { MatchOption result (self.old.value ≡ None) (λ b. self.old.value ≡ Some b.value) }
+    {
+        let taken = replace(self, FollowerHandle::empty(alloc));
+        match taken.into_raw() {
+            None => None,
+            Some(raw) => Some(raw.into_box()),
+        }
+    }
+
+    /// Lets go of what the handle has, and leaves a box there.
+    pub fn put(&mut self, value: Box<SharedFollower>)
+        ensures { self.new.value ≡ Some value.value }
+    {
+        replace(self, FollowerHandle::of_raw(RawBox::of(value))).let_go();
+    }
+
+    /// Lets go of what the handle has, and leaves it empty.
+    pub fn end(&mut self, alloc: Global)
+        ensures { self.new.value ≡ None }
+    {
+        replace(self, FollowerHandle::empty(alloc)).let_go();
+    }
+
+    /// A handle that has nothing.
+    fn empty(alloc: Global) -> FollowerHandle
+        ensures { result.value ≡ None }
+    {
+        FollowerHandle {
+            at: null_mut(),
+            alloc,
+        }
+    }
+
+    fn let_go(self) {
+        match self.into_raw() {
+            None => {}
+            Some(raw) => drop(raw.into_box()),
+        }
+    }
+
+    fn of_raw(raw: RawBox<SharedFollower, Global>) -> FollowerHandle
+        ensures { result.value ≡ Some raw.value }
+    {
+        let RawBox { at, alloc } = raw;
+        FollowerHandle {
+            at: at as *mut u8,
+            alloc,
+        }
+    }
+
+    fn into_raw(self) -> Option<RawBox<SharedFollower, Global>>
+        ensures { MatchOption result (self.value ≡ None) (λ raw. self.value ≡ Some raw.value) }
+    {
+        let FollowerHandle { at, alloc } = self;
+        if at.is_null() {
+            None
+        } else {
+            Some(RawBox {
+                at: at as *mut SharedFollower,
+                alloc,
+            })
+        }
+    }
+}

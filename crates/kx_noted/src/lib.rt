@@ -1,0 +1,9 @@
+//! Where what is passed over stands in a keymap's texts: what a person reads of a compiler's notes.
+#![tactic(auto)]
+
+mod groups;
+mod statements;
+mod warning;
+
+pub use groups::warnings;
+pub use warning::{Listed, Warning, Warnings};

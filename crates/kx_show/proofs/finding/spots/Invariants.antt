@@ -1,0 +1,11 @@
+use Rattle.std.proofs.Common.{◌<◌}
+use Rattle.std.specs.List.{Contains}
+use Rattle.kx_show.specs.Finding.{Gives}
+use Rattle.kx_show.specs.declared.finding.Spot.{Spot}
+use Rattle.kx_show.proofs.finding.spots.Given as goal
+
+abbrev pub invariant-loop-key : goal.invariant-loop-key
+invariant-loop-key g l = record {
+  each : (s : Spot) → Contains l.found.items s → Gives (g.T.Rows.content l.tables) l.fn.keysym s;
+  all : (s : Spot) → s.key < l.key → Gives (g.T.Rows.content l.tables) l.fn.keysym s → Contains l.found.items s;
+}

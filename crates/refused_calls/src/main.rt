@@ -1,0 +1,136 @@
+//! Makes calls twice each on a keymap that it reads from standard input, and prints how each ended. `tests/refused.sh` runs
+//! it with the word of one call, and refuses its growths one by one; without a word it makes all.
+#![tactic(auto)]
+
+use ks_core::{MemFeed, MemOut, NameTable};
+use kx_image::View;
+use kx_run::{Direction, Player};
+use kx_tool::{Files, compile, replay, session};
+use std::alloc::Global;
+use std::io::Read;
+use std::{env, io};
+
+const CALLS: [&str; 5] = ["compile", "with_lines", "start", "replay", "session"];
+
+const LINES: &[u8] = b"down 50
+down 38
+up 38
+up 50
+";
+
+const NAMES: &[u8] = b"one 0x1001
+two 0x1002
+";
+
+/// What a call is made on: an image, or what a session reads. Nothing where there is no memory for it.
+fn made(alloc: Global, keymap: &[u8], call: &str) -> Option<Vec<u8>> {
+    match call {
+        "start" | "replay" => {
+            let files = Files::new(alloc);
+            match compile(alloc, keymap, &files, &NameTable::builtin()) {
+                Ok((image, _notes)) => Some(image),
+                Err(_) => None,
+            }
+        }
+        "session" => [keymap, b"%%\n".as_slice(), LINES].concat(alloc).ok(),
+        _ => Some(Vec::new(alloc)),
+    }
+}
+
+/// Prints how many bytes these are, and a sum of them.
+fn show(rt: &impl Print, bytes: &[u8]) -> io::Result<()> {
+    let sum = bytes.iter().fold(
+        0u32,
+        |sum, byte| sum.wrapping_mul(31).wrapping_add(u32::from(*byte)),
+    );
+    println!(rt; "{} bytes, {sum:x}", bytes.len())
+}
+
+fn compile_once(rt: &(impl Print + AllocGlobal), keymap: &[u8]) -> io::Result<()> {
+    let files = Files::new(rt.alloc());
+    match compile(rt.alloc(), keymap, &files, &NameTable::builtin()) {
+        Ok((image, _notes)) => show(rt, image.as_slice()),
+        Err(fault) => println!(rt; "{fault}"),
+    }
+}
+
+fn names_once(rt: &(impl Print + AllocGlobal)) -> io::Result<()> {
+    match NameTable::with_lines(rt.alloc(), NAMES) {
+        Ok(names) => println!(rt; "{}", names.by_name("two").is_some()),
+        Err(fault) => println!(rt; "{fault}"),
+    }
+}
+
+fn start_once(rt: &(impl Print + AllocGlobal), image: &[u8]) -> io::Result<()> {
+    let Ok(view) = View::open(image) else {
+        return println!(rt; "no image");
+    };
+    match Player::start(rt.alloc(), view) {
+        Ok(mut player) => println!(rt; "{:?}", player.event(38, Direction::Down).syms.as_slice()),
+        Err(_) => println!(rt; "OutOfMemory"),
+    }
+}
+
+fn replay_once(rt: &(impl Print + AllocGlobal), image: &[u8]) -> io::Result<()> {
+    let mut room = [0u8; 1024];
+    let mut out = MemOut::new(&mut room);
+    let names = NameTable::builtin();
+    match replay(
+        rt.alloc(),
+        &mut MemFeed::new(LINES),
+        image,
+        &names,
+        &mut out,
+    ) {
+        Ok(()) => show(rt, out.written()),
+        Err(fault) => println!(rt; "{fault}, {} bytes", out.written().len()),
+    }
+}
+
+fn session_once(rt: &(impl Print + AllocGlobal), text: &[u8]) -> io::Result<()> {
+    let mut room = [0u8; 1024];
+    let mut out = MemOut::new(&mut room);
+    let files = Files::new(rt.alloc());
+    let names = NameTable::builtin();
+    match session(
+        rt.alloc(),
+        &mut MemFeed::new(text),
+        &files,
+        &names,
+        &mut out,
+    ) {
+        Ok(()) => show(rt, out.written()),
+        Err(fault) => println!(rt; "{fault}, {} bytes", out.written().len()),
+    }
+}
+
+/// Makes a call twice, behind a line with its word, which says that all before it is done.
+fn make_twice(rt: &(impl Print + AllocGlobal), keymap: &[u8], call: &str) -> io::Result<()> {
+    let Some(made) = made(rt.alloc(), keymap, call) else {
+        return println!(rt; "before");
+    };
+    println!(rt; "{call}")?;
+    for _turn in 0..2 {
+        match call {
+            "compile" => compile_once(rt, keymap)?,
+            "with_lines" => names_once(rt)?,
+            "start" => start_once(rt, made.as_slice())?,
+            "replay" => replay_once(rt, made.as_slice())?,
+            _ => session_once(rt, made.as_slice())?,
+        }
+    }
+    Ok(())
+}
+
+fn main(rt: HostRuntime) -> io::Result<()> {
+    let words: Vec<String> = env::args(&rt)?.collect(rt.alloc())?;
+    let wanted = words.get(1).map_or("", |word| word.as_str());
+    let mut keymap = Vec::new(rt.alloc());
+    rt.reader().read_to_end(&mut keymap)?;
+    for call in CALLS {
+        if wanted.is_empty() || call == wanted {
+            make_twice(&rt, keymap.as_slice(), call)?;
+        }
+    }
+    Ok(())
+}

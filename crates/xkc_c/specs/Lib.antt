@@ -1,0 +1,6 @@
+pub mod FaultInC
+pub mod Handed
+pub mod InC
+pub mod NamesInC
+pub mod Out
+pub mod RowsInC

@@ -1,0 +1,157 @@
+//! Keyboards: what a compositor runs.
+ghost use Rattle.std.specs.Prelude.{◌≡◌, ◌≢◌, ◌⊎◌, ◌<◌, ◌≤◌, IfSome, None, Some};
+ghost use Rattle.kx_run.specs.Player.{Played};
+ghost use Rattle.kx_run.specs.Replies.{lit_in, status_in};
+ghost use Rattle.kx_run.specs.World.{opening};
+ghost use Rattle.kx_tables.specs.Content.{Content};
+ghost use Rattle.kx_tables.specs.Keymap.{keymap_of};
+ghost use Rattle.xkc_c.specs.InC.{IsReply, behind, reply_to, status};
+ghost use Rattle.xkc_c.specs.declared.status.TheConstants.{EMPTY, MEMORY, MISSING, OK};
+
+use crate::reply::XkcReply;
+use crate::state::XkcState;
+use crate::status::{EMPTY, MEMORY, MISSING, OK};
+use kx_handles::{KeyboardHandle, KeymapHandle};
+use kx_run::Direction;
+use kx_shared::{SharedKeyboard, SharedTables};
+use std::alloc::Global;
+
+/// Starts a keyboard over a keymap, with nothing held, latched or locked, and puts it in the place of what the handle
+/// has.
+#[unsafe(no_mangle)]
+pub extern "C" fn xkc_keyboard_start(
+    alloc: Global,
+    keyboard: &mut KeyboardHandle,
+    keymap: &mut KeymapHandle,
+) -> u32
+    ensures keymap { keymap.new.value ≡ keymap.old.value }
+    ensures empty { keymap.old.value ≡ None → result ≡ EMPTY }
+    ensures started { result ≡ OK → IfSome keymap.old.value (λ content. keyboard.new.value ≡ Some (record { content = content; world = opening })) }
+    ensures refused { result ≢ OK → keyboard.new ≡ keyboard.old }
+    ensures statuses { (content : Content) → keymap.old.value ≡ Some content → (result ≡ OK) ⊎ (result ≡ MEMORY) }
+{
+    let Some(tables) = keymap.take(alloc) else {
+        return EMPTY;
+    };
+    let started = started(alloc, &tables);
+    keymap.put(tables);
+    match started {
+        None => MEMORY,
+        Some(boxed) => {
+            keyboard.put(boxed);
+            OK
+        }
+    }
+}
+
+/// Tells a keyboard of a press, or of a release where `down` is 0.
+#[unsafe(no_mangle)]
+pub extern "C" fn xkc_keyboard_event(
+    alloc: Global,
+    keyboard: &mut KeyboardHandle,
+    code: u32,
+    down: u8,
+    reply: &mut XkcReply,
+) -> u32
+    ensures empty { keyboard.old.value ≡ None → (result ≡ EMPTY) × ((keyboard.new.value ≡ None) × (reply.new ≡ reply.old)) }
+    ensures stepped { (played : Played) → keyboard.old.value ≡ Some played → code < 65536
+        → (result ≡ OK) × ((keyboard.new.value ≡ Some (behind played code down)) × IsReply reply.new (reply_to played code down)) }
+    ensures missing { (played : Played) → keyboard.old.value ≡ Some played → 65536 ≤ code
+        → (result ≡ MISSING) × ((keyboard.new.value ≡ Some played) × (reply.new ≡ reply.old)) }
+{
+    let Some(mut boxed) = keyboard.take(alloc) else {
+        return EMPTY;
+    };
+    let status = told(&mut boxed, code, down, reply);
+    keyboard.put(boxed);
+    status
+}
+
+/// The modifiers and groups of a keyboard.
+#[unsafe(no_mangle)]
+pub extern "C" fn xkc_keyboard_state(
+    alloc: Global,
+    keyboard: &mut KeyboardHandle,
+    state: &mut XkcState,
+) -> u32
+    ensures keyboard { keyboard.new.value ≡ keyboard.old.value }
+    ensures empty { keyboard.old.value ≡ None → (result ≡ EMPTY) × (state.new ≡ state.old) }
+    ensures state { (played : Played) → keyboard.old.value ≡ Some played
+        → (result ≡ OK) × (status state.new ≡ status_in (keymap_of played.content) played.world) }
+{
+    let Some(boxed) = keyboard.take(alloc) else {
+        return EMPTY;
+    };
+    *state = XkcState::of(boxed.components());
+    keyboard.put(boxed);
+    OK
+}
+
+/// The indicators that are lit: bit i is indicator i, from 0.
+#[unsafe(no_mangle)]
+pub extern "C" fn xkc_keyboard_lit(
+    alloc: Global,
+    keyboard: &mut KeyboardHandle,
+    lit: &mut u32,
+) -> u32
+    ensures keyboard { keyboard.new.value ≡ keyboard.old.value }
+    ensures empty { keyboard.old.value ≡ None → (result ≡ EMPTY) × (lit.new ≡ lit.old) }
+    ensures lit { (played : Played) → keyboard.old.value ≡ Some played
+        → (result ≡ OK) × (lit.new ≡ lit_in (keymap_of played.content) (status_in (keymap_of played.content) played.world)) }
+{
+    let Some(boxed) = keyboard.take(alloc) else {
+        return EMPTY;
+    };
+    *lit = boxed.lit();
+    keyboard.put(boxed);
+    OK
+}
+
+/// Lets go of what the handle has.
+#[unsafe(no_mangle)]
+pub extern "C" fn xkc_keyboard_end(alloc: Global, keyboard: &mut KeyboardHandle)
+    ensures { keyboard.new.value ≡ None }
+{
+    keyboard.end(alloc);
+}
+
+/// A keyboard on the heap.
+fn started(alloc: Global, tables: &SharedTables) -> Option<Box<SharedKeyboard>>
+    ensures { IfSome result (λ b. b.value ≡ record { content = tables.now; world = opening }) }
+{
+    let Ok(shared) = tables.again() else {
+        return None;
+    };
+    let Ok(keyboard) = SharedKeyboard::start(alloc, shared) else {
+        return None;
+    };
+    match Box::new(alloc, keyboard) {
+        Err(_) => None,
+        Ok(boxed) => Some(boxed),
+    }
+}
+
+/// Tells a keyboard of an event, where keys have codes so great.
+fn told(keyboard: &mut SharedKeyboard, code: u32, down: u8, reply: &mut XkcReply) -> u32
+    ensures stepped { code < 65536 → (result ≡ OK) × ((keyboard.new ≡ behind keyboard.old code down) × IsReply reply.new (reply_to keyboard.old code down)) }
+    ensures missing { 65536 ≤ code → (result ≡ MISSING) × ((keyboard.new ≡ keyboard.old) × (reply.new ≡ reply.old)) }
+{
+    if code > 0xffff {
+        return MISSING;
+    }
+    *reply = answered(keyboard, code as u16, down);
+    OK
+}
+
+/// What a keyboard answers to an event.
+fn answered(keyboard: &mut SharedKeyboard, code: u16, down: u8) -> XkcReply
+    ensures keyboard { keyboard.new ≡ behind keyboard.old code down }
+    ensures reply { IsReply result (reply_to keyboard.old code down) }
+{
+    let direction = if down == 0 {
+        Direction::Up
+    } else {
+        Direction::Down
+    };
+    XkcReply::of(&keyboard.event(code, direction))
+}

@@ -1,0 +1,34 @@
+//! What needs no handle.
+ghost use Rattle.std.specs.Prelude.{◌≡◌, ◌+◌, take};
+ghost use Rattle.kx_tool.specs.Locating.{line_feeds, since_line_feed};
+
+use kx_tool::locate;
+
+/// Where a byte of a text stands: its line, and its place among the line's bytes, both counted from 1.
+#[repr(C)]
+#[derive(Clone, Copy)]
+pub struct XkcPosition {
+    pub line: usize,
+    pub column: usize,
+}
+
+/// Where the byte at a place stands, or the end where the text is shorter. The place is counted from 0.
+#[unsafe(no_mangle)]
+pub extern "C" fn xkc_locate(text: &[u8], place: usize, position: &mut XkcPosition)
+    ensures line { position.new.line ≡ line_feeds (take place text.now) + 1 }
+    ensures column { position.new.column ≡ since_line_feed (take place text.now) + 1 }
+{
+    let found = locate(text, place);
+    *position = XkcPosition {
+        line: found.line,
+        column: found.column,
+    };
+}
+
+/// The library's version: 65,536 times the first number, 256 times the second, and the third.
+#[unsafe(no_mangle)]
+pub extern "C" fn xkc_version() -> u32
+    ensures { result ≡ 256 }
+{
+    0x0000_0100
+}

@@ -1,0 +1,290 @@
+/* xkc: compiles XKB keymap text and runs keyboards.
+ *
+ * Every call is proved to return, to stay within the memory that it is handed, and to do what its contract in
+ * crates/xkc_c says, where its caller keeps the duties below. docs/c.md tells more, with a compositor and a client.
+ *
+ * Handles. Each is a struct of one pointer, and belongs to the library: {0} is empty. A call that makes something puts it
+ * in the place of what the handle had, which is let go; where it is refused, the handle is as it was. A call that ends
+ * leaves the handle empty, and may be made twice. A keymap may be ended while keyboards and followers run over it.
+ * Don't copy a handle: move it, and forget the old one.
+ *
+ * Duties, which nothing checks:
+ * - No pointer is null, also of an empty text or array: pass "" and 0.
+ * - What is pointed to has its type's size, and a text or array its length. What is only written need not be set before.
+ * - The arguments of a call don't overlap, and no other call uses them meanwhile. An xkc_file's bytes may be those of another.
+ * - A handle is {0}, or what a call left in it.
+ * - A keymap, and all keyboards and followers that were started over it, stay in one thread. So does each names handle.
+ * - malloc, realloc and free are of one allocator. A thread has 8 MB of stack, the usual size.
+ *
+ * Memory. Calls that make something take memory, as their comments say; the others take none. No call keeps a pointer to
+ * what its caller passed.
+ *
+ * Texts are bytes and a length, without a 0 at the end. Truths are uint8_t, 0 or 1. Indices and groups count from 0.
+ * Of modifiers, bits 0 to 7 are Shift, Lock, Control and Mod1 to Mod5. */
+#ifndef XKC_H
+#define XKC_H
+
+#include <stddef.h>
+#include <stdint.h>
+
+#ifdef __cplusplus
+extern "C" {
+#endif
+
+/* The version of this header, as xkc_version tells that of the library: 0.1.0. */
+#define XKC_VERSION 0x000100u
+
+typedef struct xkc_names { void *at; } xkc_names;
+typedef struct xkc_keymap { void *at; } xkc_keymap;
+typedef struct xkc_keyboard { void *at; } xkc_keyboard;
+typedef struct xkc_follower { void *at; } xkc_follower;
+
+/* What a call answers. */
+enum {
+    XKC_OK = 0,      /* it was done */
+    XKC_EMPTY = 1,   /* the handle is empty */
+    XKC_MEMORY = 2,  /* a growth was refused */
+    XKC_IMAGE = 3,   /* the bytes are no image */
+    XKC_NAMES = 4,   /* a line of names has a fault */
+    XKC_SOURCE = 5,  /* the source has a fault */
+    XKC_MISSING = 6, /* there is no row of that index, no keysym of that name, or no key can have so great a code */
+    XKC_ROOM = 7     /* there is no room for the bytes: the size says how much there must be */
+};
+
+/* What xkc_keymap_name names. */
+enum { XKC_KEY_NAME = 0, XKC_TYPE_NAME = 1, XKC_INDICATOR_NAME = 2, XKC_GROUP_NAME = 3 };
+
+/* A file that a source may include: its name, as "symbols/us", and its bytes. */
+typedef struct xkc_file {
+    const uint8_t *name;
+    size_t name_size;
+    const uint8_t *text;
+    size_t text_size;
+} xkc_file;
+
+/* Why a source is refused: the number n of its fault Fn, 2 to 18; the text in which it stands, 0 the source and n the
+ * n-th file; its first byte there, and the one behind its last. docs/text.md and docs/meaning.md have the faults. */
+typedef struct xkc_fault {
+    uint32_t number;
+    uint32_t file;
+    uint32_t start;
+    uint32_t stop;
+} xkc_fault;
+
+/* Why lines of names are refused: the line, from 1, and the number n of its fault Nn, 2 to 4. */
+typedef struct xkc_names_fault {
+    size_t line;
+    uint32_t number;
+} xkc_names_fault;
+
+/* The modifiers and groups of a keyboard. What counts are the union of the three sets of modifiers, and the group
+ * `effective_group`, which the other three groups give. */
+typedef struct xkc_state {
+    int32_t base_group;
+    uint8_t base;
+    uint8_t latched;
+    uint8_t locked;
+    uint8_t latched_group;
+    uint8_t locked_group;
+    uint8_t effective_group;
+} xkc_state;
+
+/* What a keyboard answers to an event: the first `count` keysyms are those of the key in the state before it, `consumed`
+ * the modifiers that they use up, `known` whether the keymap has the key; `state` and `lit` are those after the event. */
+typedef struct xkc_reply {
+    uint32_t keysyms[8];
+    xkc_state state;
+    uint32_t lit;
+    uint8_t count;
+    uint8_t consumed;
+    uint8_t known;
+} xkc_reply;
+
+/* What a key gives in a state. */
+typedef struct xkc_look {
+    uint32_t keysyms[8];
+    uint8_t count;
+    uint8_t consumed;
+    uint8_t known;
+} xkc_look;
+
+/* A byte's line, and its place among the line's bytes, both from 1. */
+typedef struct xkc_position {
+    size_t line;
+    size_t column;
+} xkc_position;
+
+/* How many rows of each kind a keymap has. */
+typedef struct xkc_counts {
+    uint32_t types;
+    uint32_t entries;
+    uint32_t keys;
+    uint32_t groups;
+    uint32_t levels;
+    uint32_t keysyms;
+    uint32_t indicators;
+    uint32_t group_names;
+} xkc_counts;
+
+/* A key type: the modifiers that select a level, how many levels there are, and its entries. No entry selects the first
+ * level. */
+typedef struct xkc_type {
+    uint32_t first_entry;
+    uint32_t entries;
+    uint8_t mods;
+    uint8_t levels;
+} xkc_type;
+
+/* An entry of a key type: these modifiers select the level, which counts from 1; `preserve` are those of them that aren't
+ * consumed. */
+typedef struct xkc_entry {
+    uint8_t mods;
+    uint8_t level;
+    uint8_t preserve;
+} xkc_entry;
+
+/* A key: its code, its groups, the real modifiers that it is mapped to, and what becomes of a group that it doesn't have:
+ * 0 it is taken modulo `groups`, 1 the nearest one is, 2 `redirect` is, or the first where the key doesn't have that. */
+typedef struct xkc_key {
+    uint32_t code;
+    uint32_t first_group;
+    uint8_t groups;
+    uint8_t modmap;
+    uint8_t range;
+    uint8_t redirect;
+} xkc_key;
+
+/* A group of a key: its first level, of which it has as many as its key type. */
+typedef struct xkc_group {
+    uint32_t first_level;
+    uint32_t key_type;
+} xkc_group;
+
+/* What a level does: 0 nothing; 1 to 3 it sets, latches or locks modifiers; 4 to 6 it sets, latches or locks a group, which
+ * is `group`, or so many further where `is_relative` is 1. Of locking, `locks` is 1 where a press locks, and `unlocks` where
+ * a release unlocks. */
+typedef struct xkc_action {
+    int32_t group;
+    uint8_t kind;
+    uint8_t mods;
+    uint8_t is_relative;
+    uint8_t clear_locks;
+    uint8_t latch_to_lock;
+    uint8_t locks;
+    uint8_t unlocks;
+} xkc_action;
+
+/* A level of a group: its action, and its keysyms, 8 at most. */
+typedef struct xkc_level {
+    xkc_action action;
+    uint32_t first_keysym;
+    uint8_t keysyms;
+} xkc_level;
+
+/* An indicator: lit while its modifiers, or its groups (bit g is group g), are among those of the states that it looks at:
+ * bit 0 is base, 1 latched, 2 locked, 3 effective. */
+typedef struct xkc_indicator {
+    uint32_t groups;
+    uint8_t mods;
+    uint8_t mod_states;
+    uint8_t group_states;
+} xkc_indicator;
+
+/* The version of the library. */
+uint32_t xkc_version(void);
+
+/* Where the byte at a place of a text stands, or the end where the text is shorter: for people, of a fault's span. */
+void xkc_locate(const uint8_t *text, size_t text_size, size_t place, xkc_position *position);
+
+/* ---- Names of keysyms. An empty handle has the built-in ones alone. */
+
+/* Reads lines of a name, blanks and a number, so that a source, print and the two calls below know them beside the
+ * built-in ones. Answers XKC_OK; XKC_MEMORY; or XKC_NAMES and writes `fault`, else that isn't written. Takes memory. */
+uint32_t xkc_names_read(xkc_names *names, const uint8_t *lines, size_t lines_size, xkc_names_fault *fault);
+
+/* The keysym of a name: XKC_OK and writes `keysym`, or XKC_MISSING. */
+uint32_t xkc_names_keysym(xkc_names *names, const uint8_t *name, size_t name_size, uint32_t *keysym);
+
+/* The name of a keysym, 64 bytes at most: its first name, else the U form, else the 0x form. Writes `size`, and answers
+ * XKC_OK with the name in `out`, or XKC_ROOM. */
+uint32_t xkc_names_name(xkc_names *names, uint32_t keysym, uint8_t *out, size_t room, size_t *size);
+
+/* Lets go of the names. Keymaps that were compiled with them go on. */
+void xkc_names_end(xkc_names *names);
+
+/* ---- Keymaps */
+
+/* Compiles a source, with files that it may include: of two that have one name the later is taken. Answers XKC_OK;
+ * XKC_MEMORY; or XKC_SOURCE and writes `fault`, else that isn't written. Takes memory. */
+uint32_t xkc_keymap_compile(xkc_keymap *keymap, const uint8_t *source, size_t source_size, const xkc_file *files,
+                            size_t file_count, xkc_names *names, xkc_fault *fault);
+
+/* Opens an image of any version, of which it keeps a copy. Answers XKC_OK, XKC_MEMORY, or XKC_IMAGE. Takes memory. */
+uint32_t xkc_keymap_open(xkc_keymap *keymap, const uint8_t *image, size_t image_size);
+
+/* The keymap's image, for another process to open. Writes `size`, and answers XKC_OK with the bytes in `out`, or XKC_ROOM;
+ * XKC_EMPTY writes nothing. */
+uint32_t xkc_keymap_image(xkc_keymap *keymap, uint8_t *out, size_t room, size_t *size);
+
+/* The keymap as text, in the same way; or XKC_MEMORY, which writes nothing. Takes memory while it runs. */
+uint32_t xkc_keymap_print(xkc_keymap *keymap, uint8_t *out, size_t room, size_t *size);
+
+/* Lets go of the keymap. Keyboards and followers over it go on. */
+void xkc_keymap_end(xkc_keymap *keymap);
+
+/* The rows of a keymap. Each call answers XKC_OK and writes the row; XKC_MISSING, where there is none of that index; or
+ * XKC_EMPTY. Keys stand by rising codes. */
+uint32_t xkc_keymap_counts(xkc_keymap *keymap, xkc_counts *counts);
+uint32_t xkc_keymap_key(xkc_keymap *keymap, uint32_t index, xkc_key *key);
+uint32_t xkc_keymap_type(xkc_keymap *keymap, uint32_t index, xkc_type *type);
+uint32_t xkc_keymap_entry(xkc_keymap *keymap, uint32_t index, xkc_entry *entry);
+uint32_t xkc_keymap_group(xkc_keymap *keymap, uint32_t index, xkc_group *group);
+uint32_t xkc_keymap_level(xkc_keymap *keymap, uint32_t index, xkc_level *level);
+uint32_t xkc_keymap_keysym(xkc_keymap *keymap, uint32_t index, uint32_t *keysym);
+uint32_t xkc_keymap_indicator(xkc_keymap *keymap, uint32_t index, xkc_indicator *indicator);
+
+/* The index of the key of a code: XKC_OK and writes `index`, XKC_MISSING or XKC_EMPTY. */
+uint32_t xkc_keymap_key_of(xkc_keymap *keymap, uint32_t code, uint32_t *index);
+
+/* The name of a row: of a key, a key type, an indicator, or of the keymap's group of that index, which may be empty. Writes
+ * `size`, and answers XKC_OK with the name in `out`, or XKC_ROOM; XKC_MISSING and XKC_EMPTY write nothing. */
+uint32_t xkc_keymap_name(xkc_keymap *keymap, uint32_t kind, uint32_t index, uint8_t *out, size_t room, size_t *size);
+
+/* ---- Keyboards: what a compositor runs */
+
+/* Starts a keyboard over a keymap, with nothing held, latched or locked. Answers XKC_OK, XKC_MEMORY, or XKC_EMPTY where the
+ * keymap is empty. Takes memory; no other call of a keyboard does. */
+uint32_t xkc_keyboard_start(xkc_keyboard *keyboard, xkc_keymap *keymap);
+
+/* Tells a keyboard of a press, or of a release where `down` is 0: XKC_OK and writes `reply`; XKC_MISSING for a code above
+ * 65,535, which changes nothing; or XKC_EMPTY. A code that the keymap doesn't have is answered with `known` 0. */
+uint32_t xkc_keyboard_event(xkc_keyboard *keyboard, uint32_t code, uint8_t down, xkc_reply *reply);
+
+/* The modifiers and groups, and the indicators that are lit: bit i is indicator i. XKC_OK or XKC_EMPTY. */
+uint32_t xkc_keyboard_state(xkc_keyboard *keyboard, xkc_state *state);
+uint32_t xkc_keyboard_lit(xkc_keyboard *keyboard, uint32_t *lit);
+
+void xkc_keyboard_end(xkc_keyboard *keyboard);
+
+/* ---- Followers: what a client looks its keys up in */
+
+/* Starts a follower of a keyboard over a keymap, with nothing held, latched or locked. Answers as xkc_keyboard_start. Takes
+ * memory; no other call of a follower does. */
+uint32_t xkc_follower_start(xkc_follower *follower, xkc_keymap *keymap);
+
+/* Tells a follower the keyboard's state: XKC_OK or XKC_EMPTY. `effective_group` is not read: the other three give it. */
+uint32_t xkc_follower_set(xkc_follower *follower, const xkc_state *state);
+
+/* What the key of a code gives in that state: XKC_OK and writes `look`; XKC_MISSING for a code above 65,535; or XKC_EMPTY. */
+uint32_t xkc_follower_look(xkc_follower *follower, uint32_t code, xkc_look *look);
+
+/* The indicators that are lit in that state. XKC_OK or XKC_EMPTY. */
+uint32_t xkc_follower_lit(xkc_follower *follower, uint32_t *lit);
+
+void xkc_follower_end(xkc_follower *follower);
+
+#ifdef __cplusplus
+}
+#endif
+
+#endif

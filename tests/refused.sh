@@ -1,0 +1,152 @@
+#!/bin/sh
+# Refuses each growth of memory in turn: of five calls on a desktop's keymap, each of which CALLS makes twice, and of the
+# tasks of PROGRAM over that keymap. A growth that is refused gives want of memory, no byte of an answer, and no file; and the
+# same call with memory answers as ever.
+#   tests/refused.sh CALLS PROGRAM
+# Each growth at which it is otherwise is a line, and the last line counts the growths.
+set -u
+tests=$(cd "$(dirname "$0")" && pwd)
+calls=$(cd "$(dirname "${1-}")" && pwd)/$(basename "${1-}")
+program=$(cd "$(dirname "${2-}")" && pwd)/$(basename "${2-}")
+for found in "$calls" "$program"; do
+    if [ ! -f "$found" ] || [ ! -x "$found" ]; then
+        echo "FAILED: there is no program '$found'"
+        echo '0 passed, 1 failed'
+        exit 1
+    fi
+done
+work=$(mktemp -d) || exit 2
+trap 'rm -rf "$work"' EXIT
+mkdir "$work/files" && cd "$work/files" || exit 2
+# (undefined symbols are refused, so that it is made only over a C library that it can stand before)
+if ! cc -O2 -fPIC -shared -Wl,-z,defs -o ../refuse.so "$tests/refuse.c" 2> ../err; then
+    echo 'left out: growths that are refused, since no cc makes the library that refuses them'
+    echo '0 passed, 0 failed'
+    exit 0
+fi
+passed=0
+failed=0
+
+# fails WHAT: something is otherwise, on one line.
+fails() {
+    failed=$((failed + 1))
+    printf 'FAILED: %s\n' "$1"
+}
+
+# refuse COMMAND..: runs a command with its growth of this number refused, which a line `refused` on standard error tells.
+refuse() {
+    status=0
+    REFUSED=$number LD_PRELOAD=$work/refuse.so "$@" < "$input" || status=$?
+}
+
+# The answers of a call that say that memory was refused; no byte was written by then.
+wants_memory() {
+    case $1:$2 in
+        'compile:F1 Memory' | 'with_lines:N1 Memory' | start:OutOfMemory) ;;
+        'replay:P1 Memory, 0 bytes' | 'session:F1 Memory, 0 bytes' | 'session:P1 Memory, 0 bytes') ;;
+        *) return 1 ;;
+    esac
+}
+
+# judge NAME: what a call printed with a growth refused. Its name comes once all that it is made on is there, and then its two
+# answers; the line `refused` stands among these where the growth was.
+judge() {
+    front=$(sed '/^refused$/,$d' ../out)
+    back=$(sed '1,/^refused$/d' ../out)
+    if [ -z "$front" ] && [ "$status" -le 1 ]; then
+        : # a growth before the call
+    elif [ "$status" -ne 0 ]; then
+        fails "$1, growth $number: the program ended with status $status"
+    elif [ "$front" = "$1" ] && wants_memory "$1" "$(echo "$back" | head -n 1)" &&
+        [ "$(echo "$back" | tail -n +2)" = "$whole" ]; then
+        passed=$((passed + 1))
+    elif [ "$front" = "$(printf '%s\n' "$1" "$whole")" ] && wants_memory "$1" "$back"; then
+        : # one of the second time, which shows no more than the same one of the first
+    else
+        fails "$1, growth $number: printed '$(tr '\n' ' ' < ../out)'; with memory it answers '$whole'"
+    fi
+}
+
+# call NAME: refuses each growth of a call.
+call() {
+    "$calls" "$1" < "$input" > ../out 2>&1
+    whole=$(sed -n 2p ../out)
+    if [ -z "$whole" ] || wants_memory "$1" "$whole" ||
+        [ "$(cat ../out)" != "$(printf '%s\n' "$1" "$whole" "$whole")" ]; then
+        fails "$1 with memory: printed '$(tr '\n' ' ' < ../out)'"
+    fi
+    number=0
+    before=$passed
+    while
+        number=$((number + 1))
+        refuse "$calls" "$1" > ../out 2>&1
+        grep -qx refused ../out
+    do
+        judge "$1"
+    done
+    [ "$passed" -gt "$before" ] || fails "$1: no growth of it was refused"
+    echo "$1: $((passed - before)) growths"
+}
+
+# How a task ended with a growth refused: the fault alone, `whole` where it did without that growth, and else `wrong`. OUT is
+# left alone or whole.
+ended() {
+    for fault in F1 N1 P1; do
+        if [ "$status" -eq 1 ] && echo "$fault Memory" | cmp -s - ../out && [ "$(cat out)" = old ]; then
+            echo "$fault"
+            return
+        fi
+    done
+    if [ "$status" -eq 0 ] && cmp -s ../out ../whole && cmp -s out ../whole_out; then echo whole; else echo wrong; fi
+}
+
+# task FAULTS WORD..: refuses each growth of a task of these words, which then gives one of these faults, and each of them
+# somewhere.
+task() {
+    faults=$1
+    shift
+    echo old > out
+    "$program" "$@" < "$input" > ../whole 2> ../err || fails "xkc $* with memory: status $?"
+    cp out ../whole_out
+    number=0
+    : > ../ends
+    while
+        number=$((number + 1))
+        echo old > out
+        refuse "$program" "$@" > ../out 2> ../err
+        grep -qx refused ../err
+    do
+        end=$(ended)
+        echo "$end" >> ../ends
+        case " $faults whole " in
+            *" $end "*) passed=$((passed + 1)) ;;
+            *) fails "xkc $*, growth $number: ended with status $status and '$(tail -n 1 ../out)'" ;;
+        esac
+        [ "$(echo out*)" = out ] || fails "xkc $*, growth $number: more than OUT is left"
+    done
+    # the first growth that isn't there, so that nothing was refused
+    [ "$(ended)" = whole ] || fails "xkc $* behind what was refused: ended with status $status"
+    for fault in $faults; do
+        grep -qx "$fault" ../ends || fails "xkc $*: no growth gave $fault"
+    done
+    echo "xkc $*: $(sort ../ends | uniq -c | awk '{ printf "%s%s %s", mark, $1, $2; mark = ", " }')"
+}
+
+keymap=$tests/../crates/refused_calls/stdin
+input=$keymap
+for name in compile with_lines start replay session; do call "$name"; done
+
+printf 'one 0x1001\ntwo 0x1002\n' > names
+"$program" compile "$keymap" image > ../out || fails "the desktop's keymap: '$(cat ../out)'"
+printf 'down 50\ndown 38\nup 38\nup 50\n' > events
+{ cat "$keymap"; echo %%; cat events; } > session
+cp "$keymap" keymap
+task 'F1 N1' compile --names names keymap out
+task F1 upgrade image out
+task F1 print image
+input=events
+task 'F1 P1' replay image
+input=session
+task 'F1 P1' try
+echo "$passed passed, $failed failed"
+[ "$failed" -eq 0 ]
