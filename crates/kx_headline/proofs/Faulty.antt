@@ -29,7 +29,7 @@ module _ (names : List Entry) where
 
   faultless-no_fault : (library : Library) (e : Fault) → IsWhole library → statement_faults names library ≡ [] → HasFaultIn names library e → ⊥
   faultless-no_fault library e whole faultless (inl has) = whole-no_fault library e whole has
-  faultless-no_fault library e whole faultless (inr has) = none_in faultless has
+  faultless-no_fault library e whole faultless (inr (_, has)) = none_in faultless has
 
   faulty-none : Laws → (source : List ℕ) (files : Handed) (e : Fault) (library : Library) → HasFault source files names e → IsRead source files library → IsWhole library → statement_faults names library ≡ [] → ⊥
   faulty-none laws source files e library (inl no_tree) read whole faultless = read-has_tree laws source files library e read no_tree

@@ -40,7 +40,7 @@ module _ (laws : Laws) (c : Content) (names : List Entry) (can : CanBePrinted c)
   no_fault_in : (e : Fault) → HasFaultIn names (library c can.sound) e → ⊥
   no_fault_in e (inl (inl has)) = none_in (whole c can.sound).0 has
   no_fault_in e (inl (inr found)) = none_past _ _ found.0 (whole c can.sound).1 found.1
-  no_fault_in e (inr has) = none_in (faultless c can.sound names table can.few_types) has
+  no_fault_in e (inr (_, has)) = none_in (faultless c can.sound names table can.few_types) has
 
   pub no_fault : (e : Fault) → HasFault (printed c) [] names e → ⊥
   no_fault e (inl (inl long)) = let short = can.short in let past = long.0 in omega arith

@@ -6,6 +6,7 @@ use Rattle.ks_core.specs.Entry.{Entry}
 use Rattle.kx_codes.specs.CodeFaults.{faults_of as keycodes_faults}
 use Rattle.kx_compat.specs.Meaning.{compat_faults}
 use Rattle.kx_include.specs.Expansion.{body_of}
+use Rattle.kx_include.specs.IncludeFaults.{IsWhole}
 use Rattle.kx_include.specs.Library.{Library}
 use Rattle.kx_lamps.specs.Meaning.{lamps_faults}
 use Rattle.kx_lex.specs.declared.fault.Fault.{Fault}
@@ -59,11 +60,11 @@ module _ (names : List Entry) (library : Library) where
   of_parts = (of_keys ++ of_maps) ++ (of_compat ++ (of_names ++ of_lamps))
 
   -- a fault of one part is one of the source
-  has_fault : (fs : List Fault) (e : Fault) → (Contains fs e → Contains (statement_faults names library) e) → Contains (Memory ∷ fs) e → (e ≡ Memory) ⊎ HasFaultIn names library e
-  has_fault fs e part has =
+  has_fault : IsWhole library → (fs : List Fault) (e : Fault) → (Contains fs e → Contains (statement_faults names library) e) → Contains (Memory ∷ fs) e → (e ≡ Memory) ⊎ HasFaultIn names library e
+  has_fault whole fs e part has =
       elim (among fs e has) [
         | inl memory ↦ inl memory
-        | inr fault ↦ inr (inr (part fault))
+        | inr fault ↦ inr (inr (whole, part fault))
       ]
 
   behind_modifiers : (fs : List Fault) (e : Fault) → Contains fs e → Contains (of_modifiers ++ fs) e
@@ -72,17 +73,17 @@ module _ (names : List Entry) (library : Library) where
   behind_keycodes : (fs : List Fault) (e : Fault) → Contains fs e → Contains (of_modifiers ++ (of_keycodes ++ fs)) e
   behind_keycodes fs e has = behind_modifiers (of_keycodes ++ fs) e (Contains-append_right of_keycodes fs e has)
 
-  pub modifiers_refused : (e : Fault) → Contains (Memory ∷ of_modifiers) e → (e ≡ Memory) ⊎ HasFaultIn names library e
-  modifiers_refused e has = has_fault of_modifiers e (λ fault. Contains-append_left of_modifiers (of_keycodes ++ (of_types ++ of_parts)) e fault) has
+  pub modifiers_refused : IsWhole library → (e : Fault) → Contains (Memory ∷ of_modifiers) e → (e ≡ Memory) ⊎ HasFaultIn names library e
+  modifiers_refused whole e has = has_fault whole of_modifiers e (λ fault. Contains-append_left of_modifiers (of_keycodes ++ (of_types ++ of_parts)) e fault) has
 
-  pub keycodes_refused : (e : Fault) → Contains (Memory ∷ of_keycodes) e → (e ≡ Memory) ⊎ HasFaultIn names library e
-  keycodes_refused e has = has_fault of_keycodes e (λ fault. behind_modifiers (of_keycodes ++ (of_types ++ of_parts)) e (Contains-append_left of_keycodes (of_types ++ of_parts) e fault)) has
+  pub keycodes_refused : IsWhole library → (e : Fault) → Contains (Memory ∷ of_keycodes) e → (e ≡ Memory) ⊎ HasFaultIn names library e
+  keycodes_refused whole e has = has_fault whole of_keycodes e (λ fault. behind_modifiers (of_keycodes ++ (of_types ++ of_parts)) e (Contains-append_left of_keycodes (of_types ++ of_parts) e fault)) has
 
-  pub types_refused : (e : Fault) → Contains (Memory ∷ of_types) e → (e ≡ Memory) ⊎ HasFaultIn names library e
-  types_refused e has = has_fault of_types e (λ fault. behind_keycodes (of_types ++ of_parts) e (Contains-append_left of_types of_parts e fault)) has
+  pub types_refused : IsWhole library → (e : Fault) → Contains (Memory ∷ of_types) e → (e ≡ Memory) ⊎ HasFaultIn names library e
+  types_refused whole e has = has_fault whole of_types e (λ fault. behind_keycodes (of_types ++ of_parts) e (Contains-append_left of_types of_parts e fault)) has
 
-  pub parts_refused : (e : Fault) → Contains (Memory ∷ of_parts) e → (e ≡ Memory) ⊎ HasFaultIn names library e
-  parts_refused e has = has_fault of_parts e (λ fault. behind_keycodes (of_types ++ of_parts) e (Contains-append_right of_types of_parts e fault)) has
+  pub parts_refused : IsWhole library → (e : Fault) → Contains (Memory ∷ of_parts) e → (e ≡ Memory) ⊎ HasFaultIn names library e
+  parts_refused whole e has = has_fault whole of_parts e (λ fault. behind_keycodes (of_types ++ of_parts) e (Contains-append_right of_types of_parts e fault)) has
 
   pub all_faultless : of_modifiers ≡ [] → of_keycodes ≡ [] → of_types ≡ [] → of_keys ≡ [] → of_maps ≡ [] → of_compat ≡ [] → of_names ≡ [] → of_lamps ≡ [] → statement_faults names library ≡ []
   all_faultless modifiers keycodes types keys maps compat groups lamps = λ i. modifiers i ++ (keycodes i ++ (types i ++ ((keys i ++ maps i) ++ (compat i ++ (groups i ++ lamps i)))))

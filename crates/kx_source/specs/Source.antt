@@ -38,10 +38,14 @@ statement_faults names library =
     ++ (faults_of nat_eq name_rules name_moves (body_of library Symbols)
     ++ lamps_faults (modifiers_of library) (body_of library Compat))))))
 
+-- of an include; or of a statement, where each include names a map, since only then the bodies have all that is included
+abbrev pub HasFaultIn : List Entry → Library → Fault → Type 0
+HasFaultIn names library e = HasIncludeFault library e ⊎ (IsWhole library × Contains (statement_faults names library) e)
+
 pub record HasFaultInside (source : List ℕ) (files : Handed) (names : List Entry) (e : Fault) : Type 0 where
   pub library : Library
   pub read : IsRead source files library
-  pub has : HasIncludeFault library e ⊎ Contains (statement_faults names library) e
+  pub has : HasFaultIn names library e
 
 abbrev pub HasFault : List ℕ → Handed → List Entry → Fault → Type 0
 HasFault source files names e = HasNoTree source e ⊎ (HasTooManyFiles source files e ⊎ HasFaultInside source files names e)
@@ -66,9 +70,6 @@ pub record Means (source : List ℕ) (files : Handed) (names : List Entry) (cont
   pub keymap : keymap_of content ≡ keymap_in names library
 
 -- ---- Under names, for clauses and proofs
-
-abbrev pub HasFaultIn : List Entry → Library → Fault → Type 0
-HasFaultIn names library e = HasIncludeFault library e ⊎ Contains (statement_faults names library) e
 
 abbrev pub names_faults : Body → List Fault
 names_faults body = faults_of nat_eq name_rules name_moves body

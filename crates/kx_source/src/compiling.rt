@@ -26,6 +26,7 @@ fn tables_over(
     bodies: &Bodies,
     modifiers: &ModNames,
 ) -> Result<(Owned, Notes), Fault>
+    requires whole { IsWhole library.now }
     requires bodies { AreBodies library.now bodies.now }
     requires names { AreModNames modifiers.now (modifier_bodies bodies.now) }
     requires faultless { modifier_faults (modifier_bodies bodies.now) ≡ [] }

@@ -19,14 +19,14 @@ use Rattle.kx_source.proofs.compiling.tables_over.Goals as goal
 pub returns-in_err-codes-clause-fault : goal.returns-in_err-codes-clause-fault
 returns-in_err-codes-clause-fault c =
     passed c.from_residual.result (λ (e : Fault). (e ≡ Memory) ⊎ HasFaultIn c.args.names.now c.args.library.now e) c.in_err-codes.field-0.0 c.from_residual.ensures.1
-    (keycodes_refused c.args.names.now c.args.library.now c.in_err-codes.field-0.0
+    (keycodes_refused c.args.names.now c.args.library.now c.requires.whole c.in_err-codes.field-0.0
     (subst (λ body. Contains (Memory ∷ keycodes_faults body) c.in_err-codes.field-0.0) c.requires.bodies.keycodes c.in_err-codes.ensures.fault))
 
 pub returns-in_err-types-clause-fault : goal.returns-in_err-types-clause-fault
 returns-in_err-types-clause-fault c =
     let same = modifiers_same c.args.library.now c.args.bodies.now c.requires.bodies c.args.modifiers.now c.requires.names in
     passed c.from_residual-in_err-types.result (λ (e : Fault). (e ≡ Memory) ⊎ HasFaultIn c.args.names.now c.args.library.now e) c.in_err-types.field-0.0 c.from_residual-in_err-types.ensures.1
-    (types_refused c.args.names.now c.args.library.now c.in_err-types.field-0.0
+    (types_refused c.args.names.now c.args.library.now c.requires.whole c.in_err-types.field-0.0
     (subst (λ fs. Contains (Memory ∷ fs) c.in_err-types.field-0.0) (λ i. types_faults (same i) (c.requires.bodies.types i)) c.in_err-types.ensures.fault))
 
 pub returns-in_err-parts-clause-fault : goal.returns-in_err-parts-clause-fault
@@ -42,7 +42,7 @@ returns-in_err-parts-clause-fault c =
     let types = c.in_ok-types.types in
     let types_show = c.in_ok-types.ensures.shows in
     passed c.from_residual-in_err-parts.result (λ (e : Fault). (e ≡ Memory) ⊎ HasFaultIn names library e) c.in_err-parts.field-0.0 c.from_residual-in_err-parts.ensures.1
-    (parts_refused names library c.in_err-parts.field-0.0
+    (parts_refused names library c.requires.whole c.in_err-parts.field-0.0
     (subst (λ fs. Contains (Memory ∷ fs) c.in_err-parts.field-0.0)
     (λ i.
     (keys_faults_same library bodies are m shows types types_show c.in_ok-codes.codes codes_show names i ++ maps_faults_same library bodies are m shows types types_show c.in_ok-codes.codes codes_show names i)
