@@ -29,7 +29,7 @@ term_written _ = None
 abbrev pub written : Expression → Option Written
 written e = single e.rest (term_written e.first)
 
--- from -32 to 32
+-- a change by so many groups up or down
 abbrev pub signed_change : Sign → ℕ → GroupChange
 signed_change Plus n = Relative (pos n)
 signed_change Minus n = Relative (neg_ℤ (pos n))

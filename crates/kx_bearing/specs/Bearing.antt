@@ -20,7 +20,7 @@ abbrev pub only_keysym : List ℕ → Option ℕ
 only_keysym (keysym ∷ []) = Some keysym
 only_keysym _ = None
 
--- an interpretation for the first level gives its virtual modifier at the first level of the first group
+-- an interpretation that sees modifiers at the first level alone gives its virtual modifier at the first level of the first group alone
 abbrev pub gives : ℕ → ℕ → ℕ → Option Interpretation → Bool
 gives number group level i = option_map_or (λ i. option_map_or (nat_eq number) i.modifier false && (not i.first_level_only || group == 0 && level == 0)) i false
 

@@ -43,7 +43,7 @@ values_cell v cells.Levels = option_map FirstLevelOnly v.first_level_only
 abbrev pub values_width : FieldValues → ℕ → ℕ
 values_width v group = 0
 
--- without `useModMapMods` it is for any level
+-- without `useModMapMods` it sees the modifiers of its key at any level
 abbrev pub interpretation_with : Trigger → FieldValues → Interpretation
 interpretation_with trigger values = record { trigger = trigger; action = values.action; modifier = values.modifier; first_level_only = unwrap_or values.first_level_only false }
 

@@ -41,7 +41,7 @@ module _ (table : List Entry) (names : List (List ℕ)) where
   abbrev pub compat_rules : Rules Trigger Cell FieldValue CompatDefaults
   compat_rules = record { start = no_defaults; next = next_default names; offers = λ d place item. item_offers d item; faults = λ d place item. item_faults place.file names item }
 
--- what offers make of an interpretation, each field by precedence; without `useModMapMods` it is for any level
+-- what offers make of an interpretation, each field by precedence; without `useModMapMods` it sees the modifiers of its key at any level
 abbrev pub interpretation_by : List InterpretationOffer → Trigger → Interpretation
 interpretation_by os trigger = record {
   trigger = trigger;

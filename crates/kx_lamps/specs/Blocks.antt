@@ -49,7 +49,7 @@ module _ (names : List (List ℕ)) where
   abbrev pub next_default : LampValues → Item → LampValues
   next_default d item = with_value d (option_and_then (λ given. default_value given.0 given.1) (item_default item))
 
-  -- a law, a clause of the listing: the defaults behind the statements of a section are what the last of them gives that gives a field
+  -- a law, the clause `defaults` of `indicators`: the defaults behind the statements of a section are what the last of them gives that gives a field
   -- anything
   abbrev pub DefaultsAreLast : Type 0
   DefaultsAreLast = (statements : List Item) → fold next_default no_values statements ≡ last_values (λ item. option_and_then (λ given. default_value given.0 given.1) (item_default item)) no_values statements

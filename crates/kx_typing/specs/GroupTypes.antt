@@ -40,7 +40,7 @@ one_level_name = codes "ONE_LEVEL"
 
 -- `first` is the first keysym of a level
 module _ (first : ℕ → ℕ) where
-  -- a letter and behind it one in upper case
+  -- a letter in lower case and behind it one in upper case
   abbrev pub has_letters : ℕ → Bool
   has_letters level = is_lower (first level) && is_upper (first (level + 1))
 
