@@ -1,7 +1,8 @@
 #!/bin/sh
 # Compiles keymaps with `xkc compile`, the whole program, and with libxkbcommon where Debian's package libxkbcommon-dev is
 # installed: one of nearly 1 MiB and 4,096 keys, whose keysyms' names are built in; that of a desktop with three layouts,
-# where `xkbcli` (libxkbcommon-tools) is installed; and a small one. Prints of both programs the median time of 21 runs
+# where `xkbcli` (libxkbcommon-tools) is installed; the same desktop's by the include files of xkb-data, found by -I, where
+# these are installed; and a small one. Prints of both programs the median time of 21 runs
 # that are taken in turn, the instructions where valgrind is installed, and the most memory where /usr/bin/time is.
 set -eu
 . "$(dirname "$0")/program.sh"
@@ -45,6 +46,18 @@ if command -v xkbcli > /dev/null; then
     xkbcli compile-keymap --layout us,ru,de > "$work/desktop"
     inputs="$inputs desktop"
 fi
+data=/usr/share/X11/xkb
+if [ -d "$data/symbols" ]; then
+    cat > "$work/files" <<'END'
+xkb_keymap {
+xkb_keycodes { include "evdev+aliases(qwerty)" };
+xkb_types { include "complete" };
+xkb_compat { include "complete" };
+xkb_symbols { include "pc+us+ru:2+de:3+inet(evdev)+group(alt_shift_toggle)" };
+};
+END
+    inputs="$inputs files"
+fi
 inputs="$inputs small"
 
 libxkbcommon=
@@ -83,10 +96,16 @@ told() {
 for input in $inputs; do
     echo "$input, $(wc -c < "$work/$input") bytes"
     rm -f "$work/ours" "$work/theirs"
+    set -- "$program" compile --quiet "$work/$input" "$work/image"
+    folder=
+    if [ "$input" = files ]; then
+        set -- "$@" -I "$data"
+        folder=$data
+    fi
     for turn in $(seq 21); do
-        once "$work/ours" "$program" compile "$work/$input" "$work/image"
-        [ -z "$libxkbcommon" ] || once "$work/theirs" "$libxkbcommon" "$work/$input"
+        once "$work/ours" "$@"
+        [ -z "$libxkbcommon" ] || once "$work/theirs" "$libxkbcommon" "$work/$input" ${folder:+"$folder"}
     done
-    told '    xkc compile' "$work/ours" "$program" compile "$work/$input" "$work/image"
-    [ -z "$libxkbcommon" ] || told '    libxkbcommon' "$work/theirs" "$libxkbcommon" "$work/$input"
+    told '    xkc compile' "$work/ours" "$@"
+    [ -z "$libxkbcommon" ] || told '    libxkbcommon' "$work/theirs" "$libxkbcommon" "$work/$input" ${folder:+"$folder"}
 done

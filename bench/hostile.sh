@@ -11,7 +11,7 @@ run() {
     least=1000000000
     for turn in 1 2 3; do
         start=$(date +%s%N)
-        "$program" compile "$work/source" "$work/image" "$@" > "$work/line" || true
+        "$program" compile "$work/source" "$work/image" "$@" > "$work/line" 2> /dev/null || true
         stop=$(date +%s%N)
         time=$(((stop - start) / 1000))
         [ "$time" -ge "$least" ] || least=$time
