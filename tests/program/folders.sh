@@ -42,6 +42,12 @@ ln -s "$PWD/lib" linked
 including outside
 gives 1 'F9 FileMissing at 0:69-78' compile -I lib short kept
 says "short:1:70: error: no file 'outside' is handed in: add outside=PATH, or -I DIR where DIR/symbols/outside is"
+says 'looked for in lib'
+gives 1 'F9 FileMissing at 0:69-78' try -I lib --include=more < short
+says 'looked for in lib'
+says 'looked for in more'
+gives 1 'F9 FileMissing at 0:69-78' compile short kept
+holds 'no folder is told where none was named' [ "$(grep -c 'looked for' ../err)" -eq 0 ]
 including inside
 gives 0 "$notes" compile -I linked short out
 gives 3 'cannot use nothing' compile -I nothing short kept

@@ -19,9 +19,15 @@ use std::alloc::AllocError;
 use std::io;
 use std::rt::Files as FileSystem;
 
-/// Shows a fault on standard error, in the text in which it stands.
-fn show_fault(rt: &(impl Eprint + AllocGlobal), fault: Fault, texts: Texts) {
+/// Shows a fault on standard error, in the text in which it stands; of a file that isn't there also the folders in which it
+/// was looked for.
+fn show_fault(rt: &(impl Eprint + AllocGlobal), fault: Fault, texts: Texts, includes: &Includes) {
     let _ = rt.eprint(Shown::of(rt.alloc(), fault, texts));
+    if matches!(fault, Fault::FileMissing(_)) {
+        for folder in includes.folders.as_slice() {
+            let _ = rt.eprintln(format_args!("looked for in {folder}"));
+        }
+    }
 }
 
 /// Shows warnings of a kind on standard error, where some were counted.
@@ -95,7 +101,7 @@ fn compile_to<'a>(
         },
         files: files.as_slice(),
     };
-    compile_texts(rt, &names, texts, image, is_quiet)
+    compile_texts(rt, &names, texts, includes, image, is_quiet)
 }
 
 /// Compiles a source with the files that it may include.
@@ -103,6 +109,7 @@ fn compile_texts<'a>(
     rt: &(impl FileSystem + Print + Eprint + AllocGlobal),
     names: &NameTable,
     texts: Texts,
+    includes: &Includes,
     image: &'a str,
     is_quiet: bool,
 ) -> Result<(), Failure<'a>> {
@@ -116,7 +123,7 @@ fn compile_texts<'a>(
             print_notes(rt, notes)
         }
         Err(fault) => {
-            show_fault(rt, fault, texts);
+            show_fault(rt, fault, texts, includes);
             Err(Failure::Source(fault))
         }
     }
@@ -140,6 +147,7 @@ fn answer_feed<'a, F: Feed + Drop>(
     feed: F,
     names: &NameTable,
     texts: &[Text],
+    includes: &Includes,
 ) -> Result<(), Failure<'a>> {
     let files = files_of(rt.alloc(), texts)?;
     let mut feed = Kept::new(rt.alloc(), feed);
@@ -154,7 +162,7 @@ fn answer_feed<'a, F: Feed + Drop>(
                     bytes: feed.source(),
                 };
                 let files = texts;
-                show_fault(rt, fault, Texts { source, files });
+                show_fault(rt, fault, Texts { source, files }, includes);
             }
             Err(Failure::of_session(fault))
         }
@@ -182,7 +190,7 @@ fn answer_found<'a>(
         handed,
         found.as_slice(),
     )?;
-    answer_feed(rt, feed, names, texts.as_slice())
+    answer_feed(rt, feed, names, texts.as_slice(), includes)
 }
 
 fn answer_source<'a>(
@@ -197,7 +205,13 @@ fn answer_source<'a>(
         return answer_found(rt, &names, includes, handed);
     }
     let texts = texts_of(rt.alloc(), includes.files.as_slice(), handed, &[])?;
-    answer_feed(rt, Lent::new(rt.reader()), &names, texts.as_slice())
+    answer_feed(
+        rt,
+        Lent::new(rt.reader()),
+        &names,
+        texts.as_slice(),
+        includes,
+    )
 }
 
 fn answer_image<'a>(
