@@ -46,7 +46,7 @@ says 'looked for in lib'
 gives 1 'F9 FileMissing at 0:69-78' try -I lib --include=more < short
 says 'looked for in lib'
 says 'looked for in more'
-gives 1 'F9 FileMissing at 0:69-78' compile short kept
+gives 1 'F9 FileMissing at 0:36-43' compile short kept
 holds 'no folder is told where none was named' [ "$(grep -c 'looked for' ../err)" -eq 0 ]
 including inside
 gives 0 "$notes" compile -I linked short out
