@@ -16,12 +16,12 @@ use Rattle.kx_include.specs.IncludeText.{Part}
 use Rattle.kx_include.specs.declared.place.Place.{Place}
 use Rattle.kx_parse.specs.contracts.tree.KindPartialEq.TheImpl.{ghosts}
 
--- the source's text and those of the files, by number: each its tree, or the fault for which it has none
+-- what a text is: its tree, or the fault for which it has none
 abbrev pub Text : Type 0
 Text = Result Tree Fault
 
 pub record Library : Type 0 where
-  -- of the files, of which the first has the number 1
+  -- the names of the files, of which the first has the number 1; and the texts, that of the source as number 0 before theirs
   pub names : List (List ℕ)
   pub texts : List Text
 

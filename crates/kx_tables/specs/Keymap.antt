@@ -14,7 +14,7 @@ use Rattle.kx_tables.specs.declared.rows.IndicatorRow.{IndicatorRow}
 use Rattle.kx_tables.specs.declared.rows.KeyRow.{KeyRow}
 use Rattle.kx_tables.specs.declared.rows.TypeRow.{TypeRow}
 
--- what a press of a key gives: its keysyms, the modifiers that chose them, and its action
+-- what a press of a key gives: its keysyms, the modifiers that they consume, and its action
 pub record Shown : Type 0 where
   pub syms : List ℕ
   pub consumed : ℕ
