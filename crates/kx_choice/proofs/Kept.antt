@@ -3,7 +3,8 @@ use Rattle.std.proofs.Common.{◌≡◌, ℕ, ◌+◌, ◌<◌, zero, suc, Bool,
 use Rattle.std.specs.List.{range_with_len}
 use Rattle.std.proofs.lemmas.List.FromFn.{get_or-map-range_with_len, map-range_with_len_more}
 use Rattle.std.proofs.lemmas.Option.{same_Some}
-use Rattle.indexmap.specs.IndexMap.{IndexMap, set_value_at, values, with_entries, with_value_at}
+use Rattle.indexmap.specs.IndexMap.{IndexMap, values, with_entries}
+use Rattle.kx_ordered.specs.KeyPlaces.{with_value}
 use Rattle.kx_choice.specs.Choosing.{allows, least}
 use Rattle.kx_choice.specs.Indexed.{AreChoices}
 use Rattle.kx_choice.specs.Interpretations.{Interpretation}
@@ -23,10 +24,10 @@ module _ (is : List Interpretation) (first : Bool) where
   kept_at choices mask d are few = ap (λ os. get_or os mask d) are ∙ get_or-map-range_with_len chosen_for 0 256 mask mask d few (omega arith)
 
 -- the value that stands at a place changes nothing there
-same_entries : {K X : Type 0} (es : List (K × X)) (i : ℕ) (w : X) → slice_get (map (λ e. e.1) es) i ≡ Some w → set_value_at es i w ≡ es
+same_entries : {K X : Type 0} (es : List (K × X)) (i : ℕ) (w : X) → slice_get (map (λ e. e.1) es) i ≡ Some w → with_value es i w ≡ es
 same_entries [] i w h = refl
 same_entries (e ∷ es) zero w h = ap (λ x. (e.0, x) ∷ es) (sym (same_Some e.1 w h))
 same_entries (e ∷ es) (suc i) w h = ap (λ l. e ∷ l) (same_entries es i w h)
 
-pub same_value : {K X S : Type 0} (m : IndexMap K X S) (i : ℕ) (w : X) → slice_get (values m) i ≡ Some w → with_value_at m i w ≡ m
+pub same_value : {K X S : Type 0} (m : IndexMap K X S) (i : ℕ) (w : X) → slice_get (values m) i ≡ Some w → with_entries m (with_value m.entries i w) ≡ m
 same_value m i w h = ap (with_entries m) (same_entries m.entries i w h)

@@ -1,6 +1,6 @@
 //! The interpretations of a keymap, and which one is chosen.
-ghost use Rattle.std.specs.Prelude.{◌≡◌, ◌++◌, ◌∷◌, [], ℕ, IfErr, List, OnOk, nat_eq, if◌then◌else◌};
-ghost use Rattle.indexmap.specs.IndexMap.{get};
+ghost use Rattle.std.specs.Prelude.{◌≡◌, ◌<◌, ◌++◌, ◌∷◌, [], ℕ, IfErr, List, OnOk, nat_eq, if◌then◌else◌};
+ghost use Rattle.indexmap.specs.IndexMap.{get, index_map_len};
 ghost use Rattle.kx_lex.specs.declared.fault.Fault.TheVariants.{Memory};
 ghost use Rattle.kx_mods.specs.Mods.{mask};
 ghost use Rattle.kx_choice.specs.Choosing.{chosen};
@@ -10,9 +10,9 @@ ghost use Rattle.kx_choice.specs.Interpretations.{Interpretation as Interpretati
 use crate::bucket::Bucket;
 use crate::interpretation::Interpretation;
 use crate::trigger::WantedKeysym;
-use indexmap::IndexMap;
 use kx_lex::Fault;
 use kx_mods::Mods;
+use kx_ordered::Ordered;
 use std::alloc::Global;
 use std::marker::Model;
 
@@ -21,7 +21,7 @@ use std::marker::Model;
 pub struct Interpretations {
     all: Vec<Interpretation>,
     /// Those of a keysym, by its number.
-    named: IndexMap<u32, Bucket>,
+    named: Ordered<u32, Bucket>,
     /// Those of any keysym.
     any: Bucket,
 }
@@ -51,7 +51,7 @@ impl Interpretations {
         ensures value { IfOk result (λ t. t ≡ all.items) }
         ensures err { IfErr result (λ e. e ≡ Memory) }
     {
-        let mut named = IndexMap::new(alloc);
+        let mut named = Ordered::new(alloc);
         let mut any = Bucket::new(alloc);
         'all: for interpretation in &all {
             add_indexed(alloc, &mut named, &mut any, *interpretation)?;
@@ -95,20 +95,18 @@ impl Interpretations {
 /// Keeps what is chosen of the interpretations of the keysym at a place, where they are many.
 fn keep_choices_at(
     alloc: Global,
-    named: &mut IndexMap<u32, Bucket>,
+    named: &mut Ordered<u32, Bucket>,
     place: usize,
 ) -> Result<(), Fault>
+    requires { place < index_map_len named.old }
     ensures same { named.new ≡ named.old }
     ensures err { IfErr result (λ e. e ≡ Memory) }
 {
-    match named.get_index_mut(place) {
-        Some(bucket) => bucket.keep_choices(alloc),
-        None => Ok(()),
-    }
+    named.value_mut(place).keep_choices(alloc)
 }
 
 /// The same of each keysym.
-fn keep_choices(alloc: Global, named: &mut IndexMap<u32, Bucket>) -> Result<(), Fault>
+fn keep_choices(alloc: Global, named: &mut Ordered<u32, Bucket>) -> Result<(), Fault>
     ensures same { named.new ≡ named.old }
     ensures err { IfErr result (λ e. e ≡ Memory) }
 {
@@ -121,7 +119,7 @@ fn keep_choices(alloc: Global, named: &mut IndexMap<u32, Bucket>) -> Result<(), 
 /// Adds an interpretation behind others of its keysym.
 fn add_named(
     alloc: Global,
-    named: &mut IndexMap<u32, Bucket>,
+    named: &mut Ordered<u32, Bucket>,
     keysym: u32,
     interpretation: Interpretation,
 ) -> Result<(), Fault>
@@ -134,14 +132,14 @@ fn add_named(
     }
     let mut bucket = Bucket::new(alloc);
     bucket.push(interpretation)?;
-    named.insert(keysym, bucket)?;
+    named.push(keysym, bucket)?;
     Ok(())
 }
 
 /// Adds an interpretation behind others.
 fn add_indexed(
     alloc: Global,
-    named: &mut IndexMap<u32, Bucket>,
+    named: &mut Ordered<u32, Bucket>,
     any: &mut Bucket,
     interpretation: Interpretation,
 ) -> Result<(), Fault>

@@ -1,66 +1,90 @@
 -- Names that are given numbers.
-use Rattle.std.proofs.Common.{◌≡◌, ℕ, zero, suc, Bool, true, false, cond, List, [], ◌∷◌, ◌++◌, All, Some, map, is_some, option_map, refl, sym, ap, ◌∙◌, subst}
+use Rattle.std.proofs.Common.{◌≡◌, ℕ, zero, suc, Bool, true, false, cond, List, [], ◌∷◌, ◌++◌, All, Option, None, Some, is_some, length, arith, refl, sym, ap, ◌∙◌, subst}
 use Rattle.std.proofs.lemmas.Bool.{false≢true}
 use Rattle.std.proofs.lemmas.List.Elements.{All-push}
 use Rattle.std.proofs.lemmas.Map.Keys.{IsDistinct-head, IsDistinct-tail}
 use Rattle.std.proofs.lemmas.Slice.Eq.{bytes_eq-Decides}
-use Rattle.std.specs.List.{AllByRecursion, IsDistinct, list_any, slice_get}
+use Rattle.std.specs.List.{AllByRecursion, IsDistinct, position, slice_get}
+use Rattle.std.specs.Map.{keys_of, lookup}
+use Rattle.std.specs.Option.{option_map}
 use Rattle.std.specs.Str.{bytes_eq}
-use Rattle.indexmap.specs.IndexSet.{insert_key}
+use Rattle.indexmap.specs.IndexMap.{insert_entry}
 use Rattle.kx_codes.proofs.Matching.{some_same}
 use Rattle.kx_codes.specs.Numbers.{Grows, IsOnce}
+use Rattle.kx_ordered.specs.KeyPlaces.{place_in}
+use Rattle.kx_ordered.proofs.KeyPlaces.{insert_absent, missing, place_is}
 
-module _ {K : Type 0} (f : K → List ℕ) where
-  abbrev same : K → K → Bool
-  same i j = bytes_eq (f i) (f j)
+other-name : (k : List ℕ) (ks : List (List ℕ)) → AllByRecursion (λ y. bytes_eq k y ≡ false) ks → (m : ℕ) (name : List ℕ) → slice_get ks m ≡ Some name → bytes_eq k name ≡ false
+other-name k [] none m name h = absurd (false≢true (ap is_some h))
+other-name k (y ∷ ys) none zero name h = ap (bytes_eq k) (sym (some_same y name h)) ∙ none.0
+other-name k (y ∷ ys) none (suc m) name h = other-name k ys none.1 m name h
 
-  mapped_at : (ks : List K) (n : ℕ) → slice_get (map f ks) n ≡ option_map f (slice_get ks n)
-  mapped_at [] n = refl
-  mapped_at (k ∷ ks) zero = refl
-  mapped_at (k ∷ ks) (suc n) = mapped_at ks n
+never : (k : List ℕ) (ks : List (List ℕ)) → AllByRecursion (λ y. bytes_eq k y ≡ false) ks → (m : ℕ) (name : List ℕ) → Some k ≡ Some name → slice_get ks m ≡ Some name → ⊥
+never k ks none m name h g = false≢true (sym (other-name k ks none m name g) ∙ (bytes_eq-Decides k name).1 (some_same k name h))
 
-  other-name : (k : K) (ks : List K) → AllByRecursion (λ y. same k y ≡ false) ks → (m : ℕ) (name : List ℕ) → slice_get (map f ks) m ≡ Some name → bytes_eq (f k) name ≡ false
-  other-name k [] none m name h = absurd (false≢true (ap is_some h))
-  other-name k (y ∷ ys) none zero name h = ap (bytes_eq (f k)) (sym (some_same (f y) name h)) ∙ none.0
-  other-name k (y ∷ ys) none (suc m) name h = other-name k ys none.1 m name h
+pub distinct_once : (ks : List (List ℕ)) → IsDistinct bytes_eq ks → IsOnce ks
+distinct_once [] u n m name h g = absurd (false≢true (ap is_some h))
+distinct_once (k ∷ ks) u zero zero name h g = refl
+distinct_once (k ∷ ks) u zero (suc m) name h g = absurd (never k ks (IsDistinct-head bytes_eq k ks u) m name h g)
+distinct_once (k ∷ ks) u (suc n) zero name h g = absurd (never k ks (IsDistinct-head bytes_eq k ks u) n name g h)
+distinct_once (k ∷ ks) u (suc n) (suc m) name h g = ap suc (distinct_once ks (IsDistinct-tail bytes_eq k ks u) n m name h g)
 
-  never : (k : K) (ks : List K) → AllByRecursion (λ y. same k y ≡ false) ks → (m : ℕ) (name : List ℕ) → Some (f k) ≡ Some name → slice_get (map f ks) m ≡ Some name → ⊥
-  never k ks none m name h g = false≢true (sym (other-name k ks none m name g) ∙ (bytes_eq-Decides (f k) name).1 (some_same (f k) name h))
+kept-before : (ks : List (List ℕ)) (k : List ℕ) (n : ℕ) (name : List ℕ) → slice_get ks n ≡ Some name → slice_get (ks ++ k ∷ []) n ≡ Some name
+kept-before [] k n name h = absurd (false≢true (ap is_some h))
+kept-before (j ∷ ks) k zero name h = h
+kept-before (j ∷ ks) k (suc n) name h = kept-before ks k n name h
 
-  distinct_once : (ks : List K) → IsDistinct same ks → IsOnce (map f ks)
-  distinct_once [] u n m name h g = absurd (false≢true (ap is_some h))
-  distinct_once (k ∷ ks) u zero zero name h g = refl
-  distinct_once (k ∷ ks) u zero (suc m) name h g = absurd (never k ks (IsDistinct-head same k ks u) m name h g)
-  distinct_once (k ∷ ks) u (suc n) zero name h g = absurd (never k ks (IsDistinct-head same k ks u) n name g h)
-  distinct_once (k ∷ ks) u (suc n) (suc m) name h g = ap suc (distinct_once ks (IsDistinct-tail same k ks u) n m name h g)
+-- nothing is added
+pub names_stay : (ks : List (List ℕ)) → IsDistinct bytes_eq ks → Grows ks ks
+names_stay ks u = record { once = distinct_once ks u; kept = λ n name h. h }
 
-  kept-before : (ks : List K) (k : K) (n : ℕ) (name : List ℕ) → slice_get (map f ks) n ≡ Some name → slice_get (map f (ks ++ k ∷ [])) n ≡ Some name
-  kept-before [] k n name h = absurd (false≢true (ap is_some h))
-  kept-before (j ∷ ks) k zero name h = h
-  kept-before (j ∷ ks) k (suc n) name h = kept-before ks k n name h
+module _ {V : Type 0} where
+  keys-pushed : (es : List (List ℕ × V)) (e : List ℕ × V) → keys_of (es ++ e ∷ []) ≡ keys_of es ++ e.0 ∷ []
+  keys-pushed [] e = refl
+  keys-pushed (x ∷ xs) e = ap (λ ks. x.0 ∷ ks) (keys-pushed xs e)
 
-  pub names_grow : (ks new : List K) (k : K) (before : List (List ℕ)) → map f ks ≡ before → IsDistinct same new → new ≡ insert_key same ks k → Grows before (map f new)
-  names_grow ks new k before shown u is = subst (λ names. Grows names (map f new)) shown (record {
-    once = distinct_once new u;
-    kept = λ n name h. subst (λ l. slice_get (map f l) n ≡ Some name) (sym is) (by (list_any (same k) ks) n name h);
-  })
+  -- the name at the place of a name
+  stored : (name : List ℕ) (es : List (List ℕ × V)) (i : ℕ) → place_in (bytes_eq name) es ≡ Some i → slice_get (keys_of es) i ≡ Some name
+  stored name [] i h = absurd (false≢true (ap is_some h))
+  stored name (e ∷ es) i h = by (bytes_eq name e.0) (place_in (bytes_eq name) es) i (λ b. (bytes_eq-Decides name e.0).0 b) (stored name es) h
     where
-      by : (b : Bool) (n : ℕ) (name : List ℕ) → slice_get (map f ks) n ≡ Some name → slice_get (map f (cond b ks (ks ++ k ∷ []))) n ≡ Some name
-      by true n name h = h
-      by false n name h = kept-before ks k n name h
+      by : (b : Bool) (o : Option ℕ) (i : ℕ) → (b ≡ true → name ≡ e.0) → ((i : ℕ) → o ≡ Some i → slice_get (keys_of es) i ≡ Some name) → cond b (Some 0) (option_map suc o) ≡ Some i → slice_get (e.0 ∷ keys_of es) i ≡ Some name
+      by true o i same rest h = ap (slice_get (e.0 ∷ keys_of es)) (sym (some_same 0 i h)) ∙ ap Some (sym (same refl))
+      by false None i same rest h = absurd (false≢true (ap is_some h))
+      by false (Some j) i same rest h = ap (slice_get (e.0 ∷ keys_of es)) (sym (some_same (suc j) i h)) ∙ rest j refl
 
-  pub names_stay : (ks new : List K) (before : List (List ℕ)) → map f ks ≡ before → IsDistinct same new → new ≡ ks → Grows before (map f new)
-  names_stay ks new before shown u is = subst (λ names. Grows names (map f new)) shown (record {
-    once = distinct_once new u;
-    kept = λ n name h. subst (λ l. slice_get (map f l) n ≡ Some name) (sym is) h;
-  })
+  pub names_stored : (key name : List ℕ) → key ≡ name → (es : List (List ℕ × V)) (i : ℕ) → position (bytes_eq key) (keys_of es) ≡ Some i → slice_get (keys_of es) i ≡ Some name
+  names_stored key name same es i h = stored key es i (sym (place_is (bytes_eq key) es) ∙ h) ∙ ap Some same
 
-  pub names_stored : (new : List K) (n : ℕ) (value k : K) → slice_get new n ≡ Some k → same value k ≡ true → slice_get (map f new) n ≡ Some (f value)
-  names_stored new n value k is eq = mapped_at new n ∙ ap (option_map f) is ∙ ap Some (sym ((bytes_eq-Decides (f value) (f k)).0 eq))
-
-  pub names_valid : (P : K → Type 0) (ks new : List K) (k : K) → All P ks → P k → new ≡ insert_key same ks k → All P new
-  names_valid P ks new k all one is = subst (All P) (sym is) (by (list_any (same k) ks))
+  at-end : (ks : List (List ℕ)) (es : List (List ℕ × V)) (k : List ℕ) → keys_of es ≡ ks → slice_get (ks ++ k ∷ []) (length es) ≡ Some k
+  at-end ks es k same = ap (λ ks. slice_get (ks ++ k ∷ []) (length es)) (sym same) ∙ by es
     where
-      by : (b : Bool) → All P (cond b ks (ks ++ k ∷ []))
-      by true = all
-      by false = All-push P ks k all one
+      by : (es : List (List ℕ × V)) → slice_get (keys_of es ++ k ∷ []) (length es) ≡ Some k
+      by [] = refl
+      by (e ∷ es) = by es
+
+  -- one name more
+  module _ (key name : List ℕ) (same : key ≡ name) (v : V) (es new : List (List ℕ × V)) (none : position (bytes_eq key) (keys_of es) ≡ None) where
+    pub names_missing : lookup (bytes_eq key) es ≡ None
+    names_missing = missing (bytes_eq key) es (sym (place_is (bytes_eq key) es) ∙ none)
+
+    pub names_pushed : new ≡ insert_entry bytes_eq es key v → keys_of new ≡ keys_of es ++ name ∷ []
+    names_pushed is = ap keys_of (is ∙ sym (insert_absent bytes_eq key v es (sym (place_is (bytes_eq key) es) ∙ none))) ∙ keys-pushed es (key, v) ∙ ap (λ k. keys_of es ++ k ∷ []) same
+
+    pub names_grow : new ≡ insert_entry bytes_eq es key v → IsDistinct bytes_eq (keys_of new) → Grows (keys_of es) (keys_of new)
+    names_grow is u = record {
+      once = distinct_once (keys_of new) u;
+      kept = λ n other h. subst (λ ks. slice_get ks n ≡ Some other) (sym (names_pushed is)) (kept-before (keys_of es) name n other h);
+    }
+
+    pub names_last : new ≡ insert_entry bytes_eq es key v → slice_get (keys_of new) (length es) ≡ Some name
+    names_last is = ap (λ ks. slice_get ks (length es)) (names_pushed is) ∙ at-end (keys_of es) es name refl
+
+    pub names_valid : (P : List ℕ → Type 0) → new ≡ insert_entry bytes_eq es key v → All P (keys_of es) → P name → All P (keys_of new)
+    names_valid P is all one = subst (All P) (sym (names_pushed is)) (All-push P (keys_of es) name all one)
+
+-- what holds of each name holds of one at a place
+pub valid_at : {V : Type 0} (P : List ℕ → Type 0) (es : List (List ℕ × V)) (n : ℕ) (e : List ℕ × V) → All P (keys_of es) → slice_get es n ≡ Some e → P e.0
+valid_at P [] n e all h = absurd (false≢true (ap is_some h))
+valid_at P (x ∷ xs) zero e all h = subst (λ y. P y.0) (some_same x e h) (all 0 x.0 (omega arith))
+valid_at P (x ∷ xs) (suc n) e all h = valid_at P xs n e (λ k d l. all (suc k) d (omega (arith, l))) h

@@ -15,31 +15,33 @@ use crate::pairs::Pairs;
 use indexmap::IndexMap;
 use kx_basics::CODES;
 use kx_lex::Fault;
+use kx_ordered::{NameKey, SortedNames};
 use std::alloc::Global;
 use std::marker::Model;
 
-/// Pairs of a name and a keycode, of which no two share either, by the bytes of their names, which the statements lend.
+/// Pairs of a name and a keycode, of which no two share either, as they are gathered.
 #[derive(Drop)]
-pub(crate) struct NamedPairs<'l> {
-    codes: IndexMap<&'l [u8], u16>,
+struct Gathered<'l> {
+    codes: Vec<(NameKey<'l>, u16)>,
     names: IndexMap<u16, LentName<'l>>,
 }
 
-impl<'l> Model for NamedPairs<'l> {
+impl<'l> Model for Gathered<'l> {
+    ghost use Rattle.std.specs.Prelude.{List, ℕ};
     ghost use Rattle.kx_codes.specs.Codes.{named, coded};
     ghost use Rattle.kx_codes.specs.Indexed.{Indexed};
 
     ghost Value = { Indexed };
 
-    ghost view = { λ p. record { by_name = named (λ k. k.now) p.codes.entries; by_code = coded p.names.entries } };
+    ghost view = { λ p. record { by_name = named (λ (k : List ℕ). k) p.codes.items; by_code = coded p.names.entries } };
 }
 
-impl<'l> NamedPairs<'l> {
-    fn new(alloc: Global) -> NamedPairs<'l>
+impl<'l> Gathered<'l> {
+    fn new(alloc: Global) -> Gathered<'l>
         ensures { Stands result [] }
     {
-        NamedPairs {
-            codes: IndexMap::new(alloc),
+        Gathered {
+            codes: Vec::new(alloc),
             names: IndexMap::new(alloc),
         }
     }
@@ -50,7 +52,7 @@ impl<'l> NamedPairs<'l> {
         ensures put { OnOk result ((ps : List PairValue) → Stands self.old ps → list_any (shares (record { name = name.now; code = code })) ps ≡ false → Stands self.new (ps ++ record { name = name.now; code = code } ∷ [])) }
         ensures err { IfErr result (λ e. e ≡ Memory) }
     {
-        self.codes.insert(name, code)?;
+        self.codes.push((NameKey::of(name), code))?;
         self.names.insert(code, LentName::of(name))?;
         Ok(())
     }
@@ -68,6 +70,36 @@ impl<'l> NamedPairs<'l> {
             Some(name) => self.put(name, code),
         }
     }
+}
+
+/// Pairs of a name and a keycode, of which no two share either, by the bytes of their names, which the statements lend.
+#[derive(Drop)]
+pub(crate) struct NamedPairs<'l> {
+    codes: SortedNames<'l, u16>,
+    names: IndexMap<u16, LentName<'l>>,
+}
+
+impl<'l> Model for NamedPairs<'l> {
+    ghost use Rattle.std.specs.Prelude.{List, ℕ};
+    ghost use Rattle.kx_codes.specs.Codes.{named, coded};
+    ghost use Rattle.kx_codes.specs.Indexed.{Indexed};
+
+    ghost Value = { Indexed };
+
+    ghost view = { λ p. record { by_name = named (λ (k : List ℕ). k) p.codes; by_code = coded p.names.entries } };
+}
+
+impl<'l> NamedPairs<'l> {
+    /// These pairs, whose names are found by their order.
+    fn sorted(gathered: Gathered<'l>) -> Result<NamedPairs<'l>, Fault>
+        ensures stands { IfOk result (λ named. (ps : List PairValue) → Stands gathered.entry ps → Stands named ps) }
+        ensures err { IfErr result (λ e. e ≡ Memory) }
+    {
+        Ok(NamedPairs {
+            codes: SortedNames::of(gathered.codes)?,
+            names: gathered.names,
+        })
+    }
 
     /// The pairs that stand for those of numbers.
     pub(crate) fn of(
@@ -78,12 +110,12 @@ impl<'l> NamedPairs<'l> {
         ensures named { IfOk result (λ named. IsOnce names.now → (ps : List PairValue) → StandsIn names.now pairs.now ps → Stands named ps) }
         ensures err { IfErr result (λ e. e ≡ Memory) }
     {
-        let mut named = NamedPairs::new(alloc);
+        let mut gathered = Gathered::new(alloc);
         let count = pairs.len();
         'pairs: for place in 0..count {
-            named.put_at(names, pairs, place)?;
+            gathered.put_at(names, pairs, place)?;
         }
-        Ok(named)
+        Ok(NamedPairs::sorted(gathered)?)
     }
 
     pub(crate) fn code_of(&self, name: &[u8]) -> Option<u16>

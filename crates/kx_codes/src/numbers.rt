@@ -4,8 +4,8 @@ ghost use Rattle.kx_basics.specs.KeyNames.{IsKeyName};
 ghost use Rattle.kx_codes.specs.Numbers.{Grows, IsOnce};
 ghost use Rattle.kx_lex.specs.declared.fault.Fault.TheVariants.{Memory};
 
-use indexmap::IndexSet;
 use kx_lex::Fault;
+use kx_ordered::{NameKey, Ordered};
 use std::alloc::Global;
 use std::marker::Model;
 
@@ -13,18 +13,19 @@ use std::marker::Model;
 /// taken by these numbers, so that a name's bytes are looked at once for each statement, however often it is included.
 #[derive(Drop)]
 pub(crate) struct Names<'l> {
-    names: IndexSet<&'l [u8]>,
+    names: Ordered<NameKey<'l>, ()>,
 }
 
 impl<'l> Model for Names<'l> {
-    ghost use Rattle.std.specs.Prelude.{List, map, ℕ, All};
+    ghost use Rattle.std.specs.Prelude.{List, ℕ, All};
+    ghost use Rattle.indexmap.specs.IndexMap.{keys};
     ghost use Rattle.kx_basics.specs.KeyNames.{IsKeyName};
 
     ghost Value = { List (List ℕ) };
 
-    ghost view = { λ n. map (λ k. k.now) n.names.keys };
+    ghost view = { λ n. keys n.names };
 
-    ghost invariant = { λ n. All (λ k. IsKeyName k.now) n.names.keys };
+    ghost invariant = { λ n. All IsKeyName (keys n.names) };
 }
 
 impl<'l> Names<'l> {
@@ -32,7 +33,7 @@ impl<'l> Names<'l> {
         ensures none { result ≡ [] }
     {
         Names {
-            names: IndexSet::new(alloc),
+            names: Ordered::new(alloc),
         }
     }
 
@@ -43,8 +44,15 @@ impl<'l> Names<'l> {
         ensures grows { Grows self.old self.new }
         ensures err { IfErr result (λ e. e ≡ Memory) }
     {
-        let (number, _) = self.names.insert_full(name)?;
-        Ok(number)
+        let key = NameKey::of(name);
+        match self.names.place(&key) {
+            Some(number) => Ok(number),
+            None => {
+                let number = self.names.len();
+                self.names.push(key, ())?;
+                Ok(number)
+            }
+        }
     }
 
     /// The name of a number.
@@ -52,6 +60,9 @@ impl<'l> Names<'l> {
         ensures value { option_map (λ n. n.now) result ≡ slice_get self.now number }
         ensures valid { IfSome result (λ name. IsKeyName name.now) }
     {
-        self.names.get_index(number).copied()
+        match self.names.at(number) {
+            None => None,
+            Some((key, _)) => Some(key.as_slice()),
+        }
     }
 }

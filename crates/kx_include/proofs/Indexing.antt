@@ -1,13 +1,15 @@
 -- What an index of maps finds as sections are added to it.
 use Rattle.std.proofs.Common.{◌≡◌, ℕ, ◌+◌, ◌&&◌, Bool, true, false, cond, suc, List, [], ◌∷◌, ◌++◌, length, map, Option, None, Some, refl, sym, ap, ◌∙◌, arith}
-use Rattle.std.proofs.lemmas.Bool.{false≢true}
 use Rattle.std.proofs.lemmas.Iterator.Adapters.{position_from-zero}
 use Rattle.std.proofs.lemmas.Slice.Eq.{bytes_eq-Decides}
 use Rattle.std.specs.List.{list_any, position, position_from}
 use Rattle.std.specs.Map.{lookup}
 use Rattle.std.specs.Option.{option_and_then, option_or}
 use Rattle.std.specs.Str.{bytes_eq}
-use Rattle.indexmap.specs.IndexMap.{insert_entry}
+use Rattle.std.specs.BTreeMap.{insert_entry}
+use Rattle.std.specs.Cmp.Lexicographic.{slice_cmp}
+use Rattle.std.specs.Ordering.{is_eq, nat_cmp}
+use Rattle.kx_ordered.proofs.ByBytes.{put_look, look_tie}
 use Rattle.kx_lex.specs.declared.name.Name.{Name}
 use Rattle.kx_parse.specs.declared.tree.Kind.{Kind}
 use Rattle.kx_parse.specs.declared.tree.Kind.TheVariants.{Keycodes, Types, Compat, Symbols, Geometry}
@@ -83,36 +85,20 @@ module _ {K : Type 0} (f : K → List ℕ) where
   look_cond name true e maps es put = refl
   look_cond name false e maps es put = refl
 
-  look_put : (es : List (K × KindMaps)) (key : K) (maps : KindMaps) (name : List ℕ) → lookup (bytes_eq name) (by_bytes f (insert_entry (λ a b. bytes_eq (f a) (f b)) es key maps)) ≡ cond (bytes_eq name (f key)) (Some maps) (lookup (bytes_eq name) (by_bytes f es))
-  look_put [] key maps name = refl
-  look_put (e ∷ es) key maps name =
-      look_cond name (bytes_eq (f key) (f e.0)) e maps es (insert_entry (λ a b. bytes_eq (f a) (f b)) es key maps)
-      ∙ by (bytes_eq (f key) (f e.0)) (bytes_eq name (f e.0)) (bytes_eq name (f key))
-      (λ h. ap (bytes_eq name) ((bytes_eq-Decides (f key) (f e.0)).0 h))
-      (λ other h. not_true (bytes_eq name (f key)) (λ h2. false≢true (sym other ∙ (bytes_eq-Decides (f key) (f e.0)).1 (sym ((bytes_eq-Decides name (f key)).0 h2) ∙ (bytes_eq-Decides name (f e.0)).0 h))))
-      (lookup (bytes_eq name) (by_bytes f (insert_entry (λ a b. bytes_eq (f a) (f b)) es key maps))) (look_put es key maps name)
-    where
-      by : (ke ne nk : Bool) → (ke ≡ true → nk ≡ ne) → (ke ≡ false → ne ≡ true → nk ≡ false) → (got : Option KindMaps) → got ≡ cond nk (Some maps) (lookup (bytes_eq name) (by_bytes f es))
-          → cond ke (cond ne (Some maps) (lookup (bytes_eq name) (by_bytes f es))) (cond ne (Some e.1) got) ≡ cond nk (Some maps) (cond ne (Some e.1) (lookup (bytes_eq name) (by_bytes f es)))
-      by true true true same other got is = refl
-      by true false false same other got is = refl
-      by true true false same other got is = absurd (false≢true (same refl))
-      by true false true same other got is = absurd (false≢true (sym (same refl)))
-      by false true true same other got is = absurd (false≢true (sym (other refl refl)))
-      by false true false same other got is = refl
-      by false false nk same other got is = is
-
   look_same : (es : List (K × KindMaps)) (name : List ℕ) → lookup (bytes_eq name) (by_bytes f es) ≡ lookup (λ k. bytes_eq name (f k)) es
   look_same [] name = refl
   look_same (e ∷ es) name = ap (cond (bytes_eq name (f e.0)) (Some e.1)) (look_same es name)
 
+  look_put : (es : List (K × KindMaps)) (key : K) (maps : KindMaps) (name : List ℕ) → lookup (bytes_eq name) (by_bytes f (insert_entry (λ a b. slice_cmp nat_cmp (f a) (f b)) es key maps)) ≡ cond (bytes_eq name (f key)) (Some maps) (lookup (bytes_eq name) (by_bytes f es))
+  look_put es key maps name = look_same (insert_entry (λ a b. slice_cmp nat_cmp (f a) (f b)) es key maps) name ∙ put_look f es key maps name ∙ ap (cond (bytes_eq name (f key)) (Some maps)) (sym (look_same es name))
+
   -- what a look-up gives of a kind
-  pub look_is : (es : List (K × KindMaps)) (named : List (List ℕ × KindMaps)) (name : List ℕ) (o : Option KindMaps) → by_bytes f es ≡ named → lookup (λ k. bytes_eq name (f k)) es ≡ o → (kind : Kind) → option_and_then (number_in kind) o ≡ named_in kind name named
-  look_is es named name o shown is kind = ap (option_and_then (number_in kind)) (sym (ap (lookup (bytes_eq name)) (sym shown) ∙ look_same es name ∙ is))
+  pub look_is : (es : List (K × KindMaps)) (named : List (List ℕ × KindMaps)) (name : List ℕ) (o : Option KindMaps) → by_bytes f es ≡ named → lookup (λ k. is_eq (slice_cmp nat_cmp name (f k))) es ≡ o → (kind : Kind) → option_and_then (number_in kind) o ≡ named_in kind name named
+  look_is es named name o shown is kind = ap (option_and_then (number_in kind)) (sym (ap (lookup (bytes_eq name)) (sym shown) ∙ look_same es name ∙ sym (look_tie f es name) ∙ is))
 
   put_under : (es : List (K × KindMaps)) (key : K) (before maps : KindMaps) (s : Section) (given : Name) (n : ℕ) → s.name ≡ Some given → f key ≡ given.bytes → maps ≡ with_map before s.kind n
       → ((kind : Kind) → number_in kind before ≡ named_in kind given.bytes (by_bytes f es))
-      → (kind : Kind) (name : List ℕ) → named_in kind name (by_bytes f (insert_entry (λ a b. bytes_eq (f a) (f b)) es key maps)) ≡ or_here (named_in kind name (by_bytes f es)) (is_of kind s && has_name name s.name) n
+      → (kind : Kind) (name : List ℕ) → named_in kind name (by_bytes f (insert_entry (λ a b. slice_cmp nat_cmp (f a) (f b)) es key maps)) ≡ or_here (named_in kind name (by_bytes f es)) (is_of kind s && has_name name s.name) n
   put_under es key before maps s given n has stored made known kind name =
       ap (option_and_then (number_in kind)) (look_put es key maps name)
       ∙ ap (λ bytes. option_and_then (number_in kind) (cond (bytes_eq name bytes) (Some maps) (lookup (bytes_eq name) (by_bytes f es)))) stored
@@ -127,7 +113,7 @@ module _ {K : Type 0} (f : K → List ℕ) where
       by false same = not_here (named_in kind name (by_bytes f es)) (is_of kind s) n
 
   -- a section is put under its name, with those of the name before it
-  pub named_put : (es new : List (K × KindMaps)) (named : List (List ℕ × KindMaps)) (key : K) (before maps : KindMaps) (s : Section) (given : Name) (n : ℕ) → by_bytes f es ≡ named → s.name ≡ Some given → f key ≡ given.bytes → new ≡ insert_entry (λ a b. bytes_eq (f a) (f b)) es key maps → maps ≡ with_map before s.kind n
+  pub named_put : (es new : List (K × KindMaps)) (named : List (List ℕ × KindMaps)) (key : K) (before maps : KindMaps) (s : Section) (given : Name) (n : ℕ) → by_bytes f es ≡ named → s.name ≡ Some given → f key ≡ given.bytes → new ≡ insert_entry (λ a b. slice_cmp nat_cmp (f a) (f b)) es key maps → maps ≡ with_map before s.kind n
       → ((kind : Kind) → number_in kind before ≡ named_in kind given.bytes named)
       → (kind : Kind) (name : List ℕ) → named_in kind name (by_bytes f new) ≡ or_here (named_in kind name named) (is_of kind s && has_name name s.name) n
   named_put es new named key before maps s given n shown has stored put made known kind name =

@@ -4,15 +4,15 @@ ghost use Rattle.kx_lex.specs.declared.fault.Fault.TheVariants.{Memory};
 ghost use Rattle.kx_include.specs.Library.{number_of, with_file};
 ghost use Rattle.kx_include.specs.declared.sources.TheConstants.{MOST_FILES};
 
-use indexmap::IndexMap;
 use kx_lex::Fault;
+use kx_ordered::Ordered;
 use std::alloc::Global;
 use std::marker::Model;
 
 /// The files handed in, by name; includes find them. The n-th has the number n, counted from 1.
 #[derive(Drop)]
 pub struct Files {
-    files: IndexMap<Vec<u8>, Vec<u8>>,
+    files: Ordered<Vec<u8>, Vec<u8>>,
 }
 
 impl Model for Files {
@@ -29,7 +29,7 @@ impl Files {
         ensures { result ≡ [] }
     {
         Files {
-            files: IndexMap::new(alloc),
+            files: Ordered::new(alloc),
         }
     }
 
@@ -58,7 +58,7 @@ impl Files {
         requires { length self.now ≤ MOST_FILES }
         ensures { result ≡ number_of (map (λ f. f.0) self.now) name.now }
     {
-        match self.files.get_index_of(name) {
+        match self.files.place_of_name(name) {
             None => None,
             Some(place) => Some(place as u32 + 1),
         }
@@ -69,9 +69,9 @@ impl Files {
         ensures found { IfSome (slice_get self.now place) (λ f. result.now ≡ f.1) }
         ensures behind { IfNone (slice_get self.now place) (result.now ≡ []) }
     {
-        match self.files.get_index(place) {
+        match self.files.value(place) {
             None => &[],
-            Some((_name, bytes)) => bytes.as_slice(),
+            Some(bytes) => bytes.as_slice(),
         }
     }
 }

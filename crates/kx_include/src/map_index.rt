@@ -7,9 +7,9 @@ ghost use Rattle.kx_parse.specs.declared.tree.Kind.{Kind};
 ghost use Rattle.kx_parse.specs.declared.tree.Section.{Section};
 
 use crate::kind_maps::KindMaps;
-use indexmap::IndexMap;
 use kx_parse::{Flag, Kind, Section};
 use std::alloc::{AllocError, Global};
+use std::collections::BTreeMap;
 use std::marker::Model;
 
 fn is_default(section: &Section) -> bool
@@ -33,11 +33,11 @@ fn with_flagged(flagged: KindMaps, section: &Section, number: usize) -> KindMaps
     }
 }
 
-/// Where the maps of a text stand, by kind and name, so that an include finds its map by one look-up. Of several that
-/// fit, the first is found.
+/// Where the maps of a text stand, by kind and name, so that an include finds its map by one look-up, in the
+/// logarithm of how many names there are. Of several that fit, the first is found.
 #[derive(Drop)]
 pub(crate) struct MapIndex {
-    named: IndexMap<Vec<u8>, KindMaps>,
+    named: BTreeMap<Vec<u8>, KindMaps>,
     flagged: KindMaps,
     first: KindMaps,
 }
@@ -56,7 +56,7 @@ impl MapIndex {
         ensures { IsIndex result [] }
     {
         MapIndex {
-            named: IndexMap::new(alloc),
+            named: BTreeMap::new(alloc),
             flagged: KindMaps::new(),
             first: KindMaps::new(),
         }

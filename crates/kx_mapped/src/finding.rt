@@ -16,17 +16,17 @@ ghost use Rattle.kx_mapped.specs.Mapping.{first_place, group_places, key_places,
 ghost use Rattle.kx_mapped.specs.Read.{mapping_of};
 
 use crate::places::LevelPlace;
-use indexmap::IndexMap;
 use kx_codes::Codes;
 use kx_lex::Fault;
 use kx_modmaps::ModifierMaps;
+use kx_ordered::Ordered;
 use kx_symbols::{KeyRecord, Keys};
 use kx_types::Types;
 use kx_typing::{content_group, group_count, group_type, keysyms_at};
 use std::alloc::Global;
 
 /// The first places of the keysyms that are looked for, by the keysyms' numbers; none where none is found.
-pub(crate) type FirstPlaces = IndexMap<u32, Option<LevelPlace>>;
+pub(crate) type FirstPlaces = Ordered<u32, Option<LevelPlace>>;
 
 /// Visits a place of a keysym, which counts where the keysym is looked for.
 fn visit_keysym(firsts: &mut FirstPlaces, keysym: u32, place: LevelPlace)
@@ -87,7 +87,8 @@ fn visit_code(firsts: &mut FirstPlaces, codes: &Codes, types: &Types, keys: &Key
 fn visit_codes(firsts: &mut FirstPlaces, codes: &Codes, types: &Types, keys: &Keys)
     ensures { (maps : Maps) → Visits (λ k. places_below k (mapping_of codes.now types.now keys.now maps) CODES) (get nat_eq firsts.old) (get nat_eq firsts.new) }
 {
-    if firsts.is_empty() {
+    let count = firsts.len();
+    if count == 0 {
         return;
     }
     'codes: for code in 0..codes.end() {
@@ -100,7 +101,7 @@ fn unplaced_keysyms(alloc: Global, maps: &ModifierMaps) -> Result<FirstPlaces, F
     ensures named { IfOk result (λ firsts. (k : ℕ) → get nat_eq firsts k ≡ (if list_any (λ (e : ℕ × ℕ). e.0 == k) (map shown_entry maps.now.by_keysym) then Some None else None)) }
     ensures err { IfErr result (λ e. e ≡ Memory) }
 {
-    let mut firsts = IndexMap::new(alloc);
+    let mut firsts = Ordered::new(alloc);
     'entries: for entry in maps.keysyms() {
         firsts.insert(entry.keysym, None)?;
     }

@@ -3,11 +3,12 @@ ghost use Rattle.std.specs.Prelude.{◌≡◌, ◌<◌, ◌^◌, ◌==◌};
 
 use crate::limits::MOST_VIRTUAL_MODIFIERS;
 use kx_mods::Mods;
+use kx_ordered::Again;
 use std::marker::Model;
 
 /// A set of names of modifiers: bits 0 to 7 are the real ones, Shift, Lock, Control and Mod1 to Mod5, and bits 8 to 31 the
 /// virtual ones by their numbers, 0 to 23; seen as the number.
-#[derive(Clone, Copy, Debug, PartialEq, Eq, Hash)]
+#[derive(Clone, Copy, Debug, PartialEq, Eq, PartialOrd, Ord, Hash)]
 pub struct NameSet {
     bits: u32,
 }
@@ -108,5 +109,11 @@ impl NameSet {
         ensures { result ≡ has_virtual self number }
     {
         (self.bits >> (number + 8)) & 1 == 1
+    }
+}
+
+impl Again for NameSet {
+    fn again(&self) -> NameSet {
+        *self
     }
 }

@@ -1,5 +1,5 @@
 -- Records show what modifier maps give.
-use Rattle.std.proofs.Common.{◌≡◌, ℕ, ◌^◌, ◌==◌, ◌∷◌, [], List, cond, map, Bool, false, Option, Some, None, unwrap_or, refl, sym, ap, ◌∙◌, subst, arith}
+use Rattle.std.proofs.Common.{◌≡◌, ℕ, ◌^◌, ◌==◌, ◌∷◌, [], List, cond, map, Option, Some, None, unwrap_or, refl, ap, ◌∙◌, subst, arith}
 use Rattle.std.specs.Int.{bit_at}
 use Rattle.std.specs.List.{flat_map}
 use Rattle.std.specs.Option.{option_map_or}
@@ -9,7 +9,6 @@ use Rattle.indexmap.specs.IndexMap.{IndexMap, get, keys}
 use Rattle.ks_core.specs.Entry.{Entry as Named}
 use Rattle.kx_codes.specs.Codes.{Codes}
 use Rattle.kx_include.specs.Expansion.{Body}
-use Rattle.kx_masks.specs.Sets.{has}
 use Rattle.kx_merge.specs.Bodies.{offers_of}
 use Rattle.kx_merge.specs.Offers.{Offer}
 use Rattle.kx_merge.specs.Records.{Shows, cell_in}

@@ -10,13 +10,13 @@ ghost use Rattle.kx_modmaps.specs.Entries.{entry_faults, entry_target, is_all, m
 ghost use Rattle.kx_modmaps.specs.declared.target.Target.TheVariants.{Key};
 
 use crate::target::Target;
-use indexmap::IndexSet;
 use ks_core::{NameTable, Note, Notes};
 use kx_basics::MOST_NAME_BYTES;
 use kx_codes::Codes;
 use kx_lex::{At, Fault, KeyName, Name, Span};
 use kx_masks::{ModNames, real_mask};
 use kx_mods::Mods;
+use kx_ordered::OrderedSet;
 use kx_parse::{Entry, Row, Statement};
 use kx_symbols::symbol_keysym;
 use std::alloc::Global;
@@ -145,12 +145,12 @@ fn read_entry(
 }
 
 /// Adds a target behind others, where it isn't among them.
-fn add_target(targets: &mut IndexSet<Target>, target: Option<Target>) -> Result<(), Fault>
-    ensures added { OnOk result (targets.new.keys ≡ with_target targets.old.keys target) }
+fn add_target(targets: &mut OrderedSet<Target>, target: Option<Target>) -> Result<(), Fault>
+    ensures added { OnOk result (targets.new ≡ with_target targets.old target) }
     ensures err { IfErr result (λ e. e ≡ Memory) }
 {
     if let Some(target) = target {
-        targets.insert(target)?;
+        targets.add(target)?;
     }
     Ok(())
 }
@@ -163,12 +163,12 @@ pub(crate) fn read_targets(
     site: StatementSite,
     entries: &[Entry],
     notes: &mut Notes,
-) -> Result<IndexSet<Target>, Fault>
-    ensures value { IfOk result (λ targets. targets.keys ≡ targets_of codes.now names.now entries.now) }
+) -> Result<OrderedSet<Target>, Fault>
+    ensures value { IfOk result (λ targets. targets ≡ targets_of codes.now names.now entries.now) }
     ensures faultless { OnOk result (flat_map (entry_faults site.file site.whole) entries.now ≡ []) }
     ensures fault { IfErr result (λ e. Contains (Memory ∷ flat_map (entry_faults site.file site.whole) entries.now) e) }
 {
-    let mut targets = IndexSet::new(alloc);
+    let mut targets = OrderedSet::new(alloc);
     'entries: for entry in entries {
         let target = read_entry(codes, names, site, entry, notes)?;
         add_target(&mut targets, target)?;

@@ -1,5 +1,5 @@
 //! What a modifier map gives modifiers.
-#[derive(Clone, Copy, Debug, PartialEq, Eq, Hash)]
+#[derive(Clone, Copy, Debug, PartialEq, Eq, PartialOrd, Ord, Hash)]
 pub enum Target {
     /// The key of a keycode.
     Key(u16),

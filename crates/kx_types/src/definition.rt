@@ -8,8 +8,8 @@ ghost use Rattle.kx_types.specs.KeyTypes.{definition_of, entries_of, entry_with,
 
 use crate::entry::TypeEntry;
 use crate::saying::Saying;
-use indexmap::{IndexMap, IndexSet};
 use kx_masks::NameSet;
+use kx_ordered::{Ordered, OrderedSet};
 use std::alloc::{AllocError, Global};
 use std::marker::Model;
 
@@ -85,11 +85,11 @@ fn mask_in(modifiers: NameSet, saying: Saying) -> Option<NameSet>
     }
 }
 
-fn add_mask(masks: &mut IndexSet<NameSet>, mask: Option<NameSet>) -> Result<(), AllocError>
-    ensures { OnOk result (masks.new.keys ≡ with_key nat_eq (λ (s : Option ℕ). s) masks.old.keys mask) }
+fn add_mask(masks: &mut OrderedSet<NameSet>, mask: Option<NameSet>) -> Result<(), AllocError>
+    ensures { OnOk result (masks.new ≡ with_key nat_eq (λ (s : Option ℕ). s) masks.old mask) }
 {
     if let Some(mask) = mask {
-        masks.insert(mask)?;
+        masks.add(mask)?;
     }
     Ok(())
 }
@@ -99,10 +99,10 @@ fn masks_of(
     alloc: Global,
     modifiers: NameSet,
     said: &[Saying],
-) -> Result<IndexSet<NameSet>, AllocError>
-    ensures { IfOk result (λ masks. masks.keys ≡ each_once nat_eq (mask_in modifiers) said.now) }
+) -> Result<OrderedSet<NameSet>, AllocError>
+    ensures { IfOk result (λ masks. masks ≡ each_once nat_eq (mask_in modifiers) said.now) }
 {
-    let mut masks = IndexSet::new(alloc);
+    let mut masks = OrderedSet::new(alloc);
     'said: for saying in said {
         add_mask(&mut masks, mask_in(modifiers, *saying))?;
     }
@@ -111,7 +111,7 @@ fn masks_of(
 
 /// Notes the level that a field maps.
 fn add_level(
-    levels: &mut IndexMap<NameSet, u8>,
+    levels: &mut Ordered<NameSet, u8>,
     modifiers: NameSet,
     saying: Saying,
 ) -> Result<(), AllocError>
@@ -128,10 +128,10 @@ fn mapped_levels(
     alloc: Global,
     modifiers: NameSet,
     said: &[Saying],
-) -> Result<IndexMap<NameSet, u8>, AllocError>
+) -> Result<Ordered<NameSet, u8>, AllocError>
     ensures { IfOk result (λ levels. (mask : ℕ) → get nat_eq levels mask ≡ last_given (mapped modifiers mask) said.now) }
 {
-    let mut levels = IndexMap::new(alloc);
+    let mut levels = Ordered::new(alloc);
     'said: for saying in said {
         add_level(&mut levels, modifiers, *saying)?;
     }
@@ -140,7 +140,7 @@ fn mapped_levels(
 
 /// Notes what a field preserves.
 fn add_preserved(
-    kept: &mut IndexMap<NameSet, NameSet>,
+    kept: &mut Ordered<NameSet, NameSet>,
     modifiers: NameSet,
     saying: Saying,
 ) -> Result<(), AllocError>
@@ -157,10 +157,10 @@ fn preserved_names(
     alloc: Global,
     modifiers: NameSet,
     said: &[Saying],
-) -> Result<IndexMap<NameSet, NameSet>, AllocError>
+) -> Result<Ordered<NameSet, NameSet>, AllocError>
     ensures { IfOk result (λ kept. (mask : ℕ) → get nat_eq kept mask ≡ last_given (preserved modifiers mask) said.now) }
 {
-    let mut kept = IndexMap::new(alloc);
+    let mut kept = Ordered::new(alloc);
     'said: for saying in said {
         add_preserved(&mut kept, modifiers, *saying)?;
     }
@@ -168,7 +168,7 @@ fn preserved_names(
 }
 
 /// What a map holds, where it holds it.
-fn level_or_first(levels: &IndexMap<NameSet, u8>, mask: NameSet) -> u8
+fn level_or_first(levels: &Ordered<NameSet, u8>, mask: NameSet) -> u8
     ensures { result ≡ unwrap_or (get nat_eq levels.now mask) 1 }
 {
     match levels.get(&mask) {
@@ -177,7 +177,7 @@ fn level_or_first(levels: &IndexMap<NameSet, u8>, mask: NameSet) -> u8
     }
 }
 
-fn names_or_none(kept: &IndexMap<NameSet, NameSet>, mask: NameSet) -> NameSet
+fn names_or_none(kept: &Ordered<NameSet, NameSet>, mask: NameSet) -> NameSet
     ensures { result ≡ unwrap_or (get nat_eq kept.now mask) 0 }
 {
     match kept.get(&mask) {
@@ -189,14 +189,14 @@ fn names_or_none(kept: &IndexMap<NameSet, NameSet>, mask: NameSet) -> NameSet
 /// The entries of these masks, with the levels that they map to and the modifiers that they preserve.
 fn entries_with(
     alloc: Global,
-    masks: &IndexSet<NameSet>,
-    levels: &IndexMap<NameSet, u8>,
-    kept: &IndexMap<NameSet, NameSet>,
+    masks: &OrderedSet<NameSet>,
+    levels: &Ordered<NameSet, u8>,
+    kept: &Ordered<NameSet, NameSet>,
 ) -> Result<Vec<TypeEntry>, AllocError>
-    ensures { IfOk result (λ entries. entries.items ≡ map (entry_with (get nat_eq levels.now) (get nat_eq kept.now)) masks.now.keys) }
+    ensures { IfOk result (λ entries. entries.items ≡ map (entry_with (get nat_eq levels.now) (get nat_eq kept.now)) masks.now) }
 {
-    let mut entries = Vec::with_capacity(alloc, masks.len())?;
-    'masks: for mask in masks {
+    let mut entries = Vec::with_capacity(alloc, masks.as_slice().len())?;
+    'masks: for mask in masks.as_slice() {
         entries.push(TypeEntry {
             mask: *mask,
             level: level_or_first(levels, *mask),

@@ -1,8 +1,7 @@
-use Rattle.std.proofs.Common.{◌≡◌, ap, arith, length, nat_eq, subst, sym, ◌∙◌}
+use Rattle.std.proofs.Common.{◌≡◌, ap, arith, nat_eq, subst, sym, ◌∙◌}
 use Rattle.std.proofs.Math.Path.{fun_ext}
 use Rattle.indexmap.specs.IndexMap.{get}
-use Rattle.kx_basics.specs.declared.limits.TheConstants.{CODES}
-use Rattle.kx_mapped.proofs.Visiting.{found_nowhere, visits_none, visits_unsought}
+use Rattle.kx_mapped.proofs.Visiting.{visits_none}
 use Rattle.kx_codes.proofs.Ends.{all_gathered}
 use Rattle.kx_codes.specs.Codes.{name_of}
 use Rattle.kx_mapped.proofs.Steps.{below_none, unnamed_places}
@@ -28,9 +27,3 @@ returns c = λ maps.
     let all : c.codes.code ≡ c.end-code-end.result = omega (arith, c.codes-test.false, c.codes.auto.code-end) in
     let same = fun_ext (λ k. ap (places_below k m) all ∙ sym (all_gathered (places_below k m) c.end-code-end.result (name_of c.args.codes.now) c.end-code-end.ensures (unnamed_places k m))) in
     subst (λ places. Visits places (get nat_eq c.args.firsts.now) (get nat_eq c.codes.firsts)) same (c.codes.invariant maps)
-
-pub returns-then-is_empty : goal.returns-then-is_empty
-returns-then-is_empty c = λ maps.
-    let m = mapping_of c.args.codes.now c.args.types.now c.args.keys.now maps in
-    let none : length c.args.firsts.now.entries ≡ 0 = c.is_empty.ensures.0 c.if-is_empty.true in
-    visits_unsought (get nat_eq c.args.firsts.now) (λ k. places_below k m CODES) (λ k. found_nowhere c.args.firsts.now.entries (nat_eq k) none)

@@ -4,4 +4,4 @@ use Rattle.kx_types.specs.KeyTypes.{entry_with}
 use Rattle.kx_types.proofs.definition.entries_with.Given as goal
 
 abbrev pub invariant-masks : goal.invariant-masks
-invariant-masks l = map (entry_with (get nat_eq l.levels) (get nat_eq l.kept)) l.masks.keys ≡ l.entries.items ++ map (entry_with (get nat_eq l.levels) (get nat_eq l.kept)) l.mask-iterator
+invariant-masks l = map (entry_with (get nat_eq l.levels) (get nat_eq l.kept)) l.masks ≡ l.entries.items ++ map (entry_with (get nat_eq l.levels) (get nat_eq l.kept)) l.mask-iterator

@@ -5,4 +5,4 @@ use Rattle.kx_codes.specs.Pairs.{Pair}
 use Rattle.kx_codes.proofs.named.NamedPairs.of.Given as goal
 
 abbrev pub invariant-pairs : goal.invariant-pairs
-invariant-pairs l = IsOnce l.names → (ps : List Pair) → StandsIn l.names l.pairs ps → (ns : List Pair) × AreNumbered l.names (take l.place l.pairs.by_code) ns × Stands l.named ns
+invariant-pairs l = IsOnce l.names → (ps : List Pair) → StandsIn l.names l.pairs ps → (ns : List Pair) × AreNumbered l.names (take l.place l.pairs.by_code) ns × Stands l.gathered ns

@@ -1,0 +1,112 @@
+-- What is looked up in sorted entries.
+use Rattle.std.proofs.Common.{◌≡◌, ℕ, zero, suc, ◌<◌, ◌≤◌, Bool, true, false, cond, not, ◌&&◌, List, [], ◌∷◌, length, Option, None, Some, filter, slice_get, refl, sym, ap, ◌∙◌, true≢false, ltb, subst, arith}
+use Rattle.std.specs.Cmp.Lexicographic.{nat_list_eq_equiv}
+use Rattle.std.specs.List.{AllWithin, slice_index_or}
+use Rattle.std.proofs.lemmas.List.Sorted.{IsPartitionedBy-ltb, searchable_from_sorted}
+use Rattle.std.specs.List.Sorted.{IsNonDecreasingBy, IsPartitionedBy, IsPartitionPoint, IsSortedByKey, IsStableByKey}
+use Rattle.std.specs.Map.{lookup}
+use Rattle.std.specs.Ordering.{is_eq, is_lt, ordering_index, ordering_reverse}
+use Rattle.std.specs.Str.{bytes_eq}
+use Rattle.std.specs.declared.cmp.Ordering.{Ordering}
+use Rattle.std.specs.declared.cmp.Ordering.TheVariants.{Less, Equal, Greater}
+use Rattle.kx_ordered.specs.Names.{name_cmp, name_cmp_ties, name_cmp_total}
+
+-- ---- A stable sort
+
+module _ {K V : Type 0} where
+  abbrev first_value : List (K × V) → Option V
+  first_value [] = None
+  first_value (e ∷ es) = Some e.1
+
+  looked_first : (test : K → Bool) (es : List (K × V)) → lookup test es ≡ first_value (filter (λ e. test e.0) es)
+  looked_first test [] = refl
+  looked_first test (e ∷ es) = by (test e.0) (looked_first test es)
+    where
+      by : (b : Bool) → lookup test es ≡ first_value (filter (λ e. test e.0) es) → cond b (Some e.1) (lookup test es) ≡ first_value (cond b (e ∷ filter (λ e. test e.0) es) (filter (λ e. test e.0) es))
+      by true rest = refl
+      by false rest = rest
+
+tie_is : (a b : List ℕ) → (not (is_lt (name_cmp a b)) && not (is_lt (name_cmp b a))) ≡ bytes_eq a b
+tie_is a b = ap (λ r. not (is_lt (name_cmp a b)) && not (is_lt r)) (name_cmp_total.antisymm b a) ∙ by (name_cmp a b) ∙ sym (name_cmp_ties a b)
+  where
+    by : (r : Ordering) → (not (is_lt r) && not (is_lt (ordering_reverse r))) ≡ is_eq r
+    by Less = refl
+    by Equal = refl
+    by Greater = refl
+
+-- the first value of each name stays the first
+pub stably : {V : Type 0} (xs ys : List (List ℕ × V)) → length ys ≡ length xs → IsStableByKey (λ (e : List ℕ × V). e.0) name_cmp xs ys → (name : List ℕ) → lookup (bytes_eq name) ys ≡ lookup (bytes_eq name) xs
+stably {V} [] [] same stable name = refl
+stably {V} [] (y ∷ ys) same stable name = absurd (omega (arith, same))
+stably {V} (x ∷ xs) ys same stable name =
+    looked_first (bytes_eq name) ys ∙ ap (λ test. first_value (filter test ys)) (λ i e. sym (tie_is name e.0) i)
+    ∙ ap first_value (stable (name, x.1))
+    ∙ ap (λ test. first_value (filter test (x ∷ xs))) (λ i e. tie_is name e.0 i) ∙ sym (looked_first (bytes_eq name) (x ∷ xs))
+
+-- ---- A binary search
+
+module _ {K V : Type 0} (c : K → Ordering) where
+  abbrev pub rank : K × V → ℕ
+  rank e = ordering_index (c e.0)
+
+  abbrev pub value_at : Option (K × V) → Option V
+  value_at None = None
+  value_at (Some e) = cond (is_eq (c e.0)) (Some e.1) None
+
+  above : (es : List (K × V)) → ((j : ℕ) (d : K × V) → j < length es → 2 ≤ rank (slice_index_or es j d)) → lookup (λ k. is_eq (c k)) es ≡ None
+  above [] h = refl
+  above (e ∷ es) h = by (c e.0) (h 0 e (omega arith)) (above es (λ j d s. h (suc j) d (omega arith)))
+    where
+      by : (o : Ordering) → 2 ≤ ordering_index o → lookup (λ k. is_eq (c k)) es ≡ None → cond (is_eq o) (Some e.1) (lookup (λ k. is_eq (c k)) es) ≡ None
+      by Less far rest = absurd (omega (arith, far))
+      by Equal far rest = absurd (omega (arith, far))
+      by Greater far rest = rest
+
+  -- what stands where the lower ones end is what is looked up
+  pub looked_at : (es : List (K × V)) (i : ℕ) → AllWithin (λ e. is_lt (c e.0) ≡ true) es 0 i → AllWithin (λ e. is_lt (c e.0) ≡ false) es i (length es) → IsNonDecreasingBy rank es → lookup (λ k. is_eq (c k)) es ≡ value_at (slice_get es i)
+  looked_at [] i low high up = refl
+  looked_at (e ∷ es) zero low high up = by (c e.0) refl (high 0 e (omega arith) (omega arith))
+    where
+      by : (o : Ordering) → c e.0 ≡ o → is_lt o ≡ false → cond (is_eq o) (Some e.1) (lookup (λ k. is_eq (c k)) es) ≡ cond (is_eq o) (Some e.1) None
+      by Less is up' = absurd (true≢false up')
+      by Equal is up' = refl
+      by Greater is up' = above es (λ j d s. let least : rank e ≤ rank (slice_index_or es j d) = up 0 (suc j) d (omega arith) (omega arith) in omega (arith, least, ap ordering_index is))
+  looked_at (e ∷ es) (suc i) low high up = by (c e.0) (low 0 e (omega arith) (omega arith)) (looked_at es i (λ k d l h. low (suc k) d (omega arith) (omega arith)) (λ k d l h. high (suc k) d (omega arith) (omega arith)) (λ j k d l h. up (suc j) (suc k) d (omega arith) (omega arith)))
+    where
+      by : (o : Ordering) → is_lt o ≡ true → lookup (λ k. is_eq (c k)) es ≡ value_at (slice_get es i) → cond (is_eq o) (Some e.1) (lookup (λ k. is_eq (c k)) es) ≡ value_at (slice_get es i)
+      by Less low' rest = rest
+      by Equal low' rest = absurd (true≢false (sym low'))
+      by Greater low' rest = absurd (true≢false (sym low'))
+
+-- names are the same where neither is below the other
+pub name_test : (name k : List ℕ) → is_eq (name_cmp k name) ≡ bytes_eq name k
+name_test name k = sym (name_cmp_ties k name) ∙ nat_list_eq_equiv.symm k name
+
+-- names below one stand before the others
+pub parted : {V : Type 0} (name : List ℕ) (es : List (List ℕ × V)) → IsSortedByKey (λ (e : List ℕ × V). e.0) name_cmp es → IsPartitionedBy (λ (e : List ℕ × V). is_lt (name_cmp e.0 name)) es
+parted {V} name es sorted = subst {A = Ordering → Bool} (λ p. IsPartitionedBy (λ (e : List ℕ × V). p (name_cmp e.0 name)) es) (λ i o. below o i) (IsPartitionedBy-ltb (λ (e : List ℕ × V). ordering_index (name_cmp e.0 name)) es 1 (searchable_from_sorted name_cmp_total (λ (e : List ℕ × V). e.0) es name sorted))
+  where
+    below : (o : Ordering) → ltb (ordering_index o) 1 ≡ is_lt o
+    below Less = refl
+    below Equal = refl
+    below Greater = refl
+
+-- what stands behind the names below one
+abbrev pub named_at : {V : Type 0} → List ℕ → Option (List ℕ × V) → Option V
+named_at name None = None
+named_at name (Some e) = cond (bytes_eq name e.0) (Some e.1) None
+
+-- what stands behind the names below one is what is looked up
+pub found : {V : Type 0} (name : List ℕ) (es : List (List ℕ × V)) (i : ℕ) → IsSortedByKey (λ (e : List ℕ × V). e.0) name_cmp es → IsPartitionPoint (λ (e : List ℕ × V). is_lt (name_cmp e.0 name) ≡ true) (λ (e : List ℕ × V). is_lt (name_cmp e.0 name) ≡ false) es i → (o : Option (List ℕ × V)) → o ≡ slice_get es i → lookup (bytes_eq name) es ≡ named_at name o
+found {V} name es i sorted point o at =
+    ap (λ test. lookup test es) (λ j k. sym (name_test name k) j)
+    ∙ looked_at (λ k. name_cmp k name) es i point.0 point.1 (searchable_from_sorted name_cmp_total (λ (e : List ℕ × V). e.0) es name sorted)
+    ∙ ap (value_at (λ k. name_cmp k name)) (sym at) ∙ by o
+  where
+    by : (o : Option (List ℕ × V)) → value_at (λ k. name_cmp k name) o ≡ named_at name o
+    by None = refl
+    by (Some e) = ap (λ b. cond b (Some e.1) None) (name_test name e.0)
+
+-- the same where the name is looked up by its key
+pub found_by : {V : Type 0} (key name : List ℕ) → key ≡ name → (es : List (List ℕ × V)) (i : ℕ) → IsSortedByKey (λ (e : List ℕ × V). e.0) name_cmp es → IsPartitionPoint (λ (e : List ℕ × V). is_lt (name_cmp e.0 key) ≡ true) (λ (e : List ℕ × V). is_lt (name_cmp e.0 key) ≡ false) es i → (o : Option (List ℕ × V)) → o ≡ slice_get es i → lookup (bytes_eq name) es ≡ named_at name o
+found_by {V} key name same es i sorted point o at = ap (λ n. lookup (bytes_eq n) es) (sym same) ∙ found key es i sorted point o at ∙ ap (λ n. named_at n o) same

@@ -1,0 +1,4 @@
+pub mod KeyPlaces
+pub mod Lending
+pub mod Members
+pub mod Names

@@ -1,0 +1,16 @@
+//! Tables that find a key by its order, in the logarithm of how many keys there are, whatever the keys are: no source can
+//! choose keys that are slow to find.
+#![tactic(auto)]
+
+mod again;
+mod by_name;
+mod name_key;
+mod ordered;
+mod ordered_set;
+mod sorted_names;
+
+pub use again::Again;
+pub use name_key::NameKey;
+pub use ordered::Ordered;
+pub use ordered_set::OrderedSet;
+pub use sorted_names::SortedNames;

@@ -1,0 +1,140 @@
+//! Names in an order that is quick to tell.
+ghost use Rattle.std.specs.Prelude.{◌≡◌, ◌≤◌, length, drop, take, refl};
+ghost use Rattle.std.specs.Cmp.{partial_equiv_from_equiv, partial_order_from_own_ties, partial_order_from_total};
+ghost use Rattle.std.specs.Cmp.Lexicographic.{nat_list_eq_equiv};
+ghost use Rattle.std.specs.Cmp.Rules.{comparing};
+ghost use Rattle.std.specs.Ordering.{as_partial_cmp, is_lt};
+ghost use Rattle.std.specs.Str.{bytes_eq};
+ghost use Rattle.std.proofs.Common.{rules};
+ghost use Rattle.kx_ordered.specs.Names.{head_of, folded, name_cmp, name_cmp_total, name_cmp_ties};
+
+use crate::again::Again;
+use std::alloc::AllocError;
+use std::cmp::Ordering;
+use std::marker::Model;
+
+/// A name that is lent, with a number of its first eight bytes: names are told apart by these numbers, and their bytes are
+/// compared only where the numbers are the same. Seen as its bytes.
+#[derive(Drop)]
+pub struct NameKey<'l> {
+    head: u64,
+    bytes: &'l [u8],
+}
+
+impl<'l> Model for NameKey<'l> {
+    ghost use Rattle.std.specs.Prelude.{◌≡◌, ℕ, List};
+    ghost use Rattle.kx_ordered.specs.Names.{head_of};
+
+    ghost Value = { List ℕ };
+
+    ghost view = { λ name. name.bytes.now };
+
+    ghost invariant = { λ name. name.head ≡ head_of name.bytes.now };
+}
+
+fn front_of(bytes: &[u8]) -> &[u8]
+    ensures { result.now ≡ take 8 bytes.now }
+{
+    bytes.get(..8).unwrap_or(bytes)
+}
+
+/// The first eight bytes of a name as one number.
+fn head_of(bytes: &[u8]) -> u64
+    ensures { result ≡ head_of bytes.now }
+{
+    let mut head = 0u64;
+    'front: for byte in front_of(bytes) {
+        head = head.wrapping_mul(256).wrapping_add(u64::from(*byte));
+    }
+    head
+}
+
+impl<'l> NameKey<'l> {
+    /// The key of a name.
+    pub fn of(name: &'l [u8]) -> NameKey<'l>
+        ensures { result ≡ name.now }
+    {
+        NameKey {
+            head: head_of(name),
+            bytes: name,
+        }
+    }
+
+    /// The bytes of the name in order.
+    pub fn as_slice(&self) -> &'l [u8]
+        ensures { result.now ≡ self.now }
+    {
+        self.bytes
+    }
+
+    /// The same key.
+    pub(crate) fn copied(&self) -> NameKey<'l>
+        ensures { result ≡ self.now }
+    {
+        NameKey {
+            head: self.head,
+            bytes: self.bytes,
+        }
+    }
+
+    /// Whether the key is that of a name.
+    pub fn is_name(&self, name: &[u8]) -> bool
+        ensures { result ≡ bytes_eq name.now self.now }
+    {
+        name == self.bytes
+    }
+
+    /// Whether the key stands before another.
+    pub(crate) fn is_below(&self, other: &NameKey) -> bool
+        ensures { result ≡ is_lt (name_cmp self.now other.now) }
+    {
+        self.cmp(other).is_lt()
+    }
+}
+
+impl<'l> PartialEq for NameKey<'l> {
+    ghost eq = { bytes_eq };
+
+    ghost laws = { partial_equiv_from_equiv nat_list_eq_equiv };
+
+    fn eq(&self, other: &NameKey<'l>) -> bool {
+        self.bytes == other.bytes
+    }
+}
+
+impl<'l> Eq for NameKey<'l> {
+    ghost laws = { nat_list_eq_equiv };
+}
+
+impl<'l> PartialOrd for NameKey<'l> {
+    ghost partial_cmp = { as_partial_cmp name_cmp };
+
+    ghost laws = { partial_order_from_own_ties (partial_order_from_total name_cmp_total) name_cmp_ties };
+
+    fn partial_cmp(&self, other: &NameKey<'l>) -> Option<Ordering> {
+        Some(self.cmp(other))
+    }
+}
+
+impl<'l> Ord for NameKey<'l> {
+    ghost cmp = { name_cmp };
+
+    ghost total = { name_cmp_total };
+
+    ghost matches_partial_cmp = { λ x y. refl };
+
+    ghost matches_eq = { name_cmp_ties };
+
+    fn cmp(&self, other: &NameKey<'l>) -> Ordering {
+        match self.head.cmp(&other.head) {
+            Ordering::Equal => self.bytes.cmp(other.bytes),
+            unequal => unequal,
+        }
+    }
+}
+
+impl<'l> Again for NameKey<'l> {
+    fn again(&self) -> Result<NameKey<'l>, AllocError> {
+        Ok(self.copied())
+    }
+}

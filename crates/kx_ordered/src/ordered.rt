@@ -1,0 +1,186 @@
+ghost use Rattle.std.specs.Prelude.{◌≡◌, ◌++◌, ◌∷◌, [], length, position, slice_get, IfOk, OnOk, IfErr, OnErr, None, Some, ◌<◌, if◌then◌else◌};
+ghost use Rattle.std.specs.Option.{option_map, option_copied, option_copied_mut};
+ghost use Rattle.std.specs.Borrow.{sem};
+ghost use Rattle.indexmap.specs.IndexMap.{get, keys, values, index_map_len, insert_entry, IsUnique};
+ghost use Rattle.kx_ordered.specs.KeyPlaces.{ArePlaced};
+ghost use Rattle.kx_ordered.specs.Lending.{lends_at, lends_value};
+
+use crate::again::Again;
+use std::alloc::{AllocError, Global};
+use std::collections::BTreeMap;
+use std::marker::Model;
+
+/// Values by key, in the order in which the keys were first put. A key is found in the logarithm of how many there are,
+/// whatever the keys are.
+#[derive(Drop)]
+pub struct Ordered<K: Again + Drop, V> {
+    entries: Vec<(K, V)>,
+    places: BTreeMap<K, usize>,
+}
+
+impl<K: Again + Drop, V> Model for Ordered<K, V> {
+    ghost use Rattle.std.specs.Prelude.{ℕ};
+    ghost use Rattle.std.specs.Coded.{coded_ℕ};
+    ghost use Rattle.std.specs.List.{IsDistinct};
+    ghost use Rattle.std.specs.Map.{keys_of};
+    ghost use Rattle.indexmap.specs.IndexMap.{IndexMap};
+    ghost use Rattle.indexmap.specs.Layout.{hash_map, hash_map_code};
+    ghost use Rattle.kx_ordered.specs.KeyPlaces.{ArePlaced};
+
+    ghost Value = { IndexMap K V ℕ };
+
+    ghost coded = { hash_map_code K.code V.code coded_ℕ };
+
+    ghost view = { λ m. hash_map m.entries.items 0 0 };
+
+    ghost invariant = { λ m. ArePlaced K.cmp m.places m.entries.items × IsDistinct K.eq (keys_of m.entries.items) };
+}
+
+impl<K: Again + Drop, V> Ordered<K, V> {
+    /// No values.
+    pub fn new(alloc: Global) -> Ordered<K, V>
+        ensures empty { result.entries ≡ [] }
+    {
+        Ordered {
+            entries: Vec::new(alloc),
+            places: BTreeMap::new(alloc),
+        }
+    }
+
+    /// How many there are.
+    pub fn len(&self) -> usize
+        ensures { result ≡ index_map_len self.now }
+    {
+        self.entries.len()
+    }
+
+    /// The place of a key, counted from 0.
+    pub fn place(&self, key: &K) -> Option<usize>
+        ensures value { result ≡ position (K.eq key.now) (keys self.now) }
+        ensures unique { IsUnique K.eq self.now }
+    {
+        self.places.get(key).copied()
+    }
+
+    /// The places of keys, among which a name is found by its bytes.
+    pub fn places(&self) -> &BTreeMap<K, usize>
+        ensures { ArePlaced K.cmp result.now self.now.entries }
+    {
+        &self.places
+    }
+
+    /// The key and the value at a place, counted from 0.
+    pub fn at(&self, place: usize) -> Option<(&K, &V)>
+        ensures { option_map (λ e. (e.0.now, e.1.now)) result ≡ slice_get self.now.entries place }
+    {
+        match self.entries.get(place) {
+            Some((key, value)) => Some((key, value)),
+            None => None,
+        }
+    }
+
+    /// The value at a place, counted from 0.
+    pub fn value(&self, place: usize) -> Option<&V>
+        ensures { option_copied result ≡ option_map (λ e. e.1) (slice_get self.now.entries place) }
+    {
+        match self.entries.get(place) {
+            Some((_, value)) => Some(value),
+            None => None,
+        }
+    }
+
+    /// The value of a key.
+    pub fn get(&self, key: &K) -> Option<&V>
+        ensures value { option_copied result ≡ get K.eq self.now key.now }
+    {
+        match self.place(key) {
+            None => None,
+            Some(place) => self.value(place),
+        }
+    }
+
+    /// The value of a key, which can be written.
+    pub fn get_mut(&mut self, key: &K) -> Option<&mut V>
+        ensures* writes_back { sem 𝓛 (lends_value K.row V.row (record { cmp = K.cmp; eq = K.eq; partial_cmp = K.partial_cmp }) self.entry key.now result) }
+        ensures value { option_copied_mut result ≡ get K.eq self.old key.now }
+    {
+        match self.place(key) {
+            None => None,
+            Some(place) => Some(self.value_mut(place)),
+        }
+    }
+
+    /// The value at a place, counted from 0, which can be written.
+    pub fn value_mut(&mut self, place: usize) -> &mut V
+        requires { place < index_map_len self.old }
+        ensures* writes_back { sem 𝓛 (lends_at K.row V.row (record { cmp = K.cmp; eq = K.eq; partial_cmp = K.partial_cmp }) self.entry place result) }
+        ensures value { slice_get (values self.old) place ≡ Some result.now }
+    {
+        let entry = &mut self.entries[place];
+        &mut entry.1
+    }
+
+    /// The keys with their values, in order.
+    pub fn as_slice(&self) -> &[(K, V)]
+        ensures value { result.now ≡ self.now.entries }
+        ensures unique { IsUnique K.eq self.now }
+    {
+        self.entries.as_slice()
+    }
+
+    /// The same, of which the map is made up.
+    pub fn into_entries(self) -> Vec<(K, V)>
+        ensures value { result.items ≡ self.entries }
+        ensures unique { IsUnique K.eq self }
+    {
+        self.entries
+    }
+
+    /// Puts a value behind the others, whose key has none.
+    pub fn push(&mut self, key: K, value: V) -> Result<(), AllocError>
+    where
+        V: Drop,
+        requires { get K.eq self.old key ≡ None }
+        ensures entries { OnOk result (self.new.entries ≡ insert_entry K.eq self.old.entries key value) }
+        ensures updates { OnOk result ((q : K) → get K.eq self.new q ≡ (if K.eq key q then Some value else get K.eq self.old q)) }
+        ensures unique { OnOk result (IsUnique K.eq self.new) }
+        ensures err { OnErr result (self.new ≡ self.old) }
+    {
+        self.put(key, value)
+    }
+
+    fn put(&mut self, key: K, value: V) -> Result<(), AllocError>
+    where
+        V: Drop,
+        requires { get K.eq self.old key ≡ None }
+        ensures entries { OnOk result (self.new.entries ≡ self.old.entries ++ (key, value) ∷ []) }
+        ensures unique { OnOk result (IsUnique K.eq self.new) }
+        ensures err { OnErr result (self.new ≡ self.old) }
+    {
+        let place = self.len();
+        let again = key.again()?;
+        self.entries.push((key, value))?;
+        if let Err(_) = self.places.insert(again, place) {
+            let _ = self.entries.pop();
+            return Err(AllocError);
+        }
+        Ok(())
+    }
+
+    /// Puts a value: where its key has one, in its place, else behind the others.
+    pub fn insert(&mut self, key: K, value: V) -> Result<(), AllocError>
+    where
+        V: Drop,
+        ensures entries { OnOk result (self.new.entries ≡ insert_entry K.eq self.old.entries key value) }
+        ensures updates { OnOk result ((q : K) → get K.eq self.new q ≡ (if K.eq key q then Some value else get K.eq self.old q)) }
+        ensures err { OnErr result (self.new ≡ self.old) }
+    {
+        match self.place(&key) {
+            None => self.push(key, value),
+            Some(place) => {
+                *self.value_mut(place) = value;
+                Ok(())
+            }
+        }
+    }
+}
