@@ -7,10 +7,12 @@ mod by_name;
 mod name_key;
 mod ordered;
 mod ordered_set;
+mod short_name;
 mod sorted_names;
 
 pub use again::Again;
 pub use name_key::NameKey;
 pub use ordered::Ordered;
 pub use ordered_set::OrderedSet;
+pub use short_name::ShortName;
 pub use sorted_names::SortedNames;

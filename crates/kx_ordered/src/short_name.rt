@@ -1,0 +1,152 @@
+//! Names of at most 255 bytes.
+ghost use Rattle.std.specs.Prelude.{◌≡◌, ◌≤◌, ◌<◌, IfSome, length, position, take, refl};
+ghost use Rattle.std.specs.Cmp.{partial_equiv_from_equiv, partial_order_from_own_ties};
+ghost use Rattle.std.specs.Cmp.Lexicographic.{nat_list_cmp_total, nat_list_eq_equiv, slice_cmp};
+ghost use Rattle.std.specs.Cmp.Rules.{comparing};
+ghost use Rattle.std.specs.Map.{lookup};
+ghost use Rattle.std.specs.Option.{option_copied};
+ghost use Rattle.std.specs.Ordering.{as_partial_cmp, nat_cmp};
+ghost use Rattle.std.specs.Str.{bytes_eq};
+ghost use Rattle.std.specs.BTreeMap.Comparable.{le_lt_trans};
+ghost use Rattle.std.proofs.Common.{rules};
+ghost use Rattle.indexmap.specs.IndexMap.{index_map_len, keys};
+ghost use Rattle.kx_basics.specs.declared.limits.TheConstants.{MOST_NAME_BYTES};
+
+use crate::again::Again;
+use crate::ordered::Ordered;
+use kx_basics::MOST_NAME_BYTES;
+use std::alloc::AllocError;
+use std::cmp::Ordering;
+use std::collections::btree_map::Comparable;
+use std::marker::Model;
+
+/// A name of at most 255 bytes, which is read exactly; seen as its bytes. They stand in place, so that it is taken again
+/// without an allocation.
+#[derive(Debug, Drop)]
+pub struct ShortName {
+    len: u8,
+    /// The first `len` are the name; those behind them mean nothing.
+    bytes: [u8; MOST_NAME_BYTES],
+}
+
+impl Model for ShortName {
+    ghost use Rattle.std.specs.Prelude.{ℕ, List, take};
+
+    ghost Value = { List ℕ };
+
+    ghost view = { λ name. take name.len name.bytes };
+}
+
+fn start_of(bytes: &[u8], len: usize) -> &[u8]
+    ensures { result.now ≡ take len bytes.now }
+{
+    bytes.get(..len).unwrap_or(bytes)
+}
+
+impl ShortName {
+    /// The name of these bytes.
+    pub fn of(name: &[u8]) -> ShortName
+        requires { length name.now ≤ MOST_NAME_BYTES }
+        ensures { result ≡ name.now }
+    {
+        let mut bytes = [0; MOST_NAME_BYTES];
+        bytes[..name.len()].copy_from_slice(name);
+        ShortName {
+            len: name.len() as u8,
+            bytes,
+        }
+    }
+
+    /// The same name.
+    pub fn copied(&self) -> ShortName
+        ensures { result ≡ self.now }
+    {
+        ShortName {
+            len: self.len,
+            bytes: self.bytes,
+        }
+    }
+
+    /// The bytes in order.
+    pub fn as_slice(&self) -> &[u8]
+        ensures { result.now ≡ self.now }
+    {
+        start_of(&self.bytes, usize::from(self.len))
+    }
+}
+
+impl PartialEq for ShortName {
+    ghost eq = { bytes_eq };
+
+    ghost laws = { partial_equiv_from_equiv nat_list_eq_equiv };
+
+    fn eq(&self, other: &ShortName) -> bool {
+        self.as_slice() == other.as_slice()
+    }
+}
+
+impl Eq for ShortName {
+    ghost laws = { nat_list_eq_equiv };
+}
+
+impl PartialOrd for ShortName {
+    ghost partial_cmp = { as_partial_cmp (slice_cmp nat_cmp) };
+
+    ghost laws = { partial_order_from_own_ties (Prim.search (comparing, rules)) (Prim.search (comparing, rules)) };
+
+    fn partial_cmp(&self, other: &ShortName) -> Option<Ordering> {
+        Some(self.cmp(other))
+    }
+}
+
+impl Ord for ShortName {
+    ghost cmp = { slice_cmp nat_cmp };
+
+    ghost total = { nat_list_cmp_total };
+
+    ghost matches_partial_cmp = { λ x y. refl };
+
+    ghost matches_eq = { Prim.search (comparing, rules) };
+
+    fn cmp(&self, other: &ShortName) -> Ordering {
+        self.as_slice().cmp(other.as_slice())
+    }
+}
+
+impl Again for ShortName {
+    fn again(&self) -> Result<ShortName, AllocError> {
+        Ok(self.copied())
+    }
+}
+
+impl Comparable<ShortName> for &[u8] {
+    ghost compare = { λ q k. slice_cmp nat_cmp q.now k };
+
+    ghost respects_cmp = { λ q x y. nat_list_cmp_total.congr q.now x y };
+
+    ghost below_greater = { λ q x y. le_lt_trans nat_list_cmp_total q.now x y };
+
+    fn compare(&self, key: &ShortName) -> Ordering {
+        (*self).cmp(key.as_slice())
+    }
+}
+
+impl<V> Ordered<ShortName, V> {
+    /// The place of a name, counted from 0.
+    pub fn place_of_short_name(&self, name: &[u8]) -> Option<usize>
+        ensures value { result ≡ position (bytes_eq name.now) (keys self.now) }
+        ensures within { IfSome result (λ place. place < index_map_len self.now) }
+    {
+        self.places().get(name).copied()
+    }
+
+    /// The value of a name.
+    pub fn value_of_short_name(&self, name: &[u8]) -> Option<&V>
+        ensures { option_copied result ≡ lookup (bytes_eq name.now) self.now.entries }
+    {
+        match self.place_of_short_name(name) {
+            None => None,
+            Some(place) => self.value(place),
+        }
+    }
+}
