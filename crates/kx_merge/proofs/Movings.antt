@@ -63,6 +63,11 @@ module _ {K C V R : Type 0} (cell : R → C → Option V) (width : R → ℕ →
   pub good_offer : (key : K) (r : R) → IsGood cell width eq os key r → IsOffered mode cell width key r (gather eq mode os key)
   good_offer key r good = record { mode_is = refl; name_is = refl; value_is = λ c. sym (good.cells_are c); width_is = λ g. sym (good.widths_are g) }
 
+  -- records that are all good are offered as what is gathered of them
+  pub all_offered : (es : List (K × R)) → AllGood cell width eq os es → AreOffered mode cell width es (map (gather eq mode os) (keys_of es))
+  all_offered [] no_more = none
+  all_offered (e ∷ es) (and_more one rest) = more (good_offer e.0 e.1 one) (all_offered es rest)
+
 module _ {K C V : Type 0} (moves : Moves K C) where
   flat-append : (n : ℕ) (ps qs : List (Offer K C V)) → flat_map (λ p. moved_one moves n p (moves.key n p.name)) (ps ++ qs) ≡ flat_map (λ p. moved_one moves n p (moves.key n p.name)) ps ++ flat_map (λ p. moved_one moves n p (moves.key n p.name)) qs
   flat-append n [] qs = refl

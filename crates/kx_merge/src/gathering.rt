@@ -10,18 +10,17 @@ ghost use Rattle.kx_merge.specs.Records.{Shows};
 use crate::fields::Fields;
 use crate::merging::{add_included, add_joined, merge_own};
 use crate::repeats::Repeats;
-use indexmap::IndexMap;
 use kx_include::{Entry, Expansion, Link, Map, Place};
 use kx_lex::Fault;
+use kx_ordered::{Again, Ordered};
 use kx_parse::Mode;
 use std::alloc::Global;
-use std::hash::Hash;
 
 /// Records, and what is noted of the statements that they were read from.
 #[derive(Drop)]
-pub struct Merged<K: Eq + Hash, R, N> {
+pub struct Merged<K: Ord + Again + Drop, R, N> {
     /// By what tells them apart, in the order in which they were first named.
-    pub records: IndexMap<K, R>,
+    pub records: Ordered<K, R>,
     pub notes: N,
 }
 
@@ -41,7 +40,7 @@ pub fn merge<C, R: Fields<C>>(
     ensures fault { IfErr result (λ e. Contains (Memory ∷ faults_of R.Key.eq (R.rules context.now) R.moves (expanded_body expansion.now)) e) }
 {
     let done = gather_maps::<C, R>(alloc, context, expansion.maps.as_slice())?;
-    let mut records = IndexMap::new(alloc);
+    let mut records = Ordered::new(alloc);
     let mut notes = R::no_notes();
     'sections: for section in &expansion.sections {
         merge_map::<C, R>(
@@ -84,7 +83,7 @@ fn gather_map<C, R: Fields<C>>(
     ensures { (bodies : List Body) → AreGathered R.cell R.width R.Key.eq (R.rules context.now) R.moves done.now bodies
         → IsGathered R.cell R.width R.Key.eq (R.rules context.now) R.moves result (shared_body bodies map.now End) }
 {
-    let mut records = IndexMap::new(alloc);
+    let mut records = Ordered::new(alloc);
     let mut notes = R::no_notes();
     merge_map::<C, R>(alloc, context, done, map, &mut records, &mut notes)?;
     Ok(Merged { records, notes })
@@ -97,7 +96,7 @@ fn merge_map<C, R: Fields<C>>(
     context: &C,
     done: &[Result<Merged<R::Key, R, R::Notes>, Fault>],
     map: &Map,
-    records: &mut IndexMap<R::Key, R>,
+    records: &mut Ordered<R::Key, R>,
     notes: &mut R::Notes,
 ) -> Result<(), Fault>
     ensures { (bodies : List Body) → AreGathered R.cell R.width R.Key.eq (R.rules context.now) R.moves done.now bodies
@@ -158,7 +157,7 @@ fn merge_entry<C, R: Fields<C>>(
     last: Included,
     entry: &Entry,
     defaults: R::Defaults,
-    records: &mut IndexMap<R::Key, R>,
+    records: &mut Ordered<R::Key, R>,
     notes: &mut R::Notes,
 ) -> Result<R::Defaults, Fault>
     ensures adds { (bodies : List Body) → AreGathered R.cell R.width R.Key.eq (R.rules context.now) R.moves done.now bodies
@@ -220,7 +219,7 @@ fn merge_after<C, R: Fields<C>>(
     done: &[Result<Merged<R::Key, R, R::Notes>, Fault>],
     last: Included,
     included: Included,
-    records: &mut IndexMap<R::Key, R>,
+    records: &mut Ordered<R::Key, R>,
     notes: &mut R::Notes,
 ) -> Result<(), Fault>
     ensures { (rules : Rules R.Key R.Cell R.Value R.Defaults) (bodies : List Body) → AreGathered R.cell R.width R.Key.eq rules R.moves done.now bodies
@@ -240,7 +239,7 @@ fn merge_include<C, R: Fields<C>>(
     done: &[Result<Merged<R::Key, R, R::Notes>, Fault>],
     mode: Mode,
     links: &[Link],
-    records: &mut IndexMap<R::Key, R>,
+    records: &mut Ordered<R::Key, R>,
     notes: &mut R::Notes,
 ) -> Result<(), Fault>
     ensures { (rules : Rules R.Key R.Cell R.Value R.Defaults) (bodies : List Body) → AreGathered R.cell R.width R.Key.eq rules R.moves done.now bodies
@@ -258,13 +257,13 @@ fn merge_joined<C, R: Fields<C>>(
     done: &[Result<Merged<R::Key, R, R::Notes>, Fault>],
     mode: Mode,
     links: &[Link],
-    records: &mut IndexMap<R::Key, R>,
+    records: &mut Ordered<R::Key, R>,
     notes: &mut R::Notes,
 ) -> Result<(), Fault>
     ensures { (rules : Rules R.Key R.Cell R.Value R.Defaults) (bodies : List Body) → AreGathered R.cell R.width R.Key.eq rules R.moves done.now bodies
         → Adds R.cell R.width R.Key.eq (keys records.old) (get R.Key.eq records.old) result (keys records.new) (get R.Key.eq records.new) (gathered R.Key.eq mode (offers_of R.Key.eq rules R.moves (links_body bodies links.now))) (faults_of R.Key.eq rules R.moves (links_body bodies links.now)) }
 {
-    let mut joined = IndexMap::new(alloc);
+    let mut joined = Ordered::new(alloc);
     merge_links::<C, R>(alloc, done, links, &mut joined, notes)?;
     add_joined::<C, R>(alloc, records, mode, joined)
 }
@@ -274,7 +273,7 @@ fn merge_links<C, R: Fields<C>>(
     alloc: Global,
     done: &[Result<Merged<R::Key, R, R::Notes>, Fault>],
     links: &[Link],
-    records: &mut IndexMap<R::Key, R>,
+    records: &mut Ordered<R::Key, R>,
     notes: &mut R::Notes,
 ) -> Result<(), Fault>
     ensures { (rules : Rules R.Key R.Cell R.Value R.Defaults) (bodies : List Body) → AreGathered R.cell R.width R.Key.eq rules R.moves done.now bodies
@@ -292,7 +291,7 @@ fn merge_link<C, R: Fields<C>>(
     done: &[Result<Merged<R::Key, R, R::Notes>, Fault>],
     mode: Mode,
     link: Link,
-    records: &mut IndexMap<R::Key, R>,
+    records: &mut Ordered<R::Key, R>,
     notes: &mut R::Notes,
 ) -> Result<(), Fault>
     ensures { (rules : Rules R.Key R.Cell R.Value R.Defaults) (bodies : List Body) → AreGathered R.cell R.width R.Key.eq rules R.moves done.now bodies

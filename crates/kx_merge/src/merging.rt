@@ -8,16 +8,16 @@ ghost use Rattle.kx_merge.specs.Offers.{Offer};
 ghost use Rattle.kx_merge.specs.Records.{AreOffered, IsGood, IsOffered, Shows, mode_of};
 
 use crate::fields::Fields;
-use indexmap::IndexMap;
 use kx_include::Place;
 use kx_lex::Fault;
+use kx_ordered::Ordered;
 use kx_parse::{Item, Mode};
 use std::alloc::Global;
 
 /// Takes up a record under a mode, beside those that are there.
 fn add_one<C, R: Fields<C>>(
     alloc: Global,
-    records: &mut IndexMap<R::Key, R>,
+    records: &mut Ordered<R::Key, R>,
     mode: Mode,
     key: R::Key,
     given: R,
@@ -30,14 +30,14 @@ fn add_one<C, R: Fields<C>>(
     if let Some(old) = records.get_mut(&key) {
         return old.absorb(alloc, given, mode);
     }
-    records.insert(key, given)?;
+    records.push(key, given)?;
     Ok(())
 }
 
 /// Takes up records under a mode in order, beside those that are there.
 pub(crate) fn add_all<C, R: Fields<C>>(
     alloc: Global,
-    records: &mut IndexMap<R::Key, R>,
+    records: &mut Ordered<R::Key, R>,
     mode: Mode,
     given: Vec<(R::Key, R)>,
 ) -> Result<(), Fault>
@@ -55,9 +55,9 @@ pub(crate) fn add_all<C, R: Fields<C>>(
 /// Takes up records under a mode, beside those that are there.
 pub(crate) fn add_joined<C, R: Fields<C>>(
     alloc: Global,
-    records: &mut IndexMap<R::Key, R>,
+    records: &mut Ordered<R::Key, R>,
     mode: Mode,
-    given: IndexMap<R::Key, R>,
+    given: Ordered<R::Key, R>,
 ) -> Result<(), Fault>
     ensures shows { (os inner : List (Offer R.Key R.Cell R.Value))
         → Shows R.cell R.width R.Key.eq (keys records.old) (get R.Key.eq records.old) os
@@ -65,17 +65,14 @@ pub(crate) fn add_joined<C, R: Fields<C>>(
         → OnOk result (Shows R.cell R.width R.Key.eq (keys records.new) (get R.Key.eq records.new) (os ++ gathered R.Key.eq mode inner)) }
     ensures err { IfErr result (λ e. e ≡ Memory) }
 {
-    'records: for (key, one) in given {
-        add_one::<C, R>(alloc, records, mode, key, one)?;
-    }
-    Ok(())
+    add_all::<C, R>(alloc, records, mode, given.into_entries())
 }
 
 /// Takes up under a mode, as the record of a key, what a record of an included map gives where its map is moved to a
 /// group.
 fn add_moved<C, R: Fields<C>>(
     alloc: Global,
-    records: &mut IndexMap<R::Key, R>,
+    records: &mut Ordered<R::Key, R>,
     mode: Mode,
     key: R::Key,
     one: &R,
@@ -91,14 +88,14 @@ fn add_moved<C, R: Fields<C>>(
     }
     let mut made = R::none(alloc);
     made.absorb_moved(alloc, one, group, mode)?;
-    records.insert(key, made)?;
+    records.push(key, made)?;
     Ok(())
 }
 
 /// Takes up a record of an included map under a mode, as it stands where the map is moved to a group.
 fn add_found<C, R: Fields<C>>(
     alloc: Global,
-    records: &mut IndexMap<R::Key, R>,
+    records: &mut Ordered<R::Key, R>,
     mode: Mode,
     key: &R::Key,
     one: &R,
@@ -119,9 +116,9 @@ fn add_found<C, R: Fields<C>>(
 /// are there.
 pub(crate) fn add_included<C, R: Fields<C>>(
     alloc: Global,
-    records: &mut IndexMap<R::Key, R>,
+    records: &mut Ordered<R::Key, R>,
     mode: Mode,
-    given: &IndexMap<R::Key, R>,
+    given: &Ordered<R::Key, R>,
     group: Option<u8>,
 ) -> Result<(), Fault>
     ensures shows { (os inner : List (Offer R.Key R.Cell R.Value))
@@ -130,8 +127,8 @@ pub(crate) fn add_included<C, R: Fields<C>>(
         → OnOk result (Shows R.cell R.width R.Key.eq (keys records.new) (get R.Key.eq records.new) (os ++ moved R.moves group (gathered R.Key.eq mode inner))) }
     ensures err { IfErr result (λ e. e ≡ Memory) }
 {
-    'records: for (key, one) in given {
-        add_found::<C, R>(alloc, records, mode, key, one, group)?;
+    'records: for entry in given.as_slice() {
+        add_found::<C, R>(alloc, records, mode, &entry.0, &entry.1, group)?;
     }
     Ok(())
 }
@@ -153,7 +150,7 @@ pub(crate) fn merge_own<C, R: Fields<C>>(
     defaults: R::Defaults,
     place: Place,
     item: &Item,
-    records: &mut IndexMap<R::Key, R>,
+    records: &mut Ordered<R::Key, R>,
     notes: &mut R::Notes,
 ) -> Result<R::Defaults, Fault>
     ensures adds { Adds R.cell R.width R.Key.eq (keys records.old) (get R.Key.eq records.old) result (keys records.new) (get R.Key.eq records.new) ((R.rules context.now).offers defaults place item.now) ((R.rules context.now).faults defaults place item.now) }

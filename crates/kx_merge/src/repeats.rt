@@ -4,11 +4,11 @@ ghost use Rattle.kx_lex.specs.declared.fault.Fault.TheVariants.{Memory};
 ghost use Rattle.kx_merge.specs.Gatherings.{StandsBetween, included_at};
 
 use crate::gathering::{Included, are_same_links, included_by};
-use indexmap::IndexMap;
 use kx_include::{Entry, Link};
 use kx_lex::Fault;
 use kx_parse::Mode;
 use std::alloc::Global;
+use std::collections::BTreeMap;
 
 /// Spreads numbers over 64 bits.
 const FACTOR: u64 = 0x9e37_79b9_7f4a_7c15;
@@ -24,7 +24,7 @@ struct Places {
 /// too, so what stands at a place is compared.
 #[derive(Drop)]
 pub(crate) struct Repeats {
-    places: IndexMap<u64, Places>,
+    places: BTreeMap<u64, Places>,
 }
 
 fn mode_number(mode: Mode) -> u64 {
@@ -59,7 +59,7 @@ fn number_of(included: Included) -> u64 {
 }
 
 fn add_place(
-    places: &mut IndexMap<u64, Places>,
+    places: &mut BTreeMap<u64, Places>,
     included: Included,
     place: usize,
 ) -> Result<(), Fault>
@@ -100,7 +100,7 @@ impl Repeats {
     pub(crate) fn of(alloc: Global, entries: &[Entry]) -> Result<Repeats, Fault>
         ensures { IfErr result (λ e. e ≡ Memory) }
     {
-        let mut places = IndexMap::new(alloc);
+        let mut places = BTreeMap::new(alloc);
         for place in 0..entries.len() {
             add_place(&mut places, included_by(&entries[place]), place)?;
         }
