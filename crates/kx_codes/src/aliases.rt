@@ -12,12 +12,12 @@ ghost use Rattle.kx_parse.specs.declared.tree.Mode.{Mode as ModeValue};
 ghost use Rattle.kx_codes.specs.Aliases.{alias_in, alias_moves, alias_offer, alias_rules, item_name_faults, item_offers};
 ghost use Rattle.kx_codes.specs.Records.{alias_cell, alias_width};
 
-use crate::alias_name::AliasName;
 use crate::checks::check_name;
 use crate::name::StoredName;
 use kx_include::Place;
 use kx_lex::Fault;
 use kx_merge::Fields;
+use kx_ordered::ShortName;
 use kx_parse::{Item, KeyName, Mode, Statement};
 use std::alloc::Global;
 
@@ -46,13 +46,13 @@ fn alias_in(statement: &Statement) -> Option<(&KeyName, &KeyName)>
     }
 }
 
-fn no_records(alloc: Global) -> Vec<(AliasName, Alias)>
+fn no_records(alloc: Global) -> Vec<(ShortName, Alias)>
     ensures { (mode : ModeValue) → AreOffered mode alias_cell alias_width result.items [] }
 {
     Vec::new(alloc)
 }
 
-fn one_record(alloc: Global, name: &[u8], target: &[u8]) -> Result<Vec<(AliasName, Alias)>, Fault>
+fn one_record(alloc: Global, name: &[u8], target: &[u8]) -> Result<Vec<(ShortName, Alias)>, Fault>
     requires name { IsKeyName name.now }
     requires target { IsKeyName target.now }
     ensures records { (mode : ModeValue) → IfOk result (λ records. AreOffered mode alias_cell alias_width records.items (alias_offer mode name.now target.now ∷ [])) }
@@ -60,12 +60,12 @@ fn one_record(alloc: Global, name: &[u8], target: &[u8]) -> Result<Vec<(AliasNam
 {
     let target = Some(StoredName::of(alloc, target)?);
     let mut records = Vec::new(alloc);
-    records.push((AliasName::of(name), Alias { target }))?;
+    records.push((ShortName::of(name), Alias { target }))?;
     Ok(records)
 }
 
 /// The alias that an item of a keycodes section gives.
-fn read_item(alloc: Global, file: u32, item: &Item) -> Result<Vec<(AliasName, Alias)>, Fault>
+fn read_item(alloc: Global, file: u32, item: &Item) -> Result<Vec<(ShortName, Alias)>, Fault>
     ensures records { IfOk result (λ records. AreOffered (mode_of item.now) alias_cell alias_width records.items (item_offers item.now)) }
     ensures faultless { OnOk result (item_name_faults file item.now ≡ []) }
     ensures fault { IfErr result (λ e. Contains (Memory ∷ item_name_faults file item.now) e) }
@@ -118,7 +118,7 @@ fn is_same_target(one: &Option<StoredName>, other: &Option<StoredName>) -> bool
 }
 
 impl Fields<()> for Alias {
-    type Key = AliasName;
+    type Key = ShortName;
 
     type Cell = ();
 
@@ -149,7 +149,7 @@ impl Fields<()> for Alias {
         place: Place,
         item: &Item,
         _notes: &mut (),
-    ) -> Result<Vec<(AliasName, Alias)>, Fault> {
+    ) -> Result<Vec<(ShortName, Alias)>, Fault> {
         read_item(alloc, place.file, item)
     }
 
@@ -188,10 +188,10 @@ impl Fields<()> for Alias {
         Ok(())
     }
 
-    fn key_in(key: &AliasName, _group: Option<u8>) -> Option<AliasName>
+    fn key_in(key: &ShortName, _group: Option<u8>) -> Option<ShortName>
         ensures { result ≡ moved_key alias_moves _group key.now }
     {
-        Some(key.again())
+        Some(key.copied())
     }
 
     fn no_notes() {}

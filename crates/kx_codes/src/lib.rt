@@ -1,7 +1,6 @@
 //! Keycodes and the names of keys.
 #![tactic(auto)]
 
-mod alias_name;
 mod aliases;
 mod checks;
 mod laws;

@@ -5,10 +5,9 @@ ghost use Rattle.kx_codes.specs.Codes.{IsEnd, code_of, name_of};
 ghost use Rattle.kx_basics.specs.KeyNames.{IsKeyName};
 ghost use Rattle.kx_codes.specs.Records.{shown_alias};
 
-use crate::alias_name::AliasName;
 use crate::aliases::Alias;
 use crate::named::NamedPairs;
-use indexmap::IndexMap;
+use kx_ordered::{Ordered, ShortName};
 use std::marker::Model;
 
 /// The pairs that keycodes leave at the end, by name and by code, and the aliases. The names of pairs are lent by the
@@ -16,7 +15,7 @@ use std::marker::Model;
 #[derive(Drop)]
 pub struct Codes<'l> {
     pairs: NamedPairs<'l>,
-    aliases: IndexMap<AliasName, Alias>,
+    aliases: Ordered<ShortName, Alias>,
 }
 
 impl<'l> Model for Codes<'l> {
@@ -30,7 +29,7 @@ impl<'l> Model for Codes<'l> {
 }
 
 impl<'l> Codes<'l> {
-    pub(crate) fn of(pairs: NamedPairs<'l>, aliases: IndexMap<AliasName, Alias>) -> Codes<'l>
+    pub(crate) fn of(pairs: NamedPairs<'l>, aliases: Ordered<ShortName, Alias>) -> Codes<'l>
         ensures { result ≡ record { by_name = pairs.entry.by_name; by_code = pairs.entry.by_code; aliases = map shown_alias aliases.entries } }
     {
         Codes { pairs, aliases }
@@ -40,7 +39,7 @@ impl<'l> Codes<'l> {
     fn target(&self, name: &[u8]) -> Option<&[u8]>
         ensures { option_map (λ t. t.now) result ≡ target_in self.now.aliases name.now }
     {
-        match self.aliases.get(name) {
+        match self.aliases.value_of_short_name(name) {
             None => None,
             Some(alias) => match &alias.target {
                 None => None,
