@@ -20,11 +20,11 @@ use crate::limits::MOST_VIRTUAL_MODIFIERS;
 use crate::masks::{mask_of, real_mask_of};
 use crate::names::Names;
 use crate::set::NameSet;
-use indexmap::IndexMap;
 use kx_include::Bodies;
 use kx_lex::Fault;
 use kx_merge::merge;
 use kx_mods::Mods;
+use kx_ordered::Ordered;
 use kx_parse::Expression;
 use std::alloc::Global;
 use std::marker::Model;
@@ -46,7 +46,7 @@ fn modifier_names(alloc: Global, bodies: &Bodies) -> Result<Names, Fault>
 }
 
 /// The mask that records have for a virtual modifier.
-fn mask_among(records: &IndexMap<usize, Declared>, number: usize) -> Mods
+fn mask_among(records: &Ordered<usize, Declared>, number: usize) -> Mods
     ensures { mask result ≡ mask_recorded records.now number }
 {
     match records.get(&number) {
@@ -58,9 +58,9 @@ fn mask_among(records: &IndexMap<usize, Declared>, number: usize) -> Mods
 /// The masks that records of three bodies have together, by number.
 fn joined_masks(
     alloc: Global,
-    types: &IndexMap<usize, Declared>,
-    compat: &IndexMap<usize, Declared>,
-    symbols: &IndexMap<usize, Declared>,
+    types: &Ordered<usize, Declared>,
+    compat: &Ordered<usize, Declared>,
+    symbols: &Ordered<usize, Declared>,
 ) -> Result<Vec<Mods>, Fault>
     ensures masks { IfOk result (λ masks. (number : ℕ) → number < LIMIT → option_map_or mask (slice_get masks.items number) 0 ≡ union (union (union 0 (mask_recorded types.now number)) (mask_recorded compat.now number)) (mask_recorded symbols.now number)) }
     ensures err { IfErr result (λ e. e ≡ Memory) }

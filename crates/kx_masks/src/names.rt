@@ -6,23 +6,24 @@ ghost use Rattle.std.specs.Str.{bytes_eq};
 ghost use Rattle.kx_lex.specs.declared.fault.Fault.TheVariants.{Memory};
 ghost use Rattle.kx_merge.specs.Offers.{with_name};
 
-use indexmap::IndexSet;
 use kx_lex::Fault;
+use kx_ordered::Ordered;
 use std::alloc::Global;
 use std::marker::Model;
 
 /// Names, each once, numbered from 0 in the order in which they were added; seen as the list of their bytes.
 #[derive(Drop)]
 pub struct Names {
-    set: IndexSet<Vec<u8>>,
+    numbers: Ordered<Vec<u8>, ()>,
 }
 
 impl Model for Names {
     ghost use Rattle.std.specs.Prelude.{List, ℕ, map};
+    ghost use Rattle.indexmap.specs.IndexMap.{keys};
 
     ghost Value = { List (List ℕ) };
 
-    ghost view = { λ n. map (λ v. v.items) n.set.keys };
+    ghost view = { λ n. map (λ v. v.items) (keys n.numbers) };
 }
 
 impl Names {
@@ -31,7 +32,7 @@ impl Names {
         ensures { result ≡ [] }
     {
         Names {
-            set: IndexSet::new(alloc),
+            numbers: Ordered::new(alloc),
         }
     }
 
@@ -39,7 +40,7 @@ impl Names {
     pub fn len(&self) -> usize
         ensures value { result ≡ length self.now }
     {
-        self.set.len()
+        self.numbers.len()
     }
 
     /// The number of a name, which is read exactly.
@@ -47,23 +48,23 @@ impl Names {
         ensures value { result ≡ position (bytes_eq name.now) self.now }
         ensures within { IfSome result (λ number. number < length self.now) }
     {
-        self.set.get_index_of(name)
+        self.numbers.place_of_name(name)
     }
 
     /// The name of a number.
     pub fn name(&self, number: usize) -> Option<&[u8]>
         ensures { option_map (λ n. n.now) result ≡ slice_get self.now number }
     {
-        match self.set.get_index(number) {
+        match self.numbers.at(number) {
             None => None,
-            Some(name) => Some(name.as_slice()),
+            Some((name, _)) => Some(name.as_slice()),
         }
     }
 
     fn has(&self, name: &[u8]) -> bool
         ensures { result ≡ list_any (bytes_eq name.now) self.now }
     {
-        self.set.contains(name)
+        self.numbers.place_of_name(name).is_some()
     }
 
     /// Adds a name behind the others, where it isn't among them.
@@ -78,7 +79,7 @@ impl Names {
             return Ok(());
         }
         let name = Vec::from_slice(alloc, name)?;
-        self.set.insert(name)?;
+        self.numbers.insert(name, ())?;
         Ok(())
     }
 }

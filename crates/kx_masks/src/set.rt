@@ -4,6 +4,7 @@ ghost use Rattle.std.specs.Prelude.{◌≡◌, ◌<◌, ◌^◌, ◌==◌};
 use crate::limits::MOST_VIRTUAL_MODIFIERS;
 use kx_mods::Mods;
 use kx_ordered::Again;
+use std::alloc::AllocError;
 use std::marker::Model;
 
 /// A set of names of modifiers: bits 0 to 7 are the real ones, Shift, Lock, Control and Mod1 to Mod5, and bits 8 to 31 the
@@ -113,7 +114,7 @@ impl NameSet {
 }
 
 impl Again for NameSet {
-    fn again(&self) -> NameSet {
-        *self
+    fn again(&self) -> Result<NameSet, AllocError> {
+        Ok(*self)
     }
 }
