@@ -4,11 +4,13 @@ ghost use Rattle.std.specs.Option.{option_map};
 ghost use Rattle.kx_types.specs.Types.{type_names};
 
 use crate::declared::type_in;
-use crate::name::TypeName;
 use kx_masks::Naming;
 use kx_parse::Item;
 
-impl Naming for TypeName {
+/// The names of types.
+pub(crate) struct TypeNaming;
+
+impl Naming for TypeNaming {
     ghost names = { type_names };
 
     fn count(item: &Item) -> usize

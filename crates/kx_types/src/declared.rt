@@ -20,16 +20,17 @@ ghost use Rattle.kx_types.specs.Types.{NamedTypes, TypesShow, item_offers, said_
 ghost use Rattle.kx_types.specs.Records.{declared_cell, declared_width};
 ghost use Rattle.kx_values.specs.Faults.{name_faults};
 
+use crate::counting::TypeNaming;
 use crate::definition::KeyType;
 use crate::fields::read_fields;
 use crate::limits::MOST_TYPES;
-use crate::name::TypeName;
 use crate::table::Types;
 use kx_basics::MOST_NAME_BYTES;
 use kx_include::{Expansion, Place};
 use kx_lex::{At, Fault, Span};
 use kx_masks::{ModNames, Names, count_names};
 use kx_merge::{Fields, merge};
+use kx_ordered::ShortName;
 use kx_parse::{Field, Item, Mode, Name, Row, Statement};
 use std::alloc::{AllocError, Global};
 
@@ -76,7 +77,7 @@ fn declares_modifiers(statement: &Statement) -> bool
     }
 }
 
-fn no_records(alloc: Global) -> Vec<(TypeName, DeclaredType)>
+fn no_records(alloc: Global) -> Vec<(ShortName, DeclaredType)>
     ensures { (mode : ModeValue) → AreOffered mode declared_cell declared_width result.items [] }
 {
     Vec::new(alloc)
@@ -84,9 +85,9 @@ fn no_records(alloc: Global) -> Vec<(TypeName, DeclaredType)>
 
 fn one_record(
     alloc: Global,
-    name: TypeName,
+    name: ShortName,
     definition: KeyType,
-) -> Result<Vec<(TypeName, DeclaredType)>, Fault>
+) -> Result<Vec<(ShortName, DeclaredType)>, Fault>
     ensures records { (mode : ModeValue) → IfOk result (λ records. AreOffered mode declared_cell declared_width records.items (type_offer mode name definition ∷ [])) }
     ensures err { IfErr result (λ e. e ≡ Memory) }
 {
@@ -108,7 +109,7 @@ fn read_type(
     whole: Span,
     name: &Name,
     fields: &[Field],
-) -> Result<Vec<(TypeName, DeclaredType)>, Fault>
+) -> Result<Vec<(ShortName, DeclaredType)>, Fault>
     ensures records { (mode : ModeValue) → IfOk result (λ records. AreOffered mode declared_cell declared_width records.items (type_offer mode name.now.bytes (definition_of (sayings_of modifiers.now.names fields.now)) ∷ [])) }
     ensures faultless { OnOk result (name_faults file whole name.now ++ flat_map (field_faults modifiers.now.names file) fields.now ≡ []) }
     ensures fault { IfErr result (λ e. Contains (Memory ∷ (name_faults file whole name.now ++ flat_map (field_faults modifiers.now.names file) fields.now)) e) }
@@ -119,7 +120,7 @@ fn read_type(
     }
     let said = read_fields(alloc, modifiers, file, fields)?;
     let definition = KeyType::of(alloc, said.as_slice())?;
-    one_record(alloc, TypeName::of(bytes), definition)
+    one_record(alloc, ShortName::of(bytes), definition)
 }
 
 /// What a statement declares; `word` is what a fault of an unknown statement names, `whole` all of it.
@@ -130,7 +131,7 @@ fn read_statement(
     word: Span,
     whole: Span,
     statement: &Statement,
-) -> Result<Vec<(TypeName, DeclaredType)>, Fault>
+) -> Result<Vec<(ShortName, DeclaredType)>, Fault>
     ensures records { (mode : ModeValue) → IfOk result (λ records. AreOffered mode declared_cell declared_width records.items (said_offers modifiers.now.names mode (type_in statement.now))) }
     ensures faultless { OnOk result (said_faults modifiers.now.names file (type_in statement.now) statement.now word whole ≡ []) }
     ensures fault { IfErr result (λ e. Contains (Memory ∷ said_faults modifiers.now.names file (type_in statement.now) statement.now word whole) e) }
@@ -152,7 +153,7 @@ fn read_item(
     modifiers: &ModNames,
     place: Place,
     item: &Item,
-) -> Result<Vec<(TypeName, DeclaredType)>, Fault>
+) -> Result<Vec<(ShortName, DeclaredType)>, Fault>
     ensures records { IfOk result (λ records. AreOffered (mode_of item.now) declared_cell declared_width records.items (item_offers modifiers.now.names item.now)) }
     ensures faultless { OnOk result (item_faults modifiers.now.names place.file item.now ≡ []) }
     ensures fault { IfErr result (λ e. Contains (Memory ∷ item_faults modifiers.now.names place.file item.now) e) }
@@ -199,7 +200,7 @@ impl DeclaredType {
 }
 
 impl Fields<ModNames> for DeclaredType {
-    type Key = TypeName;
+    type Key = ShortName;
 
     type Cell = ();
 
@@ -235,7 +236,7 @@ impl Fields<ModNames> for DeclaredType {
         place: Place,
         item: &Item,
         _notes: &mut (),
-    ) -> Result<Vec<(TypeName, DeclaredType)>, Fault> {
+    ) -> Result<Vec<(ShortName, DeclaredType)>, Fault> {
         read_item(alloc, modifiers, place, item)
     }
 
@@ -271,10 +272,10 @@ impl Fields<ModNames> for DeclaredType {
         Ok(())
     }
 
-    fn key_in(key: &TypeName, _group: Option<u8>) -> Option<TypeName>
+    fn key_in(key: &ShortName, _group: Option<u8>) -> Option<ShortName>
         ensures { result ≡ moved_key type_moves _group key.now }
     {
-        Some(key.again())
+        Some(key.copied())
     }
 
     fn no_notes() {}
@@ -299,7 +300,7 @@ pub fn types(alloc: Global, expansion: &Expansion, modifiers: &ModNames) -> Resu
     ensures faultless { OnOk result (types_faults modifiers.now.names (expanded_body expansion.now) ≡ []) }
     ensures fault { IfErr result (λ e. Contains (Memory ∷ types_faults modifiers.now.names (expanded_body expansion.now)) e) }
 {
-    let _counted = count_names::<TypeName>(alloc, MOST_TYPES, Names::new(alloc), expansion)?;
+    let _counted = count_names::<TypeNaming>(alloc, MOST_TYPES, Names::new(alloc), expansion)?;
     let merged = merge::<ModNames, DeclaredType>(alloc, modifiers, expansion)?;
     Ok(Types::of(merged.records))
 }

@@ -7,7 +7,6 @@ mod definition;
 mod entry;
 mod fields;
 mod limits;
-mod name;
 mod saying;
 mod table;
 
@@ -15,5 +14,4 @@ pub use declared::types;
 pub use definition::KeyType;
 pub use entry::TypeEntry;
 pub use limits::MOST_TYPES;
-pub use name::TypeName;
 pub use table::Types;

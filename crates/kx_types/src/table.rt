@@ -8,15 +8,14 @@ ghost use Rattle.kx_types.specs.Types.{names_in, type_named};
 
 use crate::declared::DeclaredType;
 use crate::definition::KeyType;
-use crate::name::TypeName;
-use indexmap::IndexMap;
+use kx_ordered::{Ordered, ShortName};
 use std::marker::Model;
 
 /// The key types that statements declare, in the order in which they are first named; seen as their names and
 /// definitions.
 #[derive(Drop)]
 pub struct Types {
-    by_name: IndexMap<TypeName, DeclaredType>,
+    by_name: Ordered<ShortName, DeclaredType>,
 }
 
 impl Model for Types {
@@ -36,7 +35,7 @@ impl Model for Types {
 
 impl Types {
     /// The types of these records.
-    pub(crate) fn of(by_name: IndexMap<TypeName, DeclaredType>) -> Types
+    pub(crate) fn of(by_name: Ordered<ShortName, DeclaredType>) -> Types
         requires { length by_name.entries ≤ MOST_TYPES }
         ensures { result ≡ map shown_entry by_name.entries }
     {
@@ -55,14 +54,14 @@ impl Types {
     pub fn is_empty(&self) -> bool
         ensures { IsTrue result ↔ (self.now ≡ []) }
     {
-        self.by_name.is_empty()
+        self.by_name.as_slice().is_empty()
     }
 
     /// The type of a name, which is read exactly.
     pub fn named(&self, name: &[u8]) -> Option<&KeyType>
         ensures { option_map (λ t. t.now) result ≡ type_named self.now name.now }
     {
-        match self.by_name.get(name) {
+        match self.by_name.value_of_short_name(name) {
             Some(declared) => declared.definition.as_ref(),
             None => None,
         }
@@ -73,14 +72,14 @@ impl Types {
         ensures value { result ≡ position (bytes_eq name.now) (names_in self.now) }
         ensures within { IfSome result (λ place. place < length self.now) }
     {
-        self.by_name.get_index_of(name)
+        self.by_name.place_of_short_name(name)
     }
 
     /// The name and the type at a place, counted from 0.
     pub fn at(&self, place: usize) -> Option<(&[u8], Option<&KeyType>)>
         ensures { option_map (λ t. (t.0.now, option_map (λ d. d.now) t.1)) result ≡ slice_get self.now place }
     {
-        match self.by_name.get_index(place) {
+        match self.by_name.at(place) {
             Some((name, declared)) => Some((name.as_slice(), declared.definition.as_ref())),
             None => None,
         }
