@@ -3,9 +3,11 @@ ghost use Rattle.std.specs.Prelude.{◌≡◌};
 ghost use Rattle.kx_mods.specs.Mods.{mask};
 
 use kx_mods::Mods;
+use kx_ordered::Again;
+use std::alloc::AllocError;
 
 /// The keysyms that an interpretation is for.
-#[derive(Clone, Copy, Debug, PartialEq, Eq, Hash)]
+#[derive(Clone, Copy, Debug, PartialEq, Eq, PartialOrd, Ord, Hash)]
 pub enum WantedKeysym {
     /// Each keysym.
     Any,
@@ -14,7 +16,7 @@ pub enum WantedKeysym {
 }
 
 /// How the modifiers of an interpretation go together with those of a key's modifier map.
-#[derive(Clone, Copy, Debug, PartialEq, Eq, Hash)]
+#[derive(Clone, Copy, Debug, PartialEq, Eq, PartialOrd, Ord, Hash)]
 pub enum Condition {
     /// The key has these and no others.
     Exactly,
@@ -29,7 +31,7 @@ pub enum Condition {
 }
 
 /// For which keys an interpretation is: two interpretations for the same are one.
-#[derive(Clone, Copy, Debug, PartialEq, Eq, Hash)]
+#[derive(Clone, Copy, Debug, PartialEq, Eq, PartialOrd, Ord, Hash)]
 pub struct Trigger {
     pub keysym: WantedKeysym,
     pub condition: Condition,
@@ -46,5 +48,11 @@ impl Trigger {
         ensures { mask result ≡ self.mask }
     {
         Mods::from_mask(self.mask)
+    }
+}
+
+impl Again for Trigger {
+    fn again(&self) -> Result<Trigger, AllocError> {
+        Ok(*self)
     }
 }
