@@ -21,7 +21,6 @@ use crate::fields::read_lists;
 use crate::known::{Known, StatementSite};
 use crate::record::KeyRecord;
 use crate::settings::read_besides;
-use indexmap::IndexMap;
 use ks_core::{NameTable, Note, Notes};
 use kx_basics::MOST_NAME_BYTES;
 use kx_codes::Codes;
@@ -29,6 +28,7 @@ use kx_include::{Expansion, Place};
 use kx_lex::{Fault, Span};
 use kx_masks::ModNames;
 use kx_merge::{Fields, merge};
+use kx_ordered::Ordered;
 use kx_parse::{Item, KeyField, KeyName, Mode, Row, Statement};
 use std::alloc::Global;
 use std::marker::Model;
@@ -275,7 +275,7 @@ impl<'a> Fields<Context<'a>> for KeyRecord {
 /// The keys that statements give something, by keycode.
 #[derive(Drop)]
 pub struct Keys {
-    by_code: IndexMap<u16, KeyRecord>,
+    by_code: Ordered<u16, KeyRecord>,
 }
 
 impl Model for Keys {
