@@ -1,7 +1,8 @@
 -- Records show what modifier maps give.
-use Rattle.std.proofs.Common.{◌≡◌, ℕ, ◌^◌, ◌==◌, ◌∷◌, [], List, cond, map, Option, Some, None, unwrap_or, refl, ap, ◌∙◌, subst, arith}
+use Rattle.std.proofs.Common.{◌≡◌, ℕ, ◌+◌, ◌<◌, ◌^◌, ◌==◌, ◌∷◌, [], ◌++◌, List, cond, map, drop, length, get_or, Option, Some, None, unwrap_or, refl, sym, ap, ◌∙◌, subst, arith}
+use Rattle.std.specs.Map.{keys_of}
 use Rattle.std.specs.Int.{bit_at}
-use Rattle.std.specs.List.{flat_map}
+use Rattle.std.specs.List.{drop-map, flat_map}
 use Rattle.std.specs.Option.{option_map_or}
 use Rattle.std.proofs.Math.Path.{fun_ext}
 use Rattle.std.proofs.lemmas.Nat.Bits.{bit_at_above}
@@ -9,6 +10,8 @@ use Rattle.indexmap.specs.IndexMap.{IndexMap, get, keys}
 use Rattle.ks_core.specs.Entry.{Entry as Named}
 use Rattle.kx_codes.specs.Codes.{Codes}
 use Rattle.kx_include.specs.Expansion.{Body}
+use Rattle.kx_merge.proofs.Behind.{drop-next, read_again}
+use Rattle.kx_merge.proofs.Movings.{append-inner}
 use Rattle.kx_merge.specs.Bodies.{offers_of}
 use Rattle.kx_merge.specs.Offers.{Offer}
 use Rattle.kx_merge.specs.Records.{Shows, cell_in}
@@ -53,3 +56,16 @@ module _ {S : Type 0} (records : IndexMap Target Assigned S) (codes : Codes) (na
         keys_are = λ code modifier. key-cell (get same_target records (Key code)) modifier ∙ shows.cells_are (Key code) (Present modifier);
         keysyms_are = is ∙ ap (λ f. flat_map f (keys records)) (fun_ext (keysym-same shows)) ∙ ap (flat_map (keysym_given offers)) shows.names_are;
       }
+
+-- what the keys of entries give, one by one
+pub given_more : {K V A : Type 0} (f : K → List A) (es items : List (K × V)) (i : ℕ) (d : K × V) (before after : List A) → items ≡ es → i < length items
+    → flat_map f (keys_of es) ≡ before ++ flat_map f (drop i (keys_of es)) → after ≡ before ++ f (get_or items i d).0 → flat_map f (keys_of es) ≡ after ++ flat_map f (drop (i + 1) (keys_of es))
+given_more {K} {V} f es items i d before after same within is added =
+    is ∙ ap (λ ks. before ++ flat_map f ks) (subst (λ xs. drop i (keys_of xs) ≡ one.0 ∷ drop (i + 1) (keys_of xs)) same left)
+    ∙ sym (append-inner before (f one.0) (flat_map f (drop (i + 1) (keys_of es)))) ∙ ap (λ xs. xs ++ flat_map f (drop (i + 1) (keys_of es))) (sym added)
+  where
+    one : K × V
+    one = get_or items i d
+
+    left : drop i (keys_of items) ≡ one.0 ∷ drop (i + 1) (keys_of items)
+    left = drop-map (λ x. x.0) i items ∙ ap (map (λ x. x.0)) (drop-next items i one within (read_again items i d within)) ∙ ap (λ ks. one.0 ∷ ks) (sym (drop-map (λ x. x.0) (i + 1) items))

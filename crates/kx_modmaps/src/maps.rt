@@ -13,7 +13,6 @@ ghost use Rattle.kx_modmaps.specs.Shown.{keysym_recorded, only_recorded};
 use crate::entries::Context;
 use crate::record::Assigned;
 use crate::target::Target;
-use indexmap::IndexMap;
 use ks_core::{NameTable, Notes};
 use kx_codes::Codes;
 use kx_include::Expansion;
@@ -21,6 +20,7 @@ use kx_lex::Fault;
 use kx_masks::ModNames;
 use kx_merge::merge;
 use kx_mods::Mods;
+use kx_ordered::Ordered;
 use std::alloc::Global;
 use std::marker::Model;
 
@@ -34,7 +34,7 @@ pub struct KeysymEntry {
 /// The modifiers that modifier maps give keys and keysyms.
 #[derive(Drop)]
 pub struct ModifierMaps {
-    records: IndexMap<Target, Assigned>,
+    records: Ordered<Target, Assigned>,
     keysyms: Vec<KeysymEntry>,
 }
 
@@ -66,7 +66,7 @@ impl ModifierMaps {
 }
 
 /// The modifier that records have for a keysym.
-fn only_among(records: &IndexMap<Target, Assigned>, target: Target) -> Mods
+fn only_among(records: &Ordered<Target, Assigned>, target: Target) -> Mods
     ensures { mask result ≡ only_recorded records.now target }
 {
     match records.get(&target) {
@@ -75,19 +75,19 @@ fn only_among(records: &IndexMap<Target, Assigned>, target: Target) -> Mods
     }
 }
 
-/// Adds a target behind others, where it is a keysym.
+/// Adds the target of a record behind others, where it is a keysym.
 fn add_keysym(
-    records: &IndexMap<Target, Assigned>,
-    target: Target,
+    records: &Ordered<Target, Assigned>,
+    named: &(Target, Assigned),
     entries: &mut Vec<KeysymEntry>,
 ) -> Result<(), Fault>
-    ensures added { OnOk result (map shown_entry entries.new.items ≡ map shown_entry entries.old.items ++ keysym_recorded records.now target) }
+    ensures added { OnOk result (map shown_entry entries.new.items ≡ map shown_entry entries.old.items ++ keysym_recorded records.now named.now.0) }
     ensures err { IfErr result (λ e. e ≡ Memory) }
 {
-    match target {
+    match named.0 {
         Target::Key(_) => Ok(()),
         Target::Keysym(keysym) => {
-            let modifier = only_among(records, target);
+            let modifier = only_among(records, named.0);
             entries.push(KeysymEntry { keysym, modifier })?;
             Ok(())
         }
@@ -97,15 +97,14 @@ fn add_keysym(
 /// The keysyms among the targets of records, in order.
 fn keysym_entries(
     alloc: Global,
-    records: &IndexMap<Target, Assigned>,
+    records: &Ordered<Target, Assigned>,
 ) -> Result<Vec<KeysymEntry>, Fault>
     ensures entries { IfOk result (λ entries. map shown_entry entries.items ≡ flat_map (keysym_recorded records.now) (keys records.now)) }
     ensures err { IfErr result (λ e. e ≡ Memory) }
 {
     let mut entries = Vec::new(alloc);
-    let targets = records.keys();
-    'targets: for target in targets.as_slice() {
-        add_keysym(records, *target, &mut entries)?;
+    'targets: for target in records.as_slice() {
+        add_keysym(records, target, &mut entries)?;
     }
     Ok(entries)
 }

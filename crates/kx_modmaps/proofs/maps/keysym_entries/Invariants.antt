@@ -6,4 +6,4 @@ use Rattle.kx_modmaps.specs.Shown.{keysym_recorded}
 use Rattle.kx_modmaps.proofs.maps.keysym_entries.Given as goal
 
 abbrev pub invariant-targets : goal.invariant-targets
-invariant-targets l = (l.target-items ≡ keys l.records) × (flat_map (keysym_recorded l.records) (keys l.records) ≡ map shown_entry l.entries.items ++ flat_map (keysym_recorded l.records) (drop l.target-index (keys l.records)))
+invariant-targets l = (l.target-items ≡ l.records.entries) × (flat_map (keysym_recorded l.records) (keys l.records) ≡ map shown_entry l.entries.items ++ flat_map (keysym_recorded l.records) (drop l.target-index (keys l.records)))
