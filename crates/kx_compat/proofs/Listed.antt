@@ -1,5 +1,6 @@
 -- What records show is listed in their order.
-use Rattle.std.proofs.Common.{◌≡◌, ℕ, Bool, false, List, map, Option, None, Some, unwrap_or, refl, ap, ◌∙◌, subst}
+use Rattle.std.proofs.Common.{◌≡◌, ℕ, ◌+◌, ◌<◌, zero, suc, Bool, false, List, [], ◌∷◌, ◌++◌, map, take, length, get_or, Option, None, Some, unwrap_or, refl, sym, ap, ◌∙◌, subst, arith}
+use Rattle.std.specs.Map.{keys_of}
 use Rattle.std.specs.Option.{option_and_then, option_map}
 use Rattle.std.proofs.Math.Path.{fun_ext}
 use Rattle.indexmap.specs.IndexMap.{IndexMap, get, keys}
@@ -68,3 +69,17 @@ module _ {S : Type 0} (records : IndexMap Trigger FieldValues S) (table : List E
 -- what is read of records for a trigger
 pub recorded : {S : Type 0} (records : IndexMap Trigger FieldValues S) (trigger : Trigger) (o : Option FieldValues) (i : Interpretation) → o ≡ get ghosts.eq records trigger → i ≡ interpretation_with trigger (unwrap_or o no_values) → i ≡ interpretation_recorded records trigger
 recorded records trigger o i found is = is ∙ ap (λ p. interpretation_with trigger (unwrap_or p no_values)) (found ∙ ap (λ eq. get eq records trigger) told_as_said)
+
+-- the keys of entries, one by one
+listed_next : {K V A : Type 0} (f : K → A) (es : List (K × V)) (i : ℕ) (d : K × V) → i < length es → map f (take (i + 1) (keys_of es)) ≡ map f (take i (keys_of es)) ++ f (get_or es i d).0 ∷ []
+listed_next f [] i d within = absurd (omega (arith, within))
+listed_next f (x ∷ xs) zero d within = refl
+listed_next f (x ∷ xs) (suc i) d within =
+    let next : suc i + 1 ≡ suc (i + 1) = omega arith in
+    rw next (ap (λ rest. f x.0 ∷ rest) (listed_next f xs i d (omega (arith, within))))
+
+pub listed_more : {K V A : Type 0} (f : K → A) (es items : List (K × V)) (i : ℕ) (d : K × V) (before after : List A) (a : A) → items ≡ es → i < length items
+    → before ≡ map f (take i (keys_of es)) → after ≡ before ++ a ∷ [] → a ≡ f (get_or items i d).0 → after ≡ map f (take (i + 1) (keys_of es))
+listed_more f es items i d before after a same within is pushed given =
+    pushed ∙ ap (λ xs. xs ++ a ∷ []) is ∙ ap (λ x. map f (take i (keys_of es)) ++ x ∷ []) given
+    ∙ subst (λ xs. map f (take i (keys_of xs)) ++ f (get_or items i d).0 ∷ [] ≡ map f (take (i + 1) (keys_of xs))) same (sym (listed_next f items i d within))

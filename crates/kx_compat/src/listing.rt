@@ -12,13 +12,13 @@ ghost use Rattle.kx_compat.specs.Shown.{interpretation_recorded};
 
 use crate::record::Context;
 use crate::values::FieldValues;
-use indexmap::IndexMap;
 use ks_core::{NameTable, Notes};
 use kx_choice::{Interpretation, Interpretations, Trigger};
 use kx_include::Expansion;
 use kx_lex::Fault;
 use kx_masks::ModNames;
 use kx_merge::merge;
+use kx_ordered::Ordered;
 use std::alloc::Global;
 
 /// What these values say of keys.
@@ -33,13 +33,14 @@ fn interpretation_with(trigger: Trigger, values: FieldValues) -> Interpretation
     )
 }
 
-/// The interpretation that records have for some keys.
+/// The interpretation that records have for the keys of one of them.
 fn interpretation_among(
-    records: &IndexMap<Trigger, FieldValues>,
-    trigger: Trigger,
+    records: &Ordered<Trigger, FieldValues>,
+    named: &(Trigger, FieldValues),
 ) -> Interpretation
-    ensures { result ≡ interpretation_recorded records.now trigger }
+    ensures { result ≡ interpretation_recorded records.now named.now.0 }
 {
+    let trigger = named.0;
     match records.get(&trigger) {
         Some(values) => interpretation_with(trigger, *values),
         None => interpretation_with(trigger, FieldValues::none()),
@@ -49,15 +50,14 @@ fn interpretation_among(
 /// The interpretations that records have, in order.
 fn listed(
     alloc: Global,
-    records: &IndexMap<Trigger, FieldValues>,
+    records: &Ordered<Trigger, FieldValues>,
 ) -> Result<Vec<Interpretation>, Fault>
     ensures value { IfOk result (λ all. all.items ≡ map (interpretation_recorded records.now) (keys records.now)) }
     ensures err { IfErr result (λ e. e ≡ Memory) }
 {
     let mut all = Vec::new(alloc);
-    let triggers = records.keys();
-    'triggers: for trigger in triggers.as_slice() {
-        all.push(interpretation_among(records, *trigger))?;
+    'entries: for entry in records.as_slice() {
+        all.push(interpretation_among(records, entry))?;
     }
     Ok(all)
 }

@@ -3,5 +3,5 @@ use Rattle.indexmap.specs.IndexMap.{keys}
 use Rattle.kx_compat.specs.Shown.{interpretation_recorded}
 use Rattle.kx_compat.proofs.listing.listed.Given as goal
 
-abbrev pub invariant-triggers : goal.invariant-triggers
-invariant-triggers l = (l.trigger-items ≡ keys l.records) × (l.all.items ≡ map (interpretation_recorded l.records) (take l.trigger-index (keys l.records)))
+abbrev pub invariant-entries : goal.invariant-entries
+invariant-entries l = (l.entry-items ≡ l.records.entries) × (l.all.items ≡ map (interpretation_recorded l.records) (take l.entry-index (keys l.records)))
