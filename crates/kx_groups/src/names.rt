@@ -8,11 +8,11 @@ ghost use Rattle.kx_groups.specs.Names.{AreCut, AreGroupNames, name_at, name_mov
 
 use crate::record::GroupName;
 use crate::text::NameText;
-use indexmap::IndexMap;
 use kx_basics::MOST_GROUPS;
 use kx_include::Expansion;
 use kx_lex::Fault;
 use kx_merge::merge;
+use kx_ordered::Ordered;
 use std::alloc::{AllocError, Global};
 use std::marker::Model;
 
@@ -67,7 +67,7 @@ impl GroupNames {
 /// The name that records have for a group, counted from 1.
 fn name_among(
     alloc: Global,
-    records: &IndexMap<u8, GroupName>,
+    records: &Ordered<u8, GroupName>,
     group: u8,
 ) -> Result<NameText, AllocError>
     ensures { IfOk result (λ name. name ≡ name_recorded records.now group) }
@@ -82,7 +82,7 @@ fn name_among(
 }
 
 /// The names that records have for all groups.
-fn all_names(alloc: Global, records: &IndexMap<u8, GroupName>) -> Result<Vec<NameText>, AllocError>
+fn all_names(alloc: Global, records: &Ordered<u8, GroupName>) -> Result<Vec<NameText>, AllocError>
     ensures names { IfOk result (λ names. (group : ℕ) → group < GROUPS → name_at names.items group ≡ name_recorded records.now (group + 1)) }
     ensures all { IfOk result (λ names. length names.items ≡ GROUPS) }
 {
