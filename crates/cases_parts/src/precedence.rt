@@ -208,8 +208,8 @@ fn text(alloc: Global, kind: &str, merged: &Merged<u8, Sheet, u32>) -> Result<St
     let mut all = String::new(alloc);
     let notes = merged.notes;
     write!(all, "{kind}: {notes}")?;
-    for (name, sheet) in merged.records.iter() {
-        push_sheet(&mut all, *name, sheet)?;
+    for record in merged.records.as_slice() {
+        push_sheet(&mut all, record.0, &record.1)?;
     }
     Ok(all)
 }

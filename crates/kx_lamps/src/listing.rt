@@ -15,15 +15,15 @@ use crate::naming::LampNaming;
 use crate::record::Context;
 use crate::table::Indicators;
 use crate::values::LampValues;
-use indexmap::IndexMap;
 use kx_include::Expansion;
 use kx_lex::Fault;
 use kx_masks::{ModNames, Names, count_names};
 use kx_merge::merge;
+use kx_ordered::Ordered;
 use std::alloc::Global;
 
 /// The indicator that records have for a number.
-fn lamp_among(records: &IndexMap<usize, LampValues>, number: usize) -> Lamp
+fn lamp_among(records: &Ordered<usize, LampValues>, number: usize) -> Lamp
     ensures { result ≡ lamp_recorded records.now number }
 {
     match records.get(&number) {
@@ -35,7 +35,7 @@ fn lamp_among(records: &IndexMap<usize, LampValues>, number: usize) -> Lamp
 /// The indicators that records have for the numbers below a limit.
 fn lamps_below(
     alloc: Global,
-    records: &IndexMap<usize, LampValues>,
+    records: &Ordered<usize, LampValues>,
     limit: usize,
 ) -> Result<Vec<Lamp>, Fault>
     ensures as_many { IfOk result (λ lamps. length lamps.items ≡ limit) }
