@@ -43,29 +43,30 @@ fn behind(bytes: &[u8], count: usize) -> &[u8]
     bytes.get(count..).unwrap_or(&[])
 }
 
-/// How many plain bytes stand at the front, four a turn.
-pub(crate) fn plain_len(bytes: &[u8]) -> usize
-    ensures { result ≤ length bytes.now }
+/// What stands behind the plain bytes at the front, which are passed over four a turn.
+pub(crate) fn behind_plain(bytes: &[u8]) -> &[u8]
+    ensures { length result.now ≤ length bytes.now }
 {
-    let mut len = 0;
     let mut rest = bytes;
     'fours: while let [first, second, third, fourth, left @ ..] = rest {
         if !is_plain(*first) {
-            return len;
+            return rest;
         }
         if !is_plain(*second) {
-            return len + 1;
+            return behind(rest, 1);
         }
         if !is_plain(*third) {
-            return len + 2;
+            return behind(rest, 2);
         }
         if !is_plain(*fourth) {
-            return len + 3;
+            return behind(rest, 3);
         }
-        len += 4;
         rest = left;
     }
-    len + rest.iter().take_while(|byte| is_plain(**byte)).count()
+    match rest.iter().position(|byte| !is_plain(*byte)) {
+        Some(place) => behind(rest, place),
+        None => &[],
+    }
 }
 
 /// Whether a byte and the next ones begin a comment.
@@ -128,8 +129,17 @@ pub(crate) fn behind_piece(first: u8, left: &[u8]) -> &[u8]
     }
 }
 
-/// What stands before the last bytes of some: as many as others have, and one.
+/// What stands before the last bytes of some, which others are.
 pub(crate) fn before<'t>(bytes: &'t [u8], last: &[u8]) -> &'t [u8] {
-    let len = bytes.len().saturating_sub(last.len()).saturating_sub(1);
+    let len = bytes.len().saturating_sub(last.len());
     bytes.get(..len).unwrap_or(bytes)
+}
+
+/// What stands between the quotes of text, by what stands behind the opening one and behind the closing one.
+pub(crate) fn between_quotes<'t>(bytes: &'t [u8], behind: &[u8]) -> &'t [u8] {
+    let closed = before(bytes, behind);
+    match closed.split_last() {
+        Some((_, text)) => text,
+        None => closed,
+    }
 }

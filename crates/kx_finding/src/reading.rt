@@ -3,7 +3,7 @@
 ghost use Rattle.std.specs.Prelude.{◌≤◌, IfOk, length};
 
 use crate::maps::Maps;
-use crate::pieces::{before, behind_piece, is_comment, plain_len};
+use crate::pieces::{before, behind_piece, behind_plain, between_quotes, is_comment};
 use crate::words::{end_with_join, is_default, is_word_byte, kind_of, trimmed, word_len};
 use kx_lex::{MOST_TEXT_BYTES, text_bytes};
 use kx_parse::Kind;
@@ -71,9 +71,9 @@ fn read_body<'t>(
     let mut before_comment: &[u8] = &[];
     let mut rest = body;
     'pieces: loop {
-        let (plain, piece) = rest.split_at(plain_len(rest));
+        let piece = behind_plain(rest);
         let Some((first, left)) = piece.split_first() else {
-            return Ok(&[]);
+            return Ok(piece);
         };
         let next = behind_piece(*first, left);
         match *first {
@@ -81,12 +81,14 @@ fn read_body<'t>(
             b'}' if depth == 0 => return Ok(left),
             b'}' => depth = depth.wrapping_sub(1),
             b'"' => {
-                if is_included(plain, before_comment) {
-                    includes.push(text_bytes(alloc, before(left, next))?)?;
+                if is_included(before(rest, piece), before_comment) {
+                    includes.push(text_bytes(alloc, between_quotes(left, next))?)?;
                 }
                 before_comment = &[];
             }
-            byte if is_comment(byte, left) && !trimmed(plain).is_empty() => before_comment = plain,
+            byte if is_comment(byte, left) && !trimmed(before(rest, piece)).is_empty() => {
+                before_comment = before(rest, piece);
+            }
             _ => {}
         }
         rest = next;
@@ -140,7 +142,7 @@ fn read_piece<'t>(
     }
     let next = behind_piece(first, left);
     if first == b'"' {
-        *header = header.with_name(before(left, next));
+        *header = header.with_name(between_quotes(left, next));
     }
     Ok(next)
 }
