@@ -1,6 +1,6 @@
 //! The files and maps that includes name.
-use crate::text::Texts;
 use kx_parse::{Flag, Kind, Section};
+use std::alloc::{AllocError, Global};
 
 /// A kind of section as its word ends.
 pub fn kind_name(kind: Kind) -> &'static str {
@@ -13,26 +13,12 @@ pub fn kind_name(kind: Kind) -> &'static str {
     }
 }
 
-/// Whether a file is handed in under a name with the folder of a kind before it.
-fn is_in_folder(handed: &[u8], kind: Kind, name: &[u8]) -> bool {
-    let folder = kind_name(kind).as_bytes();
-    match handed.strip_prefix(folder) {
-        Some([b'/', rest @ ..]) => rest == name,
-        _ => false,
-    }
-}
-
-/// The number of the file that a name means for a kind of section.
-pub fn file_named(texts: Texts, kind: Kind, name: &[u8]) -> Option<u32> {
-    let files = texts.files;
-    let found = files
-        .iter()
-        .position(|file| is_in_folder(file.name.as_bytes(), kind, name));
-    let place = match found {
-        Some(place) => place,
-        None => files.iter().position(|file| file.name.as_bytes() == name)?,
-    };
-    u32::try_from(place).ok()?.checked_add(1)
+/// A name below the folder of a kind.
+pub(crate) fn full_name(alloc: Global, kind: Kind, name: &[u8]) -> Result<Vec<u8>, AllocError> {
+    let mut full = Vec::from_slice(alloc, kind_name(kind).as_bytes())?;
+    full.push(b'/')?;
+    full.extend_from_slice(name)?;
+    Ok(full)
 }
 
 /// Whether a section has a name.
