@@ -1,23 +1,26 @@
 //! The names that lines gave.
-ghost use Rattle.std.specs.Prelude.{◌≡◌, ◌==◌, ◌<◌, ℕ, None, Some, true, false, List, [], ◌∷◌, ◌++◌, IfErr, IfSome, OnOk, OnErr, ◌⊎◌, nat_eq, string_bytes, if◌then◌else◌};
-ghost use Rattle.std.specs.Option.{option_map, option_or};
-ghost use Rattle.indexmap.specs.IndexMap.{get, get_by_text, spare};
+ghost use Rattle.std.specs.Prelude.{◌≡◌, None, Some, true, false, List, [], ◌∷◌, ◌++◌, IfErr, IfSome, OnOk, OnErr, slice_get, ◌⊎◌};
+ghost use Rattle.std.specs.List.{IsDistinct};
+ghost use Rattle.std.specs.Map.{keys_of};
+ghost use Rattle.std.specs.Option.{option_copied, option_map};
+ghost use Rattle.std.specs.String.{string_eq};
 ghost use Rattle.ks_core.specs.Entry.{keysym_in, name_in};
 ghost use Rattle.ks_core.specs.Lines.{known_keysym, is_another, with_entry, fault_of_line, given_after};
 
 use crate::builtin;
 use crate::fault::NameFault;
 use crate::line::read_line;
-use indexmap::IndexMap;
+use kx_ordered::Ordered;
 use std::alloc::{AllocError, Global};
+use std::collections::BTreeMap;
 use std::marker::Model;
 
 /// Names in the order in which lines first gave them, each with its keysym.
 #[derive(Drop)]
 pub(crate) struct Given {
-    keysyms: IndexMap<String, u32>,
+    keysyms: Ordered<String, u32>,
     /// Where the first name of each keysym stands.
-    first: IndexMap<u32, usize>,
+    first: BTreeMap<u32, usize>,
 }
 
 impl Model for Given {
@@ -37,8 +40,8 @@ impl Given {
         ensures { result ≡ [] }
     {
         Given {
-            keysyms: IndexMap::new(alloc),
-            first: IndexMap::new(alloc),
+            keysyms: Ordered::new(alloc),
+            first: BTreeMap::new(alloc),
         }
     }
 
@@ -46,7 +49,7 @@ impl Given {
     pub(crate) fn keysym_of(&self, name: &str) -> Option<u32>
         ensures { result ≡ keysym_in self.now name.now }
     {
-        self.keysyms.get(name).copied()
+        self.keysyms.value_of_text(name).copied()
     }
 
     /// The first name of the keysym.
@@ -55,7 +58,7 @@ impl Given {
         ensures back { IfSome result (λ name. keysym_in self.now name.now ≡ Some keysym) }
     {
         match self.first.get(&keysym) {
-            Some(index) => match self.keysyms.get_index(*index) {
+            Some(index) => match pair_at(&self.keysyms, *index) {
                 Some((name, _)) => Some(name.as_str()),
                 None => None,
             },
@@ -130,31 +133,23 @@ impl Given {
         ensures err { OnErr result (self.new ≡ self.old) }
     {
         let name = String::from_str(alloc, name)?;
-        self.keysyms.reserve(1)?;
-        let index = self.keysyms.len();
-        note_first(&mut self.first, keysym, index)?;
-        push_name(&mut self.keysyms, name, keysym);
+        if self.first.contains_key(&keysym) {
+            self.keysyms.push(name, keysym)?;
+            return Ok(());
+        }
+        self.first.insert(keysym, self.keysyms.len())?;
+        if let Err(_) = self.keysyms.push(name, keysym) {
+            let _ = self.first.remove(&keysym);
+            return Err(AllocError);
+        }
         Ok(())
     }
 }
 
-/// Notes where the first name of the keysym stands, unless it has one.
-fn note_first(first: &mut IndexMap<u32, usize>, keysym: u32, index: usize) -> Result<(), AllocError>
-    ensures ok { OnOk result ((other : ℕ) → get nat_eq first.new other
-        ≡ option_or (get nat_eq first.old other) (if keysym == other then Some index else None)) }
-    ensures err { OnErr result ((other : ℕ) → get nat_eq first.new other ≡ get nat_eq first.old other) }
+/// The name and the keysym at a place.
+fn pair_at(keysyms: &Ordered<String, u32>, place: usize) -> Option<&(String, u32)>
+    ensures pair { option_copied result ≡ slice_get keysyms.now.entries place }
+    ensures unique { IsDistinct string_eq (keys_of keysyms.now.entries) }
 {
-    if !first.contains_key(&keysym) {
-        first.insert(keysym, index)?;
-    }
-    Ok(())
-}
-
-/// Adds a name that is not there, in the room that there is.
-fn push_name(keysyms: &mut IndexMap<String, u32>, name: String, keysym: u32)
-    requires new { get_by_text keysyms.old (string_bytes name) ≡ None }
-    requires room { 0 < spare keysyms.old }
-    ensures { keysyms.new.entries ≡ keysyms.old.entries ++ (name, keysym) ∷ [] }
-{
-    let _ = keysyms.insert(name, keysym);
+    keysyms.as_slice().get(place)
 }

@@ -30,7 +30,6 @@ pub struct Explanation {
 #[derive(Clone, Copy)]
 struct Context<'a> {
     alloc: Global,
-    texts: Texts<'a>,
     /// The bytes of the text in which the fault stands.
     text: &'a [u8],
     at: At,
@@ -71,13 +70,12 @@ fn write_of_include(out: &mut String, context: &Context, fault: Fault) -> Result
         return write_bad_include(out, context.alloc, bytes);
     };
     let parts = parts.as_slice();
-    let texts = context.texts;
+    let alloc = context.alloc;
+    let trees = context.trees;
     match fault {
-        Fault::FileMissing(_) => write_file_missing(out, texts, kind, parts),
-        Fault::MapMissing(_) => write_map_missing(out, texts, context.trees, kind, parts),
-        Fault::DepthOver16(at) => {
-            write_too_deep(out, context.alloc, texts, context.trees, kind, parts, at)
-        }
+        Fault::FileMissing(_) => write_file_missing(out, alloc, trees, kind, parts),
+        Fault::MapMissing(_) => write_map_missing(out, alloc, trees, kind, parts),
+        Fault::DepthOver16(at) => write_too_deep(out, alloc, trees, kind, parts, at),
         _ => Ok(()),
     }
 }
@@ -132,12 +130,11 @@ fn explain_at(
     at: At,
 ) -> Result<Explanation, AllocError> {
     let trees = Trees::read(alloc, texts)?;
-    let reached = reached_maps(alloc, texts, &trees)?;
+    let reached = reached_maps(alloc, &trees)?;
     let chain = chain_to(alloc, &trees, reached.as_slice(), at)?;
     let mut message = String::new(alloc);
     let context = Context {
         alloc,
-        texts,
         text,
         at,
         trees: &trees,

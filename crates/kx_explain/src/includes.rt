@@ -3,9 +3,7 @@ use crate::quotes::quoted;
 use kx_include::{Part, include_parts};
 use kx_lex::At;
 use kx_parse::{Item, Kind, Section};
-use kx_reach::{
-    Reached, Texts, Trees, file_named, is_in, kind_name, map_named, place_named, reached_from,
-};
+use kx_reach::{Reached, Trees, is_in, kind_name, place_named, reached_from};
 use std::alloc::{AllocError, Global};
 
 /// So many names of maps are listed of a kind.
@@ -55,12 +53,13 @@ pub(crate) fn write_bad_include(
 /// Says which file isn't handed in.
 pub(crate) fn write_file_missing(
     out: &mut String,
-    texts: Texts,
+    alloc: Global,
+    trees: &Trees,
     kind: Kind,
     parts: &[Part],
 ) -> Result<(), AllocError> {
     for part in parts {
-        if file_named(texts, kind, part.file()).is_some() {
+        if trees.file_named(alloc, kind, part.file())?.is_some() {
             continue;
         }
         let file = quoted(part.file());
@@ -126,17 +125,16 @@ fn write_maps(out: &mut String, sections: &[Section]) -> Result<(), AllocError> 
 /// Says which map a file doesn't have, and which it has.
 pub(crate) fn write_map_missing(
     out: &mut String,
-    texts: Texts,
+    alloc: Global,
     trees: &Trees,
     kind: Kind,
     parts: &[Part],
 ) -> Result<(), AllocError> {
     for part in parts {
-        let Some(file) = file_named(texts, kind, part.file()) else {
+        let Some(file) = trees.file_named(alloc, kind, part.file())? else {
             continue;
         };
-        let sections = trees.sections_in(file);
-        if map_named(sections, kind, part.map()).is_some() {
+        if trees.map_named(file, kind, part.map()).is_some() {
             continue;
         }
         let name = quoted(part.file());
@@ -146,7 +144,7 @@ pub(crate) fn write_map_missing(
             let map = quoted(map);
             write!(out, " {map}")?;
         }
-        return write_maps(out, sections);
+        return write_maps(out, trees.sections_in(file));
     }
     Ok(())
 }
@@ -154,20 +152,19 @@ pub(crate) fn write_map_missing(
 /// Whether a part of an include leads back to the map in which a place stands.
 fn leads_back(
     alloc: Global,
-    texts: Texts,
     trees: &Trees,
     kind: Kind,
     part: &Part,
     at: At,
 ) -> Result<bool, AllocError> {
-    let Some(place) = place_named(texts, trees, kind, part) else {
+    let Some(place) = place_named(alloc, trees, kind, part)? else {
         return Ok(false);
     };
     let start = Reached {
         place,
         origin: None,
     };
-    let onward = reached_from(alloc, texts, trees, &[start])?;
+    let onward = reached_from(alloc, trees, &[start])?;
     Ok(onward.iter().any(|map| is_in(trees, map, at)))
 }
 
@@ -175,7 +172,6 @@ fn leads_back(
 pub(crate) fn write_too_deep(
     out: &mut String,
     alloc: Global,
-    texts: Texts,
     trees: &Trees,
     kind: Kind,
     parts: &[Part],
@@ -185,7 +181,7 @@ pub(crate) fn write_too_deep(
         return Ok(());
     };
     let name = quoted(part.file());
-    if leads_back(alloc, texts, trees, kind, part, at)? {
+    if leads_back(alloc, trees, kind, part, at)? {
         return write!(
             out,
             "{name} leads back to this include, so that includes go more than 16 deep"

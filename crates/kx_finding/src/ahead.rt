@@ -70,7 +70,8 @@ impl<F: Feed + Drop> Ahead<F> {
             let count = feed.take(&mut chunk)?;
             bytes.extend_from_slice(&chunk[..count])?;
             let (line, is_whole) = scan(bytes.as_slice(), start);
-            start = line;
+            // A line of three bytes is not the one that is looked for, however it goes on, and isn't read again.
+            start = line.max(bytes.len().saturating_sub(3));
             if count == 0 || is_whole || bytes.len() > MOST_TEXT_BYTES {
                 break;
             }

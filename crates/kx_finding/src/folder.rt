@@ -1,5 +1,7 @@
 //! Folders under which files are looked for.
+use kx_lex::MOST_TEXT_BYTES;
 use std::alloc::AllocError;
+use std::io::Read;
 use std::rt::Files;
 use std::{fs, io};
 
@@ -44,6 +46,14 @@ fn lies_in(path: &str, folder: &str) -> bool {
     }
 }
 
+/// The bytes of a file that has about so many; room for those of a text is made at once.
+fn read_file(rt: &(impl Files + AllocGlobal), path: &str, len: u64) -> io::Result<Vec<u8>> {
+    let room = len.min(MOST_TEXT_BYTES as u64).saturating_add(1);
+    let mut bytes = Vec::with_capacity(rt.alloc(), room as usize)?;
+    fs::open(rt, path)?.read_to_end(&mut bytes)?;
+    Ok(bytes)
+}
+
 impl Folder {
     /// The folder at a path.
     ///
@@ -81,9 +91,13 @@ impl Folder {
             return Ok(None);
         };
         let whole = whole.as_path().as_str();
-        if !lies_in(whole, self.path.as_str()) || fs::metadata(rt, whole)?.is_dir() {
+        if !lies_in(whole, self.path.as_str()) {
             return Ok(None);
         }
-        found(fs::read(rt, whole))
+        let about = fs::metadata(rt, whole)?;
+        if about.is_dir() {
+            return Ok(None);
+        }
+        found(read_file(rt, whole, about.len()))
     }
 }

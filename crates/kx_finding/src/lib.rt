@@ -3,7 +3,11 @@
 
 mod ahead;
 mod folder;
+mod maps;
+mod pieces;
+mod reading;
 mod search;
+mod words;
 
 pub use ahead::{Ahead, source_in};
 pub use folder::Folder;

@@ -1,10 +1,12 @@
 //! The walk over includes that finds files.
 use crate::folder::Folder;
-use indexmap::IndexSet;
-use kx_include::{Part, Place, include_parts};
-use kx_parse::{Item, Kind, Section, Tree};
-use kx_reach::{MOST_PARTS, Texts, file_tree, kind_name, map_named, sections_of, source_tree};
+use crate::maps::{Map, Maps};
+use crate::reading::maps_in;
+use kx_include::{Part, include_parts};
+use kx_parse::Kind;
+use kx_reach::{MOST_PARTS, Texts, kind_name};
 use std::alloc::{AllocError, Global};
+use std::collections::BTreeMap;
 use std::io;
 use std::rt::Files;
 
@@ -40,14 +42,22 @@ struct Wanted {
     map: Option<Vec<u8>>,
 }
 
+/// Where a map stands: the number of its text, 0 for the source, and its place there.
+#[derive(Clone, Copy)]
+struct Place {
+    text: usize,
+    map: usize,
+}
+
 /// What is known of files: those handed in by name, and behind them those that were found.
 #[derive(Drop)]
 struct Search {
     /// How many were handed in.
     given: usize,
-    names: IndexSet<Vec<u8>>,
-    /// The trees of the source and of the files.
-    trees: Vec<Option<Tree>>,
+    /// The numbers of the files by name, counted from 1.
+    numbers: BTreeMap<Vec<u8>, usize>,
+    /// The maps of the source and of the files.
+    texts: Vec<Maps>,
     found: Vec<Found>,
 }
 
@@ -71,18 +81,11 @@ fn wanted_by(alloc: Global, kind: Kind, part: &Part) -> Result<Wanted, AllocErro
     })
 }
 
-/// The maps that the includes of a section name, as far as parts are left to look up.
-fn wanted_in(
-    alloc: Global,
-    section: &Section,
-    left: &mut usize,
-) -> Result<Vec<Wanted>, AllocError> {
+/// The maps that the includes in a map name, as far as parts are left to look up.
+fn wanted_in(alloc: Global, map: &Map, left: &mut usize) -> Result<Vec<Wanted>, AllocError> {
     let mut all = Vec::new(alloc);
-    for item in section.items.as_slice() {
-        let Item::Include { text, .. } = item else {
-            continue;
-        };
-        let Some(parts) = include_parts(alloc, text.bytes.as_slice())? else {
+    for text in map.includes.as_slice() {
+        let Some(parts) = include_parts(alloc, text.as_slice())? else {
             continue;
         };
         for part in parts.as_slice() {
@@ -90,7 +93,7 @@ fn wanted_in(
                 break;
             };
             *left = rest;
-            all.push(wanted_by(alloc, section.kind, part)?)?;
+            all.push(wanted_by(alloc, map.kind, part)?)?;
         }
     }
     Ok(all)
@@ -98,43 +101,55 @@ fn wanted_in(
 
 impl Search {
     fn of(alloc: Global, texts: Texts) -> Result<Search, AllocError> {
-        let mut names = IndexSet::new(alloc);
-        let mut trees = Vec::new(alloc);
-        trees.push(source_tree(alloc, texts.source.bytes)?)?;
+        let mut numbers = BTreeMap::new(alloc);
+        let mut all = Vec::new(alloc);
+        all.push(maps_in(alloc, texts.source.bytes)?)?;
         for file in texts.files {
-            names.insert(Vec::from_slice(alloc, file.name.as_bytes())?)?;
-            trees.push(file_tree(alloc, file.bytes)?)?;
+            numbers.insert(Vec::from_slice(alloc, file.name.as_bytes())?, all.len())?;
+            all.push(maps_in(alloc, file.bytes)?)?;
         }
         Ok(Search {
-            given: names.len(),
-            names,
-            trees,
+            given: texts.files.len(),
+            numbers,
+            texts: all,
             found: Vec::new(alloc),
         })
     }
 
     /// The number of the file that a name means among those that are known.
     fn known(&self, full: &[u8], name: &[u8]) -> Option<usize> {
-        let found = self.names.get_index_of(full);
-        let bare = self
-            .names
-            .get_index_of(name)
-            .filter(|place| *place < self.given);
-        found.or(bare).map(|place| place.saturating_add(1))
+        let found = self.numbers.get(full).copied();
+        let bare = self.numbers.get(name).copied();
+        found.or(bare.filter(|number| *number <= self.given))
     }
 
-    fn sections_in(&self, number: usize) -> &[Section] {
-        match self.trees.get(number) {
-            Some(tree) => sections_of(tree),
-            None => &[],
+    fn map_at(&self, place: Place) -> Option<&Map> {
+        self.texts.get(place.text)?.at(place.map)
+    }
+
+    /// The place in a text of the map that is wanted.
+    fn place_in(&self, text: usize, wanted: &Wanted) -> Option<Place> {
+        let name = match &wanted.map {
+            Some(name) => Some(name.as_slice()),
+            None => None,
+        };
+        let map = self.texts.get(text)?.place_of(wanted.kind, name)?;
+        Some(Place { text, map })
+    }
+
+    /// Whether an include leads to a place for the first time.
+    fn meet(&mut self, place: Place) -> bool {
+        match self.texts.get_mut(place.text) {
+            Some(maps) => maps.meet(place.map),
+            None => false,
         }
     }
 
     /// Takes up a file that was found; answers its number.
     fn add(&mut self, alloc: Global, full: Vec<u8>, file: Found) -> Result<usize, AllocError> {
-        let number = self.trees.len();
-        self.trees.push(file_tree(alloc, file.bytes.as_slice())?)?;
-        self.names.insert(full)?;
+        let number = self.texts.len();
+        self.texts.push(maps_in(alloc, file.bytes.as_slice())?)?;
+        self.numbers.insert(full, number)?;
         self.found.push(file)?;
         Ok(number)
     }
@@ -195,42 +210,32 @@ fn reach(
     }
 }
 
-/// The map that an include names, by the number of its file and its place there.
+/// The place of the map that an include names.
 fn place_of(
     rt: &(impl Files + AllocGlobal),
     folders: &[Folder],
     search: &mut Search,
     wanted: &Wanted,
 ) -> Result<Option<Place>, FindFault> {
-    let Some(number) = reach(rt, folders, search, wanted)? else {
-        return Ok(None);
-    };
-    let map = match &wanted.map {
-        Some(map) => Some(map.as_slice()),
-        None => None,
-    };
-    let Some(section) = map_named(search.sections_in(number), wanted.kind, map) else {
-        return Ok(None);
-    };
-    match u32::try_from(number) {
-        Ok(file) => Ok(Some(Place { file, section })),
-        Err(_) => Ok(None),
+    match reach(rt, folders, search, wanted)? {
+        Some(text) => Ok(search.place_in(text, wanted)),
+        None => Ok(None),
     }
 }
 
-/// The sections of a source, of which the first is the last to wait.
+/// The maps of a source, of which the first is the last to wait.
 fn own_places(alloc: Global, search: &Search) -> Result<Vec<Place>, AllocError> {
     let mut own = Vec::new(alloc);
-    for section in (0..search.sections_in(0).len()).rev() {
-        own.push(Place { file: 0, section })?;
+    let count = search.texts.first().map_or(0, |maps| maps.len());
+    for map in (0..count).rev() {
+        own.push(Place { text: 0, map })?;
     }
     Ok(own)
 }
 
-/// Lets a place wait that was not met yet.
-fn meet(waiting: &mut Vec<Place>, met: &mut Vec<Place>, place: Place) -> Result<(), AllocError> {
-    if !met.contains(&place) {
-        met.push(place)?;
+/// Lets a place wait to which no include led before.
+fn meet(search: &mut Search, waiting: &mut Vec<Place>, place: Place) -> Result<(), AllocError> {
+    if search.meet(place) {
         waiting.push(place)?;
     }
     Ok(())
@@ -243,8 +248,8 @@ fn wanted_at(
     place: Place,
     left: &mut usize,
 ) -> Result<Vec<Wanted>, AllocError> {
-    match search.sections_in(place.file as usize).get(place.section) {
-        Some(section) => wanted_in(alloc, section, left),
+    match search.map_at(place) {
+        Some(map) => wanted_in(alloc, map, left),
         None => Ok(Vec::new(alloc)),
     }
 }
@@ -260,7 +265,6 @@ pub fn find_files(
 ) -> Result<Vec<Found>, FindFault> {
     let mut search = Search::of(rt.alloc(), texts)?;
     let mut waiting = own_places(rt.alloc(), &search)?;
-    let mut met = Vec::new(rt.alloc());
     let mut left = MOST_PARTS;
     for _ in 0..waiting.len().saturating_add(MOST_PARTS) {
         let Some(next) = waiting.pop() else {
@@ -269,7 +273,7 @@ pub fn find_files(
         let all = wanted_at(rt.alloc(), &search, next, &mut left)?;
         for wanted in all.as_slice() {
             if let Some(place) = place_of(rt, folders, &mut search, wanted)? {
-                meet(&mut waiting, &mut met, place)?;
+                meet(&mut search, &mut waiting, place)?;
             }
         }
     }

@@ -15,6 +15,7 @@ mod text;
 
 pub use expansion::{Bodies, Entry, Expansion, Link, Map};
 pub use files::Files;
+pub use map_index::MapIndex;
 pub use part::{Part, include_parts};
 pub use place::Place;
 pub use sources::Library;

@@ -36,7 +36,7 @@ fn with_flagged(flagged: KindMaps, section: &Section, number: usize) -> KindMaps
 /// Where the maps of a text stand, by kind and name, so that an include finds its map by one look-up, in the
 /// logarithm of how many names there are. Of several that fit, the first is found.
 #[derive(Drop)]
-pub(crate) struct MapIndex {
+pub struct MapIndex {
     named: BTreeMap<Vec<u8>, KindMaps>,
     flagged: KindMaps,
     first: KindMaps,
@@ -106,7 +106,7 @@ impl MapIndex {
     ///
     /// # Errors
     /// Where a growth is refused.
-    pub(crate) fn of(alloc: Global, sections: &[Section]) -> Result<MapIndex, AllocError>
+    pub fn of(alloc: Global, sections: &[Section]) -> Result<MapIndex, AllocError>
         ensures { IfOk result (λ index. IsIndex index sections.now) }
     {
         let mut index = MapIndex::new(alloc);
@@ -117,7 +117,7 @@ impl MapIndex {
     }
 
     /// The number of the map of a kind that has a name, or without one of the default map.
-    pub(crate) fn number(&self, kind: Kind, name: Option<&[u8]>) -> Option<usize>
+    pub fn number(&self, kind: Kind, name: Option<&[u8]>) -> Option<usize>
         ensures { result ≡ found self.now kind (option_map (λ n. n.now) name.entry) }
     {
         match name {

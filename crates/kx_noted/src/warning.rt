@@ -1,7 +1,7 @@
 //! What is said of what is passed over.
-use indexmap::IndexMap;
 use kx_explain::quoted;
 use kx_lex::At;
+use kx_ordered::Ordered;
 use std::alloc::{AllocError, Global};
 
 /// So many warnings of a kind are said.
@@ -56,7 +56,7 @@ pub struct Warnings {
     pub keys: Listed,
     pub types: Listed,
     pub levels: Listed,
-    idle: IndexMap<Vec<u8>, Idle>,
+    idle: Ordered<Vec<u8>, Idle>,
 }
 
 impl Warnings {
@@ -67,24 +67,25 @@ impl Warnings {
             keys: Listed::new(alloc),
             types: Listed::new(alloc),
             levels: Listed::new(alloc),
-            idle: IndexMap::new(alloc),
+            idle: Ordered::new(alloc),
         }
     }
 
     /// Adds a place of an action without effect.
     pub(crate) fn add_idle(&mut self, at: At, word: &[u8]) -> Result<(), AllocError> {
-        let before = self.idle.get(word).copied();
-        let idle = match before {
-            Some(Idle { first, places }) => Idle {
-                first,
-                places: places.saturating_add(1),
-            },
-            None => Idle {
-                first: at,
-                places: 1,
-            },
-        };
-        self.idle.insert(Vec::from_slice(self.alloc, word)?, idle)?;
+        match self.idle.place_of_name(word) {
+            Some(place) => {
+                let idle = self.idle.value_mut(place);
+                idle.places = idle.places.saturating_add(1);
+            }
+            None => {
+                let idle = Idle {
+                    first: at,
+                    places: 1,
+                };
+                self.idle.insert(Vec::from_slice(self.alloc, word)?, idle)?;
+            }
+        }
         Ok(())
     }
 
@@ -95,7 +96,7 @@ impl Warnings {
     pub fn actions(&self) -> Result<Listed, AllocError> {
         let alloc = self.alloc;
         let mut listed = Listed::new(alloc);
-        for (word, idle) in self.idle.iter() {
+        for (word, idle) in self.idle.as_slice() {
             let word = quoted(word.as_slice());
             let places = idle.places;
             let noun = if places == 1 { "place" } else { "places" };

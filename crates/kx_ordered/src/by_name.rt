@@ -1,7 +1,8 @@
 //! Names, found by what lends them.
 ghost use Rattle.std.specs.Prelude.{◌≡◌, ◌<◌, ℕ, IfSome, position, string_bytes};
 ghost use Rattle.std.specs.Str.{bytes_eq};
-ghost use Rattle.indexmap.specs.IndexMap.{index_map_len, keys};
+ghost use Rattle.std.specs.Option.{option_copied};
+ghost use Rattle.indexmap.specs.IndexMap.{get_by_text, index_map_len, keys};
 
 use crate::ordered::Ordered;
 
@@ -22,5 +23,15 @@ impl<V> Ordered<String, V> {
         ensures within { IfSome result (λ place. place < index_map_len self.now) }
     {
         self.places().get(text).copied()
+    }
+
+    /// The value of a text.
+    pub fn value_of_text(&self, text: &str) -> Option<&V>
+        ensures { option_copied result ≡ get_by_text self.now text.now }
+    {
+        match self.place_of_text(text) {
+            None => None,
+            Some(place) => self.value(place),
+        }
     }
 }

@@ -8,7 +8,7 @@ mod trees;
 mod walk;
 
 pub use chain::{chain_to, is_in};
-pub use maps::{file_named, kind_name, map_named};
+pub use maps::kind_name;
 pub use text::{Text, Texts, bytes_in, is_within};
-pub use trees::{Trees, file_tree, holds, item_at, item_span, sections_of, source_tree};
+pub use trees::{Trees, holds, item_at, item_span};
 pub use walk::{MOST_PARTS, Origin, Reached, place_named, reached_from, reached_maps};

@@ -1,14 +1,21 @@
 //! The trees of texts.
-use crate::text::{Texts, is_within};
+use crate::maps::full_name;
+use crate::text::{Text, Texts, is_within};
+use kx_include::MapIndex;
 use kx_lex::{Fault, Span, lex};
 use kx_parse::{Item, Kind, Section, Tree, parse, parse_file};
 use std::alloc::{AllocError, Global};
+use std::collections::BTreeMap;
 
-/// The trees of a keymap's texts, where they have one.
+/// The trees of a keymap's texts, where they have one, and what finds the files and their maps.
 #[derive(Drop)]
 pub struct Trees {
     source: Option<Tree>,
     files: Vec<Option<Tree>>,
+    /// Where the maps of each file stand.
+    maps: Vec<MapIndex>,
+    /// The numbers of the files by name, counted from 1.
+    numbers: BTreeMap<Vec<u8>, u32>,
 }
 
 /// What was read, where nothing but want of memory is told of a fault.
@@ -21,7 +28,7 @@ fn read_or_none<T: Drop>(outcome: Result<T, Fault>) -> Result<Option<T>, AllocEr
 }
 
 /// The tree of a source.
-pub fn source_tree(alloc: Global, text: &[u8]) -> Result<Option<Tree>, AllocError> {
+fn source_tree(alloc: Global, text: &[u8]) -> Result<Option<Tree>, AllocError> {
     match read_or_none(lex(alloc, text))? {
         None => Ok(None),
         Some(tokens) => read_or_none(parse(alloc, text, tokens.as_slice())),
@@ -29,14 +36,14 @@ pub fn source_tree(alloc: Global, text: &[u8]) -> Result<Option<Tree>, AllocErro
 }
 
 /// The tree of a file.
-pub fn file_tree(alloc: Global, text: &[u8]) -> Result<Option<Tree>, AllocError> {
+fn file_tree(alloc: Global, text: &[u8]) -> Result<Option<Tree>, AllocError> {
     match read_or_none(lex(alloc, text))? {
         None => Ok(None),
         Some(tokens) => read_or_none(parse_file(alloc, text, tokens.as_slice())),
     }
 }
 
-pub fn sections_of(tree: &Option<Tree>) -> &[Section] {
+fn sections_of(tree: &Option<Tree>) -> &[Section] {
     match tree {
         Some(tree) => tree.sections.as_slice(),
         None => &[],
@@ -49,12 +56,28 @@ impl Trees {
     /// # Errors
     /// Where a growth is refused.
     pub fn read(alloc: Global, texts: Texts) -> Result<Trees, AllocError> {
-        let source = source_tree(alloc, texts.source.bytes)?;
-        let mut files = Vec::new(alloc);
+        let mut trees = Trees {
+            source: source_tree(alloc, texts.source.bytes)?,
+            files: Vec::new(alloc),
+            maps: Vec::new(alloc),
+            numbers: BTreeMap::new(alloc),
+        };
         for file in texts.files {
-            files.push(file_tree(alloc, file.bytes)?)?;
+            trees.add(alloc, *file)?;
         }
-        Ok(Trees { source, files })
+        Ok(trees)
+    }
+
+    /// Adds a file behind the others. Of several of a name the first is found.
+    fn add(&mut self, alloc: Global, file: Text) -> Result<(), AllocError> {
+        let tree = file_tree(alloc, file.bytes)?;
+        self.maps.push(MapIndex::of(alloc, sections_of(&tree))?)?;
+        self.files.push(tree)?;
+        if let Ok(number) = u32::try_from(self.files.len()) {
+            let name = Vec::from_slice(alloc, file.name.as_bytes())?;
+            self.numbers.entry(name)?.or_insert(number);
+        }
+        Ok(())
     }
 
     /// The sections of the text of a number; none where it has no tree.
@@ -66,6 +89,27 @@ impl Trees {
                 None => &[],
             },
         }
+    }
+
+    /// The number of the file that a name means for a kind of section.
+    ///
+    /// # Errors
+    /// Where a growth is refused.
+    pub fn file_named(
+        &self,
+        alloc: Global,
+        kind: Kind,
+        name: &[u8],
+    ) -> Result<Option<u32>, AllocError> {
+        let full = full_name(alloc, kind, name)?;
+        let found = self.numbers.get(full.as_slice()).copied();
+        Ok(found.or(self.numbers.get(name).copied()))
+    }
+
+    /// The place of the map of a kind that is named in a file, or of the default one.
+    pub fn map_named(&self, file: u32, kind: Kind, name: Option<&[u8]>) -> Option<usize> {
+        let place = file.checked_sub(1)?;
+        self.maps.get(place as usize)?.number(kind, name)
     }
 }
 

@@ -1,13 +1,11 @@
 //! The maps that a source's includes reach.
-use crate::maps::{file_named, map_named};
-use crate::text::Texts;
 use crate::trees::Trees;
 use kx_include::{Part, Place, include_parts};
 use kx_lex::At;
 use kx_parse::{Item, Kind};
 use std::alloc::{AllocError, Global};
 
-/// At most this many parts of includes are looked up, as many as a keymap may have: each costs the maps of a file.
+/// At most this many parts of includes are looked up, as many as a keymap may have.
 pub const MOST_PARTS: usize = 4096;
 
 /// The include that led to a map: the map in which it stands, by its place among those that are reached, and its text.
@@ -26,20 +24,28 @@ pub struct Reached {
 }
 
 /// The map that a part of an include names, where its file is handed in.
-pub fn place_named(texts: Texts, trees: &Trees, kind: Kind, part: &Part) -> Option<Place> {
-    let file = file_named(texts, kind, part.file())?;
-    let sections = trees.sections_in(file);
-    if sections.is_empty() {
-        return Some(Place { file, section: 0 });
+///
+/// # Errors
+/// Where a growth is refused.
+pub fn place_named(
+    alloc: Global,
+    trees: &Trees,
+    kind: Kind,
+    part: &Part,
+) -> Result<Option<Place>, AllocError> {
+    let Some(file) = trees.file_named(alloc, kind, part.file())? else {
+        return Ok(None);
+    };
+    if trees.sections_in(file).is_empty() {
+        return Ok(Some(Place { file, section: 0 }));
     }
-    let section = map_named(sections, kind, part.map())?;
-    Some(Place { file, section })
+    let section = trees.map_named(file, kind, part.map());
+    Ok(section.map(|section| Place { file, section }))
 }
 
 /// Adds what an include leads to, as far as parts are left to look up.
 fn add_include(
     alloc: Global,
-    texts: Texts,
     trees: &Trees,
     kind: Kind,
     origin: Origin,
@@ -55,7 +61,7 @@ fn add_include(
             break;
         };
         *left = rest;
-        if let Some(place) = place_named(texts, trees, kind, part) {
+        if let Some(place) = place_named(alloc, trees, kind, part)? {
             let origin = Some(origin);
             found.push(Reached { place, origin })?;
         }
@@ -66,7 +72,6 @@ fn add_include(
 /// What the includes of the map at a place lead to, where `map` is its own place among those that are reached.
 fn includes_of(
     alloc: Global,
-    texts: Texts,
     trees: &Trees,
     place: Place,
     map: usize,
@@ -84,7 +89,7 @@ fn includes_of(
             let origin = Origin { map, text: text_at };
             let bytes = text.bytes.as_slice();
             let kind = section.kind;
-            add_include(alloc, texts, trees, kind, origin, bytes, left, &mut found)?;
+            add_include(alloc, trees, kind, origin, bytes, left, &mut found)?;
         }
     }
     Ok(found)
@@ -115,13 +120,9 @@ fn put_first(waiting: &mut Vec<Reached>, next: &[Reached]) -> Result<(), AllocEr
 ///
 /// # Errors
 /// Where a growth is refused.
-pub fn reached_maps(
-    alloc: Global,
-    texts: Texts,
-    trees: &Trees,
-) -> Result<Vec<Reached>, AllocError> {
+pub fn reached_maps(alloc: Global, trees: &Trees) -> Result<Vec<Reached>, AllocError> {
     let own = own_sections(alloc, trees)?;
-    reached_from(alloc, texts, trees, own.as_slice())
+    reached_from(alloc, trees, own.as_slice())
 }
 
 /// The maps that some lead to, with these.
@@ -130,7 +131,6 @@ pub fn reached_maps(
 /// Where a growth is refused.
 pub fn reached_from(
     alloc: Global,
-    texts: Texts,
     trees: &Trees,
     starts: &[Reached],
 ) -> Result<Vec<Reached>, AllocError> {
@@ -151,7 +151,7 @@ pub fn reached_from(
             included.push(next.place)?;
         }
         let map = reached.len();
-        let found = includes_of(alloc, texts, trees, next.place, map, &mut left)?;
+        let found = includes_of(alloc, trees, next.place, map, &mut left)?;
         reached.push(next)?;
         put_first(&mut waiting, found.as_slice())?;
     }

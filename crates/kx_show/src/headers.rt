@@ -1,7 +1,7 @@
 //! The names of keysyms in C headers.
-use indexmap::IndexMap;
 use ks_core::{NameFault, NameTable};
 use std::alloc::{AllocError, Global};
+use std::collections::BTreeSet;
 
 /// The keysyms of the kernel's codes begin here; headers write them by `_EVDEVK`.
 const KERNEL_KEYSYMS: u32 = 0x1008_1000;
@@ -24,8 +24,8 @@ fn name_of(word: &str) -> Option<(&str, &str)> {
     }
 }
 
-/// The line that a definition of a header gives, and its number.
-fn line_of(alloc: Global, line: &str) -> Result<Option<(String, u32)>, AllocError> {
+/// The line that a definition of a header gives.
+fn line_of(alloc: Global, line: &str) -> Result<Option<String>, AllocError> {
     let mut words = line.split_ascii_whitespace();
     let (Some("#define"), Some(word), Some(value)) = (words.next(), words.next(), words.next())
     else {
@@ -34,8 +34,7 @@ fn line_of(alloc: Global, line: &str) -> Result<Option<(String, u32)>, AllocErro
     let (Some((front, name)), Some(number)) = (name_of(word), number_of(value)) else {
         return Ok(None);
     };
-    let line = format!(in alloc; "{front}{name} 0x{number:x}")?;
-    Ok(Some((line, number)))
+    Ok(Some(format!(in alloc; "{front}{name} 0x{number:x}")?))
 }
 
 /// Whether a line of names is taken by itself.
@@ -53,22 +52,22 @@ fn is_taken(alloc: Global, line: &str) -> Result<bool, AllocError> {
 /// # Errors
 /// Where a growth is refused.
 pub fn write_names(alloc: Global, headers: &[Vec<u8>], out: &mut String) -> Result<(), AllocError> {
-    let mut given: IndexMap<String, u32> = IndexMap::new(alloc);
+    let mut given: BTreeSet<String> = BTreeSet::new(alloc);
     for header in headers {
         for line in header.as_slice().split(|byte| *byte == b'\n') {
             let Ok(line) = str::from_utf8(line) else {
                 continue;
             };
-            let Some((line, number)) = line_of(alloc, line)? else {
+            let Some(line) = line_of(alloc, line)? else {
                 continue;
             };
             let Some((name, _)) = line.as_str().split_once(' ') else {
                 continue;
             };
-            if given.contains_key(name) || !is_taken(alloc, line.as_str())? {
+            if given.contains(name) || !is_taken(alloc, line.as_str())? {
                 continue;
             }
-            given.insert(String::from_str(alloc, name)?, number)?;
+            given.insert(String::from_str(alloc, name)?)?;
             out.push_str(line.as_str())?;
             out.push('\n')?;
         }

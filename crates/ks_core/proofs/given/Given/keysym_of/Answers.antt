@@ -6,4 +6,4 @@ use Rattle.ks_core.proofs.given.Given.keysym_of.Goals as goal
 
 pub returns : goal.returns
 returns c =
-    c.copied.ensures ∙ c.get.ensures.value ∙ sym (lookup-entries_in (bytes_eq c.args.name.now) c.self.inside.keysyms.entries) ∙ ap (λ es. keysym_in es c.args.name.now) c.self.view_is
+    c.copied.ensures ∙ c.value_of_text.ensures ∙ sym (lookup-entries_in (bytes_eq c.args.name.now) c.self.inside.keysyms.entries) ∙ ap (λ es. keysym_in es c.args.name.now) c.self.view_is
