@@ -35,7 +35,7 @@ module _ {K C V D R : Type 0} (cell : R → C → Option V) (width : R → ℕ �
   left_all names at d whole = record { behind = []; shown = λ os shows. subst (Shows cell width eq names at) (sym (append-none os)) shows; offered = refl; blamed = refl }
 
 module _ {K C V D R : Type 0} {cell : R → C → Option V} {width : R → ℕ → ℕ} {eq : K → K → Bool} {rules : Rules K C V D} {moves : Moves K C} {names : List K} {at : K → Option R} {d : D} {whole : Body} where
-  pub left_step : {n1 n2 : List K} {a1 a2 : K → Option R} {d1 : D} {b1 : Body} {X : Type 0} {added : List (Offer K C V)} {fs : List Fault} {x : X} (d2 : D) (b2 : Body)
+  unfoldable pub left_step : {n1 n2 : List K} {a1 a2 : K → Option R} {d1 : D} {b1 : Body} {X : Type 0} {added : List (Offer K C V)} {fs : List Fault} {x : X} (d2 : D) (b2 : Body)
       → Left cell width eq rules moves names at d whole n1 a1 d1 b1 → offers eq rules moves d1 b1 ≡ added ++ offers eq rules moves d2 b2 → faults eq rules moves d1 b1 ≡ fs ++ faults eq rules moves d2 b2
       → Adds cell width eq n1 a1 (Ok x) n2 a2 added fs → Left cell width eq rules moves names at d whole n2 a2 d2 b2
   left_step {n2 = n2} {a2 = a2} {added = added} {fs = fs} d2 b2 l os_are fs_are adds = record {

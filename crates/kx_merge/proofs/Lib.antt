@@ -2,7 +2,9 @@ pub mod Precedence
 pub mod Steps
 pub mod Movings
 pub mod Behind
+pub mod Covering
 pub mod Single
 pub mod Again
 pub mod Repeated
 pub mod Passing
+pub mod Parting

@@ -1,5 +1,5 @@
 -- Going over the entries of a map, where an include may be passed over that stands before and behind, too.
-use Rattle.std.proofs.Common.{◌≡◌, ℕ, ◌+◌, ◌<◌, ◌≤◌, zero, suc, Bool, true, List, [], ◌∷◌, ◌++◌, length, drop, get_or, Option, Some, is_some, Contains, Ok, Err, refl, sym, ap, ◌∙◌, subst, arith}
+use Rattle.std.proofs.Common.{◌≡◌, ℕ, ◌+◌, ◌<◌, ◌≤◌, zero, suc, Bool, true, false, cond, List, [], ◌∷◌, ◌++◌, length, drop, get_or, Option, Some, is_some, Contains, Ok, Err, refl, sym, ap, ◌∙◌, subst, arith}
 use Rattle.std.proofs.lemmas.Bool.{false≢true}
 use Rattle.std.proofs.lemmas.List.{drop_all}
 use Rattle.std.proofs.lemmas.List.Elements.{Contains-append_left}
@@ -16,17 +16,18 @@ use Rattle.kx_include.specs.declared.place.Place.{Place}
 use Rattle.kx_parse.specs.declared.tree.Mode.{Mode}
 use Rattle.kx_parse.specs.declared.tree.Mode.TheVariants.{Augment}
 use Rattle.kx_merge.specs.Bodies.{Rules, Moves, gathered, offers, faults, offers_of, faults_of}
-use Rattle.kx_merge.specs.Gatherings.{AddsBehind, StandsBetween, included_at, included_by, entry_offers, entry_faults, entry_next}
-use Rattle.kx_merge.specs.Offers.{Offer, names_behind, names_of, value_of, width_of}
+use Rattle.kx_merge.specs.Gatherings.{AddsBehind, AreGentle, StandsBetween, StandsSince, included_at, included_by, entry_mode, entry_offers, entry_faults, entry_next}
+use Rattle.kx_merge.specs.Offers.{Offer, is_replace, is_strong, names_behind, names_of, value_of, width_of}
 use Rattle.kx_merge.specs.Records.{Shows}
 use Rattle.kx_merge.proofs.Behind.{entry-first, entry_at, entry_blamed_at}
+use Rattle.kx_merge.proofs.Covering.{Covers, covers_more, covers_none, covers_self, covers_shown, gentle_gathered, weak_gathered}
 use Rattle.kx_merge.proofs.Movings.{append-none, append-inner}
 use Rattle.kx_merge.proofs.Precedence.{names_behind-append}
 use Rattle.kx_merge.proofs.Repeated.{names_passed, values_passed, widths_passed}
 
 -- ---- Places of entries
 
-at-last : {P : Type 0} (n i : ℕ) → n < i + 1 → (n < i → P) → (n ≡ i → P) → P
+pub at-last : {P : Type 0} (n i : ℕ) → n < i + 1 → (n < i → P) → (n ≡ i → P) → P
 at-last zero zero within earlier here = here refl
 at-last zero (suc i) within earlier here = earlier (omega arith)
 at-last (suc n) zero within earlier here = absurd (omega (arith, within))
@@ -259,3 +260,114 @@ module _ {K C V D R : Type 0} (cell : R → C → Option V) (width : R → ℕ �
     going_fault {f = f} e l within is adds =
         subst (λ fs. Contains (Memory ∷ fs) f) (sym (l.blamed ∙ entry_blamed_at eq rules moves bodies place d xs i e within is))
         (Contains-append_left (Memory ∷ entry_faults eq rules moves bodies place d e) (faults eq rules moves (entry_next rules d e) (entries_body bodies place (drop (i + 1) xs) End)) f adds.fault)
+
+-- ---- Where what was taken up covers includes under augment
+
+module _ {K C V D R : Type 0} (cell : R → C → Option V) (width : R → ℕ → ℕ) (eq : K → K → Bool) (laws : IsEquivalence eq) (rules : Rules K C V D) (moves : Moves K C) (bodies : List Body) (place : Place) (xs : List Entry) where
+  abbrev pub Reaches : List K → (K → Option R) → Mode × List Link → ℕ → D → List K → (K → Option R) → Type 0
+  Reaches = Going cell width eq rules moves bodies place xs
+
+  abbrev pub offers_by : Mode × List Link → List (Offer K C V)
+  offers_by = included_offers eq rules moves bodies
+
+  -- the same, and each include under augment from another place on gives nothing more
+  pub record Covering (names : List K) (at : K → Option R) (last : Mode × List Link) (since i : ℕ) (d : D) (now_names : List K) (now_at : K → Option R) : Type 0 where
+    pub going : Reaches names at last i d now_names now_at
+    pub covers : (n : ℕ) (x : Mode × List Link) → since ≤ n → n < i → included_at xs n ≡ Some x → is_strong x.0 ≡ false → Covers eq laws going.kept (offers_by x)
+
+  pub covering_first : (names : List K) (at : K → Option R) → Covering names at (Augment, []) 0 0 rules.start names at
+  covering_first names at = record { going = going_first cell width eq rules moves bodies place xs names at; covers = λ n x from before is weak. absurd (omega (arith, before)) }
+
+  -- what an entry that was taken up covers
+  covered-entry : (kept : List (Offer K C V)) (d : D) (e : Entry) → is_strong (included_by e).0 ≡ false → Covers eq laws (kept ++ entry_offers eq rules moves bodies place d e) (offers_by (included_by e))
+  covered-entry kept d (Own item) weak = covers_none eq laws (kept ++ rules.offers d place item.now)
+  covered-entry kept d (Include mode links) weak = covers_self eq laws kept (offers_by (mode, links.items)) (weak_gathered eq mode (offers_of eq rules moves (links_body bodies links.items)) weak)
+
+  covered-next : (kept : List (Offer K C V)) (since i : ℕ) (d : D) (e : Entry) → i < length xs → e ≡ get_or xs i e
+      → ((n : ℕ) (x : Mode × List Link) → since ≤ n → n < i → included_at xs n ≡ Some x → is_strong x.0 ≡ false → Covers eq laws kept (offers_by x))
+      → (b : Bool) → is_replace (entry_mode e) ≡ b → (is_replace (entry_mode e) ≡ false → AreGentle (entry_offers eq rules moves bodies place d e))
+      → (n : ℕ) (x : Mode × List Link) → cond b (i + 1) since ≤ n → n < i + 1 → included_at xs n ≡ Some x → is_strong x.0 ≡ false → Covers eq laws (kept ++ entry_offers eq rules moves bodies place d e) (offers_by x)
+  covered-next kept since i d e within is covers true replaces gentle n x from before at weak = absurd (omega (arith, from, before))
+  covered-next kept since i d e within is covers false gently gentle n x from before at weak =
+      at-last n i before
+      (λ earlier. covers_more eq laws kept (entry_offers eq rules moves bodies place d e) (offers_by x) (gentle gently) (covers n x from earlier at weak))
+      (λ here.
+      let same : included_by e ≡ x = same_Some (included_by e) x (sym (included-here xs i e within is) ∙ ap (included_at xs) (sym here) ∙ at) in
+      subst (λ y. Covers eq laws (kept ++ entry_offers eq rules moves bodies place d e) (offers_by y)) same (covered-entry kept d e (ap (λ y. is_strong y.0) same ∙ weak)))
+
+  passed : {names : List K} {at : K → Option R} {last : Mode × List Link} {i : ℕ} {d : D} {n1 : List K} {a1 : K → Option R} (same : (j k : K) → eq j k ≡ true → j ≡ k) (e : Entry) (l : Reaches names at last i d n1 a1) → i < length xs → e ≡ get_or xs i e → StandsBetween xs i (included_by e) → (r : Reaches names at last (i + 1) d n1 a1) × (r.kept ≡ l.kept)
+  unfolding going_past
+  passed same (Own item) l within is stands = absurd (false≢true stands.strong)
+  passed same (Include mode links) l within is stands = (going_past cell width eq rules moves bodies place xs laws same (Include mode links) l within is stands, refl)
+
+  module _ {names : List K} {at : K → Option R} {last : Mode × List Link} {since i : ℕ} {d : D} {n1 : List K} {a1 : K → Option R} where
+    -- an entry is taken up
+    pub covering_on : {X : Type 0} {x : X} {n2 : List K} {a2 : K → Option R} (e : Entry) → Covering names at last since i d n1 a1 → i < length xs → e ≡ get_or xs i e
+        → (is_replace (entry_mode e) ≡ false → AreGentle (entry_offers eq rules moves bodies place d e))
+        → AddsBehind cell width eq (offers_by last) n1 a1 (Ok x) n2 a2 (entry_offers eq rules moves bodies place d e) (entry_faults eq rules moves bodies place d e)
+        → Covering names at (included_by e) (cond (is_replace (entry_mode e)) (i + 1) since) (i + 1) (entry_next rules d e) n2 a2
+    unfolding going_on
+    covering_on e l within is gentle adds = record {
+      going = going_on cell width eq rules moves bodies place xs e l.going within is adds;
+      covers = covered-next l.going.kept since i d e within is l.covers (is_replace (entry_mode e)) refl gentle;
+    }
+
+    -- an include is passed over that stands before and behind, too
+    pub covering_past : (same : (j k : K) → eq j k ≡ true → j ≡ k) (e : Entry) → Covering names at last since i d n1 a1 → i < length xs → e ≡ get_or xs i e → StandsBetween xs i (included_by e)
+        → Covering names at last (cond (is_replace (entry_mode e)) (i + 1) since) (i + 1) d n1 a1
+    covering_past same e l within is stands = record {
+      going = past.0;
+      covers = subst (λ ks. (n : ℕ) (x : Mode × List Link) → cond (is_replace (entry_mode e)) (i + 1) since ≤ n → n < i + 1 → included_at xs n ≡ Some x → is_strong x.0 ≡ false → Covers eq laws ks (offers_by x)) (sym past.1) (by (is_replace (entry_mode e)));
+    }
+      where
+        past : (r : Reaches names at last (i + 1) d n1 a1) × (r.kept ≡ l.going.kept)
+        past = passed same e l.going within is stands
+
+        by : (b : Bool) (n : ℕ) (x : Mode × List Link) → cond b (i + 1) since ≤ n → n < i + 1 → included_at xs n ≡ Some x → is_strong x.0 ≡ false → Covers eq laws l.going.kept (offers_by x)
+        by true n x from before at weak = absurd (omega (arith, from, before))
+        by false n x from before at weak =
+            at-last n i before (λ earlier. l.covers n x from earlier at weak)
+            (λ here. absurd (false≢true (sym weak ∙ ap (λ y. is_strong y.0) (same_Some x (included_by e) (sym at ∙ ap (included_at xs) here ∙ included-here xs i e within is)) ∙ stands.strong)))
+
+    -- an include under augment is passed over that stands before, too
+    pub covering_again : (e : Entry) → Covering names at last since i d n1 a1 → i < length xs → e ≡ get_or xs i e → StandsSince xs since i (included_by e)
+        → Covering names at (included_by e) (cond (is_replace (entry_mode e)) (i + 1) since) (i + 1) d n1 a1
+    covering_again (Own item) l within is stands = absurd (omega (arith, stands.some))
+    covering_again (Include mode links) l within is stands = record {
+      going = record {
+        kept = k.kept ++ added;
+        all = k.all ++ added;
+        shown = λ os before. covers_shown eq laws cell width n1 a1 os k.kept added (weak_gathered eq mode (offers_of eq rules moves (links_body bodies links.items)) stands.weak) found (k.shown os before);
+        offered = k.offered ∙ ap (λ os. k.all ++ os) os_are ∙ sym (append-inner k.all added next);
+        blamed = k.blamed ∙ entry_blamed_at eq rules moves bodies place d xs i (Include mode links) within is ∙ ap (λ fs. fs ++ faults eq rules moves d (entries_body bodies place (drop (i + 1) xs) End)) earlier.clean;
+        names_same = λ os. ap (names_of eq) (sym (append-inner os k.kept added)) ∙ names_behind-append eq [] (os ++ k.kept) added ∙ ap (λ ks. names_behind eq ks added) (k.names_same os) ∙ sym (names_behind-append eq [] (os ++ k.all) added) ∙ ap (names_of eq) (append-inner os k.all added);
+        values_same = λ os j c. ap (λ ys. value_of eq (os ++ ys) j c) rest ∙ k.values_same os j c;
+        widths_same = λ os j g. ap (λ ys. width_of eq (os ++ ys) j g) rest ∙ k.widths_same os j g;
+        front = k.kept;
+        ends = refl;
+        clean = earlier.clean;
+        past = past-next cell width eq rules moves bodies place xs k.all i d (Include mode links) within is earlier.clean k.past;
+      };
+      covers = covered-next k.kept since i d (Include mode links) within is l.covers (is_replace mode) refl (gentle_gathered eq mode (offers_of eq rules moves (links_body bodies links.items)));
+    }
+      where
+        k : Reaches names at last i d n1 a1
+        k = l.going
+
+        added : List (Offer K C V)
+        added = offers_by (mode, links.items)
+
+        next : List (Offer K C V)
+        next = offers eq rules moves d (entries_body bodies place (drop (i + 1) xs) End)
+
+        os_are : offers eq rules moves d (entries_body bodies place (drop i xs) End) ≡ added ++ next
+        os_are = entry_at eq rules moves bodies place d xs i (Include mode links) within is
+
+        rest : (k.kept ++ added) ++ next ≡ k.kept ++ offers eq rules moves d (entries_body bodies place (drop i xs) End)
+        rest = append-inner k.kept added next ∙ ap (λ os. k.kept ++ os) (sym os_are)
+
+        found : Covers eq laws k.kept added
+        found = l.covers stands.at (mode, links.items) stands.from stands.before stands.is stands.weak
+
+        earlier : Past eq rules moves bodies place k.all (mode, links.items)
+        earlier = k.past stands.at (mode, links.items) stands.before stands.is

@@ -27,7 +27,7 @@ widened-keeps Override Replace strong a b u v e = refl
 widened-keeps Replace n strong a b u v e = refl
 
 module _ {K C V W : Type 0} (eq : K → K → Bool) (k : K) (step : Offer K C V → W → W) where
-  behind-append : (w : W) (os ps : List (Offer K C V)) → behind eq k step w (os ++ ps) ≡ behind eq k step (behind eq k step w os) ps
+  pub behind-append : (w : W) (os ps : List (Offer K C V)) → behind eq k step w (os ++ ps) ≡ behind eq k step (behind eq k step w os) ps
   behind-append w [] ps = refl
   behind-append w (o ∷ os) ps = behind-append (cond (is_about eq k o) (step o w) w) os ps
 
@@ -78,7 +78,7 @@ module _ {K C V W : Type 0} (eq : K → K → Bool) (k : K) (step : Offer K C V 
         ∙ sym (split-behind w os xs ps)
 
 module _ {K C V : Type 0} (eq : K → K → Bool) (laws : IsEquivalence eq) where
-  named-more : (ks : List K) (xs os : List (Offer K C V)) → Named eq laws ks xs → Named eq laws (names_behind eq ks os) xs
+  pub named-more : (ks : List K) (xs os : List (Offer K C V)) → Named eq laws ks xs → Named eq laws (names_behind eq ks os) xs
   named-more ks [] os no_name = no_name
   named-more ks (x ∷ xs) os (a_name here rest) = a_name (still-named eq laws x.name ks os here) (named-more ks xs os rest)
 

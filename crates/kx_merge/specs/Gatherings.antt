@@ -1,5 +1,5 @@
 -- What going over a part of a body makes of records.
-use Rattle.std.specs.Prelude.{◌≡◌, ◌<◌, Bool, true, ℕ, List, [], ◌∷◌, ◌++◌, slice_get, Option, Some, Result, Ok, Err, IfErr, OnOk, Contains}
+use Rattle.std.specs.Prelude.{◌≡◌, ◌<◌, ◌≤◌, Bool, true, false, ℕ, List, [], ◌∷◌, ◌++◌, length, slice_get, Option, Some, Result, Ok, Err, IfErr, OnOk, Contains}
 use Rattle.std.specs.Option.{option_map}
 use Rattle.indexmap.specs.IndexMap.{get, keys}
 use Rattle.kx_lex.specs.declared.fault.Fault.{Fault}
@@ -14,8 +14,8 @@ use Rattle.kx_parse.specs.declared.tree.Mode.{Mode}
 use Rattle.kx_parse.specs.declared.tree.Mode.TheVariants.{Augment}
 use Rattle.kx_merge.specs.declared.gathering.Merged.{Merged}
 use Rattle.kx_merge.specs.Bodies.{Rules, Moves, gathered, offers_of, faults_of}
-use Rattle.kx_merge.specs.Offers.{Offer, is_strong}
-use Rattle.kx_merge.specs.Records.{Shows}
+use Rattle.kx_merge.specs.Offers.{Offer, is_replace, is_strong}
+use Rattle.kx_merge.specs.Records.{Shows, mode_of}
 
 module _ {K C V R : Type 0} (cell : R → C → Option V) (width : R → ℕ → ℕ) (eq : K → K → Bool) where
   -- records take up offers, unless a fault among some is met
@@ -74,3 +74,29 @@ pub record StandsBetween (es : List Entry) (place : ℕ) (included : Mode × Lis
   pub last : ℕ
   pub behind : place < last
   pub last_is : included_at es last ≡ Some included
+
+-- none of the offers takes back what stands before it
+pub data AreGentle {K C V : Type 0} : List (Offer K C V) → Type 0 where
+  none : AreGentle []
+  more : {o : Offer K C V} {os : List (Offer K C V)} → is_replace o.mode ≡ false → AreGentle os → AreGentle (o ∷ os)
+
+abbrev pub entry_mode : Entry → Mode
+entry_mode (Own item) = mode_of item.now
+entry_mode (Include mode links) = mode
+
+-- an include under augment stands before a place, and not before another
+pub record StandsSince (es : List Entry) (since place : ℕ) (included : Mode × List Link) : Type 0 where
+  pub some : 1 ≤ length included.1
+  pub weak : is_strong included.0 ≡ false
+  pub at : ℕ
+  pub from : since ≤ at
+  pub before : at < place
+  pub is : included_at es at ≡ Some included
+
+-- the same of a part of an include's text
+pub record PartStandsSince (ls : List Link) (since place : ℕ) (link : Link) : Type 0 where
+  pub weak : is_strong link.mode ≡ false
+  pub at : ℕ
+  pub from : since ≤ at
+  pub before : at < place
+  pub is : slice_get ls at ≡ Some link

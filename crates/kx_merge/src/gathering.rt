@@ -1,15 +1,16 @@
-ghost use Rattle.std.specs.Prelude.{◌≡◌, ◌++◌, ◌∷◌, [], List, Contains, IfOk, OnOk, IfErr, IsTrue};
+ghost use Rattle.std.specs.Prelude.{◌≡◌, ◌+◌, ◌<◌, ◌^◌, ◌++◌, ◌∷◌, [], List, Contains, IfOk, OnOk, IfErr, IsTrue, false, if◌then◌else◌};
 ghost use Rattle.indexmap.specs.IndexMap.{get, keys};
 ghost use Rattle.kx_include.specs.Expansion.{Body, End};
 ghost use Rattle.kx_include.specs.Shared.{bodies_behind, body_at, expanded_body, links_body, shared_body};
 ghost use Rattle.kx_lex.specs.declared.fault.Fault.TheVariants.{Memory};
 ghost use Rattle.kx_merge.specs.Bodies.{Rules, moved, gathered, faults_of, offers_of};
-ghost use Rattle.kx_merge.specs.Gatherings.{Adds, AddsBehind, AreGathered, IsGathered, entry_faults, entry_next, entry_offers, included_by};
+ghost use Rattle.kx_merge.specs.Gatherings.{Adds, AddsBehind, AreGathered, AreGentle, IsGathered, entry_faults, entry_mode, entry_next, entry_offers, included_by};
+ghost use Rattle.kx_merge.specs.Offers.{is_replace};
 ghost use Rattle.kx_merge.specs.Records.{Shows};
 
 use crate::fields::Fields;
-use crate::merging::{add_included, add_joined, merge_own};
-use crate::repeats::Repeats;
+use crate::merging::{add_included, add_joined, merge_own, mode_of};
+use crate::repeats::{PartRepeats, Repeats};
 use kx_include::{Entry, Expansion, Link, Map, Place};
 use kx_lex::Fault;
 use kx_ordered::{Again, Ordered};
@@ -90,7 +91,8 @@ fn gather_map<C, R: Fields<C>>(
 }
 
 /// What the items of a map make of records. An include that isn't under augment is passed over where the same stands before
-/// it and behind it: the one behind it gives the values, and the one before it the order.
+/// it and behind it: the one behind it gives the values, and the one before it the order. One under augment is passed over
+/// where the same stands before it, and nothing between takes a value back.
 fn merge_map<C, R: Fields<C>>(
     alloc: Global,
     context: &C,
@@ -103,23 +105,28 @@ fn merge_map<C, R: Fields<C>>(
         → Adds R.cell R.width R.Key.eq (keys records.old) (get R.Key.eq records.old) result (keys records.new) (get R.Key.eq records.new) (offers_of R.Key.eq (R.rules context.now) R.moves (shared_body bodies map.now End)) (faults_of R.Key.eq (R.rules context.now) R.moves (shared_body bodies map.now End)) }
 {
     let entries = map.entries.as_slice();
-    let repeats = Repeats::of(alloc, entries)?;
+    let mut repeats = Repeats::of(alloc, entries)?;
     let mut defaults = R::start(alloc, context);
     let mut last = Included {
         mode: Mode::Augment,
         links: &[],
     };
+    let mut since = 0;
     'entries: for place in 0..entries.len() {
         let entry = &entries[place];
         let included = included_by(entry);
         if repeats.stands_between(entries, place, included) {
             note_links::<C, R>(done, included.links, notes);
+        } else if repeats.stands_since(entries, since, place, included) {
+            note_links::<C, R>(done, included.links, notes);
+            last = included;
         } else {
             defaults = merge_entry::<C, R>(
                 alloc, context, done, map.place, last, entry, defaults, records, notes,
             )?;
             last = included;
         }
+        since = since_after(since, place, entry_mode(entry));
     }
     Ok(())
 }
@@ -147,6 +154,28 @@ pub(crate) fn included_by<'m>(entry: &'m Entry) -> Included<'m>
     }
 }
 
+/// The mode of an entry.
+fn entry_mode(entry: &Entry) -> Mode
+    ensures { result ≡ entry_mode entry.now }
+{
+    match entry {
+        Entry::Own(item) => mode_of(item),
+        Entry::Include { mode, .. } => *mode,
+    }
+}
+
+/// From which place on nothing takes a value back, once what stands at a place has this mode.
+fn since_after(since: usize, place: usize, mode: Mode) -> usize
+    requires { place < 2 ^ 63 }
+    ensures { result ≡ (if is_replace mode then place + 1 else since) }
+{
+    match mode {
+        Mode::Augment => since,
+        Mode::Override => since,
+        Mode::Replace => place + 1,
+    }
+}
+
 /// What an item makes of records, and the defaults after it. Where it includes what the item before it does, the records
 /// stay as they are.
 fn merge_entry<C, R: Fields<C>>(
@@ -163,6 +192,7 @@ fn merge_entry<C, R: Fields<C>>(
     ensures adds { (bodies : List Body) → AreGathered R.cell R.width R.Key.eq (R.rules context.now) R.moves done.now bodies
         → faults_of R.Key.eq (R.rules context.now) R.moves (links_body bodies last.entry.links.now) ≡ []
         → AddsBehind R.cell R.width R.Key.eq (gathered R.Key.eq last.entry.mode (offers_of R.Key.eq (R.rules context.now) R.moves (links_body bodies last.entry.links.now))) (keys records.old) (get R.Key.eq records.old) result (keys records.new) (get R.Key.eq records.new) (entry_offers R.Key.eq (R.rules context.now) R.moves bodies place defaults entry.now) (entry_faults R.Key.eq (R.rules context.now) R.moves bodies place defaults entry.now) }
+    ensures gentle { is_replace (entry_mode entry.now) ≡ false → OnOk result ((bodies : List Body) → AreGentle (entry_offers R.Key.eq (R.rules context.now) R.moves bodies place defaults entry.now)) }
     ensures next { IfOk result (λ d. d ≡ entry_next (R.rules context.now) defaults entry.now) }
 {
     match entry {
@@ -180,7 +210,7 @@ fn merge_entry<C, R: Fields<C>>(
     }
 }
 
-fn is_same_link(one: Link, other: Link) -> bool
+pub(crate) fn is_same_link(one: Link, other: Link) -> bool
     ensures { IsTrue result → one ≡ other }
 {
     one.mode == other.mode && one.group == other.group && one.map == other.map
@@ -200,6 +230,17 @@ pub(crate) fn are_same_links(some: &[Link], others: &[Link]) -> bool
     true
 }
 
+/// Adds what is noted with the map of a part.
+fn note_link<C, R: Fields<C>>(
+    done: &[Result<Merged<R::Key, R, R::Notes>, Fault>],
+    link: Link,
+    notes: &mut R::Notes,
+) {
+    if let Some(Ok(found)) = done.get(link.map) {
+        R::add_notes(notes, &found.notes);
+    }
+}
+
 /// Adds what is noted with the maps of some parts.
 fn note_links<C, R: Fields<C>>(
     done: &[Result<Merged<R::Key, R, R::Notes>, Fault>],
@@ -207,9 +248,7 @@ fn note_links<C, R: Fields<C>>(
     notes: &mut R::Notes,
 ) {
     for link in links {
-        if let Some(Ok(found)) = done.get(link.map) {
-            R::add_notes(notes, &found.notes);
-        }
+        note_link::<C, R>(done, *link, notes);
     }
 }
 
@@ -268,7 +307,8 @@ fn merge_joined<C, R: Fields<C>>(
     add_joined::<C, R>(alloc, records, mode, joined)
 }
 
-/// What the parts of an include make of records, each under its own mode.
+/// What the parts of an include make of records, each under its own mode. One under augment is passed over where the same
+/// stands before it, and nothing between takes a value back.
 fn merge_links<C, R: Fields<C>>(
     alloc: Global,
     done: &[Result<Merged<R::Key, R, R::Notes>, Fault>],
@@ -279,8 +319,17 @@ fn merge_links<C, R: Fields<C>>(
     ensures { (rules : Rules R.Key R.Cell R.Value R.Defaults) (bodies : List Body) → AreGathered R.cell R.width R.Key.eq rules R.moves done.now bodies
         → Adds R.cell R.width R.Key.eq (keys records.old) (get R.Key.eq records.old) result (keys records.new) (get R.Key.eq records.new) (offers_of R.Key.eq rules R.moves (links_body bodies links.now)) (faults_of R.Key.eq rules R.moves (links_body bodies links.now)) }
 {
-    'links: for link in links {
-        merge_link::<C, R>(alloc, done, link.mode, *link, records, notes)?;
+    let mut repeats = PartRepeats::new(alloc);
+    let mut since = 0;
+    'links: for place in 0..links.len() {
+        let link = links[place];
+        if repeats.stands_since(links, since, place, link) {
+            note_link::<C, R>(done, link, notes);
+        } else {
+            merge_link::<C, R>(alloc, done, link.mode, link, records, notes)?;
+            repeats.add(place, link)?;
+        }
+        since = since_after(since, place, link.mode);
     }
     Ok(())
 }

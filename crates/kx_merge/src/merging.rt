@@ -1,10 +1,10 @@
-ghost use Rattle.std.specs.Prelude.{◌≡◌, ◌++◌, ◌∷◌, [], List, IfOk, OnOk, IfErr};
+ghost use Rattle.std.specs.Prelude.{◌≡◌, ◌++◌, ◌∷◌, [], List, IfOk, OnOk, IfErr, false};
 ghost use Rattle.indexmap.specs.IndexMap.{get, keys};
 ghost use Rattle.kx_lex.specs.declared.fault.Fault.TheVariants.{Memory};
 ghost use Rattle.kx_merge.specs.Bodies.{moved, gather, gathered};
-ghost use Rattle.kx_merge.specs.Gatherings.{Adds};
+ghost use Rattle.kx_merge.specs.Gatherings.{Adds, AreGentle};
 ghost use Rattle.kx_merge.specs.Moved.{IsOfferedMoved};
-ghost use Rattle.kx_merge.specs.Offers.{Offer};
+ghost use Rattle.kx_merge.specs.Offers.{Offer, is_replace};
 ghost use Rattle.kx_merge.specs.Records.{AreOffered, IsGood, IsOffered, Shows, mode_of};
 
 use crate::fields::Fields;
@@ -154,6 +154,7 @@ pub(crate) fn merge_own<C, R: Fields<C>>(
     notes: &mut R::Notes,
 ) -> Result<R::Defaults, Fault>
     ensures adds { Adds R.cell R.width R.Key.eq (keys records.old) (get R.Key.eq records.old) result (keys records.new) (get R.Key.eq records.new) ((R.rules context.now).offers defaults place item.now) ((R.rules context.now).faults defaults place item.now) }
+    ensures gentle { is_replace (mode_of item.now) ≡ false → OnOk result (AreGentle ((R.rules context.now).offers defaults place item.now)) }
     ensures next { IfOk result (λ d. d ≡ (R.rules context.now).next defaults item.now) }
 {
     let given = R::read(alloc, context, &defaults, place, item, notes)?;

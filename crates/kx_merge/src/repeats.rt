@@ -1,9 +1,9 @@
-//! Includes that stand more than once in a map.
-ghost use Rattle.std.specs.Prelude.{◌≡◌, IfErr, IsTrue, Some};
+//! Includes that stand more than once in a map, and parts that stand more than once in the text of one.
+ghost use Rattle.std.specs.Prelude.{◌≡◌, IfErr, IsTrue, Some, slice_get};
 ghost use Rattle.kx_lex.specs.declared.fault.Fault.TheVariants.{Memory};
-ghost use Rattle.kx_merge.specs.Gatherings.{StandsBetween, included_at};
+ghost use Rattle.kx_merge.specs.Gatherings.{PartStandsSince, StandsBetween, StandsSince, included_at};
 
-use crate::gathering::{Included, are_same_links, included_by};
+use crate::gathering::{Included, are_same_links, included_by, is_same_link};
 use kx_include::{Entry, Link};
 use kx_lex::Fault;
 use kx_parse::Mode;
@@ -13,18 +13,25 @@ use std::collections::BTreeMap;
 /// Spreads numbers over 64 bits.
 const FACTOR: u64 = 0x9e37_79b9_7f4a_7c15;
 
-/// Where the first and the last of some includes stand.
+/// Where the first and the last of some includes stand, and the last one that was gone over.
 #[derive(Clone, Copy, Drop)]
 struct Places {
     first: usize,
     last: usize,
+    seen: Option<usize>,
 }
 
-/// Where the includes of a map stand that aren't under augment, by a number that equal ones share. Others may share it
-/// too, so what stands at a place is compared.
+/// Where the includes of a map stand, by a number that equal ones share. Others may share it too, so what stands at a place
+/// is compared.
 #[derive(Drop)]
 pub(crate) struct Repeats {
     places: BTreeMap<u64, Places>,
+}
+
+/// Where the parts under augment of an include's text stand that were gone over, by what tells them apart.
+#[derive(Drop)]
+pub(crate) struct PartRepeats {
+    places: BTreeMap<(usize, Option<u8>), usize>,
 }
 
 fn mode_number(mode: Mode) -> u64 {
@@ -65,7 +72,7 @@ fn add_place(
 ) -> Result<(), Fault>
     ensures { IfErr result (λ e. e ≡ Memory) }
 {
-    if included.mode == Mode::Augment {
+    if included.links.is_empty() {
         return Ok(());
     }
     let number = number_of(included);
@@ -78,6 +85,7 @@ fn add_place(
         Places {
             first: place,
             last: place,
+            seen: None,
         },
     )?;
     Ok(())
@@ -123,5 +131,82 @@ impl Repeats {
                     && stands_at(entries, places.last, included)
             }
         }
+    }
+
+    /// Whether an include under augment also stands before a place, and not before another. Notes that it stands there.
+    pub(crate) fn stands_since(
+        &mut self,
+        entries: &[Entry],
+        since: usize,
+        place: usize,
+        included: Included,
+    ) -> bool
+        ensures { IsTrue result → StandsSince entries.now since place (included.entry.mode, included.entry.links.now) }
+    {
+        if included.mode != Mode::Augment || included.links.is_empty() {
+            return false;
+        }
+        match self.seen(place, included) {
+            None => false,
+            Some(before) => {
+                since <= before && before < place && stands_at(entries, before, included)
+            }
+        }
+    }
+
+    /// Where an include was gone over last. Notes that it stands at a place.
+    fn seen(&mut self, place: usize, included: Included) -> Option<usize> {
+        match self.places.get_mut(&number_of(included)) {
+            None => None,
+            Some(places) => places.seen.replace(place),
+        }
+    }
+}
+
+fn part_stands_at(links: &[Link], place: usize, link: Link) -> bool
+    ensures { IsTrue result → slice_get links.now place ≡ Some link }
+{
+    match links.get(place) {
+        None => false,
+        Some(other) => is_same_link(*other, link),
+    }
+}
+
+impl PartRepeats {
+    pub(crate) fn new(alloc: Global) -> PartRepeats {
+        PartRepeats {
+            places: BTreeMap::new(alloc),
+        }
+    }
+
+    /// Whether a part under augment also stands before a place, and not before another.
+    pub(crate) fn stands_since(
+        &self,
+        links: &[Link],
+        since: usize,
+        place: usize,
+        link: Link,
+    ) -> bool
+        ensures { IsTrue result → PartStandsSince links.now since place link }
+    {
+        if link.mode != Mode::Augment {
+            return false;
+        }
+        match self.places.get(&(link.map, link.group)) {
+            None => false,
+            Some(before) => {
+                since <= *before && *before < place && part_stands_at(links, *before, link)
+            }
+        }
+    }
+
+    /// Notes that a part stands at a place.
+    pub(crate) fn add(&mut self, place: usize, link: Link) -> Result<(), Fault>
+        ensures { IfErr result (λ e. e ≡ Memory) }
+    {
+        if link.mode == Mode::Augment {
+            self.places.insert((link.map, link.group), place)?;
+        }
+        Ok(())
     }
 }

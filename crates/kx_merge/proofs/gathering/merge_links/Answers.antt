@@ -1,31 +1,50 @@
-use Rattle.std.proofs.Common.{◌+◌, get_or, drop, None}
+use Rattle.std.proofs.Common.{◌+◌, cond, get_or, drop, None, subst, sym}
 use Rattle.indexmap.specs.IndexMap.{get, keys}
 use Rattle.kx_include.specs.Shared.{links_body}
 use Rattle.kx_include.specs.declared.expansion.Link.{Link}
 use Rattle.kx_parse.specs.declared.tree.Mode.TheVariants.{Augment}
 use Rattle.kx_merge.specs.Bodies.{faults}
-use Rattle.kx_merge.proofs.Behind.{adds_passed, left_all, left_fault, left_step, link_at, link_blamed_at, read_again}
+use Rattle.kx_merge.specs.Offers.{is_replace}
+use Rattle.kx_merge.proofs.Behind.{adds_passed, left_fault, link_blamed_at, read_again}
+use Rattle.kx_merge.proofs.Parting.{Parted, parted_first, parted_on, parted_past}
 use Rattle.kx_merge.proofs.gathering.merge_links.Goals as goal
+use Rattle.kx_merge.proofs.gathering.merge_links.Goals.{then-stands_since, else-stands_since+in_ok-merge_link+in_ok-add}
 
 pub links-init : goal.links-init
-links-init g c = λ rules bodies are. left_all g.R.Fields.cell g.R.Fields.width g.R.Key.PartialEq.eq rules g.R.Fields.moves (keys c.args.records.now) (get g.R.Key.PartialEq.eq c.args.records.now) rules.start (links_body bodies c.args.links.now)
+links-init g c = λ rules bodies are. parted_first g.R.Fields.cell g.R.Fields.width g.R.Key.PartialEq.eq g.met.R.Key.Eq.laws rules g.R.Fields.moves bodies c.args.links.now (keys c.args.records.now) (get g.R.Key.PartialEq.eq c.args.records.now)
 
 pub returns-in_err-merge_link : goal.returns-in_err-merge_link
 returns-in_err-merge_link g c = λ rules bodies are.
     let xs = c.args.links.now in
-    let i = c.links.link-index in
+    let i = c.links.place in
     let none : Link = record { mode = Augment; group = None; map = 0 } in
     let x = get_or xs i none in
     adds_passed c.from_residual.result c.from_residual.ensures.1
-    (left_fault (faults g.R.Key.PartialEq.eq rules g.R.Fields.moves rules.start (links_body bodies (drop (i + 1) xs))) (c.links.invariant rules bodies are) (link_blamed_at g.R.Key.PartialEq.eq rules g.R.Fields.moves bodies xs i x c.links-test.true (read_again xs i none c.links-test.true)) (c.in_err-merge_link.ensures rules bodies are))
+    (left_fault (faults g.R.Key.PartialEq.eq rules g.R.Fields.moves rules.start (links_body bodies (drop (i + 1) xs))) (c.links.invariant rules bodies are).left (link_blamed_at g.R.Key.PartialEq.eq rules g.R.Fields.moves bodies xs i x c.links-test.true (read_again xs i none c.links-test.true)) (c.in_err-merge_link.ensures rules bodies are))
 
 pub links-preserved : goal.links-preserved
 links-preserved g c = λ rules bodies are.
+    let cell = g.R.Fields.cell in
+    let width = g.R.Fields.width in
     let eq = g.R.Key.PartialEq.eq in
+    let laws = g.met.R.Key.Eq.laws in
     let moves = g.R.Fields.moves in
     let xs = c.args.links.now in
-    let i = c.links.link-index in
+    let i = c.links.place in
     let none : Link = record { mode = Augment; group = None; map = 0 } in
     let x = get_or xs i none in
-    let is = read_again xs i none c.links-test.true in
-    left_step rules.start (links_body bodies (drop (i + 1) xs)) (c.links.invariant rules bodies are) (link_at eq rules moves bodies xs i x c.links-test.true is) (link_blamed_at eq rules moves bodies xs i x c.links-test.true is) (c.in_ok-merge_link.ensures rules bodies are)
+    let within = c.links-test.true in
+    let is = read_again xs i none within in
+    let p = c.links.invariant rules bodies are in
+    let old = c.args.records.now in
+    let new = c.if-stands_since in
+    let since = cond (is_replace x.mode) (i + 1) c.links.since in
+    subst (λ s. Parted cell width eq laws rules moves bodies xs (keys old) (get eq old) s (i + 1) (keys new.records) (get eq new.records)) (sym c.since_after-since.ensures)
+    (elim new.branch [
+      | then-stands_since w ↦
+          subst (λ records. Parted cell width eq laws rules moves bodies xs (keys old) (get eq old) since (i + 1) (keys records) (get eq records)) (sym w.records-is)
+          (parted_past cell width eq laws rules moves bodies xs x p within is (c.stands_since.ensures w.if-stands_since.true))
+      | else-stands_since+in_ok-merge_link+in_ok-add w ↦
+          subst (λ records. Parted cell width eq laws rules moves bodies xs (keys old) (get eq old) since (i + 1) (keys records) (get eq records)) (sym w.records-is)
+          (parted_on cell width eq laws rules moves bodies xs x p within is (w.in_ok-merge_link.ensures rules bodies are))
+    ])

@@ -1,0 +1,227 @@
+-- Offers under augment, once more, change nothing, where nothing between them takes a value back.
+use Rattle.std.proofs.Common.{◌≡◌, ℕ, Bool, true, false, cond, max, List, [], ◌∷◌, ◌++◌, map, Option, None, Some, Result, Ok, Err, OnOk, refl, sym, ap, ◌∙◌, subst, arith}
+use Rattle.kx_lex.specs.declared.fault.Fault.{Fault}
+use Rattle.std.proofs.lemmas.Bool.{false≢true}
+use Rattle.std.specs.Cmp.{IsEquivalence}
+use Rattle.std.specs.Option.{option_or, option_map_or}
+use Rattle.kx_parse.specs.declared.tree.Mode.{Mode}
+use Rattle.kx_parse.specs.declared.tree.Mode.TheVariants.{Augment, Override, Replace}
+use Rattle.kx_merge.specs.Bodies.{Moves, gather, gathered, moved, moved_to}
+use Rattle.kx_merge.specs.Gatherings.{AreGentle, none, more}
+use Rattle.kx_merge.specs.Offers.{Offer, is_about, is_replace, is_strong, taken, widened, value_of, width_of, names_behind, names_of}
+use Rattle.kx_merge.specs.Records.{AreOffered, Shows}
+use Rattle.kx_merge.specs.Records.AreOffered.{more as an_offered}
+use Rattle.kx_merge.proofs.Again.{Named, no_name, all-named, behind, named-again, take, value-behind, widen, width-behind}
+use Rattle.kx_merge.proofs.Movings.{append-inner}
+use Rattle.kx_merge.proofs.Precedence.{names_behind-append}
+use Rattle.kx_merge.proofs.Repeated.{behind-append, named-more}
+
+-- ---- Values and widths
+
+or-none : {X : Type 0} (a : Option X) → option_or a None ≡ a
+or-none None = refl
+or-none (Some x) = refl
+
+or-inner : {X : Type 0} (a b c : Option X) → option_or (option_or a b) c ≡ option_or a (option_or b c)
+or-inner None b c = refl
+or-inner (Some x) b c = refl
+
+or-same : {X : Type 0} (a b : Option X) → option_or (option_or a b) b ≡ option_or a b
+or-same (Some x) b = refl
+or-same None None = refl
+or-same None (Some x) = refl
+
+taken-weak : {X : Type 0} (m : Mode) → is_strong m ≡ false → (a b : Option X) → taken m a b ≡ option_or a b
+taken-weak Augment weak a b = refl
+taken-weak Override weak a b = absurd (false≢true (sym weak))
+taken-weak Replace weak a b = absurd (false≢true (sym weak))
+
+widened-weak : (m : Mode) → is_strong m ≡ false → (a b : ℕ) → widened m a b ≡ max a b
+widened-weak Augment weak a b = refl
+widened-weak Override weak a b = absurd (false≢true (sym weak))
+widened-weak Replace weak a b = absurd (false≢true (sym weak))
+
+-- a value that is there stays there
+taken-stays : {X : Type 0} (m : Mode) → is_replace m ≡ false → (a b y : Option X) → option_or a y ≡ a → option_or (taken m a b) y ≡ taken m a b
+taken-stays Augment gentle (Some x) b y e = refl
+taken-stays Augment gentle None None y e = e
+taken-stays Augment gentle None (Some x) y e = refl
+taken-stays Override gentle a None y e = e
+taken-stays Override gentle a (Some x) y e = refl
+taken-stays Replace gentle a b y e = absurd (false≢true (sym gentle))
+
+widened-stays : (m : Mode) → is_replace m ≡ false → (a b y : ℕ) → max a y ≡ a → max (widened m a b) y ≡ widened m a b
+widened-stays Augment gentle a b y e = omega (arith, e)
+widened-stays Override gentle a b y e = omega (arith, e)
+widened-stays Replace gentle a b y e = absurd (false≢true (sym gentle))
+
+gentle-mode : (m : Mode) → is_strong m ≡ false → is_replace m ≡ false
+gentle-mode Augment weak = refl
+gentle-mode Override weak = refl
+gentle-mode Replace weak = absurd (false≢true (sym weak))
+
+-- ---- Offers under augment
+
+module _ {K C V : Type 0} where
+  -- all of them are under augment
+  pub data AreWeak : List (Offer K C V) → Type 0 where
+    no_offer : AreWeak []
+    an_offer : {o : Offer K C V} {os : List (Offer K C V)} → is_strong o.mode ≡ false → AreWeak os → AreWeak (o ∷ os)
+
+  pub weak_gentle : (os : List (Offer K C V)) → AreWeak os → AreGentle os
+  weak_gentle [] no_offer = none
+  weak_gentle (o ∷ os) (an_offer weak rest) = more (gentle-mode o.mode weak) (weak_gentle os rest)
+
+  pub gentle_both : (os ps : List (Offer K C V)) → AreGentle os → AreGentle ps → AreGentle (os ++ ps)
+  gentle_both [] ps none after = after
+  gentle_both (o ∷ os) ps (more one rest) after = more one (gentle_both os ps rest after)
+
+  weak-both : (os ps : List (Offer K C V)) → AreWeak os → AreWeak ps → AreWeak (os ++ ps)
+  weak-both [] ps no_offer after = after
+  weak-both (o ∷ os) ps (an_offer one rest) after = an_offer one (weak-both os ps rest after)
+
+  module _ (eq : K → K → Bool) (mode : Mode) (inner : List (Offer K C V)) where
+    gentle-of : is_replace mode ≡ false → (ks : List K) → AreGentle (map (gather eq mode inner) ks)
+    gentle-of gentle [] = none
+    gentle-of gentle (k ∷ ks) = more gentle (gentle-of gentle ks)
+
+    weak-of : is_strong mode ≡ false → (ks : List K) → AreWeak (map (gather eq mode inner) ks)
+    weak-of weak [] = no_offer
+    weak-of weak (k ∷ ks) = an_offer weak (weak-of weak ks)
+
+    pub gentle_gathered : is_replace mode ≡ false → AreGentle (gathered eq mode inner)
+    gentle_gathered gentle = gentle-of gentle (names_of eq inner)
+
+    pub weak_gathered : is_strong mode ≡ false → AreWeak (gathered eq mode inner)
+    weak_gathered weak = weak-of weak (names_of eq inner)
+
+  module _ (moves : Moves K C) where
+    gentle-at : (n : ℕ) (o : Offer K C V) → is_replace o.mode ≡ false → (to : Option K) → AreGentle (option_map_or (λ k. moved_to moves n o k ∷ []) to [])
+    gentle-at n o gentle None = none
+    gentle-at n o gentle (Some k) = more gentle none
+
+    pub gentle_moved : (group : Option ℕ) (os : List (Offer K C V)) → AreGentle os → AreGentle (moved moves group os)
+    gentle_moved None os gentle = gentle
+    gentle_moved (Some n) [] none = none
+    gentle_moved (Some n) (o ∷ os) (more one rest) = gentle_both (option_map_or (λ k. moved_to moves n o k ∷ []) (moves.key n o.name) []) (moved moves (Some n) os) (gentle-at n o one (moves.key n o.name)) (gentle_moved (Some n) os rest)
+
+    weak-at : (n : ℕ) (o : Offer K C V) → is_strong o.mode ≡ false → (to : Option K) → AreWeak (option_map_or (λ k. moved_to moves n o k ∷ []) to [])
+    weak-at n o weak None = no_offer
+    weak-at n o weak (Some k) = an_offer weak no_offer
+
+    pub weak_moved : (group : Option ℕ) (os : List (Offer K C V)) → AreWeak os → AreWeak (moved moves group os)
+    weak_moved None os weak = weak
+    weak_moved (Some n) [] no_offer = no_offer
+    weak_moved (Some n) (o ∷ os) (an_offer one rest) = weak-both (option_map_or (λ k. moved_to moves n o k ∷ []) (moves.key n o.name) []) (moved moves (Some n) os) (weak-at n o one (moves.key n o.name)) (weak_moved (Some n) os rest)
+
+-- what holds, holds of an answer
+pub on_ok : {X P : Type 0} (r : Result X Fault) → P → OnOk r P
+on_ok (Ok x) p = p
+on_ok (Err e) p = tt
+
+-- records that are read under a mode
+pub offered_gentle : {K C V R : Type 0} {cell : R → C → Option V} {width : R → ℕ → ℕ} (mode : Mode) (rs : List (K × R)) (os : List (Offer K C V)) → is_replace mode ≡ false → AreOffered mode cell width rs os → AreGentle os
+offered_gentle mode [] [] gentle offered = none
+offered_gentle mode [] (o ∷ os) gentle offered = elim offered [ ]
+offered_gentle mode (r ∷ rs) [] gentle offered = elim offered [ ]
+offered_gentle mode (r ∷ rs) (o ∷ os) gentle (an_offered one rest) = more (ap is_replace one.mode_is ∙ gentle) (offered_gentle mode rs os gentle rest)
+
+-- ---- What offers leave covered
+
+module _ {K C V : Type 0} (eq : K → K → Bool) (k : K) where
+  weak-value : (c : C) (xs : List (Offer K C V)) → AreWeak xs → (w : Option V) → behind eq k (take eq k c) w xs ≡ option_or w (behind eq k (take eq k c) None xs)
+  unfolding take
+  weak-value c [] no_offer w = sym (or-none w)
+  weak-value c (o ∷ os) (an_offer weak rest) w = by (is_about eq k o) (weak-value c os rest)
+    where
+      left : Option V
+      left = behind eq k (take eq k c) None os
+
+      by : (b : Bool) → ((v : Option V) → behind eq k (take eq k c) v os ≡ option_or v left) → behind eq k (take eq k c) (cond b (taken o.mode w (o.value c)) w) os ≡ option_or w (behind eq k (take eq k c) (cond b (taken o.mode None (o.value c)) None) os)
+      by true next =
+          next (taken o.mode w (o.value c)) ∙ ap (λ v. option_or v left) (taken-weak o.mode weak w (o.value c)) ∙ or-inner w (o.value c) left
+          ∙ ap (option_or w) (sym (next (taken o.mode None (o.value c)) ∙ ap (λ v. option_or v left) (taken-weak o.mode weak None (o.value c))))
+      by false next = next w
+
+  weak-width : (g : ℕ) (xs : List (Offer K C V)) → AreWeak xs → (w : ℕ) → behind eq k (widen eq k g) w xs ≡ max w (behind eq k (widen eq k g) 0 xs)
+  unfolding widen
+  weak-width g [] no_offer w = omega arith
+  weak-width g (o ∷ os) (an_offer weak rest) w = by (is_about eq k o) (weak-width g os rest)
+    where
+      left : ℕ
+      left = behind eq k (widen eq k g) 0 os
+
+      by : (b : Bool) → ((v : ℕ) → behind eq k (widen eq k g) v os ≡ max v left) → behind eq k (widen eq k g) (cond b (widened o.mode w (o.width g)) w) os ≡ max w (behind eq k (widen eq k g) (cond b (widened o.mode 0 (o.width g)) 0) os)
+      by true next =
+          let first = next (widened o.mode w (o.width g)) ∙ ap (λ n. max n left) (widened-weak o.mode weak w (o.width g)) in
+          let none_first = next (widened o.mode 0 (o.width g)) ∙ ap (λ n. max n left) (widened-weak o.mode weak 0 (o.width g)) in
+          omega (arith, first, none_first)
+      by false next = next w
+
+  stays-value : (c : C) (os : List (Offer K C V)) → AreGentle os → (v y : Option V) → option_or v y ≡ v → option_or (behind eq k (take eq k c) v os) y ≡ behind eq k (take eq k c) v os
+  unfolding take
+  stays-value c [] none v y e = e
+  stays-value c (o ∷ os) (more gentle rest) v y e = stays-value c os rest (cond (is_about eq k o) (taken o.mode v (o.value c)) v) y (by (is_about eq k o))
+    where
+      by : (b : Bool) → option_or (cond b (taken o.mode v (o.value c)) v) y ≡ cond b (taken o.mode v (o.value c)) v
+      by true = taken-stays o.mode gentle v (o.value c) y e
+      by false = e
+
+  stays-width : (g : ℕ) (os : List (Offer K C V)) → AreGentle os → (v y : ℕ) → max v y ≡ v → max (behind eq k (widen eq k g) v os) y ≡ behind eq k (widen eq k g) v os
+  unfolding widen
+  stays-width g [] none v y e = e
+  stays-width g (o ∷ os) (more gentle rest) v y e = stays-width g os rest (cond (is_about eq k o) (widened o.mode v (o.width g)) v) y (by (is_about eq k o))
+    where
+      by : (b : Bool) → max (cond b (widened o.mode v (o.width g)) v) y ≡ cond b (widened o.mode v (o.width g)) v
+      by true = widened-stays o.mode gentle v (o.width g) y e
+      by false = e
+
+module _ {K C V : Type 0} (eq : K → K → Bool) (laws : IsEquivalence eq) where
+  -- whatever stands before, behind `kept` others that are under augment give nothing
+  pub record Covers (kept xs : List (Offer K C V)) : Type 0 where
+    pub values : (k : K) (c : C) (w : Option V) → option_or (behind eq k (take eq k c) w kept) (behind eq k (take eq k c) None xs) ≡ behind eq k (take eq k c) w kept
+    pub widths : (k : K) (g w : ℕ) → max (behind eq k (widen eq k g) w kept) (behind eq k (widen eq k g) 0 xs) ≡ behind eq k (widen eq k g) w kept
+    pub named : (ks : List K) → Named eq laws (names_behind eq ks kept) xs
+
+  pub covers_more : (kept added xs : List (Offer K C V)) → AreGentle added → Covers kept xs → Covers (kept ++ added) xs
+  covers_more kept added xs gentle covers = record {
+    values = λ k c w.
+        let y = behind eq k (take eq k c) None xs in
+        subst (λ v. option_or v y ≡ v) (sym (behind-append eq k (take eq k c) w kept added)) (stays-value eq k c added gentle (behind eq k (take eq k c) w kept) y (covers.values k c w));
+    widths = λ k g w.
+        let y = behind eq k (widen eq k g) 0 xs in
+        subst (λ v. max v y ≡ v) (sym (behind-append eq k (widen eq k g) w kept added)) (stays-width eq k g added gentle (behind eq k (widen eq k g) w kept) y (covers.widths k g w));
+    named = λ ks. subst (λ js. Named eq laws js xs) (sym (names_behind-append eq ks kept added)) (named-more eq laws (names_behind eq ks kept) xs added (covers.named ks));
+  }
+
+  pub covers_self : (kept xs : List (Offer K C V)) → AreWeak xs → Covers (kept ++ xs) xs
+  covers_self kept xs weak = record {
+    values = λ k c w.
+        let y = behind eq k (take eq k c) None xs in
+        let v = behind eq k (take eq k c) w kept in
+        subst (λ u. option_or u y ≡ u) (sym (behind-append eq k (take eq k c) w kept xs ∙ weak-value eq k c xs weak v)) (or-same v y);
+    widths = λ k g w.
+        let y = behind eq k (widen eq k g) 0 xs in
+        let v = behind eq k (widen eq k g) w kept in
+        subst (λ u. max u y ≡ u) (sym (behind-append eq k (widen eq k g) w kept xs ∙ weak-width eq k g xs weak v)) (omega arith);
+    named = λ ks. subst (λ js. Named eq laws js xs) (sym (names_behind-append eq ks kept xs)) (all-named eq laws (names_behind eq ks kept) xs);
+  }
+
+  -- what gives nothing is covered
+  pub covers_none : (kept : List (Offer K C V)) → Covers kept []
+  covers_none kept = record { values = λ k c w. or-none (behind eq k (take eq k c) w kept); widths = λ k g w. omega arith; named = λ ks. no_name }
+
+  module _ {R : Type 0} (cell : R → C → Option V) (width : R → ℕ → ℕ) where
+    -- so records that show what stands before show them too
+    pub covers_shown : (ns : List K) (at : K → Option R) (os kept xs : List (Offer K C V)) → AreWeak xs → Covers kept xs → Shows cell width eq ns at (os ++ kept) → Shows cell width eq ns at (os ++ (kept ++ xs))
+    covers_shown ns at os kept xs weak covers shows = subst (Shows cell width eq ns at) (append-inner os kept xs) (record {
+      names_are = shows.names_are ∙ sym (names_behind-append eq [] (os ++ kept) xs ∙ named-again eq laws (names_of eq (os ++ kept)) xs (subst (λ js. Named eq laws js xs) (sym (names_behind-append eq [] os kept)) (covers.named (names_of eq os))));
+      cells_are = λ k c.
+          let y = behind eq k (take eq k c) None xs in
+          let is = value-behind eq k c os kept in
+          shows.cells_are k c ∙ sym (value-behind eq k c (os ++ kept) xs ∙ weak-value eq k c xs weak (value_of eq (os ++ kept) k c) ∙ subst (λ v. option_or v y ≡ v) (sym is) (covers.values k c (value_of eq os k c)));
+      widths_are = λ k g.
+          let y = behind eq k (widen eq k g) 0 xs in
+          let is = width-behind eq k g os kept in
+          shows.widths_are k g ∙ sym (width-behind eq k g (os ++ kept) xs ∙ weak-width eq k g xs weak (width_of eq (os ++ kept) k g) ∙ subst (λ v. max v y ≡ v) (sym is) (covers.widths k g (width_of eq os k g)));
+    })
