@@ -1,12 +1,12 @@
 //! Actions as calls.
-use crate::sources::{bodies_of, library_of, modifiers_of};
 use cases_kit::{Case, Trouble};
+use crate::sources::{bodies_of, library_of, modifiers_of};
 use kx_actions::{ActionDefaults, KeyAction, read, real_action};
 use kx_include::Place;
 use kx_lex::Fault;
-use kx_masks::ModNames;
 use kx_mods::Mods;
 use kx_parse::{Call, Field, Item, Setting, Statement, Value};
+use kx_virtual_mods::ModNames;
 use std::alloc::Global;
 
 const SYMBOLS: Place = Place {

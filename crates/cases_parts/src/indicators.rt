@@ -1,7 +1,7 @@
 //! Indicators.
-use crate::sources::{bodies_of, library_of, modifiers_of, text_of};
 use cases_kit::{Case, Trouble};
-use kx_lamps::{Indicators, Lamp, indicators};
+use crate::sources::{bodies_of, library_of, modifiers_of, text_of};
+use kx_indicators::{Indicators, Lamp, indicators};
 use kx_lex::Fault;
 use std::alloc::Global;
 use std::fmt::Write;

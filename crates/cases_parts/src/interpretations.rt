@@ -1,10 +1,9 @@
 //! Interpretations, and which one is chosen.
-use crate::sources::{bodies_of, library_of, modifiers_of};
 use cases_kit::{Case, Trouble};
+use crate::sources::{bodies_of, library_of, modifiers_of};
 use ks_core::Notes;
 use kx_actions::KeyAction;
-use kx_choice::{Interpretation, Interpretations, WantedKeysym};
-use kx_compat::interpretations;
+use kx_compat::{Interpretation, Interpretations, WantedKeysym, interpretations};
 use kx_lex::Fault;
 use kx_mods::Mods;
 use std::alloc::Global;

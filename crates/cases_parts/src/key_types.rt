@@ -1,9 +1,9 @@
 //! Key types, and their rows.
-use crate::sources::{bodies_of, library_of, modifiers_of, text_of};
 use cases_kit::{Case, Trouble};
-use kx_levels::TypeRows;
+use crate::sources::{bodies_of, library_of, modifiers_of, text_of};
 use kx_lex::Fault;
 use kx_mods::Mods;
+use kx_resolve::TypeRows;
 use kx_types::{KeyType, Types, types};
 use std::alloc::Global;
 use std::fmt::Write;

@@ -1,15 +1,15 @@
 //! What statements of symbols say of the key of the code 38.
+use cases_kit::{Case, Trouble};
 use crate::settings;
 use crate::sources::{bodies_of, codes_of, library_of, modifiers_of};
-use cases_kit::{Case, Trouble};
 use ks_core::{NameTable, Notes};
 use kx_actions::KeyAction;
 use kx_codes::Codes;
 use kx_include::Bodies;
 use kx_lex::Fault;
-use kx_masks::ModNames;
 use kx_symbols::{KeyRecord, Keys, symbols};
 use kx_tables::GroupChange;
+use kx_virtual_mods::ModNames;
 use std::alloc::Global;
 use std::fmt::Write;
 

@@ -1,9 +1,9 @@
 //! Virtual modifiers, and sets that masks name.
-use crate::sources::{bodies_of, library_of, modifiers_of, text_of, tree_of};
 use cases_kit::{Case, Trouble};
+use crate::sources::{bodies_of, library_of, modifiers_of, text_of, tree_of};
 use kx_lex::Fault;
-use kx_masks::{MOST_VIRTUAL_MODIFIERS, ModNames};
 use kx_parse::{Expression, Item, Setting, Statement, Value};
+use kx_virtual_mods::{MOST_VIRTUAL_MODIFIERS, ModNames};
 use std::alloc::Global;
 use std::fmt::Write;
 

@@ -1,11 +1,11 @@
 //! What fields say of a key besides its lists.
-use crate::sources::{bodies_of, library_of, modifiers_of, text_of};
 use cases_kit::{Case, Trouble};
+use crate::sources::{bodies_of, library_of, modifiers_of, text_of};
 use kx_include::Place;
+use kx_key_fields::{KeyDefaults, KeySettings, check_default, read_settings};
 use kx_lex::Fault;
-use kx_masks::ModNames;
 use kx_parse::{Item, Statement};
-use kx_settings::{KeyDefaults, KeySettings, check_default, read_settings};
+use kx_virtual_mods::ModNames;
 use std::alloc::Global;
 use std::fmt::Write;
 

@@ -3,8 +3,8 @@ use cases_kit::Case;
 use kx_codes::{Codes, codes};
 use kx_include::{Bodies, Library};
 use kx_lex::{Fault, lex};
-use kx_masks::ModNames;
 use kx_parse::{Tree, parse};
+use kx_virtual_mods::ModNames;
 use std::alloc::Global;
 
 pub fn tree_of(alloc: Global, text: &[u8]) -> Result<Box<Tree>, Fault> {

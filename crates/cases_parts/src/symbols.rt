@@ -1,13 +1,13 @@
 //! Names of groups, and modifier maps.
-use crate::sources::{bodies_of, codes_of, library_of, modifiers_of, text_of};
 use cases_kit::{Case, Trouble};
+use crate::sources::{bodies_of, codes_of, library_of, modifiers_of, text_of};
 use ks_core::{NameTable, Notes};
 use kx_codes::Codes;
-use kx_groups::{GroupNames, group_names};
+use kx_group_names::{GroupNames, group_names};
 use kx_include::Bodies;
 use kx_lex::Fault;
-use kx_masks::ModNames;
 use kx_modmaps::{ModifierMaps, modifier_maps};
+use kx_virtual_mods::ModNames;
 use std::alloc::Global;
 use std::fmt::Write;
 

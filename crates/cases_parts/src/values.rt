@@ -1,10 +1,10 @@
 //! What values of fields have in common.
-use crate::sources::library_of;
 use cases_kit::{Case, Trouble};
+use crate::sources::library_of;
 use kx_include::{Library, Place};
 use kx_lex::Fault;
+use kx_merge::{Counted, expression_of, lone_word, unknown_field};
 use kx_parse::{Expression, Field, Item, Statement};
-use kx_values::{Counted, expression_of, lone_word, unknown_field};
 use std::alloc::Global;
 
 const SYMBOLS: Place = Place {

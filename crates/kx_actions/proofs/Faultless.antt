@@ -2,7 +2,7 @@
 use Rattle.std.proofs.Common.{◌≡◌, ℕ, ◌<◌, Bool, true, false, ◌&&◌, List, [], ◌∷◌, ◌++◌, Contains, None, Some, cond, is_some, nat_le, refl, sym, ap, ◌∙◌, arith}
 use Rattle.std.specs.List.{flat_map}
 use Rattle.kx_lex.specs.declared.fault.Fault.{Fault}
-use Rattle.kx_masks.specs.Masks.{mask_faults, mask_set, operation_faults, term_faults, word_faults, word_set}
+use Rattle.kx_virtual_mods.specs.Masks.{mask_faults, mask_set, operation_faults, term_faults, word_faults, word_set}
 use Rattle.kx_parse.specs.declared.tree.Expression.{Expression}
 use Rattle.kx_parse.specs.declared.tree.Operation.{Operation}
 use Rattle.kx_parse.specs.declared.tree.Term.{Term}

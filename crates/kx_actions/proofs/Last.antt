@@ -9,8 +9,8 @@ use Rattle.kx_tables.specs.declared.rows.GroupChange.{GroupChange}
 use Rattle.kx_actions.specs.Defaults.{default_for, default_given, defaulted, defaults_behind, given_as, is_same, kind_of, next_defaults, next_for, no_defaults, settings_for, taken_up}
 use Rattle.kx_actions.specs.Settings.{given_affect, given_clear_locks, given_group, given_latch_to_lock, given_modifiers, last_settings, no_settings, with_given}
 use Rattle.kx_actions.specs.Values.{member_given, setting_given, unindexed}
-use Rattle.kx_values.specs.Last.{last_given}
-use Rattle.kx_values.specs.Words.{among}
+use Rattle.kx_merge.specs.Last.{last_given}
+use Rattle.kx_merge.specs.Words.{among}
 use Rattle.kx_actions.specs.Words.{argument_words, of_kind}
 use Rattle.kx_actions.specs.declared.action.ActionMods.{ActionMods}
 use Rattle.kx_actions.specs.declared.action.Affect.{Affect}

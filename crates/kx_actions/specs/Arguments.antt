@@ -18,7 +18,7 @@ use Rattle.kx_parse.specs.declared.tree.Value.TheVariants.{Expression as Express
 use Rattle.kx_tables.specs.declared.rows.GroupChange.TheVariants.{Relative}
 use Rattle.kx_actions.specs.Defaults.{settings_for}
 use Rattle.kx_actions.specs.Settings.{last_settings}
-use Rattle.kx_values.specs.Words.{among, lone_word}
+use Rattle.kx_merge.specs.Words.{among, lone_word}
 use Rattle.kx_actions.specs.Values.{member_faults, member_given}
 use Rattle.kx_actions.specs.Words.{kind_words}
 use Rattle.kx_actions.specs.declared.action.ActionMods.TheVariants.{Named}

@@ -1,7 +1,7 @@
 -- The row of tables that an action becomes on a key.
 use Rattle.std.specs.Prelude.{◌≡◌, ℕ, Bool, ◌||◌, List}
-use Rattle.kx_masks.specs.Sets.{has, real_of}
-use Rattle.kx_masks.specs.Standing.{stands_for}
+use Rattle.kx_virtual_mods.specs.Sets.{has, real_of}
+use Rattle.kx_virtual_mods.specs.Standing.{stands_for}
 use Rattle.kx_mods.specs.Mods.{mask}
 use Rattle.kx_mods.specs.declared.mods.Mods.{Mods}
 use Rattle.kx_tables.specs.declared.rows.Action.{Action}

@@ -8,7 +8,7 @@ use Rattle.kx_lex.specs.declared.name.Name.{Name}
 use Rattle.kx_parse.specs.declared.tree.Field.{Field}
 use Rattle.kx_actions.specs.Settings.{last_settings, no_settings, with_given}
 use Rattle.kx_actions.specs.Values.{member_faults, member_given}
-use Rattle.kx_values.specs.Words.{among}
+use Rattle.kx_merge.specs.Words.{among}
 use Rattle.kx_actions.specs.Words.{kind_words}
 use Rattle.kx_actions.specs.declared.defaults.ActionDefaults.{ActionDefaults}
 use Rattle.kx_actions.specs.declared.kinds.ActionKind.{ActionKind}

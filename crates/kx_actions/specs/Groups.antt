@@ -9,9 +9,9 @@ use Rattle.kx_parse.specs.declared.tree.Term.{Term}
 use Rattle.kx_parse.specs.declared.tree.Term.TheVariants.{Number, Signed, Word}
 use Rattle.kx_tables.specs.declared.rows.GroupChange.{GroupChange}
 use Rattle.kx_tables.specs.declared.rows.GroupChange.TheVariants.{Absolute, Relative}
-use Rattle.kx_values.specs.Numbers.{word_number}
-use Rattle.kx_values.specs.Words.{single}
-use Rattle.kx_values.specs.declared.numbers.Counted.TheVariants.{Group}
+use Rattle.kx_merge.specs.Numbers.{word_number}
+use Rattle.kx_merge.specs.Words.{single}
+use Rattle.kx_merge.specs.declared.numbers.Counted.TheVariants.{Group}
 
 -- a group as it is written: its sign, where it has one, and its number
 abbrev pub Written : Type 0

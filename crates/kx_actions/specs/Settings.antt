@@ -2,7 +2,7 @@
 use Rattle.std.specs.Prelude.{Bool, List, Option, None, Some}
 use Rattle.std.specs.Option.{option_and_then, option_or}
 use Rattle.kx_tables.specs.declared.rows.GroupChange.{GroupChange}
-use Rattle.kx_values.specs.Last.{last_given}
+use Rattle.kx_merge.specs.Last.{last_given}
 use Rattle.kx_actions.specs.declared.action.ActionMods.{ActionMods}
 use Rattle.kx_actions.specs.declared.action.Affect.{Affect}
 use Rattle.kx_actions.specs.declared.settings.Given.{Given}

@@ -3,7 +3,7 @@ use Rattle.std.specs.Prelude.{ℕ, Bool, List, [], ◌∷◌, Option, None, Some
 use Rattle.std.specs.List.{list_any}
 use Rattle.std.specs.Option.{option_and_then}
 use Rattle.kx_actions.specs.contracts.kinds.ActionFieldPartialEq.TheImpl.{ghosts}
-use Rattle.kx_values.specs.Words.{among}
+use Rattle.kx_merge.specs.Words.{among}
 use Rattle.kx_actions.specs.declared.kinds.ActionField.{ActionField}
 use Rattle.kx_actions.specs.declared.kinds.ActionField.TheVariants as fields
 use Rattle.kx_actions.specs.declared.kinds.ActionKind.{ActionKind}

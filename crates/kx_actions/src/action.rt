@@ -3,8 +3,8 @@ ghost use Rattle.std.specs.Prelude.{◌≡◌, true};
 ghost use Rattle.kx_tables.specs.Sound.{GroupChangeHolds};
 ghost use Rattle.kx_tables.specs.declared.rows.GroupChange.TheVariants.{Absolute, Relative};
 
-use kx_masks::NameSet;
 use kx_tables::GroupChange;
+use kx_virtual_mods::NameSet;
 use std::marker::Model;
 
 /// The modifiers that an action is about.

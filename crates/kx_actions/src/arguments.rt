@@ -11,10 +11,10 @@ use crate::kinds::{ActionKind, kind_named};
 use crate::settings::{Given, Settings};
 use crate::values::{flag_given, known_field, value_given};
 use kx_lex::Fault;
-use kx_masks::{ModNames, NameSet};
+use kx_merge::{bad_value, lone_word};
 use kx_parse::{Argument, Call, PlacedArgument};
 use kx_tables::GroupChange;
-use kx_values::{bad_value, lone_word};
+use kx_virtual_mods::{ModNames, NameSet};
 
 fn read_argument(
     names: &ModNames,

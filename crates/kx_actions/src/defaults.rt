@@ -8,9 +8,9 @@ use crate::kinds::{ActionKind, kind_named};
 use crate::settings::{Given, Settings};
 use crate::values::{flag_given, known_field, value_given};
 use kx_lex::{At, Fault, Name};
-use kx_masks::ModNames;
+use kx_merge::bad_value;
 use kx_parse::{Field, Setting, Value};
-use kx_values::bad_value;
+use kx_virtual_mods::ModNames;
 
 /// What the default statements of a section give the arguments of actions.
 #[derive(Clone, Copy, Debug, PartialEq, Eq)]

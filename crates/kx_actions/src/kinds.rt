@@ -1,6 +1,6 @@
 //! The words of actions and of their arguments.
 ghost use Rattle.std.specs.Prelude.{◌≡◌, is_some};
-ghost use Rattle.kx_values.specs.Words.{among};
+ghost use Rattle.kx_merge.specs.Words.{among};
 ghost use Rattle.kx_actions.specs.Words.{argument_words, field_of, has_field, kind_words};
 
 /// The actions whose arguments have a meaning.

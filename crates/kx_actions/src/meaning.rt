@@ -1,14 +1,14 @@
 //! The rows of tables that actions become.
 ghost use Rattle.std.specs.Prelude.{◌≡◌, ℕ};
-ghost use Rattle.kx_masks.specs.Sets.{has};
+ghost use Rattle.kx_virtual_mods.specs.Sets.{has};
 ghost use Rattle.kx_mods.specs.Mods.{mask};
 ghost use Rattle.kx_tables.specs.Sound.{ActionHolds};
 ghost use Rattle.kx_actions.specs.Becoming.{AreMods, Becomes, does_lock, does_unlock};
 
 use crate::action::{ActionMods, Affect, KeyAction};
-use kx_masks::real_of;
 use kx_mods::Mods;
 use kx_tables::Action;
+use kx_virtual_mods::real_of;
 
 fn real_mods(mods: ActionMods, modmap: Mods, stands: &[Mods]) -> Mods
     ensures { AreMods modmap stands.now mods result }

@@ -5,7 +5,7 @@ ghost use Rattle.std.specs.Result.{result_ok};
 ghost use Rattle.kx_include.specs.IncludeFaults.{at};
 ghost use Rattle.kx_lex.specs.declared.fault.Fault.TheVariants.{BadValue, UnknownField};
 ghost use Rattle.kx_actions.specs.Groups.{change_of, term_written, written};
-ghost use Rattle.kx_values.specs.Words.{among, meaning_among, truth_words};
+ghost use Rattle.kx_merge.specs.Words.{among, meaning_among, truth_words};
 ghost use Rattle.kx_actions.specs.Values.{affect_words, bad_unless, flag_given, is_modmap, known_field, mods_faults, mods_of, value_faults, value_given, written_faults};
 
 use crate::action::{ActionGroup, ActionMods, Affect};
@@ -13,9 +13,9 @@ use crate::groups::{absolute, relative};
 use crate::kinds::{ActionField, ActionKind};
 use crate::settings::Given;
 use kx_lex::{At, Fault, Name, Span};
-use kx_masks::ModNames;
+use kx_merge::{Counted, bad_value, lone_word, truth_named};
 use kx_parse::{Boxed, Expression, Index, Term};
-use kx_values::{Counted, bad_value, lone_word, truth_named};
+use kx_virtual_mods::ModNames;
 
 fn affect_named(word: &[u8]) -> Option<Affect>
     ensures { result ≡ among affect_words word.now }

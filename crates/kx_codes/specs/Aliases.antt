@@ -14,7 +14,7 @@ use Rattle.kx_parse.specs.declared.tree.Item.TheVariants.{Include, Statement}
 use Rattle.kx_parse.specs.declared.tree.Mode.{Mode}
 use Rattle.kx_parse.specs.declared.tree.Statement.{Statement as Said}
 use Rattle.kx_parse.specs.declared.tree.Statement.TheVariants.{Alias}
-use Rattle.kx_values.specs.Faults.{name_faults}
+use Rattle.kx_merge.specs.Faults.{name_faults}
 
 -- an alias has one cell, its target
 abbrev pub AliasOffer : Type 0

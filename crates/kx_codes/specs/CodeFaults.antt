@@ -13,7 +13,7 @@ use Rattle.kx_parse.specs.declared.tree.Statement.{Statement as Said}
 use Rattle.kx_parse.specs.declared.tree.Statement.TheVariants.{Keycode, Alias, IndicatorName, Field}
 use Rattle.kx_include.specs.Expansion.{Body, End, Begin, Own, Inc}
 use Rattle.kx_include.specs.IncludeFaults.{at}
-use Rattle.kx_values.specs.Faults.{name_faults}
+use Rattle.kx_merge.specs.Faults.{name_faults}
 
 -- the fields that are read and not used
 abbrev pub is_limit : FieldPlace → Bool

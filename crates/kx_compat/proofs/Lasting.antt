@@ -1,7 +1,7 @@
 -- Fields that are given one after another have what the last gives.
 use Rattle.std.proofs.Common.{◌≡◌, ℕ, ◌+◌, ◌<◌, Bool, List, ◌∷◌, length, drop, get_or, Option, None, Some, refl, sym, ap, ◌∙◌}
 use Rattle.std.specs.Option.{option_and_then, option_or}
-use Rattle.kx_values.specs.Last.{last_given}
+use Rattle.kx_merge.specs.Last.{last_given}
 use Rattle.kx_actions.specs.declared.action.KeyAction.{KeyAction}
 use Rattle.kx_compat.specs.Given.{FieldValues}
 use Rattle.kx_compat.specs.Giving.{last_values, value_action, value_first_level_only, value_modifier, with_value}

@@ -1,3 +1,7 @@
+mod Firsts
+mod Kept
+mod Parting
+pub mod Same
 mod Behind
 mod Going
 mod Lasting

@@ -9,11 +9,11 @@ use Rattle.kx_actions.specs.declared.action.KeyAction.{KeyAction}
 use Rattle.kx_include.specs.Expansion.{Body}
 use Rattle.kx_merge.specs.Bodies.{offers_of}
 use Rattle.kx_merge.specs.Records.{Shows, cell_in}
-use Rattle.kx_choice.specs.Interpretations.{Interpretation}
-use Rattle.kx_choice.specs.Triggers.{same_trigger}
-use Rattle.kx_choice.specs.contracts.trigger.TriggerPartialEq.TheImpl.{ghosts}
-use Rattle.kx_choice.specs.declared.trigger.Trigger.{Trigger}
-use Rattle.kx_choice.proofs.Same.{told_as_said}
+use Rattle.kx_compat.specs.Interpretations.{Interpretation}
+use Rattle.kx_compat.specs.SameMatch.{same_trigger}
+use Rattle.kx_compat.specs.contracts.trigger.TriggerPartialEq.TheImpl.{ghosts}
+use Rattle.kx_compat.specs.declared.trigger.Trigger.{Trigger}
+use Rattle.kx_compat.proofs.Same.{told_as_said}
 use Rattle.kx_compat.specs.Given.{FieldValues}
 use Rattle.kx_compat.specs.Giving.{no_values, value_action, value_first_level_only, value_modifier, values_cell, values_width, interpretation_with}
 use Rattle.kx_compat.specs.Meaning.{compat_moves, compat_rules, interpretation_by, interpretation_offers, interpretations_of}

@@ -7,7 +7,7 @@ use Rattle.kx_parse.specs.declared.tree.Field.{Field}
 use Rattle.kx_parse.specs.declared.tree.Mode.{Mode}
 use Rattle.kx_parse.specs.declared.tree.Predicate.{Predicate}
 use Rattle.kx_parse.specs.declared.tree.Symbol.{Symbol}
-use Rattle.kx_choice.specs.declared.trigger.Trigger.{Trigger}
+use Rattle.kx_compat.specs.declared.trigger.Trigger.{Trigger}
 use Rattle.kx_compat.specs.Given.{FieldValues}
 use Rattle.kx_compat.specs.Giving.{values_cell, values_width}
 use Rattle.kx_compat.specs.Meaning.{InterpretationOffer, offers_to, said_offers, values_offer}

@@ -2,11 +2,11 @@
 use Rattle.std.proofs.Common.{ℕ, List, Option, None, Some, map}
 use Rattle.std.specs.List.{IsDistinct}
 use Rattle.ks_core.specs.Entry.{Entry}
-use Rattle.kx_masks.specs.Once.{OffersOnce}
+use Rattle.kx_virtual_mods.specs.Once.{OffersOnce}
 use Rattle.kx_parse.specs.declared.tree.Item.TheVariants.{Include, Statement}
 use Rattle.kx_parse.specs.declared.tree.Mode.{Mode}
-use Rattle.kx_choice.specs.Triggers.{same_trigger}
-use Rattle.kx_choice.specs.declared.trigger.Trigger.{Trigger}
+use Rattle.kx_compat.specs.SameMatch.{same_trigger}
+use Rattle.kx_compat.specs.declared.trigger.Trigger.{Trigger}
 use Rattle.kx_compat.specs.Given.{FieldValues}
 use Rattle.kx_compat.specs.Meaning.{InterpretationOffer, compat_rules, offers_to, said_offers}
 use Rattle.kx_compat.specs.Sections.{Interpreted, interpretation_in, values_of}

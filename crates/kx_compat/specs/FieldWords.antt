@@ -9,7 +9,7 @@ use Rattle.kx_lex.specs.declared.fault.Fault.{Fault}
 use Rattle.kx_lex.specs.declared.fault.Fault.TheVariants.{BadValue, UnknownField, UnknownModifier}
 use Rattle.kx_lex.specs.declared.name.Name.{Name}
 use Rattle.kx_lex.specs.declared.token.Span.{Span}
-use Rattle.kx_masks.specs.Masks.{real_mask, virtual_number}
+use Rattle.kx_virtual_mods.specs.Masks.{real_mask, virtual_number}
 use Rattle.kx_parse.specs.declared.tree.Call.{Call}
 use Rattle.kx_parse.specs.declared.tree.Expression.{Expression}
 use Rattle.kx_parse.specs.declared.tree.Field.{Field}
@@ -17,8 +17,8 @@ use Rattle.kx_parse.specs.declared.tree.Index.{Index}
 use Rattle.kx_parse.specs.declared.tree.Setting.{Setting}
 use Rattle.kx_parse.specs.declared.tree.Setting.TheVariants.{Off, On, To}
 use Rattle.kx_parse.specs.declared.tree.Value.TheVariants.{Expression as Expressed, Call as Called, List as Listed}
-use Rattle.kx_values.specs.Faults.{expression_in, value_faults}
-use Rattle.kx_values.specs.Words.{among, lone_word, meaning_among}
+use Rattle.kx_merge.specs.Faults.{expression_in, value_faults}
+use Rattle.kx_merge.specs.Words.{among, lone_word, meaning_among}
 use Rattle.kx_compat.specs.declared.fields.InterpretField.{InterpretField}
 use Rattle.kx_compat.specs.declared.fields.InterpretField.TheVariants as fields
 use Rattle.kx_compat.specs.declared.values.FieldValue.{FieldValue}

@@ -1,10 +1,10 @@
 -- What the fields of an interpretation are given: the last of several that give one, and by mode.
 use Rattle.std.specs.Prelude.{Bool, false, ℕ, List, Option, None, Some, unwrap_or}
 use Rattle.std.specs.Option.{option_and_then, option_map, option_or}
-use Rattle.kx_values.specs.Last.{last_given}
+use Rattle.kx_merge.specs.Last.{last_given}
 use Rattle.kx_actions.specs.declared.action.KeyAction.{KeyAction}
-use Rattle.kx_choice.specs.Interpretations.{Interpretation}
-use Rattle.kx_choice.specs.declared.trigger.Trigger.{Trigger}
+use Rattle.kx_compat.specs.Interpretations.{Interpretation}
+use Rattle.kx_compat.specs.declared.trigger.Trigger.{Trigger}
 use Rattle.kx_compat.specs.declared.values.Cell.{Cell}
 use Rattle.kx_compat.specs.declared.values.Cell.TheVariants as cells
 use Rattle.kx_compat.specs.declared.values.FieldValue.{FieldValue}

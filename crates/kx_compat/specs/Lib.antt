@@ -1,3 +1,7 @@
+pub mod SameMatch
+pub mod Interpretations
+pub mod Choosing
+pub mod Indexed
 pub mod Triggers
 pub mod FieldWords
 pub mod Given

@@ -9,9 +9,9 @@ use Rattle.kx_merge.specs.Offers.{Offer, names_of, value_of, plain_offer}
 use Rattle.kx_parse.specs.declared.tree.Item.{Item}
 use Rattle.kx_parse.specs.declared.tree.Item.TheVariants.{Include, Statement}
 use Rattle.kx_parse.specs.declared.tree.Mode.{Mode}
-use Rattle.kx_choice.specs.Interpretations.{Interpretation}
-use Rattle.kx_choice.specs.Triggers.{same_trigger}
-use Rattle.kx_choice.specs.declared.trigger.Trigger.{Trigger}
+use Rattle.kx_compat.specs.Interpretations.{Interpretation}
+use Rattle.kx_compat.specs.SameMatch.{same_trigger}
+use Rattle.kx_compat.specs.declared.trigger.Trigger.{Trigger}
 use Rattle.kx_compat.specs.Sections.{Interpreted, interpretation_in, item_faults, next_default, no_defaults, values_of}
 use Rattle.kx_compat.specs.Triggers.{trigger_of}
 use Rattle.kx_compat.specs.Giving.{values_cell, only}

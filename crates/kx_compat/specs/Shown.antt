@@ -1,9 +1,9 @@
 -- What records of interpretations hold.
 use Rattle.std.specs.Prelude.{unwrap_or}
 use Rattle.indexmap.specs.IndexMap.{IndexMap, get}
-use Rattle.kx_choice.specs.Interpretations.{Interpretation}
-use Rattle.kx_choice.specs.Triggers.{same_trigger}
-use Rattle.kx_choice.specs.declared.trigger.Trigger.{Trigger}
+use Rattle.kx_compat.specs.Interpretations.{Interpretation}
+use Rattle.kx_compat.specs.SameMatch.{same_trigger}
+use Rattle.kx_compat.specs.declared.trigger.Trigger.{Trigger}
 use Rattle.kx_compat.specs.Given.{FieldValues}
 use Rattle.kx_compat.specs.Giving.{interpretation_with, no_values}
 

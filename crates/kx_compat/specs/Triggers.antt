@@ -4,11 +4,11 @@ use Rattle.std.specs.Prelude.{ℕ, Bool, false, List, [], ◌∷◌, Option, Non
 use Rattle.std.specs.Option.{option_and_then, option_map, option_map_or}
 use Rattle.std.specs.Str.{str_eq_ignore_ascii_case}
 use Rattle.ks_core.specs.Entry.{Entry}
-use Rattle.kx_values.specs.Words.{among, lone_word}
+use Rattle.kx_merge.specs.Words.{among, lone_word}
 use Rattle.kx_include.specs.IncludeFaults.{at}
 use Rattle.kx_lex.specs.declared.fault.Fault.{Fault}
 use Rattle.kx_lex.specs.declared.fault.Fault.TheVariants.{BadValue, UnknownField}
-use Rattle.kx_masks.specs.Masks.{mask_set, real_mask_faults}
+use Rattle.kx_virtual_mods.specs.Masks.{mask_set, real_mask_faults}
 use Rattle.kx_parse.specs.declared.tree.Argument.{Argument}
 use Rattle.kx_parse.specs.declared.tree.Argument.TheVariants.{Plain}
 use Rattle.kx_parse.specs.declared.tree.Call.{Call}
@@ -19,11 +19,11 @@ use Rattle.kx_parse.specs.declared.tree.Predicate.TheVariants as predicates
 use Rattle.kx_parse.specs.declared.tree.Symbol.{Symbol}
 use Rattle.kx_parse.specs.declared.tree.Symbol.TheVariants.{Word, Number}
 use Rattle.kx_symbols.specs.Keysyms.{is_no_symbol, symbol_keysym}
-use Rattle.kx_choice.specs.declared.trigger.Condition.{Condition}
-use Rattle.kx_choice.specs.declared.trigger.Condition.TheVariants.{Exactly, AllOf, NoneOf, AnyOf, AnyOfOrNone}
-use Rattle.kx_choice.specs.declared.trigger.Trigger.{Trigger}
-use Rattle.kx_choice.specs.declared.trigger.WantedKeysym.{WantedKeysym}
-use Rattle.kx_choice.specs.declared.trigger.WantedKeysym.TheVariants.{Any, Named}
+use Rattle.kx_compat.specs.declared.trigger.Condition.{Condition}
+use Rattle.kx_compat.specs.declared.trigger.Condition.TheVariants.{Exactly, AllOf, NoneOf, AnyOf, AnyOfOrNone}
+use Rattle.kx_compat.specs.declared.trigger.Trigger.{Trigger}
+use Rattle.kx_compat.specs.declared.trigger.WantedKeysym.{WantedKeysym}
+use Rattle.kx_compat.specs.declared.trigger.WantedKeysym.TheVariants.{Any, Named}
 
 abbrev pub is_any : Symbol → Bool
 is_any (Word word) = is_no_symbol word.bytes

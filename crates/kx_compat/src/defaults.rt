@@ -9,8 +9,8 @@ use crate::values::{FieldValue, FieldValues};
 use ks_core::Notes;
 use kx_actions::ActionDefaults;
 use kx_lex::{Boxed, Name};
-use kx_masks::ModNames;
 use kx_parse::{Field, Item, Statement};
+use kx_virtual_mods::ModNames;
 
 /// What the default statements of a section give.
 #[derive(Clone, Copy)]

@@ -1,18 +1,19 @@
 //! What the fields of interpretations are given.
 ghost use Rattle.std.specs.Prelude.{◌≡◌, [], Contains, IfErr, IfOk, OnOk, Some};
 ghost use Rattle.kx_actions.specs.Arguments.{action_faults, action_of};
-ghost use Rattle.kx_values.specs.Faults.{value_faults};
-ghost use Rattle.kx_values.specs.Words.{among, meaning_among};
+ghost use Rattle.kx_merge.specs.Faults.{value_faults};
+ghost use Rattle.kx_merge.specs.Words.{among, meaning_among};
 ghost use Rattle.kx_compat.specs.FieldWords.{action_value, call_faults, field_faults, field_named, field_value, field_words, indexed, level_words, levels_faults, levels_value, modifier_faults, modifier_of, modifier_value, setting_faults, setting_value, word_faults, word_modifier};
 
+use crate::action::GivenAction;
+use crate::modifier::GivenModifier;
 use crate::values::FieldValue;
 use ks_core::{Note, Notes};
 use kx_actions::{ActionDefaults, KeyAction, is_action_word, read};
-use kx_choice::{GivenAction, GivenModifier};
 use kx_lex::{At, Boxed, Fault, Name, Span};
-use kx_masks::{ModNames, real_mask};
+use kx_merge::{bad_value, expression_of, lone_word, unknown_field};
 use kx_parse::{Call, Expression, Field, Index, Setting, Value};
-use kx_values::{bad_value, expression_of, lone_word, unknown_field};
+use kx_virtual_mods::{ModNames, real_mask};
 
 /// What the fields of an interpretation set.
 #[derive(Clone, Copy)]

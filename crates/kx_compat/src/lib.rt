@@ -1,12 +1,24 @@
-//! The interpretations that a keymap's compat sections declare.
+//! The interpretations that a keymap's compat sections declare, and which one is chosen for a keysym.
 #![tactic(auto)]
 
+mod action;
+mod bucket;
+mod choice;
 mod defaults;
 mod fields;
+mod index;
+mod interpretation;
 mod listing;
+mod modifier;
 mod predicates;
 mod record;
 mod statements;
+mod trigger;
 mod values;
 
+pub use action::GivenAction;
+pub use index::Interpretations;
+pub use interpretation::Interpretation;
 pub use listing::interpretations;
+pub use modifier::GivenModifier;
+pub use trigger::{Condition, Trigger, WantedKeysym};

@@ -3,22 +3,24 @@ ghost use Rattle.std.specs.Prelude.{◌≡◌, ◌∷◌, [], Contains, IfErr, I
 ghost use Rattle.indexmap.specs.IndexMap.{keys};
 ghost use Rattle.kx_include.specs.Shared.{expanded_body};
 ghost use Rattle.kx_lex.specs.declared.fault.Fault.TheVariants.{Memory};
-ghost use Rattle.kx_masks.specs.Once.{OffersOnce};
+ghost use Rattle.kx_virtual_mods.specs.Once.{OffersOnce};
 ghost use Rattle.kx_compat.specs.Giving.{interpretation_with};
 ghost use Rattle.kx_compat.specs.Meaning.{compat_faults, compat_rules, interpretations_of};
 ghost use Rattle.kx_compat.specs.Sections.{DefaultsAreLast};
-ghost use Rattle.kx_choice.specs.Triggers.{same_trigger};
+ghost use Rattle.kx_compat.specs.SameMatch.{same_trigger};
 ghost use Rattle.kx_compat.specs.Shown.{interpretation_recorded};
 
+use crate::index::Interpretations;
+use crate::interpretation::Interpretation;
 use crate::record::Context;
+use crate::trigger::Trigger;
 use crate::values::FieldValues;
 use ks_core::{NameTable, Notes};
-use kx_choice::{Interpretation, Interpretations, Trigger};
 use kx_include::Expansion;
 use kx_lex::Fault;
-use kx_masks::ModNames;
 use kx_merge::merge;
 use kx_ordered::Ordered;
+use kx_virtual_mods::ModNames;
 use std::alloc::Global;
 
 /// What these values say of keys.

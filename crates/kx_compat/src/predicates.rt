@@ -1,21 +1,21 @@
 //! For which keys the symbol and the predicate of an interpretation are.
 ghost use Rattle.std.specs.Prelude.{◌≡◌, ◌∷◌, [], Contains, IfErr, IfOk, OnOk, Some};
 ghost use Rattle.std.specs.Option.{option_map};
-ghost use Rattle.kx_values.specs.Words.{among};
+ghost use Rattle.kx_merge.specs.Words.{among};
 ghost use Rattle.kx_lex.specs.declared.fault.Fault.TheVariants.{Memory};
-ghost use Rattle.kx_masks.specs.Masks.{mask_set};
+ghost use Rattle.kx_virtual_mods.specs.Masks.{mask_set};
 ghost use Rattle.kx_mods.specs.Mods.{mask};
 ghost use Rattle.kx_symbols.specs.KeyFaults.{symbol_faults};
 ghost use Rattle.kx_compat.specs.Triggers.{call_wants, condition_faults, condition_words, is_any, is_any_word, keysym_among, mask_predicate_faults, mask_wants, only_mask, only_mask_faults, plain_mask, predicate_faults, predicate_wants, wanted_keysym};
 
+use crate::trigger::{Condition, WantedKeysym};
 use ks_core::{NameTable, Notes};
-use kx_choice::{Condition, WantedKeysym};
 use kx_lex::{At, Boxed, Fault, Name, Span};
-use kx_masks::ModNames;
+use kx_merge::{bad_value, lone_word, unknown_field};
 use kx_mods::Mods;
 use kx_parse::{Argument, Call, Expression, PlacedArgument, Predicate, Symbol, Term};
 use kx_symbols::symbol_keysym;
-use kx_values::{bad_value, lone_word, unknown_field};
+use kx_virtual_mods::ModNames;
 
 fn is_any(symbol: &Symbol) -> bool
     ensures { result ≡ is_any symbol.now }

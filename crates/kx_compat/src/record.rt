@@ -9,14 +9,14 @@ ghost use Rattle.kx_compat.specs.Giving.{values_cell, values_width};
 
 use crate::defaults::CompatDefaults;
 use crate::statements::read_item;
+use crate::trigger::Trigger;
 use crate::values::{Cell, FieldValue, FieldValues};
 use ks_core::{NameTable, Notes};
-use kx_choice::Trigger;
 use kx_include::Place;
 use kx_lex::Fault;
-use kx_masks::ModNames;
 use kx_merge::Fields;
 use kx_parse::{Item, Mode};
+use kx_virtual_mods::ModNames;
 use std::alloc::Global;
 
 /// What the statements of a compat section are read against.

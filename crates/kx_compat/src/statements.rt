@@ -16,15 +16,15 @@ ghost use Rattle.kx_mods.specs.Mods.{mask};
 use crate::defaults::{CompatDefaults, field_in, is_interpret};
 use crate::fields::read_field;
 use crate::predicates::{read_keysym, read_predicate};
+use crate::trigger::{Condition, Trigger, WantedKeysym};
 use crate::values::{FieldValue, FieldValues};
 use ks_core::{NameTable, Notes};
 use kx_actions::ActionDefaults;
-use kx_choice::{Condition, Trigger, WantedKeysym};
 use kx_lex::{At, Boxed, Fault, Name, Row, Span};
-use kx_masks::ModNames;
+use kx_merge::unknown_field;
 use kx_mods::Mods;
 use kx_parse::{Field, Item, Predicate, Statement, Symbol};
-use kx_values::unknown_field;
+use kx_virtual_mods::ModNames;
 use std::alloc::Global;
 
 /// The symbol, the predicate and the fields of an interpretation.

@@ -2,7 +2,8 @@
 ghost use Rattle.std.specs.Prelude.{◌≡◌};
 ghost use Rattle.kx_merge.specs.Offers.{taken};
 
-use kx_choice::{GivenAction, GivenModifier};
+use crate::action::GivenAction;
+use crate::modifier::GivenModifier;
 use kx_parse::Mode;
 use std::marker::Model;
 

@@ -20,7 +20,7 @@ use Rattle.kx_handles.proofs.RawBoxes.{two}
 use Rattle.kx_handles.proofs.Slots.{Heap, allocator}
 use Rattle.kx_handles.specs.Slot.{slot}
 use Rattle.kx_handles.specs.contracts.follower.FollowerHandle as handle
-use Rattle.kx_shared.specs.contracts.follower.SharedFollower as held
+use Rattle.kx_handles.specs.contracts.shared_follower.SharedFollower as held
 
 abbrev pub R : RattleType
 R = held.the_row

@@ -20,7 +20,7 @@ use Rattle.kx_handles.proofs.RawBoxes.{two}
 use Rattle.kx_handles.proofs.Slots.{Heap, allocator}
 use Rattle.kx_handles.specs.Slot.{slot}
 use Rattle.kx_handles.specs.contracts.keyboard.KeyboardHandle as handle
-use Rattle.kx_shared.specs.contracts.keyboard.SharedKeyboard as held
+use Rattle.kx_handles.specs.contracts.shared_keyboard.SharedKeyboard as held
 
 abbrev pub R : RattleType
 R = held.the_row

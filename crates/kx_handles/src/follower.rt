@@ -1,10 +1,10 @@
 ghost use Rattle.std.specs.Prelude.{◌≡◌, MatchOption, None, Option, Some};
 ghost use Rattle.kx_run.specs.Player.{Followed};
-ghost use Rattle.kx_shared.specs.contracts.follower.SharedFollower.{the_row};
+ghost use Rattle.kx_handles.specs.contracts.shared_follower.SharedFollower.{the_row};
 ghost use Rattle.kx_handles.specs.Slot.{slot};
 
 use crate::raw_box::RawBox;
-use kx_shared::SharedFollower;
+use crate::shared_follower::SharedFollower;
 use std::alloc::Global;
 use std::marker::Model;
 use std::mem::replace;

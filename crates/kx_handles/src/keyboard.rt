@@ -1,10 +1,10 @@
 ghost use Rattle.std.specs.Prelude.{◌≡◌, MatchOption, None, Option, Some};
 ghost use Rattle.kx_run.specs.Player.{Played};
-ghost use Rattle.kx_shared.specs.contracts.keyboard.SharedKeyboard.{the_row};
+ghost use Rattle.kx_handles.specs.contracts.shared_keyboard.SharedKeyboard.{the_row};
 ghost use Rattle.kx_handles.specs.Slot.{slot};
 
 use crate::raw_box::RawBox;
-use kx_shared::SharedKeyboard;
+use crate::shared_keyboard::SharedKeyboard;
 use std::alloc::Global;
 use std::marker::Model;
 use std::mem::replace;

@@ -1,10 +1,10 @@
 ghost use Rattle.std.specs.Prelude.{◌≡◌, MatchOption, None, Option, Some};
 ghost use Rattle.kx_tables.specs.Content.{Content};
-ghost use Rattle.kx_shared.specs.contracts.tables.SharedTables.{the_row};
+ghost use Rattle.kx_handles.specs.contracts.tables.SharedTables.{the_row};
 ghost use Rattle.kx_handles.specs.Slot.{slot};
 
 use crate::raw_box::RawBox;
-use kx_shared::SharedTables;
+use crate::tables::SharedTables;
 use std::alloc::Global;
 use std::marker::Model;
 use std::mem::replace;

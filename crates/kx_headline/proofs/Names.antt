@@ -4,7 +4,7 @@ use Rattle.std.proofs.lemmas.List.{ext_get_or}
 use Rattle.std.proofs.lemmas.Option.{unwrap_or-slice_get, slice_get_past}
 use Rattle.kx_basics.specs.declared.limits.TheConstants.{MOST_GROUPS}
 use Rattle.kx_include.specs.Expansion.{Body}
-use Rattle.kx_groups.specs.Names.{AreGroupNames, name_at}
+use Rattle.kx_group_names.specs.Names.{AreGroupNames, name_at}
 
 module _ (body : Body) where
   same_at : (names others : List (List ℕ)) → AreGroupNames names body → AreGroupNames others body → (group : ℕ) → group < MOST_GROUPS → name_at names group ≡ name_at others group

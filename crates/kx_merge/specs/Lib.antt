@@ -1,3 +1,9 @@
+pub mod Words
+pub mod Numbers
+pub mod Faults
+pub mod Last
+pub mod Terms
+pub mod ByGroup
 pub mod Offers
 pub mod Bodies
 pub mod Records

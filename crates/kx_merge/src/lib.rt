@@ -1,10 +1,17 @@
-//! Records by precedence: what the items of a body, includes among them, make of each record.
+//! Records by precedence: what the items of a body, includes among them, make of each record; and what the values of fields
+//! say: words with a meaning, numbers behind a word, and the faults of a value of another kind.
 #![tactic(auto)]
 
+mod faults;
 mod fields;
 mod gathering;
 mod merging;
+mod numbers;
 mod repeats;
+mod words;
 
+pub use faults::{bad_value, expression_of, unknown_field};
 pub use fields::Fields;
 pub use gathering::{Merged, merge};
+pub use numbers::Counted;
+pub use words::{lone_word, truth_named};

@@ -4,14 +4,14 @@ use Rattle.std.specs.List.{flat_map}
 use Rattle.std.specs.Option.{option_map, option_map_or}
 use Rattle.std.specs.Str.{str_eq_ignore_ascii_case}
 use Rattle.ks_core.specs.Entry.{Entry as Named}
-use Rattle.kx_values.specs.Faults.{name_faults}
+use Rattle.kx_merge.specs.Faults.{name_faults}
 use Rattle.kx_codes.specs.Codes.{Codes, code_of}
 use Rattle.kx_include.specs.IncludeFaults.{at}
 use Rattle.kx_lex.specs.declared.fault.Fault.{Fault}
 use Rattle.kx_lex.specs.declared.fault.Fault.TheVariants.{BadValue, UnknownModifier}
 use Rattle.kx_lex.specs.declared.name.Name.{Name}
 use Rattle.kx_lex.specs.declared.token.Span.{Span}
-use Rattle.kx_masks.specs.Masks.{real_mask, virtual_number}
+use Rattle.kx_virtual_mods.specs.Masks.{real_mask, virtual_number}
 use Rattle.kx_merge.specs.Offers.{with_name}
 use Rattle.kx_parse.specs.declared.tree.Entry.{Entry}
 use Rattle.kx_parse.specs.declared.tree.Entry.TheVariants.{KeyName, Symbol}

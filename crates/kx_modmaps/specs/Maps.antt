@@ -7,7 +7,7 @@ use Rattle.ks_core.specs.Entry.{Entry as Named}
 use Rattle.kx_codes.specs.Codes.{Codes}
 use Rattle.kx_include.specs.Expansion.{Body}
 use Rattle.kx_lex.specs.declared.name.Name.{Name}
-use Rattle.kx_masks.specs.Sets.{has}
+use Rattle.kx_virtual_mods.specs.Sets.{has}
 use Rattle.kx_merge.specs.Bodies.{Rules, Moves, offers_of, no_moves}
 use Rattle.kx_merge.specs.Offers.{Offer, names_of, value_of, plain_offer}
 use Rattle.kx_mods.specs.Mods.{mask}

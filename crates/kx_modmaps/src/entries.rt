@@ -2,7 +2,7 @@
 ghost use Rattle.std.specs.Prelude.{◌≡◌, ◌++◌, ◌∷◌, [], Contains, IfErr, IfOk, OnOk, Some};
 ghost use Rattle.std.specs.List.{flat_map};
 ghost use Rattle.std.specs.Option.{option_map};
-ghost use Rattle.kx_values.specs.Faults.{name_faults};
+ghost use Rattle.kx_merge.specs.Faults.{name_faults};
 ghost use Rattle.kx_codes.specs.Codes.{code_of};
 ghost use Rattle.kx_lex.specs.declared.fault.Fault.TheVariants.{Memory};
 ghost use Rattle.kx_mods.specs.Mods.{mask};
@@ -14,11 +14,11 @@ use ks_core::{NameTable, Note, Notes};
 use kx_basics::MOST_NAME_BYTES;
 use kx_codes::Codes;
 use kx_lex::{At, Fault, KeyName, Name, Span};
-use kx_masks::{ModNames, real_mask};
 use kx_mods::Mods;
 use kx_ordered::OrderedSet;
 use kx_parse::{Entry, Row, Statement};
 use kx_symbols::symbol_keysym;
+use kx_virtual_mods::{ModNames, real_mask};
 use std::alloc::Global;
 
 /// What modifier maps are read against.

@@ -17,10 +17,10 @@ use ks_core::{NameTable, Notes};
 use kx_codes::Codes;
 use kx_include::Expansion;
 use kx_lex::Fault;
-use kx_masks::ModNames;
 use kx_merge::merge;
 use kx_mods::Mods;
 use kx_ordered::Ordered;
+use kx_virtual_mods::ModNames;
 use std::alloc::Global;
 use std::marker::Model;
 

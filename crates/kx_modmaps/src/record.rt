@@ -17,10 +17,10 @@ use ks_core::{NameTable, Notes};
 use kx_codes::Codes;
 use kx_include::Place;
 use kx_lex::{Fault, Name};
-use kx_masks::ModNames;
 use kx_merge::Fields;
 use kx_mods::Mods;
 use kx_parse::{Entry, Item, Mode};
+use kx_virtual_mods::ModNames;
 use std::alloc::Global;
 
 /// What can have a value in a modifier map.

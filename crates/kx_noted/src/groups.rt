@@ -6,10 +6,10 @@ use kx_codes::{Codes, codes};
 use kx_explain::quoted;
 use kx_include::{Bodies, Files, Library};
 use kx_lex::{At, Fault};
-use kx_masks::ModNames;
+use kx_resolve::{GroupType, content_group, group_count, group_type};
 use kx_symbols::{KeyRecord, Keys, symbols};
 use kx_types::{Types, types};
-use kx_typing::{GroupType, content_group, group_count, group_type};
+use kx_virtual_mods::ModNames;
 use std::alloc::{AllocError, Global};
 
 /// The type that is written for a group.

@@ -5,7 +5,7 @@ use Rattle.kx_builder.specs.Valid.{IsValid}
 use Rattle.kx_builder.specs.Lamps.{ResolvedIndicator, keymap_with}
 use Rattle.kx_builder.specs.Resolved.{Resolved, keymap_of_resolved}
 use Rattle.kx_builder.specs.Whole.{IsWhole}
-use Rattle.kx_levels.specs.Selecting.{RealSet}
+use Rattle.kx_resolve.specs.Selecting.{RealSet}
 use Rattle.kx_resolve.proofs.Agree.{keymaps_agree}
 use Rattle.kx_resolve.proofs.Bounded.{resolved_valid, resolved_whole}
 use Rattle.kx_resolve.proofs.Lamps.{same_with}

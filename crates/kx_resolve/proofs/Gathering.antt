@@ -8,7 +8,7 @@ use Rattle.kx_resolve.proofs.Steps.{below_next, used_next}
 use Rattle.kx_resolve.specs.Bounds.{BoundsBelow, KeepsBounds}
 use Rattle.kx_resolve.specs.Keys.{Keyed, key_if_named, keys_below, type_names_below, type_names_if}
 use Rattle.kx_types.specs.KeyTypes.{Definition}
-use Rattle.kx_typing.specs.Given.{KeyGiven}
+use Rattle.kx_resolve.specs.Given.{KeyGiven}
 
 pub used_whole : (declared : List ℕ → Option Definition) (name : ℕ → Option (List ℕ)) (key : ℕ → KeyGiven) (end : ℕ) → IsEnd end name → type_names_below declared name key 4096 ≡ type_names_below declared name key end
 used_whole declared name key end is = all_gathered (type_names_below declared name key) end name is (λ n none. used_next declared name key n ∙ ap (λ o. type_names_below declared name key n ++ type_names_if declared o (key n)) none ∙ append-nil (type_names_below declared name key n))

@@ -22,11 +22,11 @@ use Rattle.kx_builder.proofs.Room.{flat_length, name_bytes}
 use Rattle.kx_builder.specs.declared.fault.BuildFault.{BuildFault}
 use Rattle.kx_builder.specs.declared.fault.BuildFault.TheVariants as builds
 use Rattle.kx_builder.specs.declared.lamps.Indicator.{Indicator}
-use Rattle.kx_groups.specs.Names.{AreCut, name_at}
-use Rattle.kx_lamps.specs.Bounds.{AreValid}
-use Rattle.kx_lamps.specs.Lamps.{Lamp}
-use Rattle.kx_lamps.specs.Meaning.{Indicators}
-use Rattle.kx_levels.specs.Selecting.{RealSet}
+use Rattle.kx_group_names.specs.Names.{AreCut, name_at}
+use Rattle.kx_indicators.specs.Bounds.{AreValid}
+use Rattle.kx_indicators.specs.Lamps.{Lamp}
+use Rattle.kx_indicators.specs.Meaning.{Indicators}
+use Rattle.kx_resolve.specs.Selecting.{RealSet}
 use Rattle.kx_resolve.specs.Lit.{indicator_lit, indicators_of}
 use Rattle.kx_tables.specs.Keymap.{Keymap}
 

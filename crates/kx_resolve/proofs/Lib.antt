@@ -1,3 +1,19 @@
+mod Adding
+pub mod Bits
+mod Fining
+mod RowsShown
+pub mod Acting
+mod Back
+pub mod Counting
+mod Masks
+mod Visiting
+mod PlaceOrder
+mod PlaceSteps
+mod Walking
+mod Borne
+mod Brought
+pub mod Meant
+mod NameBits
 mod Agree
 mod Ending
 mod Bounded

@@ -7,17 +7,17 @@ use Rattle.kx_builder.specs.Resolved.{Resolved}
 use Rattle.kx_resolve.proofs.Steps.{none_groups}
 use Rattle.kx_resolve.specs.Bounds.{GroupsAreValid, KeepsBounds}
 use Rattle.kx_resolve.specs.Keys.{key_if_named, key_of}
-use Rattle.kx_bearing.specs.Deeds.{deeds_of}
-use Rattle.kx_choice.specs.Interpretations.{Interpretation}
-use Rattle.kx_levels.specs.Selecting.{RealSet}
+use Rattle.kx_resolve.specs.Deeds.{deeds_of}
+use Rattle.kx_compat.specs.Interpretations.{Interpretation}
+use Rattle.kx_resolve.specs.Selecting.{RealSet}
 use Rattle.kx_mods.specs.Mods.{mask}
 use Rattle.kx_mods.specs.declared.mods.Mods.{Mods}
 use Rattle.kx_symbols.specs.Keys.{KeyContent}
 use Rattle.kx_tables.specs.Sound.{RangeHolds}
 use Rattle.kx_tables.specs.declared.rows.Range.TheVariants.{Wrap}
 use Rattle.kx_types.specs.KeyTypes.{Definition}
-use Rattle.kx_typing.specs.Given.{given_in}
-use Rattle.kx_typing.specs.GroupTypes.{group_count}
+use Rattle.kx_resolve.specs.Given.{given_in}
+use Rattle.kx_resolve.specs.GroupTypes.{group_count}
 
 module _ (declared : List ℕ → Option Definition) (real : ℕ → RealSet) (interpretations : List Interpretation) (modmap : Mods) (fits : mask modmap < 2 ^ 8) where
   abbrev Keeps : List ℕ → Option KeyContent → Type 0

@@ -13,7 +13,7 @@ use Rattle.std.proofs.lemmas.Map.Keys.{IsDistinct-push}
 use Rattle.std.proofs.lemmas.Option.{same_Some, slice_get-get_or, slice_get_within, slice_get-map}
 use Rattle.kx_builder.specs.Valid.{InOrderOfUse, types_met}
 use Rattle.kx_builder.specs.Resolved.{ResolvedGroup}
-use Rattle.kx_masks.specs.Counted.{with_names}
+use Rattle.kx_virtual_mods.specs.Counted.{with_names}
 use Rattle.kx_merge.specs.Offers.{with_name}
 
 -- ---- Names, each once

@@ -1,10 +1,10 @@
 -- What one number more makes of keys, groups, levels and the types that they use.
 use Rattle.std.proofs.Common.{ℕ, zero, suc, ◌+◌, ◌≡◌, List, [], ◌∷◌, ◌++◌, Option, None, map, refl, subst, ap, ◌∙◌, arith}
-use Rattle.kx_levels.specs.Selecting.{RealSet}
-use Rattle.kx_masks.specs.Counted.{with_names}
-use Rattle.kx_typing.specs.Given.{KeyGiven, given_in}
-use Rattle.kx_typing.specs.GroupTypes.{group_count, group_type_name, groups_within}
-use Rattle.kx_bearing.specs.Deeds.{Deeds}
+use Rattle.kx_resolve.specs.Selecting.{RealSet}
+use Rattle.kx_virtual_mods.specs.Counted.{with_names}
+use Rattle.kx_resolve.specs.Given.{KeyGiven, given_in}
+use Rattle.kx_resolve.specs.GroupTypes.{group_count, group_type_name, groups_within}
+use Rattle.kx_resolve.specs.Deeds.{Deeds}
 use Rattle.kx_resolve.specs.Keys.{Keyed, cell_of, cells_of, resolved_group, groups_of, key_if_named, keys_below, resolved_of, type_names, type_names_below, type_names_if, type_of, types_used}
 use Rattle.kx_types.specs.KeyTypes.{Definition}
 

@@ -5,7 +5,7 @@ use Rattle.std.specs.Str.{bytes_eq}
 use Rattle.std.proofs.lemmas.List.{length-append}
 use Rattle.kx_builder.specs.Agreement.{ShowsSame}
 use Rattle.kx_builder.specs.Resolved.{Resolved}
-use Rattle.kx_levels.specs.Selecting.{RealSet}
+use Rattle.kx_resolve.specs.Selecting.{RealSet}
 use Rattle.kx_resolve.proofs.Steps.{resolved_is}
 use Rattle.kx_resolve.proofs.Typed.{found_holds}
 use Rattle.kx_resolve.specs.Bounds.{BoundsBelow, KeepsBounds, TypeHolds}

@@ -2,18 +2,18 @@
 use Rattle.std.specs.Prelude.{ℕ, ◌≡◌, ◌<◌, ◌≤◌, ◌^◌, true, All, List, [], ◌∷◌, Option, Some, length}
 use Rattle.std.specs.Set.{is_member}
 use Rattle.std.specs.Str.{bytes_eq}
-use Rattle.kx_typing.specs.Given.{KeyGiven}
-use Rattle.kx_typing.specs.GroupTypes.{content_group, group_count, group_type_name, one_level_name, type_definition}
+use Rattle.kx_resolve.specs.Given.{KeyGiven}
+use Rattle.kx_resolve.specs.GroupTypes.{content_group, group_count, group_type_name, one_level_name, type_definition}
 use Rattle.kx_mods.specs.Mods.{mask}
 use Rattle.kx_mods.specs.declared.mods.Mods.{Mods}
-use Rattle.kx_bearing.specs.Deeds.{Deeds}
+use Rattle.kx_resolve.specs.Deeds.{Deeds}
 use Rattle.kx_resolve.specs.Keys.{Keyed, cell_of, type_of}
 use Rattle.kx_tables.specs.Sound.{RangeHolds}
 use Rattle.kx_builder.specs.Valid.{CellIsValid, TypeIsValid}
 use Rattle.kx_builder.specs.Pushes.{last_groups}
 use Rattle.kx_builder.specs.Resolved.{ResolvedCell, ResolvedGroup, ResolvedKey}
-use Rattle.kx_levels.specs.Rows.{RowsShow}
-use Rattle.kx_levels.specs.Selecting.{RealSet}
+use Rattle.kx_resolve.specs.Rows.{RowsShow}
+use Rattle.kx_resolve.specs.Selecting.{RealSet}
 use Rattle.kx_basics.specs.KeyNames.{IsKeyByte}
 use Rattle.kx_types.specs.KeyTypes.{Definition}
 use Rattle.kx_basics.specs.declared.limits.TheConstants.{MOST_NAME_BYTES}

@@ -2,16 +2,16 @@
 use Rattle.std.specs.Prelude.{ℕ, zero, suc, List, [], ◌∷◌, ◌++◌, Option, None, Some, map, position, unwrap_or}
 use Rattle.std.specs.Str.{bytes_eq}
 use Rattle.kx_builder.specs.Resolved.{Resolved, ResolvedCell, ResolvedGroup, ResolvedKey, ResolvedType}
-use Rattle.kx_levels.specs.Rows.{entry_rows, mods_of}
-use Rattle.kx_levels.specs.Selecting.{RealSet}
-use Rattle.kx_masks.specs.Counted.{with_names}
+use Rattle.kx_resolve.specs.Rows.{entry_rows, mods_of}
+use Rattle.kx_resolve.specs.Selecting.{RealSet}
+use Rattle.kx_virtual_mods.specs.Counted.{with_names}
 use Rattle.kx_mods.specs.declared.mods.Mods.{Mods}
-use Rattle.kx_bearing.specs.Deeds.{Deeds, deeds_of}
-use Rattle.kx_choice.specs.Interpretations.{Interpretation}
+use Rattle.kx_resolve.specs.Deeds.{Deeds, deeds_of}
+use Rattle.kx_compat.specs.Interpretations.{Interpretation}
 use Rattle.kx_symbols.specs.Keys.{KeyContent, key_at}
 use Rattle.kx_codes.specs.Codes.{Codes, name_of}
-use Rattle.kx_typing.specs.Given.{KeyGiven, given_in}
-use Rattle.kx_typing.specs.GroupTypes.{content_group, group_count, group_type_name, type_definition}
+use Rattle.kx_resolve.specs.Given.{KeyGiven, given_in}
+use Rattle.kx_resolve.specs.GroupTypes.{content_group, group_count, group_type_name, type_definition}
 use Rattle.kx_types.specs.KeyTypes.{Definition}
 use Rattle.kx_basics.specs.declared.limits.TheConstants.{CODES}
 

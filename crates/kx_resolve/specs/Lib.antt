@@ -1,3 +1,16 @@
+pub mod Selecting
+pub mod Rows
+pub mod Going
+pub mod Given
+pub mod GroupTypes
+pub mod Finding
+pub mod Mapping
+pub mod Modmaps
+pub mod ReadMapping
+pub mod Bearing
+pub mod Deeds
+pub mod ReadBearing
+pub mod Bearers
 pub mod Keys
 pub mod Shown
 pub mod Bounds

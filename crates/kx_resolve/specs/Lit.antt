@@ -2,10 +2,10 @@
 use Rattle.std.specs.Prelude.{ℕ, List, map}
 use Rattle.std.specs.List.{zip}
 use Rattle.kx_builder.specs.Lamps.{ResolvedIndicator}
-use Rattle.kx_lamps.specs.Lamps.{Lamp}
-use Rattle.kx_lamps.specs.Meaning.{Indicators}
-use Rattle.kx_levels.specs.Rows.{mods_of}
-use Rattle.kx_levels.specs.Selecting.{RealSet}
+use Rattle.kx_indicators.specs.Lamps.{Lamp}
+use Rattle.kx_indicators.specs.Meaning.{Indicators}
+use Rattle.kx_resolve.specs.Rows.{mods_of}
+use Rattle.kx_resolve.specs.Selecting.{RealSet}
 use Rattle.kx_tables.specs.declared.rows.States.{States}
 
 -- the states whose bits are those of a number

@@ -7,32 +7,33 @@ ghost use Rattle.kx_builder.specs.WithinLimits.{IsWithinLimits};
 ghost use Rattle.kx_builder.specs.declared.fault.BuildFault.TheVariants as builds;
 ghost use Rattle.kx_codes.specs.Codes.{name_of};
 ghost use Rattle.kx_lex.specs.declared.fault.Fault.TheVariants.{Memory};
-ghost use Rattle.kx_mapped.specs.Modmaps.{modmap_at};
-ghost use Rattle.kx_masks.specs.Sets.{real_of};
-ghost use Rattle.kx_masks.specs.Standing.{stands_for};
+ghost use Rattle.kx_resolve.specs.Modmaps.{modmap_at};
+ghost use Rattle.kx_virtual_mods.specs.Sets.{real_of};
+ghost use Rattle.kx_virtual_mods.specs.Standing.{stands_for};
 ghost use Rattle.kx_mods.specs.Mods.{mask};
 ghost use Rattle.kx_resolve.specs.Bounds.{BoundsBelow, CellsAreValid, GroupsAreValid, KeepsBounds, last_cells, levels_of_group};
-ghost use Rattle.kx_bearing.specs.Deeds.{deeds_of};
+ghost use Rattle.kx_resolve.specs.Deeds.{deeds_of};
 ghost use Rattle.kx_resolve.specs.Keys.{cell_of, cells_of, resolved_group, key_if_named, key_of, keyed_of, keys_below, type_place};
 ghost use Rattle.kx_symbols.specs.Keys.{key_at};
 ghost use Rattle.kx_tables.specs.Sound.{ActionHolds, RangeHolds};
-ghost use Rattle.kx_typing.specs.Given.{given, given_in};
-ghost use Rattle.kx_typing.specs.GroupTypes.{content_group, group_count, has_action};
+ghost use Rattle.kx_resolve.specs.Given.{given, given_in};
+ghost use Rattle.kx_resolve.specs.GroupTypes.{content_group, group_count, has_action};
 ghost use Rattle.kx_types.specs.Types.{type_named};
 
+use crate::deeds::deed;
+use crate::given::{keysyms_at, range};
+use crate::key_mods::KeyMods;
 use crate::read::Read;
+use crate::typing::{GroupType, content_group, group_count, group_type, has_action};
 use ks_core::{Note, Notes};
-use kx_bearing::deed;
 use kx_builder::{BuildFault, Builder};
-use kx_choice::Interpretations;
+use kx_compat::Interpretations;
 use kx_lex::Fault;
-use kx_mapped::KeyMods;
-use kx_masks::Names;
 use kx_mods::Mods;
 use kx_symbols::KeyRecord;
 use kx_tables::{Action, Range};
 use kx_types::Types;
-use kx_typing::{GroupType, content_group, group_count, group_type, has_action, keysyms_at, range};
+use kx_virtual_mods::Names;
 
 /// A key with what it is read against.
 #[derive(Clone, Copy)]

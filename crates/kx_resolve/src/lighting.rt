@@ -8,13 +8,13 @@ ghost use Rattle.kx_builder.specs.Placed.{content_of_resolved};
 ghost use Rattle.kx_builder.specs.Resolved.{keymap_of_resolved};
 ghost use Rattle.kx_builder.specs.WithinLimits.{IsWithinLimits};
 ghost use Rattle.kx_builder.specs.Whole.{IsWhole};
-ghost use Rattle.kx_groups.specs.Names.{AreCut};
-ghost use Rattle.kx_lamps.specs.Bounds.{AreValid};
-ghost use Rattle.kx_lamps.specs.Lamps.{Lamp as LampValue};
-ghost use Rattle.kx_levels.specs.Rows.{mods_of};
+ghost use Rattle.kx_group_names.specs.Names.{AreCut};
+ghost use Rattle.kx_indicators.specs.Bounds.{AreValid};
+ghost use Rattle.kx_indicators.specs.Lamps.{Lamp as LampValue};
+ghost use Rattle.kx_resolve.specs.Rows.{mods_of};
 ghost use Rattle.kx_lex.specs.declared.fault.Fault.TheVariants.{Memory};
-ghost use Rattle.kx_masks.specs.Sets.{real_of};
-ghost use Rattle.kx_masks.specs.Standing.{stands_for};
+ghost use Rattle.kx_virtual_mods.specs.Sets.{real_of};
+ghost use Rattle.kx_virtual_mods.specs.Standing.{stands_for};
 ghost use Rattle.kx_mods.specs.Mods.{mask};
 ghost use Rattle.kx_resolve.specs.Lit.{indicator_lit, indicators_of};
 ghost use Rattle.kx_tables.specs.Keymap.{keymap_of};
@@ -23,12 +23,12 @@ ghost use Rattle.kx_tables.specs.Sound.{Sound};
 
 use crate::keys::refused;
 use kx_builder::{Builder, Indicator};
-use kx_groups::GroupNames;
-use kx_lamps::{Indicators, Lamp};
+use kx_group_names::GroupNames;
+use kx_indicators::{Indicators, Lamp};
 use kx_lex::Fault;
-use kx_masks::{NameSet, real_of as stood_for};
 use kx_mods::Mods;
 use kx_tables::RawTables;
+use kx_virtual_mods::{NameSet, real_of as stood_for};
 use std::alloc::Global;
 
 /// The real modifiers that a set stands for.

@@ -1,9 +1,9 @@
 //! What is read of a keymap.
-use kx_choice::Interpretations;
+use crate::key_mods::KeyMods;
 use kx_codes::Codes;
-use kx_groups::GroupNames;
-use kx_lamps::Indicators;
-use kx_mapped::KeyMods;
+use kx_compat::Interpretations;
+use kx_group_names::GroupNames;
+use kx_indicators::Indicators;
 use kx_mods::Mods;
 use kx_symbols::Keys;
 use kx_types::Types;

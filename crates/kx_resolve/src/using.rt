@@ -5,29 +5,29 @@ ghost use Rattle.kx_builder.specs.Valid.{TypeIsValid};
 ghost use Rattle.kx_builder.specs.Pushes.{with_type};
 ghost use Rattle.kx_builder.specs.WithinLimits.{IsWithinLimits};
 ghost use Rattle.kx_codes.specs.Codes.{name_of};
-ghost use Rattle.kx_levels.specs.Rows.{RowsShow, entry_rows, mods_of};
+ghost use Rattle.kx_resolve.specs.Rows.{RowsShow, entry_rows, mods_of};
 ghost use Rattle.kx_lex.specs.declared.fault.Fault.TheVariants.{Memory};
-ghost use Rattle.kx_masks.specs.Counted.{with_names};
-ghost use Rattle.kx_masks.specs.Sets.{real_of};
-ghost use Rattle.kx_masks.specs.Standing.{stands_for};
+ghost use Rattle.kx_virtual_mods.specs.Counted.{with_names};
+ghost use Rattle.kx_virtual_mods.specs.Sets.{real_of};
+ghost use Rattle.kx_virtual_mods.specs.Standing.{stands_for};
 ghost use Rattle.kx_resolve.specs.Bounds.{TypeHolds};
-ghost use Rattle.kx_typing.specs.Given.{given, given_in};
-ghost use Rattle.kx_typing.specs.GroupTypes.{group_count};
+ghost use Rattle.kx_resolve.specs.Given.{given, given_in};
+ghost use Rattle.kx_resolve.specs.GroupTypes.{group_count};
 ghost use Rattle.kx_resolve.specs.Keys.{type_names, type_names_if, type_of, type_with, types_used};
 ghost use Rattle.kx_symbols.specs.Keys.{key_at};
 ghost use Rattle.kx_types.specs.Types.{type_named};
 ghost use Rattle.kx_types.specs.declared.limits.TheConstants.{MOST_TYPES};
 
 use crate::keys::refused;
+use crate::rows::TypeRows;
+use crate::typing::{group_count, group_type};
 use kx_builder::Builder;
 use kx_codes::Codes;
-use kx_levels::TypeRows;
 use kx_lex::Fault;
-use kx_masks::Names;
 use kx_mods::Mods;
 use kx_symbols::{KeyRecord, Keys};
 use kx_types::{KeyType, Types};
-use kx_typing::{group_count, group_type};
+use kx_virtual_mods::Names;
 use std::alloc::Global;
 
 /// Takes up the types of a key's groups.

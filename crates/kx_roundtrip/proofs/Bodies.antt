@@ -2,16 +2,16 @@
 use Rattle.std.proofs.Common.{◌≡◌, List, [], ◌∷◌, ◌++◌, ap, ◌∙◌}
 use Rattle.kx_include.specs.Expansion.{Begin, Body, End, body_of}
 use Rattle.kx_include.specs.IncludeFaults.{IsWhole}
-use Rattle.kx_masks.specs.Declarations.{virtual_names}
+use Rattle.kx_virtual_mods.specs.Declarations.{virtual_names}
 use Rattle.kx_parse.specs.declared.tree.Item.{Item}
 use Rattle.kx_parse.specs.declared.tree.Kind.TheVariants.{Compat, Keycodes, Symbols, Types}
 use Rattle.kx_tables.specs.Content.{Content}
 use Rattle.kx_tables.specs.Sound.{Sound}
 use Rattle.kx_builder.specs.Lamps.{ResolvedIndicator}
-use Rattle.roundtrip_bodies.specs.Bodies.{own_body, place_of}
-use Rattle.roundtrip_bodies.specs.Sources.{IsOwnItem, indicators_body, symbols_place}
-use Rattle.roundtrip_bodies.proofs.Sources.{each_behind, indicators_are, is_whole, keycodes_are, own_items, symbols_are, types_are}
-use Rattle.roundtrip_tables.specs.Source.{EachOf, NamedGroup, PrintedKey, indicators_printed, keys_printed, named_from, names_printed, types_printed}
+use Rattle.roundtrip_meaning.specs.Bodies.{own_body, place_of}
+use Rattle.roundtrip_meaning.specs.Sources.{IsOwnItem, indicators_body, symbols_place}
+use Rattle.roundtrip_meaning.proofs.Sources.{each_behind, indicators_are, is_whole, keycodes_are, own_items, symbols_are, types_are}
+use Rattle.roundtrip_text.specs.Source.{EachOf, NamedGroup, PrintedKey, indicators_printed, keys_printed, named_from, names_printed, types_printed}
 use Rattle.roundtrip_text.specs.ModifierMaps.{MapLine}
 use Rattle.roundtrip_text.specs.Sections.{map_lines_printed}
 use Rattle.roundtrip_tree.specs.Indicators.{IsIndicator}
@@ -20,8 +20,8 @@ use Rattle.roundtrip_tree.specs.Shows.{AreShown, IsItem, IsKeycode, IsModifierMa
 use Rattle.roundtrip_tree.specs.Source.{IsGroupName, IsKeyItem, IsMapItem, IsNameItem}
 use Rattle.roundtrip_tree.proofs.KeyForms.{key_items, map_items}
 use Rattle.roundtrip_tree.specs.Types.{IsType}
-use Rattle.roundtrip_types.specs.NoModifiers.{NoneDeclared, ends, own}
-use Rattle.roundtrip_types.proofs.NoModifiers.{no_modifiers, types_undeclared, indicators_undeclared, symbols_undeclared}
+use Rattle.roundtrip_meaning.specs.NoModifiers.{NoneDeclared, ends, own}
+use Rattle.roundtrip_meaning.proofs.NoModifiers.{no_modifiers, types_undeclared, indicators_undeclared, symbols_undeclared}
 use Rattle.kx_source.specs.Meaning.{modifier_bodies_of}
 use Rattle.kx_roundtrip.specs.Parts.{Parts, parts_of}
 use Rattle.kx_roundtrip.proofs.Written.{library, shown}

@@ -9,9 +9,9 @@ use Rattle.kx_builder.specs.Seen.{type_seen}
 use Rattle.kx_codes.specs.CodeFaults.{faults_of as keycodes_faults}
 use Rattle.kx_codes.specs.Codes.{code_of}
 use Rattle.kx_compat.specs.Meaning.{compat_faults}
-use Rattle.kx_lamps.specs.Meaning.{lamps_faults}
+use Rattle.kx_indicators.specs.Meaning.{lamps_faults}
 use Rattle.kx_lex.specs.declared.fault.Fault.{Fault}
-use Rattle.kx_masks.specs.Declarations.{modifier_faults}
+use Rattle.kx_virtual_mods.specs.Declarations.{modifier_faults}
 use Rattle.kx_parse.specs.declared.tree.Item.{Item}
 use Rattle.kx_source.specs.Meaning.{codes_of}
 use Rattle.kx_source.specs.Source.{keys_faults, maps_faults, names_faults, statement_faults}
@@ -22,19 +22,19 @@ use Rattle.kx_types.specs.declared.limits.TheConstants.{MOST_TYPES}
 use Rattle.kx_roundtrip.specs.Parts.{Parts}
 use Rattle.kx_roundtrip.proofs.Bodies.{compat, compat_declares_none, keycodes, keys_items, maps_items, name_items, parts, parts_are, symbols, symbols_declare_none, types, types_declare_none}
 use Rattle.kx_roundtrip.proofs.Written.{library, shown}
-use Rattle.roundtrip_bodies.specs.Bodies.{place_of}
-use Rattle.roundtrip_bodies.specs.Sources.{indicators_body, symbols_place}
-use Rattle.roundtrip_bodies.proofs.Codes.{codes_faultless, codes_printed}
-use Rattle.roundtrip_keys.proofs.KeySection.{keys_faultless, maps_faultless}
-use Rattle.roundtrip_tables.specs.Source.{AreApart, EachOf, IndicatorFits, PrintedKey, indicators_printed, keys_printed, names_printed, types_printed}
-use Rattle.roundtrip_tables.proofs.TablesHold.{codes_rise, indicators_apart, indicators_few, indicators_fit, keys_apart, keys_fit, names_fit, types_apart, types_fit}
+use Rattle.roundtrip_meaning.specs.Bodies.{place_of}
+use Rattle.roundtrip_meaning.specs.Sources.{indicators_body, symbols_place}
+use Rattle.roundtrip_meaning.proofs.Codes.{codes_faultless, codes_printed}
+use Rattle.roundtrip_meaning.proofs.KeySection.{keys_faultless, maps_faultless}
+use Rattle.roundtrip_text.specs.Source.{AreApart, EachOf, IndicatorFits, PrintedKey, indicators_printed, keys_printed, names_printed, types_printed}
+use Rattle.roundtrip_text.proofs.TablesHold.{codes_rise, indicators_apart, indicators_few, indicators_fit, keys_apart, keys_fit, names_fit, types_apart, types_fit}
 use Rattle.roundtrip_tree.specs.Indicators.{IsIndicator}
 use Rattle.roundtrip_tree.specs.Shows.{AreShown, IsItem}
-use Rattle.roundtrip_types.proofs.GroupNames.{names_faultless}
-use Rattle.roundtrip_types.proofs.Indicators.{lamps_faultless, no_lamps_faultless}
-use Rattle.roundtrip_types.proofs.Interpretations.{faultless_without, interpretations_faultless}
-use Rattle.roundtrip_types.proofs.NoModifiers.{modifiers_faultless}
-use Rattle.roundtrip_types.proofs.Types.{types_faultless}
+use Rattle.roundtrip_meaning.proofs.GroupNames.{names_faultless}
+use Rattle.roundtrip_meaning.proofs.Indicators.{lamps_faultless, no_lamps_faultless}
+use Rattle.roundtrip_meaning.proofs.Interpretations.{faultless_without, interpretations_faultless}
+use Rattle.roundtrip_meaning.proofs.NoModifiers.{modifiers_faultless}
+use Rattle.roundtrip_meaning.proofs.Types.{types_faultless}
 
 -- the faults of a library, by its parts
 abbrev faults_by : List Entry → Parts → List Fault

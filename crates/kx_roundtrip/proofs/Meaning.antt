@@ -3,8 +3,8 @@ use Rattle.std.proofs.Common.{◌≡◌, ℕ, suc, ◌+◌, ◌<◌, ◌≤◌, 
 use Rattle.std.specs.List.{list_all, zip}
 use Rattle.ks_core.specs.Entry.{Entry}
 use Rattle.ks_core.specs.Lines.{is_sound}
-use Rattle.kx_bearing.specs.Bearing.{stands}
-use Rattle.kx_bearing.specs.Deeds.{deeds_of}
+use Rattle.kx_resolve.specs.Bearing.{stands}
+use Rattle.kx_resolve.specs.Deeds.{deeds_of}
 use Rattle.kx_builder.specs.Lamps.{ResolvedIndicator, with_lamps}
 use Rattle.kx_builder.specs.Placed.{content_of_resolved}
 use Rattle.kx_builder.specs.Resolved.{ResolvedCell, ResolvedType}
@@ -12,14 +12,14 @@ use Rattle.kx_builder.specs.Seen.{seen}
 use Rattle.kx_codes.specs.Codes.{name_of}
 use Rattle.kx_codes.specs.Pairs.{name_in, pairs_of}
 use Rattle.kx_compat.specs.Meaning.{interpretations_of}
-use Rattle.kx_groups.specs.Names.{AreGroupNames}
+use Rattle.kx_group_names.specs.Names.{AreGroupNames}
 use Rattle.kx_include.specs.Expansion.{Begin, End}
 use Rattle.kx_include.specs.declared.place.Place.{Place}
-use Rattle.kx_lamps.specs.Lamps.{Lamp}
-use Rattle.kx_lamps.specs.Meaning.{lamp_of}
-use Rattle.kx_levels.specs.Selecting.{RealSet}
-use Rattle.kx_mapped.specs.Mapping.{Mapping}
-use Rattle.kx_masks.specs.Sets.{has}
+use Rattle.kx_indicators.specs.Lamps.{Lamp}
+use Rattle.kx_indicators.specs.Meaning.{lamp_of}
+use Rattle.kx_resolve.specs.Selecting.{RealSet}
+use Rattle.kx_resolve.specs.Mapping.{Mapping}
+use Rattle.kx_virtual_mods.specs.Sets.{has}
 use Rattle.kx_merge.specs.Offers.{value_of}
 use Rattle.kx_mods.specs.Mods.{mask}
 use Rattle.kx_modmaps.specs.Entries.{same_target}
@@ -39,26 +39,26 @@ use Rattle.kx_roundtrip.specs.Parts.{Parts, parts_of}
 use Rattle.kx_roundtrip.proofs.Bodies.{keycodes, keys_items, maps_items, name_items, parts_are}
 use Rattle.kx_roundtrip.proofs.Faults.{codes_again, few_printed}
 use Rattle.kx_roundtrip.proofs.Written.{library, shown}
-use Rattle.roundtrip_bodies.specs.Bodies.{own_body, place_of}
-use Rattle.roundtrip_bodies.specs.Sources.{indicators_body, symbols_place}
-use Rattle.roundtrip_bodies.proofs.Codes.{pairs_printed}
-use Rattle.roundtrip_keys.specs.Given.{IsGiven}
-use Rattle.roundtrip_keys.proofs.KeySection.{keys_given, maps_given, maps_keysymless}
-use Rattle.roundtrip_resolving.specs.Resolving.{ReadAgain, pair_of}
-use Rattle.roundtrip_resolving.proofs.Resolving.{resolved_again}
-use Rattle.roundtrip_resolving.proofs.ResolvingDeeds.{deeds_again, modmap_again}
-use Rattle.roundtrip_resolving.proofs.ResolvingMasks.{mods_again, real_stands}
-use Rattle.roundtrip_tables.specs.Source.{AreApart, EachOf, IndicatorFits, KeyFits, PrintedKey, cell_at, indicators_printed, keys_printed, names_printed, types_printed}
-use Rattle.roundtrip_tables.proofs.Tables.{sound_placed}
-use Rattle.roundtrip_tables.proofs.TablesHold.{codes_rise, each_row, indicators_apart, indicators_few, indicators_fit, keys_apart, keys_fit, names_fit, types_apart, types_fit}
-use Rattle.roundtrip_tables.proofs.TablesLists.{each_at}
+use Rattle.roundtrip_meaning.specs.Bodies.{own_body, place_of}
+use Rattle.roundtrip_meaning.specs.Sources.{indicators_body, symbols_place}
+use Rattle.roundtrip_meaning.proofs.Codes.{pairs_printed}
+use Rattle.roundtrip_meaning.specs.Given.{IsGiven}
+use Rattle.roundtrip_meaning.proofs.KeySection.{keys_given, maps_given, maps_keysymless}
+use Rattle.roundtrip_meaning.specs.Resolving.{ReadAgain, pair_of}
+use Rattle.roundtrip_meaning.proofs.Resolving.{resolved_again}
+use Rattle.roundtrip_meaning.proofs.ResolvingDeeds.{deeds_again, modmap_again}
+use Rattle.roundtrip_meaning.proofs.ResolvingMasks.{mods_again, real_stands}
+use Rattle.roundtrip_text.specs.Source.{AreApart, EachOf, IndicatorFits, KeyFits, PrintedKey, cell_at, indicators_printed, keys_printed, names_printed, types_printed}
+use Rattle.roundtrip_text.proofs.Tables.{sound_placed}
+use Rattle.roundtrip_text.proofs.TablesHold.{codes_rise, each_row, indicators_apart, indicators_few, indicators_fit, keys_apart, keys_fit, names_fit, types_apart, types_fit}
+use Rattle.roundtrip_text.proofs.TablesLists.{each_at}
 use Rattle.roundtrip_tree.specs.Indicators.{IsIndicator}
 use Rattle.roundtrip_tree.specs.Shows.{AreShown, IsItem, none}
-use Rattle.roundtrip_types.specs.Types.{definition_seen}
-use Rattle.roundtrip_types.proofs.GroupNames.{names_printed_again}
-use Rattle.roundtrip_types.proofs.Indicators.{indicators_named, lamps_printed}
-use Rattle.roundtrip_types.proofs.Interpretations.{no_interpretations, none_without}
-use Rattle.roundtrip_types.proofs.Types.{types_declared}
+use Rattle.roundtrip_meaning.specs.Types.{definition_seen}
+use Rattle.roundtrip_meaning.proofs.GroupNames.{names_printed_again}
+use Rattle.roundtrip_meaning.proofs.Indicators.{indicators_named, lamps_printed}
+use Rattle.roundtrip_meaning.proofs.Interpretations.{no_interpretations, none_without}
+use Rattle.roundtrip_meaning.proofs.Types.{types_declared}
 
 -- ---- Indicators
 

@@ -10,15 +10,15 @@ use Rattle.kx_print.specs.Printed.{printed}
 use Rattle.kx_lex.specs.Reading.{mark_len}
 use Rattle.kx_tables.specs.Content.{Content}
 use Rattle.kx_tables.specs.Sound.{Sound}
-use Rattle.roundtrip_phrases.proofs.Texts.{text_reads}
-use Rattle.roundtrip_tables.specs.Source.{indicators_printed, keys_printed, names_printed, types_printed}
-use Rattle.roundtrip_tables.proofs.TablesHold.{indicators_fit, keys_fit, names_fit, types_fit}
+use Rattle.roundtrip_text.proofs.Texts.{text_reads}
+use Rattle.roundtrip_text.specs.Source.{indicators_printed, keys_printed, names_printed, types_printed}
+use Rattle.roundtrip_text.proofs.TablesHold.{indicators_fit, keys_fit, names_fit, types_fit}
 use Rattle.roundtrip_text.specs.Sections.{printed_slices}
 use Rattle.roundtrip_text.proofs.Sections.{printed_lexes}
 use Rattle.roundtrip_tree.specs.Sources.{ShowsSource}
 use Rattle.roundtrip_tree.proofs.Sources.{source_reads}
-use Rattle.roundtrip_bodies.specs.Sources.{library_of}
-use Rattle.roundtrip_bodies.proofs.Sources.{read_alone}
+use Rattle.roundtrip_meaning.specs.Sources.{library_of}
+use Rattle.roundtrip_meaning.proofs.Sources.{read_alone}
 
 -- a text that begins with a letter has no mark before it
 unmarked : (c : Content) → mark_len (printed c) ≡ 0

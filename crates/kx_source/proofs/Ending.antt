@@ -4,7 +4,7 @@ use Rattle.ks_core.specs.Entry.{Entry}
 use Rattle.kx_builder.specs.Lamps.{keymap_with, with_lamps}
 use Rattle.kx_builder.specs.Placed.{content_of_resolved}
 use Rattle.kx_codes.specs.Codes.{Codes, CodesShow}
-use Rattle.kx_groups.specs.Names.{AreGroupNames}
+use Rattle.kx_group_names.specs.Names.{AreGroupNames}
 use Rattle.kx_include.specs.Bodies.{AreBodies}
 use Rattle.kx_include.specs.Expansion.{body_of}
 use Rattle.kx_include.specs.IncludeFaults.{IsWhole}
@@ -13,9 +13,9 @@ use Rattle.kx_include.specs.Shared.{expanded_body}
 use Rattle.kx_include.specs.Source.{Handed, IsRead}
 use Rattle.kx_include.specs.declared.expansion.Bodies.{Bodies}
 use Rattle.kx_lex.specs.declared.fault.Fault.{Fault}
-use Rattle.kx_masks.specs.Declarations.{AreModNames, ModNames, modifier_bodies}
-use Rattle.kx_masks.specs.Sets.{real_of}
-use Rattle.kx_masks.specs.Standing.{stands_for}
+use Rattle.kx_virtual_mods.specs.Declarations.{AreModNames, ModNames, modifier_bodies}
+use Rattle.kx_virtual_mods.specs.Sets.{real_of}
+use Rattle.kx_virtual_mods.specs.Standing.{stands_for}
 use Rattle.kx_parse.specs.declared.tree.Kind.TheVariants.{Keycodes, Symbols}
 use Rattle.kx_resolve.specs.Keys.{keyed_of}
 use Rattle.kx_resolve.specs.Lit.{indicators_of}

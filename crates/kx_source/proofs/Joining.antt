@@ -6,12 +6,12 @@ use Rattle.std.proofs.Math.Path.{fun_ext}
 use Rattle.std.specs.List.{zip}
 use Rattle.std.specs.Option.{option_and_then, option_map, option_or}
 use Rattle.ks_core.specs.Entry.{Entry}
-use Rattle.kx_bearing.specs.Bearing.{ReadKeymap, brings, stands}
-use Rattle.kx_bearing.specs.Deeds.{deeds_of}
-use Rattle.kx_bearing.specs.Read.{read_keymap_of}
+use Rattle.kx_resolve.specs.Bearing.{ReadKeymap, brings, stands}
+use Rattle.kx_resolve.specs.Deeds.{deeds_of}
+use Rattle.kx_resolve.specs.ReadBearing.{read_keymap_of}
 use Rattle.kx_builder.specs.Lamps.{ResolvedIndicator, keymap_with, lamp_of_indicator}
 use Rattle.kx_builder.specs.Resolved.{Resolved}
-use Rattle.kx_choice.specs.Interpretations.{Interpretation}
+use Rattle.kx_compat.specs.Interpretations.{Interpretation}
 use Rattle.kx_codes.proofs.Targets.{target_same as alias_same}
 use Rattle.kx_codes.specs.Codes.{Codes, CodesShow, code_of, name_of}
 use Rattle.kx_compat.specs.Meaning.{interpretations_of}
@@ -20,14 +20,14 @@ use Rattle.kx_include.specs.Expansion.{Body, body_of}
 use Rattle.kx_include.specs.Library.{Library}
 use Rattle.kx_include.specs.Shared.{expanded_body}
 use Rattle.kx_include.specs.declared.expansion.Bodies.{Bodies}
-use Rattle.kx_lamps.specs.Lamps.{Lamp}
-use Rattle.kx_lamps.specs.Meaning.{AreIndicators, Indicators, indicator_names, lamp_of}
-use Rattle.kx_levels.specs.Selecting.{RealSet}
+use Rattle.kx_indicators.specs.Lamps.{Lamp}
+use Rattle.kx_indicators.specs.Meaning.{AreIndicators, Indicators, indicator_names, lamp_of}
+use Rattle.kx_resolve.specs.Selecting.{RealSet}
 use Rattle.kx_lex.specs.declared.name.Name.{Name}
-use Rattle.kx_mapped.specs.Mapping.{modmap_of}
-use Rattle.kx_masks.specs.Declarations.{AreModNames, ModNames, declared_mask, modifier_bodies, virtual_names}
-use Rattle.kx_masks.specs.Sets.{any_below, has, has_virtual, real_of, real_part}
-use Rattle.kx_masks.specs.Standing.{stands_for}
+use Rattle.kx_resolve.specs.Mapping.{modmap_of}
+use Rattle.kx_virtual_mods.specs.Declarations.{AreModNames, ModNames, declared_mask, modifier_bodies, virtual_names}
+use Rattle.kx_virtual_mods.specs.Sets.{any_below, has, has_virtual, real_of, real_part}
+use Rattle.kx_virtual_mods.specs.Standing.{stands_for}
 use Rattle.kx_merge.specs.Bodies.{Rules, faults_of, offers_of}
 use Rattle.kx_merge.specs.Offers.{Offer, value_of, width_of}
 use Rattle.kx_modmaps.specs.Entries.{entry_target, item_faults as map_item_faults, map_in, targets_of, with_target, word_mask}
@@ -57,7 +57,7 @@ use Rattle.kx_symbols.specs.declared.cells.CellValue.{CellValue}
 use Rattle.kx_tables.specs.Keymap.{Keymap}
 use Rattle.kx_types.specs.KeyTypes.{Definition}
 use Rattle.kx_types.specs.Types.{NamedTypes, TypesShow, declared_type, type_named, types_faults}
-use Rattle.kx_typing.specs.Given.{KeyGiven, given_by, given_in}
+use Rattle.kx_resolve.specs.Given.{KeyGiven, given_by, given_in}
 
 any_same : (n : ℕ) (f g : ℕ → Bool) → ((k : ℕ) → k < n → f k ≡ g k) → any_below n f ≡ any_below n g
 unfolding any_below

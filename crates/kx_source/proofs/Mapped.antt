@@ -3,13 +3,13 @@ use Rattle.std.proofs.Common.{ℕ, ◌≡◌, ◌^◌, Bool, true, false, List, 
 use Rattle.ks_core.specs.Entry.{Entry}
 use Rattle.kx_codes.specs.Codes.{Codes, name_of}
 use Rattle.kx_include.specs.Expansion.{Body}
-use Rattle.kx_mapped.specs.Read.{mapping_of}
-use Rattle.kx_masks.specs.Sets.{has}
+use Rattle.kx_resolve.specs.ReadMapping.{mapping_of}
+use Rattle.kx_virtual_mods.specs.Sets.{has}
 use Rattle.kx_modmaps.specs.Maps.{AreModifierMaps, Maps, key_mask, map_offers_of, present}
 use Rattle.kx_source.specs.Meaning.{mapping_by}
 use Rattle.kx_symbols.specs.Keys.{KeyContent, key_at}
 use Rattle.kx_types.specs.Types.{NamedTypes, type_named}
-use Rattle.kx_typing.specs.Given.{given_in}
+use Rattle.kx_resolve.specs.Given.{given_in}
 
 present_some : (m r : ℕ) → is_some (present m r) ≡ has m r
 present_some m r = by (has m r)

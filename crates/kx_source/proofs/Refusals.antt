@@ -8,10 +8,10 @@ use Rattle.kx_compat.specs.Meaning.{compat_faults}
 use Rattle.kx_include.specs.Expansion.{body_of}
 use Rattle.kx_include.specs.IncludeFaults.{IsWhole}
 use Rattle.kx_include.specs.Library.{Library}
-use Rattle.kx_lamps.specs.Meaning.{lamps_faults}
+use Rattle.kx_indicators.specs.Meaning.{lamps_faults}
 use Rattle.kx_lex.specs.declared.fault.Fault.{Fault}
 use Rattle.kx_lex.specs.declared.fault.Fault.TheVariants.{Memory}
-use Rattle.kx_masks.specs.Declarations.{modifier_faults}
+use Rattle.kx_virtual_mods.specs.Declarations.{modifier_faults}
 use Rattle.kx_parse.specs.declared.tree.Kind.TheVariants.{Compat, Keycodes, Symbols, Types}
 use Rattle.kx_source.specs.Meaning.{codes_in, modifier_bodies_of, modifiers_of}
 use Rattle.kx_source.specs.Source.{HasFaultIn, keys_faults, maps_faults, names_faults, statement_faults}

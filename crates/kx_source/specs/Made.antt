@@ -1,22 +1,22 @@
 -- That tables are made of what is read of a source's bodies, step by step.
 use Rattle.std.specs.Prelude.{ℕ, ◌≡◌, ◌<◌, List}
 use Rattle.ks_core.specs.Entry.{Entry}
-use Rattle.kx_bearing.specs.Bearing.{stands}
-use Rattle.kx_bearing.specs.Read.{read_keymap_of}
+use Rattle.kx_resolve.specs.Bearing.{stands}
+use Rattle.kx_resolve.specs.ReadBearing.{read_keymap_of}
 use Rattle.kx_builder.specs.Agreement.{ShowsSame}
 use Rattle.kx_builder.specs.Lamps.{keymap_with, with_lamps}
 use Rattle.kx_builder.specs.Placed.{content_of_resolved}
-use Rattle.kx_choice.specs.Interpretations.{Interpretation}
+use Rattle.kx_compat.specs.Interpretations.{Interpretation}
 use Rattle.kx_codes.specs.Codes.{Codes, name_of}
 use Rattle.kx_compat.specs.Meaning.{interpretations_of}
-use Rattle.kx_groups.specs.Names.{AreGroupNames}
+use Rattle.kx_group_names.specs.Names.{AreGroupNames}
 use Rattle.kx_include.specs.Expansion.{Body}
-use Rattle.kx_lamps.specs.Meaning.{AreIndicators, Indicators}
-use Rattle.kx_levels.specs.Selecting.{RealSet}
-use Rattle.kx_mapped.specs.Mapping.{modmap_of}
-use Rattle.kx_masks.specs.Declarations.{ModNames}
-use Rattle.kx_masks.specs.Sets.{real_of}
-use Rattle.kx_masks.specs.Standing.{stands_for}
+use Rattle.kx_indicators.specs.Meaning.{AreIndicators, Indicators}
+use Rattle.kx_resolve.specs.Selecting.{RealSet}
+use Rattle.kx_resolve.specs.Mapping.{modmap_of}
+use Rattle.kx_virtual_mods.specs.Declarations.{ModNames}
+use Rattle.kx_virtual_mods.specs.Sets.{real_of}
+use Rattle.kx_virtual_mods.specs.Standing.{stands_for}
 use Rattle.kx_modmaps.specs.Maps.{map_offers_of}
 use Rattle.kx_mods.specs.declared.mods.Mods.{Mods}
 use Rattle.kx_resolve.specs.Keys.{Keyed, keyed_of, resolved_of}
@@ -27,7 +27,7 @@ use Rattle.kx_symbols.specs.Keys.{KeyContent, KeysShow, key_at}
 use Rattle.kx_tables.specs.Content.{Content}
 use Rattle.kx_tables.specs.Keymap.{keymap_of}
 use Rattle.kx_types.specs.Types.{NamedTypes, type_named}
-use Rattle.kx_typing.specs.Given.{given_in}
+use Rattle.kx_resolve.specs.Given.{given_in}
 
 -- of types and keys, with the indicators and the names of groups that bodies have; `real` is what a set of modifiers stands for,
 -- `modifiers` are the virtual ones

@@ -3,24 +3,24 @@ use Rattle.std.specs.Prelude.{ℕ, max, suc, List, [], ◌∷◌, Option, is_som
 use Rattle.std.specs.Option.{option_map_or}
 use Rattle.ks_core.specs.Entry.{Entry}
 use Rattle.kx_basics.specs.declared.limits.TheConstants.{CODES}
-use Rattle.kx_bearing.specs.Bearing.{ReadKeymap, stands}
-use Rattle.kx_bearing.specs.Deeds.{deeds_of}
+use Rattle.kx_resolve.specs.Bearing.{ReadKeymap, stands}
+use Rattle.kx_resolve.specs.Deeds.{deeds_of}
 use Rattle.kx_builder.specs.Lamps.{ResolvedIndicator}
 use Rattle.kx_builder.specs.Resolved.{Resolved}
-use Rattle.kx_choice.specs.Interpretations.{Interpretation}
+use Rattle.kx_compat.specs.Interpretations.{Interpretation}
 use Rattle.kx_codes.specs.Aliases.{aliases_of}
 use Rattle.kx_codes.specs.Codes.{Codes, name_of}
 use Rattle.kx_codes.specs.Pairs.{pairs_of}
 use Rattle.kx_compat.specs.Meaning.{interpretations_of}
 use Rattle.kx_include.specs.Expansion.{Body, body_of}
 use Rattle.kx_include.specs.Library.{Library}
-use Rattle.kx_lamps.specs.Lamps.{Lamp}
-use Rattle.kx_lamps.specs.Meaning.{Indicators, indicator_names, lamp_of}
-use Rattle.kx_levels.specs.Rows.{set_mask}
-use Rattle.kx_levels.specs.Selecting.{RealSet}
-use Rattle.kx_mapped.specs.Mapping.{Mapping, modmap_of}
-use Rattle.kx_masks.specs.Declarations.{declared_mask, virtual_names}
-use Rattle.kx_masks.specs.Sets.{has, real_of}
+use Rattle.kx_indicators.specs.Lamps.{Lamp}
+use Rattle.kx_indicators.specs.Meaning.{Indicators, indicator_names, lamp_of}
+use Rattle.kx_resolve.specs.Rows.{set_mask}
+use Rattle.kx_resolve.specs.Selecting.{RealSet}
+use Rattle.kx_resolve.specs.Mapping.{Mapping, modmap_of}
+use Rattle.kx_virtual_mods.specs.Declarations.{declared_mask, virtual_names}
+use Rattle.kx_virtual_mods.specs.Sets.{has, real_of}
 use Rattle.kx_merge.specs.Bodies.{offers_of}
 use Rattle.kx_merge.specs.Offers.{Offer, value_of, width_of}
 use Rattle.kx_modmaps.specs.Entries.{same_target}
@@ -40,7 +40,7 @@ use Rattle.kx_symbols.specs.declared.cells.CellValue.{CellValue}
 use Rattle.kx_tables.specs.Keymap.{Keymap, Lamp as LitLamp, nothing_shown}
 use Rattle.kx_types.specs.KeyTypes.{Definition}
 use Rattle.kx_types.specs.Types.{declared_type}
-use Rattle.kx_typing.specs.Given.{KeyGiven, given_by}
+use Rattle.kx_resolve.specs.Given.{KeyGiven, given_by}
 
 -- ---- Modifiers
 

@@ -6,14 +6,14 @@ use Rattle.kx_builder.specs.Placed.{content_of_resolved}
 use Rattle.kx_codes.specs.CodeFaults.{faults_of as keycodes_faults}
 use Rattle.kx_codes.specs.Codes.{Codes}
 use Rattle.kx_compat.specs.Meaning.{compat_faults}
-use Rattle.kx_groups.specs.Names.{AreGroupNames, name_moves, name_rules}
+use Rattle.kx_group_names.specs.Names.{AreGroupNames, name_moves, name_rules}
 use Rattle.kx_include.specs.Expansion.{Body, body_of}
 use Rattle.kx_include.specs.IncludeFaults.{IsWhole, HasIncludeFault}
 use Rattle.kx_include.specs.Library.{Library}
 use Rattle.kx_include.specs.Source.{Handed, HasNoTree, HasTooManyFiles, IsRead}
-use Rattle.kx_lamps.specs.Meaning.{lamps_faults}
+use Rattle.kx_indicators.specs.Meaning.{lamps_faults}
 use Rattle.kx_lex.specs.declared.fault.Fault.{Fault}
-use Rattle.kx_masks.specs.Declarations.{modifier_faults}
+use Rattle.kx_virtual_mods.specs.Declarations.{modifier_faults}
 use Rattle.kx_merge.specs.Bodies.{faults_of, no_moves}
 use Rattle.kx_modmaps.specs.Entries.{same_target}
 use Rattle.kx_modmaps.specs.Maps.{map_rules}

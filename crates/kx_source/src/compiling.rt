@@ -3,7 +3,7 @@ ghost use Rattle.std.specs.Prelude.{◌≡◌, ◌⊎◌, [], IfErr, IfOk, OnOk}
 ghost use Rattle.kx_include.specs.Bodies.{AreBodies};
 ghost use Rattle.kx_include.specs.IncludeFaults.{IsWhole};
 ghost use Rattle.kx_lex.specs.declared.fault.Fault.TheVariants.{Memory};
-ghost use Rattle.kx_masks.specs.Declarations.{AreModNames, modifier_bodies, modifier_faults};
+ghost use Rattle.kx_virtual_mods.specs.Declarations.{AreModNames, modifier_bodies, modifier_faults};
 ghost use Rattle.kx_source.specs.Meaning.{keymap_in};
 ghost use Rattle.kx_source.specs.Source.{HasFault, HasFaultIn, HoldsAll, Means, statement_faults};
 ghost use Rattle.kx_tables.specs.Keymap.{keymap_of};
@@ -13,9 +13,9 @@ use ks_core::{NameTable, Notes};
 use kx_codes::codes;
 use kx_include::{Bodies, Files, Library};
 use kx_lex::Fault;
-use kx_masks::ModNames;
 use kx_tables::Owned;
 use kx_types::types;
+use kx_virtual_mods::ModNames;
 use std::alloc::Global;
 
 /// The tables of what the bodies say that a source and its files expand to, and what was passed over.

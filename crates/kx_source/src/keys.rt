@@ -3,24 +3,24 @@ ghost use Rattle.std.specs.Prelude.{◌≡◌, ◌∷◌, ◌++◌, [], ℕ, Con
 ghost use Rattle.kx_codes.specs.Codes.{name_of};
 ghost use Rattle.kx_include.specs.Shared.{expanded_body};
 ghost use Rattle.kx_lex.specs.declared.fault.Fault.TheVariants.{Memory};
-ghost use Rattle.kx_mapped.specs.Mapping.{modmap_of};
-ghost use Rattle.kx_mapped.specs.Modmaps.{modmap_at};
+ghost use Rattle.kx_resolve.specs.Mapping.{modmap_of};
+ghost use Rattle.kx_resolve.specs.Modmaps.{modmap_at};
 ghost use Rattle.kx_modmaps.specs.Maps.{map_offers_of};
 ghost use Rattle.kx_source.specs.Meaning.{mapping_by};
 ghost use Rattle.kx_source.specs.Source.{keys_faults, maps_faults};
 ghost use Rattle.kx_symbols.specs.Keys.{KeysShow, key_at};
 ghost use Rattle.kx_types.specs.Types.{type_named};
-ghost use Rattle.kx_typing.specs.Given.{given_in};
+ghost use Rattle.kx_resolve.specs.Given.{given_in};
 
 use ks_core::{NameTable, Notes};
 use kx_codes::Codes;
 use kx_include::Expansion;
 use kx_lex::Fault;
-use kx_mapped::KeyMods;
-use kx_masks::ModNames;
 use kx_modmaps::modifier_maps;
+use kx_resolve::KeyMods;
 use kx_symbols::{Keys, symbols};
 use kx_types::Types;
+use kx_virtual_mods::ModNames;
 use std::alloc::Global;
 
 /// Keys, what they are mapped to, and what was passed over.

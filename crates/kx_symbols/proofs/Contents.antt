@@ -1,14 +1,14 @@
 -- The cells of a key, by its lists of both kinds.
 use Rattle.std.proofs.Common.{◌≡◌, ℕ, Option, None, Some, refl, ap, ◌∙◌}
 use Rattle.std.specs.Option.{option_and_then, option_map}
-use Rattle.kx_lists.specs.Records.{moved_in, value_in}
-use Rattle.kx_values.specs.ByGroup.{group_before}
+use Rattle.kx_key_fields.specs.Records.{moved_in, value_in}
+use Rattle.kx_merge.specs.ByGroup.{group_before}
 use Rattle.kx_merge.specs.Moved.{moved_value}
 use Rattle.kx_merge.specs.Offers.{taken}
 use Rattle.kx_parse.specs.declared.tree.Mode.{Mode}
 use Rattle.kx_parse.specs.declared.tree.Mode.TheVariants.{Augment, Override, Replace}
-use Rattle.kx_settings.specs.Settings.{setting_before, setting_in, setting_moves}
-use Rattle.kx_settings.specs.declared.cells.SettingCell.{SettingCell}
+use Rattle.kx_key_fields.specs.Settings.{setting_before, setting_in, setting_moves}
+use Rattle.kx_key_fields.specs.declared.cells.SettingCell.{SettingCell}
 use Rattle.kx_symbols.specs.Keys.{KeyContent, cell_in, key_moves}
 use Rattle.kx_symbols.specs.declared.cells.Cell.{Cell}
 use Rattle.kx_symbols.specs.declared.cells.Cell.TheVariants as cells

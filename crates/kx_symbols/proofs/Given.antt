@@ -2,12 +2,12 @@
 use Rattle.std.proofs.Common.{◌≡◌, ℕ, ◌-◌, cond, false, max, nat_lt, List, [], ◌∷◌, None, refl, subst, sym, ap, ◌∙◌, arith}
 use Rattle.std.specs.Option.{option_map}
 use Rattle.std.proofs.lemmas.Bool.{le-ltb}
-use Rattle.kx_lists.specs.Lists.{Lists, level_in, width_in}
-use Rattle.kx_lists.specs.Records.{value_in, width_in_key as list_width}
+use Rattle.kx_key_fields.specs.Lists.{Lists, level_in, width_in}
+use Rattle.kx_key_fields.specs.Records.{value_in, width_in_key as list_width}
 use Rattle.kx_merge.specs.Offers.{Offer}
-use Rattle.kx_settings.specs.KeyFields.{effective}
-use Rattle.kx_settings.specs.Settings.{Settings, setting_in}
-use Rattle.kx_settings.specs.declared.cells.SettingCell.{SettingCell}
+use Rattle.kx_key_fields.specs.KeyFields.{effective}
+use Rattle.kx_key_fields.specs.Settings.{Settings, setting_in}
+use Rattle.kx_key_fields.specs.declared.cells.SettingCell.{SettingCell}
 use Rattle.kx_parse.specs.declared.tree.KeyField.{KeyField}
 use Rattle.kx_symbols.specs.Known.{Known}
 use Rattle.kx_symbols.specs.Lists.{StatementLists, lists_of}

@@ -5,11 +5,11 @@ use Rattle.std.specs.Option.{option_or}
 use Rattle.std.proofs.lemmas.Bool.{false≢true}
 use Rattle.kx_parse.specs.declared.tree.KeyField.{KeyField}
 use Rattle.kx_parse.specs.declared.tree.KeyField.TheVariants as fields
-use Rattle.kx_settings.specs.KeyFields.{cell_given, effective, setting_faults}
-use Rattle.kx_values.specs.Last.{last_given}
-use Rattle.kx_settings.specs.Settings.{no_settings, setting_in}
-use Rattle.kx_settings.specs.declared.cells.SettingCell.{SettingCell}
-use Rattle.kx_settings.specs.declared.cells.SettingCell.TheVariants as cells
+use Rattle.kx_key_fields.specs.KeyFields.{cell_given, effective, setting_faults}
+use Rattle.kx_merge.specs.Last.{last_given}
+use Rattle.kx_key_fields.specs.Settings.{no_settings, setting_in}
+use Rattle.kx_key_fields.specs.declared.cells.SettingCell.{SettingCell}
+use Rattle.kx_key_fields.specs.declared.cells.SettingCell.TheVariants as cells
 use Rattle.kx_symbols.specs.Lists.{is_field}
 
 nothing_given : (names : List (List ℕ)) (cell : SettingCell) (fs : List KeyField) → list_any is_field fs ≡ false → last_given (cell_given names cell) fs ≡ None

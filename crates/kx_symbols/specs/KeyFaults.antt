@@ -11,7 +11,7 @@ use Rattle.kx_lex.specs.declared.fault.Fault.{Fault}
 use Rattle.kx_lex.specs.declared.fault.Fault.TheVariants.{BadValue, TooMany, UnknownField}
 use Rattle.kx_lex.specs.declared.name.Name.{Name}
 use Rattle.kx_lex.specs.declared.token.Span.{Span}
-use Rattle.kx_lists.specs.Places.{place_faults}
+use Rattle.kx_key_fields.specs.Places.{place_faults}
 use Rattle.kx_parse.specs.declared.tree.Braces.{Braces}
 use Rattle.kx_parse.specs.declared.tree.Element.{Element}
 use Rattle.kx_parse.specs.declared.tree.Element.TheVariants as elements
@@ -32,10 +32,10 @@ use Rattle.kx_parse.specs.declared.tree.Symbol.{Symbol}
 use Rattle.kx_parse.specs.declared.tree.Symbol.TheVariants.{Word, Number}
 use Rattle.kx_parse.specs.declared.tree.Value.TheVariants as values
 use Rattle.kx_parse.specs.Sections.{word_span}
-use Rattle.kx_values.specs.Faults.{name_faults}
+use Rattle.kx_merge.specs.Faults.{name_faults}
 use Rattle.kx_include.specs.IncludeFaults.{at}
-use Rattle.kx_settings.specs.KeyFields.{default_faults as key_default_faults, setting_faults}
-use Rattle.kx_settings.specs.Words.{is_group_name, is_key_word}
+use Rattle.kx_key_fields.specs.KeyFields.{default_faults as key_default_faults, setting_faults}
+use Rattle.kx_key_fields.specs.Words.{is_group_name, is_key_word}
 use Rattle.kx_symbols.specs.declared.kinds.ListKind.{ListKind}
 use Rattle.kx_symbols.specs.declared.kinds.ListKind.TheVariants.{Symbols, Actions}
 use Rattle.kx_symbols.specs.Actions.{calls_in}

@@ -8,9 +8,9 @@ use Rattle.kx_actions.specs.declared.action.KeyAction.{KeyAction}
 use Rattle.kx_codes.specs.Codes.{Codes, code_of}
 use Rattle.kx_include.specs.Expansion.{Body}
 use Rattle.kx_lex.specs.declared.name.Name.{Name}
-use Rattle.kx_lists.specs.Lists.{level_in, width_in}
-use Rattle.kx_lists.specs.Records.{KeyLists, value_in, width_in_key as list_width}
-use Rattle.kx_values.specs.ByGroup.{group_before}
+use Rattle.kx_key_fields.specs.Lists.{level_in, width_in}
+use Rattle.kx_key_fields.specs.Records.{KeyLists, value_in, width_in_key as list_width}
+use Rattle.kx_merge.specs.ByGroup.{group_before}
 use Rattle.kx_merge.specs.Bodies.{Rules, Moves, offers_of}
 use Rattle.kx_merge.specs.Offers.{Offer, value_of, width_of}
 use Rattle.kx_parse.specs.declared.tree.Field.{Field}
@@ -20,8 +20,8 @@ use Rattle.kx_parse.specs.declared.tree.KeyField.{KeyField}
 use Rattle.kx_parse.specs.declared.tree.Mode.{Mode}
 use Rattle.kx_parse.specs.declared.tree.Statement.{Statement as Said}
 use Rattle.kx_parse.specs.declared.tree.Statement.TheVariants as said
-use Rattle.kx_settings.specs.KeyFields.{effective, next_defaults as next_key_defaults}
-use Rattle.kx_settings.specs.Settings.{Settings, setting_before, setting_in}
+use Rattle.kx_key_fields.specs.KeyFields.{effective, next_defaults as next_key_defaults}
+use Rattle.kx_key_fields.specs.Settings.{Settings, setting_before, setting_in}
 use Rattle.kx_symbols.specs.declared.cells.Cell.{Cell}
 use Rattle.kx_symbols.specs.declared.cells.Cell.TheVariants as cells
 use Rattle.kx_symbols.specs.declared.cells.CellValue.{CellValue}

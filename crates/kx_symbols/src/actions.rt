@@ -9,8 +9,8 @@ ghost use Rattle.kx_symbols.specs.KeyFaults.{action_element_faults, action_part_
 use crate::known::Known;
 use ks_core::{Note, Notes};
 use kx_actions::{KeyAction, read};
+use kx_key_fields::{LevelValue, Levels};
 use kx_lex::{At, Fault, Span};
-use kx_lists::{LevelValue, Levels};
 use kx_parse::{BracePart, Braces, Call, Element, List as Listed, Symbol};
 use std::alloc::{AllocError, Global};
 use std::marker::Model;

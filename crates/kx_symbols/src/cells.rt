@@ -1,7 +1,7 @@
 //! What can have a value in a key.
 use crate::keysyms::Keysyms;
 use kx_actions::KeyAction;
-use kx_settings::{SettingCell, SettingValue};
+use kx_key_fields::{SettingCell, SettingValue};
 
 /// What can have a value in a key; groups and levels are counted from 0.
 #[derive(Clone, Copy, Debug, PartialEq, Eq)]

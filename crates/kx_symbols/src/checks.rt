@@ -4,10 +4,10 @@ ghost use Rattle.kx_actions.specs.Defaults.{default_faults as action_default_fau
 ghost use Rattle.kx_symbols.specs.KeyFaults.{other_faults, section_field_faults};
 
 use kx_actions::ActionDefaults;
+use kx_key_fields::{check_default, is_group_name, is_key_word};
 use kx_lex::{At, Fault, Span};
-use kx_masks::ModNames;
 use kx_parse::{Field, Statement};
-use kx_settings::{check_default, is_group_name, is_key_word};
+use kx_virtual_mods::ModNames;
 
 /// Checks a field as a default for actions.
 fn check_action_default(modifiers: &ModNames, file: u32, field: &Field) -> Result<(), Fault>

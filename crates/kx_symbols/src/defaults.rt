@@ -2,15 +2,15 @@
 ghost use Rattle.std.specs.Prelude.{◌≡◌, IfErr, IfOk};
 ghost use Rattle.std.specs.Option.{option_map, option_map_or};
 ghost use Rattle.kx_lex.specs.declared.fault.Fault.TheVariants.{Memory};
-ghost use Rattle.kx_settings.specs.Settings.{no_settings};
+ghost use Rattle.kx_key_fields.specs.Settings.{no_settings};
 ghost use Rattle.kx_symbols.specs.Known.{no_defaults};
 ghost use Rattle.kx_symbols.specs.Keys.{behind_field, field_in, item_next};
 
 use kx_actions::ActionDefaults;
+use kx_key_fields::KeyDefaults;
 use kx_lex::Fault;
-use kx_masks::ModNames;
 use kx_parse::{Field, Item, Statement};
-use kx_settings::KeyDefaults;
+use kx_virtual_mods::ModNames;
 use std::alloc::{AllocError, Global};
 use std::marker::Model;
 

@@ -10,7 +10,7 @@ ghost use Rattle.kx_merge.specs.Moved.{moved_key, moved_value, moved_width};
 ghost use Rattle.kx_merge.specs.Offers.{Offer, taken, widened};
 ghost use Rattle.kx_merge.specs.Records.{AreOffered, IsOffered, mode_of};
 ghost use Rattle.kx_symbols.specs.KeyFaults.{content_faults, item_faults, key_in, said_faults};
-ghost use Rattle.kx_values.specs.Faults.{name_faults};
+ghost use Rattle.kx_merge.specs.Faults.{name_faults};
 ghost use Rattle.kx_codes.specs.Codes.{code_of};
 ghost use Rattle.kx_symbols.specs.Keys.{KeysShow, cell_in, item_offers, key_at, key_moves, key_offer, key_rules, offered, said_offers, width_in_key};
 
@@ -26,10 +26,10 @@ use kx_basics::MOST_NAME_BYTES;
 use kx_codes::Codes;
 use kx_include::{Expansion, Place};
 use kx_lex::{Fault, Span};
-use kx_masks::ModNames;
 use kx_merge::{Fields, merge};
 use kx_ordered::Ordered;
 use kx_parse::{Item, KeyField, KeyName, Mode, Row, Statement};
+use kx_virtual_mods::ModNames;
 use std::alloc::Global;
 use std::marker::Model;
 

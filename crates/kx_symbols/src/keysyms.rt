@@ -8,12 +8,12 @@ ghost use Rattle.kx_symbols.specs.KeyFaults.{count_faults, element_faults, eleme
 ghost use Rattle.kx_basics.specs.Keysyms.{IsKeysym};
 ghost use Rattle.kx_symbols.specs.Keysyms.{element_level, given, keysym_of_text, levels_of, number_keysym, part_keysyms, symbol_keysym, word_keysym};
 
-use crate::known::StatementSite;
 use arrayvec::ArrayVec;
+use crate::known::StatementSite;
 use ks_core::{NameTable, Note, Notes};
 use kx_basics::{GREATEST_KEYSYM, MOST_KEYSYMS};
+use kx_key_fields::{LevelValue, Levels};
 use kx_lex::{At, Fault};
-use kx_lists::{LevelValue, Levels};
 use kx_parse::{BracePart, Element, List as Listed, Symbol};
 use std::alloc::{AllocError, Global};
 use std::marker::Model;

@@ -4,7 +4,7 @@ ghost use Rattle.std.specs.Prelude.{◌≡◌};
 use crate::defaults::SectionDefaults;
 use ks_core::NameTable;
 use kx_lex::{At, Span};
-use kx_masks::ModNames;
+use kx_virtual_mods::ModNames;
 use std::marker::Model;
 
 /// The names and the defaults that a key statement is read against.

@@ -3,7 +3,7 @@ ghost use Rattle.std.specs.Prelude.{◌≡◌, ◌≤◌, ℕ, None, IsTrue, OnO
 ghost use Rattle.std.specs.Option.{option_map};
 ghost use Rattle.kx_merge.specs.Moved.{moved_value, moved_width};
 ghost use Rattle.kx_merge.specs.Offers.{taken, widened};
-ghost use Rattle.kx_settings.specs.Settings.{setting_in};
+ghost use Rattle.kx_key_fields.specs.Settings.{setting_in};
 ghost use Rattle.kx_symbols.specs.Keys.{HasAction, cell_in, content_of, key_moves, width_in_key};
 ghost use Rattle.kx_symbols.specs.declared.cells.Cell.TheVariants.{Keysyms as KeysymsOf, Action as ActionOf, Setting as SettingOf};
 ghost use Rattle.kx_symbols.specs.declared.cells.CellValue.TheVariants.{Keysyms as KeysymsValue, Action as ActionValue, Setting as SettingOfKey};
@@ -13,9 +13,8 @@ use crate::cells::Cell;
 use crate::fields::StatementLists;
 use crate::keysyms::Keysyms;
 use kx_actions::KeyAction;
-use kx_lists::GroupLists;
+use kx_key_fields::{GroupLists, KeySettings, SettingCell};
 use kx_parse::Mode;
-use kx_settings::{KeySettings, SettingCell};
 use std::alloc::{AllocError, Global};
 use std::marker::Model;
 

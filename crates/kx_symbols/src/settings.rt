@@ -2,15 +2,15 @@
 ghost use Rattle.std.specs.Prelude.{◌≡◌, ◌∷◌, [], Contains, IfErr, IfOk, OnOk};
 ghost use Rattle.std.specs.List.{list_any};
 ghost use Rattle.kx_lex.specs.declared.fault.Fault.TheVariants.{Memory};
-ghost use Rattle.kx_settings.specs.KeyFields.{effective, setting_faults};
-ghost use Rattle.kx_settings.specs.Settings.{no_settings, setting_in};
+ghost use Rattle.kx_key_fields.specs.KeyFields.{effective, setting_faults};
+ghost use Rattle.kx_key_fields.specs.Settings.{no_settings, setting_in};
 ghost use Rattle.kx_symbols.specs.Lists.{is_field};
 
 use crate::known::Known;
+use kx_key_fields::{KeyDefaults, KeySettings, SettingCell, read_settings};
 use kx_lex::Fault;
-use kx_masks::ModNames;
 use kx_parse::KeyField;
-use kx_settings::{KeyDefaults, KeySettings, SettingCell, read_settings};
+use kx_virtual_mods::ModNames;
 use std::alloc::Global;
 
 /// Whether a field isn't a list by itself.

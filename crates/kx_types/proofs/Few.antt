@@ -9,7 +9,7 @@ use Rattle.std.proofs.lemmas.List.{length-map}
 use Rattle.std.proofs.lemmas.Map.Keys.{IsDistinct-push}
 use Rattle.std.proofs.lemmas.Map.Made.{length-le_from_is_member}
 use Rattle.kx_include.specs.Expansion.{Body, End, Begin, Own, Inc}
-use Rattle.kx_masks.specs.Counted.{Said, Text, names_behind as names_behind_saids, names_with, statements_of, with_names}
+use Rattle.kx_virtual_mods.specs.Counted.{Said, Text, names_behind as names_behind_saids, names_with, statements_of, with_names}
 use Rattle.kx_merge.specs.Bodies.{gather, gathered, moved, offers}
 use Rattle.kx_merge.specs.Offers.{names_behind, names_of, with_name}
 use Rattle.kx_parse.specs.declared.tree.Item.{Item}

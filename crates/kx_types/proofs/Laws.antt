@@ -8,7 +8,7 @@ use Rattle.std.proofs.lemmas.List.Elements.{All-nil, All-push, All-map, All-weak
 use Rattle.std.specs.Option.{option_or}
 use Rattle.indexmap.specs.IndexSet.{insert_key}
 use Rattle.kx_basics.specs.declared.limits.TheConstants.{MOST_LEVELS}
-use Rattle.kx_masks.specs.Sets.{meet}
+use Rattle.kx_virtual_mods.specs.Sets.{meet}
 use Rattle.kx_types.specs.Firsts.{last_given, with_key, each_once}
 use Rattle.kx_types.specs.KeyTypes.{Definition, definition_of, entry_of, level_in, levels_of, mapped, mask_in, modifiers_of, preserved}
 use Rattle.kx_types.specs.Lawful.{EntryIsLawful, IsLawful, NamesLevel}

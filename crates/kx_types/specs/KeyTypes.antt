@@ -1,7 +1,7 @@
 -- What the fields of a key type say together: its modifiers, its levels, and its entries, each a mask of modifiers with
 -- the level that it selects and the modifiers that it preserves.
 use Rattle.std.specs.Prelude.{ℕ, ◌==◌, nat_eq, max, List, map, fold, Option, None, Some, unwrap_or, if◌then◌else◌}
-use Rattle.kx_masks.specs.Sets.{meet}
+use Rattle.kx_virtual_mods.specs.Sets.{meet}
 use Rattle.kx_types.specs.Firsts.{last_given, each_once}
 use Rattle.kx_types.specs.declared.saying.Saying.{Saying}
 use Rattle.kx_types.specs.declared.saying.Saying.TheVariants.{Modifiers, Map, Preserve, LevelName}

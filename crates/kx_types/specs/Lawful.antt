@@ -1,7 +1,7 @@
 -- What holds of every key type that is declared.
 use Rattle.std.specs.Prelude.{◌≡◌, ℕ, ◌≤◌, All}
 use Rattle.kx_basics.specs.declared.limits.TheConstants.{MOST_LEVELS}
-use Rattle.kx_masks.specs.Sets.{meet}
+use Rattle.kx_virtual_mods.specs.Sets.{meet}
 use Rattle.kx_types.specs.KeyTypes.{Definition}
 use Rattle.kx_types.specs.declared.entry.TypeEntry.{TypeEntry}
 use Rattle.kx_types.specs.declared.saying.Saying.{Saying}

@@ -14,7 +14,7 @@ use Rattle.kx_parse.specs.declared.tree.Item.TheVariants.{Include, Statement}
 use Rattle.kx_parse.specs.declared.tree.Statement.{Statement as Said}
 use Rattle.kx_parse.specs.declared.tree.Statement.TheVariants as said
 use Rattle.kx_types.specs.TypeFields.{field_faults}
-use Rattle.kx_values.specs.Faults.{name_faults}
+use Rattle.kx_merge.specs.Faults.{name_faults}
 
 -- the name and the fields of a type statement
 abbrev pub type_in : Said → Option (Name × List Field)

@@ -5,16 +5,16 @@ use Rattle.std.specs.Option.{option_and_then, option_map, option_to_list}
 use Rattle.kx_include.specs.IncludeFaults.{at}
 use Rattle.kx_lex.specs.declared.fault.Fault.{Fault}
 use Rattle.kx_lex.specs.declared.fault.Fault.TheVariants.{BadValue, UnknownField}
-use Rattle.kx_masks.specs.Masks.{mask_faults, mask_set}
+use Rattle.kx_virtual_mods.specs.Masks.{mask_faults, mask_set}
 use Rattle.kx_parse.specs.declared.tree.Expression.{Expression}
 use Rattle.kx_parse.specs.declared.tree.Field.{Field}
 use Rattle.kx_parse.specs.declared.tree.Index.{Index}
 use Rattle.kx_parse.specs.declared.tree.Operation.{Operation}
 use Rattle.kx_parse.specs.declared.tree.Term.{Term}
-use Rattle.kx_values.specs.Faults.{expression_in, value_faults}
-use Rattle.kx_values.specs.Numbers.{number_faults, number_named}
-use Rattle.kx_values.specs.Words.{among, lone_text, single, term_text}
-use Rattle.kx_values.specs.declared.numbers.Counted.TheVariants.{Level}
+use Rattle.kx_merge.specs.Faults.{expression_in, value_faults}
+use Rattle.kx_merge.specs.Numbers.{number_faults, number_named}
+use Rattle.kx_merge.specs.Words.{among, lone_text, single, term_text}
+use Rattle.kx_merge.specs.declared.numbers.Counted.TheVariants.{Level}
 use Rattle.kx_types.specs.declared.fields.Slot.{Slot}
 use Rattle.kx_types.specs.declared.fields.Slot.TheVariants as slots
 use Rattle.kx_types.specs.declared.saying.Saying.{Saying}

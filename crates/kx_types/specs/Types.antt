@@ -6,7 +6,7 @@ use Rattle.std.specs.Str.{bytes_eq}
 use Rattle.kx_include.specs.Expansion.{Body}
 use Rattle.kx_lex.specs.declared.fault.Fault.{Fault}
 use Rattle.kx_lex.specs.declared.name.Name.{Name}
-use Rattle.kx_masks.specs.Counted.{count_faults, statements_of}
+use Rattle.kx_virtual_mods.specs.Counted.{count_faults, statements_of}
 use Rattle.kx_merge.specs.Bodies.{Moves, Rules, faults_of, offers_of, no_moves}
 use Rattle.kx_merge.specs.Offers.{Offer, names_of, value_of, plain_offer}
 use Rattle.kx_parse.specs.declared.tree.Field.{Field}

@@ -4,8 +4,8 @@ ghost use Rattle.std.specs.Option.{option_map};
 ghost use Rattle.kx_types.specs.Types.{type_names};
 
 use crate::declared::type_in;
-use kx_masks::Naming;
 use kx_parse::Item;
+use kx_virtual_mods::Naming;
 
 /// The names of types.
 pub(crate) struct TypeNaming;

@@ -18,7 +18,7 @@ ghost use Rattle.kx_types.specs.TypeFaults.{declares_modifiers, item_faults, sai
 ghost use Rattle.kx_types.specs.TypeFields.{field_faults, sayings_of};
 ghost use Rattle.kx_types.specs.Types.{NamedTypes, TypesShow, item_offers, said_offers, type_moves, type_named, type_names, type_offer, type_rules, types_faults};
 ghost use Rattle.kx_types.specs.Records.{declared_cell, declared_width};
-ghost use Rattle.kx_values.specs.Faults.{name_faults};
+ghost use Rattle.kx_merge.specs.Faults.{name_faults};
 
 use crate::counting::TypeNaming;
 use crate::definition::KeyType;
@@ -28,10 +28,10 @@ use crate::table::Types;
 use kx_basics::MOST_NAME_BYTES;
 use kx_include::{Expansion, Place};
 use kx_lex::{At, Fault, Span};
-use kx_masks::{ModNames, Names, count_names};
 use kx_merge::{Fields, merge};
 use kx_ordered::ShortName;
 use kx_parse::{Field, Item, Mode, Name, Row, Statement};
+use kx_virtual_mods::{ModNames, Names, count_names};
 use std::alloc::{AllocError, Global};
 
 /// What statements declare of a type: its definition, where they give it one.

@@ -8,8 +8,8 @@ ghost use Rattle.kx_types.specs.KeyTypes.{definition_of, entries_of, entry_with,
 
 use crate::entry::TypeEntry;
 use crate::saying::Saying;
-use kx_masks::NameSet;
 use kx_ordered::{Ordered, OrderedSet};
+use kx_virtual_mods::NameSet;
 use std::alloc::{AllocError, Global};
 use std::marker::Model;
 

@@ -1,4 +1,4 @@
-use kx_masks::NameSet;
+use kx_virtual_mods::NameSet;
 
 /// An entry of a key type.
 #[derive(Clone, Copy, Debug, PartialEq, Eq)]

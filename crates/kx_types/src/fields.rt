@@ -4,19 +4,19 @@ ghost use Rattle.std.specs.List.{flat_map};
 ghost use Rattle.std.specs.Option.{option_and_then, option_map};
 ghost use Rattle.kx_lex.specs.declared.fault.Fault.TheVariants.{Memory, UnknownField};
 ghost use Rattle.kx_include.specs.IncludeFaults.{at};
-ghost use Rattle.kx_masks.specs.Masks.{mask_faults, mask_set};
+ghost use Rattle.kx_virtual_mods.specs.Masks.{mask_faults, mask_set};
 ghost use Rattle.kx_types.specs.Lawful.{IsLevel, NamesLevel};
-ghost use Rattle.kx_values.specs.Faults.{expression_in, value_faults};
-ghost use Rattle.kx_values.specs.Numbers.{number_faults, number_named};
-ghost use Rattle.kx_values.specs.declared.numbers.Counted.TheVariants.{Level};
+ghost use Rattle.kx_merge.specs.Faults.{expression_in, value_faults};
+ghost use Rattle.kx_merge.specs.Numbers.{number_faults, number_named};
+ghost use Rattle.kx_merge.specs.declared.numbers.Counted.TheVariants.{Level};
 ghost use Rattle.kx_types.specs.TypeFields.{field_faults, is_text, saying_of, sayings_of, slot_faults, slot_of, slot_saying, text_faults};
 ghost use Rattle.kx_types.specs.declared.fields.Slot.TheVariants as slots;
 
 use crate::saying::Saying;
 use kx_lex::{At, Fault};
-use kx_masks::{ModNames, NameSet};
+use kx_merge::{Counted, bad_value, expression_of};
 use kx_parse::{Expression, Field, Index, Term};
-use kx_values::{Counted, bad_value, expression_of};
+use kx_virtual_mods::{ModNames, NameSet};
 use std::alloc::Global;
 
 /// What a field of a type sets.

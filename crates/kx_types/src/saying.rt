@@ -1,4 +1,4 @@
-use kx_masks::NameSet;
+use kx_virtual_mods::NameSet;
 
 /// What a field of a type says.
 #[derive(Clone, Copy, Debug, PartialEq, Eq)]

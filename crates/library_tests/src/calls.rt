@@ -1,11 +1,11 @@
 //! Single calls.
 use kx_actions::is_action_word;
 use kx_basics::{digits_value, is_key_byte, is_keysym};
+use kx_key_fields::{is_key_word, is_list_word, is_setting_word};
 use kx_lex::{At, Fault, Span};
-use kx_masks::{NameSet, real_mask, real_of};
+use kx_merge::{Counted, bad_value, truth_named};
 use kx_mods::Mods;
-use kx_settings::{is_key_word, is_list_word, is_setting_word};
-use kx_values::{Counted, bad_value, truth_named};
+use kx_virtual_mods::{NameSet, real_mask, real_of};
 use std::process::Abort;
 use std::test::Fail;
 

@@ -10,10 +10,10 @@ use Rattle.kx_tables.specs.declared.rows.Action.{Action}
 use Rattle.kx_tables.specs.declared.rows.Action.TheVariants as actions
 use Rattle.kx_tables.specs.declared.rows.GroupChange.{GroupChange}
 use Rattle.kx_tables.specs.declared.rows.GroupChange.TheVariants.{Absolute, Relative}
-use Rattle.roundtrip_phrases.specs.Slices.{Slice, Lexes, LexesBefore}
+use Rattle.roundtrip_text.specs.Slices.{Slice, Lexes, LexesBefore}
 use Rattle.roundtrip_text.specs.KeyPhrases.{ArgumentPhrase, Flag, Words, argument_slices, behind_comma, call_slices}
-use Rattle.roundtrip_phrases.proofs.Lexing.{then_lexes, before_lexes, then_before, decimal_lexes}
-use Rattle.roundtrip_phrases.proofs.Phrases.{marks_lex}
+use Rattle.roundtrip_text.proofs.Lexing.{then_lexes, before_lexes, then_before, decimal_lexes}
+use Rattle.roundtrip_text.proofs.Phrases.{marks_lex}
 use Rattle.roundtrip_text.specs.Keys.{mods_phrase, change_phrase, flag_phrases, two_flags, affect_phrases, call_phrase, action_phrase}
 use Rattle.roundtrip_text.proofs.Lines.{is_text_word, one_word, before_before, mods_lex}
 

@@ -5,9 +5,9 @@ use Rattle.kx_basics.specs.KeyNames.{is_key_byte}
 use Rattle.kx_mods.specs.Mods.{mask}
 use Rattle.kx_print.specs.Phrases.{block, field_at, elements}
 use Rattle.kx_print.specs.Printed.{type_block, entry_lines, entries_of, modifier_map_line}
-use Rattle.roundtrip_phrases.specs.Slices.{Slice, Lexes, LexesBefore}
-use Rattle.roundtrip_phrases.proofs.Lexing.{nothing_lexes, then_lexes, before_lexes, then_before, weaker, key_name_lexes}
-use Rattle.roundtrip_phrases.proofs.Phrases.{marks_lex, printed_name_lexes, is_byte}
+use Rattle.roundtrip_text.specs.Slices.{Slice, Lexes, LexesBefore}
+use Rattle.roundtrip_text.proofs.Lexing.{nothing_lexes, then_lexes, before_lexes, then_before, weaker, key_name_lexes}
+use Rattle.roundtrip_text.proofs.Phrases.{marks_lex, printed_name_lexes, is_byte}
 use Rattle.roundtrip_text.specs.Spelled.{mark, mods_terms, entry_slices, block_slices, type_slices, field_at_slices, elements_slices, modifier_map_slices}
 use Rattle.roundtrip_text.proofs.Lines.{is_text_word, one_word, before_before, mods_lex, setting_lexes, entry_lexes, levels_lex}
 use Rattle.kx_tables.specs.Content.{Content, type_name}

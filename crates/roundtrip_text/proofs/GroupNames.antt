@@ -7,10 +7,10 @@ use Rattle.kx_print.specs.Phrases.{numbered, setting_at, quoted}
 use Rattle.kx_print.specs.Printed.{name_line, group_name_line}
 use Rattle.kx_tables.specs.Content.{Content, group_name}
 use Rattle.kx_tables.specs.declared.rows.GroupNameRow.{GroupNameRow}
-use Rattle.roundtrip_phrases.specs.Slices.{Lexes}
-use Rattle.roundtrip_phrases.proofs.Lexing.{nothing_lexes, then_lexes, weaker, decimal_lexes}
-use Rattle.roundtrip_phrases.proofs.Phrases.{printed_name_lexes}
-use Rattle.roundtrip_tables.specs.Source.{EachOf, NamedGroup, NameFits, named_from, are_bytes}
+use Rattle.roundtrip_text.specs.Slices.{Lexes}
+use Rattle.roundtrip_text.proofs.Lexing.{nothing_lexes, then_lexes, weaker, decimal_lexes}
+use Rattle.roundtrip_text.proofs.Phrases.{printed_name_lexes}
+use Rattle.roundtrip_text.specs.Source.{EachOf, NamedGroup, NameFits, named_from, are_bytes}
 use Rattle.roundtrip_text.specs.Spelled.{number, text}
 use Rattle.roundtrip_text.specs.GroupNames.{name_statement_slices}
 use Rattle.roundtrip_text.proofs.Lines.{setting_at_lexes}

@@ -16,10 +16,10 @@ use Rattle.kx_tables.specs.Content.{Content, indicator_name}
 use Rattle.kx_tables.specs.States.{state_bits}
 use Rattle.kx_tables.specs.declared.rows.IndicatorRow.{IndicatorRow}
 use Rattle.kx_tables.specs.declared.rows.States.{States}
-use Rattle.roundtrip_phrases.specs.Slices.{slice, Lexes, LexesBefore}
-use Rattle.roundtrip_phrases.proofs.Lexing.{then_lexes, before_lexes, then_before, weaker}
-use Rattle.roundtrip_phrases.proofs.Phrases.{marks_lex, hex_lexes, printed_name_lexes}
-use Rattle.roundtrip_tables.specs.Source.{IndicatorFits, indicator_seen}
+use Rattle.roundtrip_text.specs.Slices.{slice, Lexes, LexesBefore}
+use Rattle.roundtrip_text.proofs.Lexing.{then_lexes, before_lexes, then_before, weaker}
+use Rattle.roundtrip_text.proofs.Phrases.{marks_lex, hex_lexes, printed_name_lexes}
+use Rattle.roundtrip_text.specs.Source.{IndicatorFits, indicator_seen}
 use Rattle.roundtrip_text.specs.Spelled.{mods_terms}
 use Rattle.roundtrip_text.specs.Indicators.{states_terms, indicator_statement_slices}
 use Rattle.roundtrip_text.proofs.Lines.{one_word, set_lexes, mods_lex, setting_lexes}

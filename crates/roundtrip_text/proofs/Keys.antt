@@ -14,10 +14,10 @@ use Rattle.kx_tables.specs.declared.rows.GroupRow.{GroupRow}
 use Rattle.kx_tables.specs.declared.rows.KeyRow.{KeyRow}
 use Rattle.kx_tables.specs.declared.rows.Range.{Range}
 use Rattle.kx_tables.specs.declared.rows.Range.TheVariants.{Wrap, Clamp, Redirect}
-use Rattle.roundtrip_phrases.specs.Slices.{Slice, Lexes, LexesBefore}
-use Rattle.roundtrip_phrases.proofs.Lexing.{nothing_lexes, then_lexes, before_lexes, then_before, weaker, decimal_lexes, key_name_lexes}
-use Rattle.roundtrip_phrases.proofs.Phrases.{marks_lex, printed_name_lexes}
-use Rattle.roundtrip_tables.specs.Source.{EachOf, CellFits, GroupFits, KeyFits, group_printed, key_printed}
+use Rattle.roundtrip_text.specs.Slices.{Slice, Lexes, LexesBefore}
+use Rattle.roundtrip_text.proofs.Lexing.{nothing_lexes, then_lexes, before_lexes, then_before, weaker, decimal_lexes, key_name_lexes}
+use Rattle.roundtrip_text.proofs.Phrases.{marks_lex, printed_name_lexes}
+use Rattle.roundtrip_text.specs.Source.{EachOf, CellFits, GroupFits, KeyFits, group_printed, key_printed}
 use Rattle.roundtrip_text.specs.KeyPhrases.{a_mark, keysym_slices, level_slices, call_slices, GroupPhrase, FieldPhrase, TypeOf, SymbolsOf, ActionsOf, field_slices, group_phrases, field_phrases, listed_slices, behind_comma, bracket_slices, at_slices}
 use Rattle.roundtrip_text.specs.Keys.{keysym_phrase, level_phrases, call_of, group_phrase, range_phrases, key_phrase, key_statement_slices}
 use Rattle.roundtrip_text.proofs.Lines.{one_word, before_before}

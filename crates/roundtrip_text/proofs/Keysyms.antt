@@ -20,10 +20,10 @@ use Rattle.kx_basics.specs.declared.limits.TheConstants.{GREATEST_KEYSYM}
 use Rattle.kx_lex.specs.Bytes.{is_word_byte}
 use Rattle.kx_lex.specs.Kinds.{number_value}
 use Rattle.kx_print.specs.Printed.{keysym_text}
-use Rattle.roundtrip_phrases.specs.Slices.{LexesBefore}
+use Rattle.roundtrip_text.specs.Slices.{LexesBefore}
 use Rattle.roundtrip_text.specs.KeyPhrases.{Worded, Numbered, keysym_slice}
-use Rattle.roundtrip_phrases.proofs.Lexing.{digits_lex}
-use Rattle.roundtrip_phrases.proofs.Phrases.{hex_lexes}
+use Rattle.roundtrip_text.proofs.Lexing.{digits_lex}
+use Rattle.roundtrip_text.proofs.Phrases.{hex_lexes}
 use Rattle.roundtrip_text.specs.Keys.{keysym_phrase}
 use Rattle.roundtrip_text.proofs.Lines.{is_text_word, one_word}
 

@@ -1,3 +1,10 @@
+pub mod Lexing
+pub mod Phrases
+pub mod Texts
+pub mod Joined
+pub mod Tables
+pub mod TablesHold
+pub mod TablesLists
 pub mod Lines
 pub mod Bits
 pub mod Blocks

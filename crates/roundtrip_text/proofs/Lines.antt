@@ -11,9 +11,9 @@ use Rattle.kx_mods.specs.declared.mods.Mods.{Mods}
 use Rattle.kx_print.specs.Masks.{chosen, mod_names, mods_text, set_text}
 use Rattle.kx_print.specs.Phrases.{joined, setting, setting_at, quoted}
 use Rattle.kx_print.specs.Printed.{keycode_line, entry_lines, preserve_line, levels_line}
-use Rattle.roundtrip_phrases.specs.Slices.{Slice, Lexes, LexesBefore, parts}
-use Rattle.roundtrip_phrases.proofs.Lexing.{nothing_lexes, then_lexes, before_lexes, then_before, weaker, word_lexes, decimal_lexes, key_name_lexes}
-use Rattle.roundtrip_phrases.proofs.Phrases.{marks_lex, printed_name_lexes}
+use Rattle.roundtrip_text.specs.Slices.{Slice, Lexes, LexesBefore, parts}
+use Rattle.roundtrip_text.proofs.Lexing.{nothing_lexes, then_lexes, before_lexes, then_before, weaker, word_lexes, decimal_lexes, key_name_lexes}
+use Rattle.roundtrip_text.proofs.Phrases.{marks_lex, printed_name_lexes}
 use Rattle.roundtrip_text.specs.Spelled.{word, mark, number, text, terms, set_words, mods_terms, keycode_slices, setting_slices, setting_at_slices, entry_slices, levels_slices}
 use Rattle.kx_tables.specs.Content.{Content, key_name}
 use Rattle.kx_tables.specs.declared.rows.EntryRow.{EntryRow}

@@ -8,9 +8,9 @@ use Rattle.kx_print.specs.Masks.{chosen, mod_names}
 use Rattle.kx_print.specs.Printed.{modifier_map_line, modifier_map_lines}
 use Rattle.kx_tables.specs.Content.{Content, key_name}
 use Rattle.kx_tables.specs.declared.rows.KeyRow.{KeyRow}
-use Rattle.roundtrip_phrases.specs.Slices.{Lexes}
-use Rattle.roundtrip_phrases.proofs.Lexing.{nothing_lexes, then_lexes}
-use Rattle.roundtrip_tables.specs.Source.{EachOf, PrintedKey, KeyFits, key_printed}
+use Rattle.roundtrip_text.specs.Slices.{Lexes}
+use Rattle.roundtrip_text.proofs.Lexing.{nothing_lexes, then_lexes}
+use Rattle.roundtrip_text.specs.Source.{EachOf, PrintedKey, KeyFits, key_printed}
 use Rattle.roundtrip_text.specs.ModifierMaps.{MapLine, map_line, maps_of_key, map_line_slices}
 use Rattle.roundtrip_text.proofs.Lines.{is_text_word}
 use Rattle.roundtrip_text.proofs.Blocks.{modifier_map_lexes}

@@ -6,11 +6,11 @@ use Rattle.kx_print.specs.Phrases.{block, numbered}
 use Rattle.kx_print.specs.Printed.{compat_section, group_name_line, indicator_block, key_block, keycode_line, keycodes_section, modifier_map_lines, printed, symbols_section, type_block, types_section}
 use Rattle.kx_tables.specs.Content.{Content, group_name}
 use Rattle.kx_tables.specs.Sound.{Sound}
-use Rattle.roundtrip_phrases.specs.Slices.{Slice, Lexes}
-use Rattle.roundtrip_phrases.proofs.Lexing.{nothing_lexes, then_lexes}
-use Rattle.roundtrip_tables.specs.Source.{EachOf, KeyFits, indicator_seen, indicators_printed, key_printed, keys_printed, named_from, names_printed, types_printed}
+use Rattle.roundtrip_text.specs.Slices.{Slice, Lexes}
+use Rattle.roundtrip_text.proofs.Lexing.{nothing_lexes, then_lexes}
+use Rattle.roundtrip_text.specs.Source.{EachOf, KeyFits, indicator_seen, indicators_printed, key_printed, keys_printed, named_from, names_printed, types_printed}
 use Rattle.kx_builder.specs.Seen.{type_seen}
-use Rattle.roundtrip_tables.proofs.TablesHold.{indicators_fit, keys_fit, names_fit, types_fit}
+use Rattle.roundtrip_text.proofs.TablesHold.{indicators_fit, keys_fit, names_fit, types_fit}
 use Rattle.roundtrip_text.specs.GroupNames.{name_statement_slices}
 use Rattle.roundtrip_text.specs.Indicators.{indicator_statement_slices}
 use Rattle.roundtrip_text.specs.Keys.{key_statement_slices}

@@ -6,8 +6,8 @@ use Rattle.kx_print.specs.Printed.{type_block}
 use Rattle.kx_tables.specs.Content.{Content}
 use Rattle.kx_tables.specs.declared.rows.EntryRow.{EntryRow}
 use Rattle.kx_tables.specs.declared.rows.TypeRow.{TypeRow}
-use Rattle.roundtrip_phrases.specs.Slices.{Lexes}
-use Rattle.roundtrip_tables.specs.Source.{EachOf, EntryFits, TypeFits}
+use Rattle.roundtrip_text.specs.Slices.{Lexes}
+use Rattle.roundtrip_text.specs.Source.{EachOf, EntryFits, TypeFits}
 use Rattle.roundtrip_text.specs.Types.{type_statement_slices}
 use Rattle.roundtrip_text.proofs.Blocks.{Each, no_more, and_more, type_lexes}
 use Rattle.roundtrip_text.proofs.Blocks.{EntryFits as EntryLexes}

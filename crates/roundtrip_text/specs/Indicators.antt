@@ -6,7 +6,7 @@ use Rattle.kx_print.specs.Masks.{state_names}
 use Rattle.kx_print.specs.Phrases.{hexadecimal}
 use Rattle.kx_tables.specs.States.{state_bits}
 use Rattle.kx_tables.specs.declared.rows.States.{States}
-use Rattle.roundtrip_phrases.specs.Slices.{Slice, slice}
+use Rattle.roundtrip_text.specs.Slices.{Slice, slice}
 use Rattle.roundtrip_text.specs.Spelled.{word, text, terms, set_words, mods_terms, setting_slices, block_slices}
 
 abbrev pub states_terms : States → List Slice

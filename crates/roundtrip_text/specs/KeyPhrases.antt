@@ -4,7 +4,7 @@ use Rattle.std.specs.List.{flat_map}
 use Rattle.ks_core.specs.PrintedName.{printed_name}
 use Rattle.kx_lex.specs.Keywords.{keyword_of}
 use Rattle.kx_lex.specs.declared.token.TokenKind.TheVariants.{Word, Number, KeyName, Text, Mark}
-use Rattle.roundtrip_phrases.specs.Slices.{Slice, slice}
+use Rattle.roundtrip_text.specs.Slices.{Slice, slice}
 
 abbrev pub a_word : List ℕ → Slice
 a_word w = slice (Word (keyword_of w)) w

@@ -13,8 +13,8 @@ use Rattle.kx_tables.specs.declared.rows.GroupChange.TheVariants.{Absolute, Rela
 use Rattle.kx_tables.specs.declared.rows.Range.{Range}
 use Rattle.kx_tables.specs.declared.rows.Range.TheVariants.{Wrap, Clamp, Redirect}
 use Rattle.roundtrip_text.specs.KeyPhrases.{KeysymPhrase, Worded, Numbered, ArgumentPhrase, Flag, Words, Natural, Signed, CallPhrase, FieldPhrase, Clamped, RedirectedTo, GroupPhrase, KeyPhrase, key_slices}
-use Rattle.roundtrip_phrases.specs.Slices.{Slice}
-use Rattle.roundtrip_tables.specs.Source.{PrintedGroup, PrintedKey}
+use Rattle.roundtrip_text.specs.Slices.{Slice}
+use Rattle.roundtrip_text.specs.Source.{PrintedGroup, PrintedKey}
 use Rattle.roundtrip_text.specs.Spelled.{set_words}
 
 abbrev pub keysym_phrase : ℕ → KeysymPhrase

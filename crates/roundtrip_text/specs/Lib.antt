@@ -1,3 +1,7 @@
+pub mod Slices
+pub mod Rows
+pub mod Source
+pub mod Tables
 pub mod Spelled
 pub mod Bits
 pub mod KeyPhrases

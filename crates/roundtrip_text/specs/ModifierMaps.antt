@@ -2,8 +2,8 @@
 use Rattle.std.specs.Prelude.{ℕ, List, map}
 use Rattle.kx_mods.specs.Mods.{mask}
 use Rattle.kx_print.specs.Masks.{chosen, mod_names}
-use Rattle.roundtrip_phrases.specs.Slices.{Slice}
-use Rattle.roundtrip_tables.specs.Source.{PrintedKey}
+use Rattle.roundtrip_text.specs.Slices.{Slice}
+use Rattle.roundtrip_text.specs.Source.{PrintedKey}
 use Rattle.roundtrip_text.specs.Spelled.{modifier_map_slices}
 
 -- a modifier, and the name of a key that is mapped to it

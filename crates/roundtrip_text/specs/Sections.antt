@@ -4,8 +4,8 @@ use Rattle.std.specs.List.{flat_map}
 use Rattle.kx_builder.specs.Lamps.{ResolvedIndicator}
 use Rattle.kx_builder.specs.Resolved.{ResolvedType}
 use Rattle.kx_tables.specs.Content.{Content}
-use Rattle.roundtrip_phrases.specs.Slices.{Slice}
-use Rattle.roundtrip_tables.specs.Source.{NamedGroup, PrintedKey, indicators_printed, keys_printed, named_from, names_printed, types_printed}
+use Rattle.roundtrip_text.specs.Slices.{Slice}
+use Rattle.roundtrip_text.specs.Source.{NamedGroup, PrintedKey, indicators_printed, keys_printed, named_from, names_printed, types_printed}
 use Rattle.roundtrip_text.specs.GroupNames.{name_statement_slices}
 use Rattle.roundtrip_text.specs.Indicators.{indicator_statement_slices}
 use Rattle.roundtrip_text.specs.Keys.{key_statement_slices}

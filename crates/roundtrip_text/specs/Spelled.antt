@@ -7,7 +7,7 @@ use Rattle.kx_lex.specs.declared.token.TokenKind.TheVariants.{Word, Number, KeyN
 use Rattle.kx_mods.specs.Mods.{mask}
 use Rattle.kx_mods.specs.declared.mods.Mods.{Mods}
 use Rattle.kx_print.specs.Masks.{chosen, mod_names}
-use Rattle.roundtrip_phrases.specs.Slices.{Slice, slice}
+use Rattle.roundtrip_text.specs.Slices.{Slice, slice}
 use Rattle.kx_print.specs.Printed.{entries_of}
 use Rattle.kx_tables.specs.Content.{Content, key_name, type_name}
 use Rattle.kx_tables.specs.declared.rows.EntryRow.{EntryRow}

@@ -17,7 +17,7 @@ use Rattle.kx_parse.specs.declared.tree.Setting.TheVariants as settings
 use Rattle.kx_parse.specs.declared.tree.Expression.{Expression}
 use Rattle.kx_parse.specs.declared.tree.Term.TheVariants as terms
 use Rattle.kx_parse.specs.declared.tree.Value.{Value}
-use Rattle.roundtrip_phrases.specs.Slices.{Slice, slice, Begins, none, more}
+use Rattle.roundtrip_text.specs.Slices.{Slice, slice, Begins, none, more}
 use Rattle.roundtrip_tree.specs.Shows.{ReadsAs, name_at, number_at}
 use Rattle.roundtrip_tree.proofs.Rows.{Stops, stop, optional_none, optional_some}
 use Rattle.roundtrip_tree.proofs.Spellings.{after_spelled, mark_spelled, first_spelled, second_spelled, made_spelled, made3_spelled, placed_spelled, both_spelled, ended_spelled}

@@ -16,8 +16,8 @@ use Rattle.kx_parse.specs.declared.tree.Mode.TheVariants.{Override}
 use Rattle.kx_parse.specs.declared.tree.Setting.TheVariants as settings
 use Rattle.kx_parse.specs.declared.tree.Statement.TheVariants as statements
 use Rattle.kx_parse.specs.declared.tree.Value.TheVariants as values
-use Rattle.roundtrip_phrases.specs.Slices.{Begins, more}
-use Rattle.roundtrip_tables.specs.Source.{NamedGroup, NameFits}
+use Rattle.roundtrip_text.specs.Slices.{Begins, more}
+use Rattle.roundtrip_text.specs.Source.{NamedGroup, NameFits}
 use Rattle.roundtrip_text.specs.GroupNames.{name_statement_slices}
 use Rattle.roundtrip_tree.specs.Shows.{IsItem, ReadsAs, name_at}
 use Rattle.roundtrip_tree.specs.ShowsLines.{Line, Quoted, SetAt}

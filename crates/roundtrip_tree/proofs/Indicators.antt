@@ -19,9 +19,9 @@ use Rattle.kx_print.specs.Masks.{state_names}
 use Rattle.kx_print.specs.Phrases.{hexadecimal}
 use Rattle.kx_tables.specs.States.{state_bits}
 use Rattle.kx_tables.specs.declared.rows.States.{States}
-use Rattle.roundtrip_phrases.specs.Slices.{slice, IsAt, Begins, none, more}
-use Rattle.roundtrip_phrases.proofs.Phrases.{name_value}
-use Rattle.roundtrip_tables.specs.Source.{EachOf, IndicatorFits}
+use Rattle.roundtrip_text.specs.Slices.{slice, IsAt, Begins, none, more}
+use Rattle.roundtrip_text.proofs.Phrases.{name_value}
+use Rattle.roundtrip_text.specs.Source.{EachOf, IndicatorFits}
 use Rattle.roundtrip_text.specs.Spelled.{mark, mods_terms, setting_slices}
 use Rattle.roundtrip_text.specs.Indicators.{states_terms, lamp_slices, indicator_statement_slices}
 use Rattle.roundtrip_text.proofs.Indicators.{hexadecimal_value}

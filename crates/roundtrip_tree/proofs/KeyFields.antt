@@ -15,9 +15,9 @@ use Rattle.kx_parse.specs.declared.tree.KeyField.TheVariants as fields
 use Rattle.kx_parse.specs.declared.tree.Setting.{Setting}
 use Rattle.kx_parse.specs.declared.tree.Setting.TheVariants as settings
 use Rattle.kx_parse.specs.declared.tree.Value.{Value}
-use Rattle.roundtrip_phrases.specs.Slices.{Slice, Begins, none, more}
-use Rattle.roundtrip_phrases.proofs.Texts.{decimal_value}
-use Rattle.roundtrip_tables.specs.Source.{EachOf, are_bytes}
+use Rattle.roundtrip_text.specs.Slices.{Slice, Begins, none, more}
+use Rattle.roundtrip_text.proofs.Texts.{decimal_value}
+use Rattle.roundtrip_text.specs.Source.{EachOf, are_bytes}
 use Rattle.roundtrip_text.specs.KeyPhrases.{a_word, a_mark, a_number, a_text, level_slices, call_slices, bracket_slices, at_slices, FieldPhrase, TypeOf, SymbolsOf, ActionsOf, Clamped, RedirectedTo, field_slices}
 use Rattle.roundtrip_tree.specs.Keys.{IsLevelOf, IsActionOf, IsListOf, IsTextOf, IsIndexedField, IsBareField, IsNumberField, IsFieldOf}
 use Rattle.roundtrip_tree.specs.Shows.{IsSpelled, ReadsAs}

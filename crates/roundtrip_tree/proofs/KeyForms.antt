@@ -1,7 +1,7 @@
 -- The forms of printed keys and modifier maps, whatever they say.
 use Rattle.std.proofs.Common.{List, [], ◌∷◌}
 use Rattle.kx_parse.specs.declared.tree.Item.{Item}
-use Rattle.roundtrip_tables.specs.Source.{EachOf, PrintedKey}
+use Rattle.roundtrip_text.specs.Source.{EachOf, PrintedKey}
 use Rattle.roundtrip_text.specs.ModifierMaps.{MapLine}
 use Rattle.roundtrip_tree.specs.Keys.{IsKey}
 use Rattle.roundtrip_tree.specs.Shows.{AreShown, IsItem, IsModifierMap, none, more}

@@ -6,8 +6,8 @@ use Rattle.kx_lex.specs.Production.{Production}
 use Rattle.kx_lex.specs.Tokens.{comma}
 use Rattle.kx_lex.specs.declared.token.Token.{Token}
 use Rattle.kx_parse.specs.Forms.{listed}
-use Rattle.roundtrip_phrases.specs.Slices.{Slice, Begins, none as no_slices}
-use Rattle.roundtrip_tables.specs.Source.{EachOf}
+use Rattle.roundtrip_text.specs.Slices.{Slice, Begins, none as no_slices}
+use Rattle.roundtrip_text.specs.Source.{EachOf}
 use Rattle.roundtrip_text.specs.KeyPhrases.{behind_comma, listed_slices}
 use Rattle.roundtrip_tree.specs.Shows.{ReadsAs, AreShown, none, more}
 use Rattle.roundtrip_tree.proofs.Rows.{Stops, list_slices, with_comma}

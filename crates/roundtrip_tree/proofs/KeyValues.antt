@@ -25,10 +25,10 @@ use Rattle.kx_parse.specs.declared.tree.Symbol.{Symbol}
 use Rattle.kx_parse.specs.declared.tree.Symbol.TheVariants as symbols
 use Rattle.kx_parse.specs.declared.tree.Term.TheVariants as terms
 use Rattle.kx_parse.specs.declared.tree.Value.TheVariants as values
-use Rattle.roundtrip_phrases.specs.Slices.{Slice, slice, Begins, none, more}
-use Rattle.roundtrip_phrases.proofs.Phrases.{name_value}
-use Rattle.roundtrip_phrases.proofs.Texts.{decimal_value}
-use Rattle.roundtrip_tables.specs.Source.{EachOf, are_bytes}
+use Rattle.roundtrip_text.specs.Slices.{Slice, slice, Begins, none, more}
+use Rattle.roundtrip_text.proofs.Phrases.{name_value}
+use Rattle.roundtrip_text.proofs.Texts.{decimal_value}
+use Rattle.roundtrip_text.specs.Source.{EachOf, are_bytes}
 use Rattle.roundtrip_text.specs.KeyPhrases.{a_word, a_mark, a_number, a_text, KeysymPhrase, Worded, Numbered, keysym_slices, level_slices, ArgumentPhrase, Flag, Words, Natural, Signed, words_slices, sign_byte, argument_slices, CallPhrase, call_slices, listed_slices, bracket_slices}
 use Rattle.roundtrip_tree.specs.Keys.{IsKeysymOf, IsPartOf, IsLevelOf, IsAddedWord, AreWordsOf, IsNumberOf, IsSignedOf, IsArgumentOf, IsCallOf, IsActionOf, IsListOf, IsTextOf}
 use Rattle.roundtrip_tree.specs.Shows.{IsSpelled, ReadsAs, AreShown}

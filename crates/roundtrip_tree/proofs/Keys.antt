@@ -26,8 +26,8 @@ use Rattle.kx_tables.specs.declared.rows.GroupChange.{GroupChange}
 use Rattle.kx_tables.specs.declared.rows.GroupChange.TheVariants.{Absolute, Relative}
 use Rattle.kx_tables.specs.declared.rows.Range.{Range}
 use Rattle.kx_tables.specs.declared.rows.Range.TheVariants.{Wrap, Clamp, Redirect}
-use Rattle.roundtrip_phrases.specs.Slices.{Begins, none, more, IsAt}
-use Rattle.roundtrip_tables.specs.Source.{EachOf, PrintedGroup, PrintedKey, CellFits, GroupFits, KeyFits}
+use Rattle.roundtrip_text.specs.Slices.{Begins, none, more, IsAt}
+use Rattle.roundtrip_text.specs.Source.{EachOf, PrintedGroup, PrintedKey, CellFits, GroupFits, KeyFits}
 use Rattle.roundtrip_text.specs.KeyPhrases.{a_mark, Worded, Numbered, Words, field_slices, listed_slices, group_phrases, field_phrases, KeyPhrase, key_slices}
 use Rattle.roundtrip_text.specs.Keys.{keysym_phrase, level_phrases, mods_phrase, change_phrase, flag_phrases, two_flags, affect_phrases, action_phrase, call_of, group_phrase, range_phrases, key_phrase, key_statement_slices}
 use Rattle.roundtrip_text.proofs.Actions.{fall_bound, rise_bound}

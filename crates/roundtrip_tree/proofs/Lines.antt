@@ -19,11 +19,11 @@ use Rattle.kx_parse.specs.declared.tree.Setting.{Setting}
 use Rattle.kx_parse.specs.declared.tree.Setting.TheVariants as settings
 use Rattle.kx_parse.specs.declared.tree.Value.{Value}
 use Rattle.kx_parse.specs.declared.tree.Value.TheVariants as values
-use Rattle.roundtrip_phrases.specs.Slices.{Slice, IsAt, Begins, none, more}
-use Rattle.roundtrip_phrases.proofs.Phrases.{name_value}
+use Rattle.roundtrip_text.specs.Slices.{Slice, IsAt, Begins, none, more}
+use Rattle.roundtrip_text.proofs.Phrases.{name_value}
 use Rattle.roundtrip_tree.specs.Shows.{IsSpelled, ReadsAs, AreShown}
 use Rattle.roundtrip_tree.specs.Shows.{none as shows_none, more as shows_more}
-use Rattle.roundtrip_tables.specs.Source.{EachOf}
+use Rattle.roundtrip_text.specs.Source.{EachOf}
 use Rattle.roundtrip_text.specs.Spelled.{word, mark}
 use Rattle.roundtrip_tree.specs.ShowsLines.{Written, Words, Digits, Quoted, Line, Set, SetAt, written_slices, line_slices, IsReadable, IsReadableLine, IsPlusWord, IsWritten, IsSetting, IsSettingAt, IsLine}
 use Rattle.roundtrip_tree.proofs.Rows.{Stops, stop, Rows, parted, optional_none, optional_some}

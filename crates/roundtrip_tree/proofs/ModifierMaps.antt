@@ -10,7 +10,7 @@ use Rattle.kx_parse.specs.Sections.{item, join_of, mode_of}
 use Rattle.kx_parse.specs.Statements.{statement, modifier_map, mapped_entries, entry, keycodes_statement, types_statement, symbols_statement}
 use Rattle.kx_parse.specs.declared.tree.Entry.TheVariants as entries
 use Rattle.kx_parse.specs.declared.tree.Statement.TheVariants as statements
-use Rattle.roundtrip_phrases.specs.Slices.{Begins, none, more}
+use Rattle.roundtrip_text.specs.Slices.{Begins, none, more}
 use Rattle.roundtrip_text.specs.ModifierMaps.{MapLine, map_line_slices}
 use Rattle.roundtrip_text.proofs.ModifierMaps.{MapLineFits}
 use Rattle.roundtrip_tree.specs.Shows.{ReadsAs, IsItem, IsModifierMap}

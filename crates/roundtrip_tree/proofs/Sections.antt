@@ -16,7 +16,7 @@ use Rattle.kx_parse.specs.declared.tree.Item.{Item}
 use Rattle.kx_parse.specs.declared.tree.Kind.{Kind}
 use Rattle.kx_parse.specs.declared.tree.Kind.TheVariants as kinds
 use Rattle.kx_parse.specs.declared.tree.Section.{Section}
-use Rattle.roundtrip_phrases.specs.Slices.{Slice, slice, Begins, none, more}
+use Rattle.roundtrip_text.specs.Slices.{Slice, slice, Begins, none, more}
 use Rattle.roundtrip_tree.specs.Shows.{IsSpelled, ReadsAs, AreShown}
 use Rattle.roundtrip_tree.proofs.Rows.{optional_none, parted, many_reads}
 use Rattle.roundtrip_tree.proofs.Spellings.{after_spelled, mark_spelled, second_spelled, made3_spelled, ended_spelled}

@@ -11,8 +11,8 @@ use Rattle.kx_parse.specs.Sections.{item, section, kind_of, flag_of}
 use Rattle.kx_parse.specs.declared.tree.Item.{Item}
 use Rattle.kx_parse.specs.declared.tree.Kind.{Kind}
 use Rattle.kx_parse.specs.declared.tree.Kind.TheVariants as kinds
-use Rattle.roundtrip_phrases.specs.Slices.{Slice, slice, Begins}
-use Rattle.roundtrip_tables.specs.Source.{EachOf}
+use Rattle.roundtrip_text.specs.Slices.{Slice, slice, Begins}
+use Rattle.roundtrip_text.specs.Source.{EachOf}
 use Rattle.roundtrip_tree.specs.Shows.{AreShown, ReadsAs, none as shows_none, more as shows_more}
 use Rattle.roundtrip_tree.proofs.Sections.{Begun, IsSection, section_reads}
 

@@ -21,9 +21,9 @@ use Rattle.kx_parse.specs.declared.tree.Kind.TheVariants as kinds
 use Rattle.kx_parse.specs.declared.tree.Section.{Section}
 use Rattle.kx_parse.specs.declared.tree.Tree.{Tree}
 use Rattle.kx_basics.specs.declared.limits.TheConstants.{MOST_GROUPS}
-use Rattle.roundtrip_phrases.specs.Slices.{Slice, slice, Begins, none, more}
-use Rattle.roundtrip_phrases.proofs.Texts.{decimal_value}
-use Rattle.roundtrip_tables.specs.Source.{EachOf, IndicatorFits, KeyFits, NameFits, NamedGroup, NamesFit, PrintedKey, TypeFits, named_from}
+use Rattle.roundtrip_text.specs.Slices.{Slice, slice, Begins, none, more}
+use Rattle.roundtrip_text.proofs.Texts.{decimal_value}
+use Rattle.roundtrip_text.specs.Source.{EachOf, IndicatorFits, KeyFits, NameFits, NamedGroup, NamesFit, PrintedKey, TypeFits, named_from}
 use Rattle.roundtrip_text.specs.Indicators.{indicator_statement_slices}
 use Rattle.roundtrip_text.specs.ModifierMaps.{MapLine, maps_of_key}
 use Rattle.roundtrip_text.specs.Sections.{OfKey, OfMap, OfName, SymbolsLine, compat_slices, keycode_statement_slices, map_lines_printed, section_slices, source_slices, symbols_line_slices, symbols_lines}

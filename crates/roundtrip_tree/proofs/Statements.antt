@@ -13,7 +13,7 @@ use Rattle.kx_parse.specs.declared.tree.Item.TheVariants as items
 use Rattle.kx_parse.specs.declared.tree.Mode.TheVariants.{Override}
 use Rattle.kx_parse.specs.declared.tree.Statement.{Statement}
 use Rattle.kx_parse.specs.declared.tree.Statement.TheVariants as statements
-use Rattle.roundtrip_phrases.specs.Slices.{slice, Begins, none, more}
+use Rattle.roundtrip_text.specs.Slices.{slice, Begins, none, more}
 use Rattle.roundtrip_tree.specs.Shows.{name_at, number_at, IsSpelled, IsItem, IsKeycode}
 use Rattle.roundtrip_tree.proofs.Spellings.{mark_spelled, placed_spelled, fronted_spelled, first_spelled, second_spelled, assigned_spelled}
 use Rattle.roundtrip_tree.proofs.Tokens.{token, key_name_spelled, number_spelled}

@@ -21,7 +21,7 @@ use Rattle.kx_parse.specs.declared.tree.Sign.TheVariants.{Plus}
 use Rattle.kx_parse.specs.declared.tree.Term.{Term}
 use Rattle.kx_parse.specs.declared.tree.Term.TheVariants as terms
 use Rattle.kx_lex.specs.declared.name.Name.{Name}
-use Rattle.roundtrip_phrases.specs.Slices.{Slice, slice, Begins, none, more, IsAt}
+use Rattle.roundtrip_text.specs.Slices.{Slice, slice, Begins, none, more, IsAt}
 use Rattle.roundtrip_tree.specs.Shows.{IsSpelled, ReadsAs, AreShown, name_at}
 use Rattle.roundtrip_tree.specs.Shows.{none as shows_none}
 use Rattle.roundtrip_tree.proofs.Rows.{Stops, stop, parted, list_slices, many_reads, optional_none}

@@ -17,7 +17,7 @@ use Rattle.kx_lex.specs.declared.token.Span.{Span}
 use Rattle.kx_lex.specs.declared.token.Token.{Token}
 use Rattle.kx_lex.specs.declared.token.TokenKind.{TokenKind}
 use Rattle.kx_lex.specs.declared.token.TokenKind.TheVariants.{KeyName, Number, Word, Text}
-use Rattle.roundtrip_phrases.specs.Slices.{IsAt}
+use Rattle.roundtrip_text.specs.Slices.{IsAt}
 use Rattle.roundtrip_tree.specs.Shows.{name_at, number_at, IsSpelled}
 use Rattle.std.specs.Prelude.{Option}
 

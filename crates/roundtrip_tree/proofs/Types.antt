@@ -20,10 +20,10 @@ use Rattle.kx_parse.specs.declared.tree.Mode.TheVariants.{Override}
 use Rattle.kx_parse.specs.declared.tree.Statement.TheVariants as statements
 use Rattle.kx_print.specs.Masks.{chosen, mod_names}
 use Rattle.kx_tables.specs.declared.rows.EntryRow.{EntryRow}
-use Rattle.roundtrip_phrases.specs.Slices.{IsAt, Begins, none, more}
-use Rattle.roundtrip_phrases.proofs.Phrases.{name_value}
-use Rattle.roundtrip_phrases.proofs.Texts.{decimal_value}
-use Rattle.roundtrip_tables.specs.Source.{EachOf, EntryFits, TypeFits}
+use Rattle.roundtrip_text.specs.Slices.{IsAt, Begins, none, more}
+use Rattle.roundtrip_text.proofs.Phrases.{name_value}
+use Rattle.roundtrip_text.proofs.Texts.{decimal_value}
+use Rattle.roundtrip_text.specs.Source.{EachOf, EntryFits, TypeFits}
 use Rattle.roundtrip_text.specs.Spelled.{mark, number, set_words, mods_terms, setting_slices, setting_at_slices, entry_slices, levels_slices}
 use Rattle.roundtrip_text.specs.Types.{type_statement_slices}
 use Rattle.roundtrip_text.proofs.Lines.{chosen_some}

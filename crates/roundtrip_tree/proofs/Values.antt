@@ -16,7 +16,7 @@ use Rattle.kx_parse.specs.declared.tree.BracePart.TheVariants as parts
 use Rattle.kx_parse.specs.declared.tree.Symbol.{Symbol}
 use Rattle.kx_parse.specs.declared.tree.Symbol.TheVariants as symbols
 use Rattle.kx_parse.specs.declared.tree.Term.TheVariants as terms
-use Rattle.roundtrip_phrases.specs.Slices.{Slice, slice, Begins, none, more}
+use Rattle.roundtrip_text.specs.Slices.{Slice, slice, Begins, none, more}
 use Rattle.roundtrip_tree.specs.Shows.{IsSpelled, ReadsAs, AreShown, name_at, number_at}
 use Rattle.roundtrip_tree.proofs.Rows.{Stops, stop, is_stop, Parted, parted, list_slices, sequence_reads}
 use Rattle.roundtrip_tree.proofs.Spellings.{after_spelled, mark_spelled, first_spelled, second_spelled, made_spelled, placed_spelled, both_spelled, ended_spelled}

@@ -28,7 +28,7 @@ use Rattle.kx_parse.specs.declared.tree.Term.{Term}
 use Rattle.kx_parse.specs.declared.tree.Term.TheVariants as terms
 use Rattle.kx_parse.specs.declared.tree.Value.{Value}
 use Rattle.kx_parse.specs.declared.tree.Value.TheVariants as values
-use Rattle.roundtrip_tables.specs.Source.{PrintedKey}
+use Rattle.roundtrip_text.specs.Source.{PrintedKey}
 use Rattle.roundtrip_text.specs.KeyPhrases.{KeysymPhrase, Worded, Numbered, ArgumentPhrase, Flag, Words, Natural, Signed, CallPhrase, FieldPhrase, TypeOf, SymbolsOf, ActionsOf, Clamped, RedirectedTo, KeyPhrase, field_phrases}
 use Rattle.roundtrip_text.specs.Keys.{key_phrase}
 use Rattle.roundtrip_tree.specs.Shows.{AreShown, name_at, number_at}

@@ -11,8 +11,8 @@ use Rattle.kx_parse.specs.declared.tree.Sign.TheVariants.{Plus}
 use Rattle.kx_parse.specs.declared.tree.Term.{Term}
 use Rattle.kx_parse.specs.declared.tree.Term.TheVariants as tree_terms
 use Rattle.kx_parse.specs.declared.tree.Value.TheVariants as values
-use Rattle.roundtrip_phrases.specs.Slices.{Slice, slice}
-use Rattle.roundtrip_tables.specs.Source.{are_bytes}
+use Rattle.roundtrip_text.specs.Slices.{Slice, slice}
+use Rattle.roundtrip_text.specs.Source.{are_bytes}
 use Rattle.roundtrip_text.specs.Spelled.{terms, text, setting_slices, setting_at_slices}
 use Rattle.roundtrip_tree.specs.Shows.{AreShown, name_at, number_at}
 

@@ -7,7 +7,7 @@ use Rattle.kx_parse.specs.declared.tree.Kind.{Kind}
 use Rattle.kx_parse.specs.declared.tree.Kind.TheVariants.{Compat, Keycodes, Symbols, Types}
 use Rattle.kx_parse.specs.declared.tree.Section.{Section}
 use Rattle.kx_parse.specs.declared.tree.Tree.{Tree}
-use Rattle.roundtrip_tables.specs.Source.{NamedGroup, PrintedKey, named_from}
+use Rattle.roundtrip_text.specs.Source.{NamedGroup, PrintedKey, named_from}
 use Rattle.roundtrip_text.specs.ModifierMaps.{MapLine}
 use Rattle.roundtrip_text.specs.Sections.{map_lines_printed}
 use Rattle.roundtrip_tree.specs.Indicators.{IsIndicator}

@@ -7,8 +7,8 @@ ghost use Rattle.kx_builder.specs.Resolved.{ResolvedType};
 ghost use Rattle.kx_lex.specs.declared.token.Token.{Token};
 ghost use Rattle.kx_parse.specs.Sections.{Spells};
 ghost use Rattle.kx_parse.specs.declared.tree.Tree.{Tree};
-ghost use Rattle.roundtrip_phrases.specs.Slices.{Begins};
-ghost use Rattle.roundtrip_tables.specs.Source.{EachOf, IndicatorFits, KeyFits, NamesFit, PrintedKey, TypeFits};
+ghost use Rattle.roundtrip_text.specs.Slices.{Begins};
+ghost use Rattle.roundtrip_text.specs.Source.{EachOf, IndicatorFits, KeyFits, NamesFit, PrintedKey, TypeFits};
 ghost use Rattle.roundtrip_text.specs.Sections.{source_slices};
 ghost use Rattle.roundtrip_tree.specs.Sources.{ShowsSource};
 

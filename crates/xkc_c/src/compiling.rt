@@ -14,9 +14,8 @@ use crate::fault::XkcFault;
 use crate::files::{XkcFile, files_of};
 use crate::status::{MEMORY, OK, SOURCE};
 use ks_core::NameTable;
-use kx_handles::{KeymapHandle, NamesHandle};
+use kx_handles::{KeymapHandle, NamesHandle, SharedTables};
 use kx_lex::Fault;
-use kx_shared::SharedTables;
 use kx_tool::compile;
 use std::alloc::Global;
 

@@ -11,8 +11,7 @@ ghost use Rattle.xkc_c.specs.declared.status.TheConstants.{EMPTY, MEMORY, MISSIN
 use crate::reply::XkcLook;
 use crate::state::XkcState;
 use crate::status::{EMPTY, MEMORY, MISSING, OK};
-use kx_handles::{FollowerHandle, KeymapHandle};
-use kx_shared::{SharedFollower, SharedTables};
+use kx_handles::{FollowerHandle, KeymapHandle, SharedFollower, SharedTables};
 use std::alloc::Global;
 
 /// Starts a follower of a keyboard over a keymap, with nothing held, latched or locked, and puts it in the place of what

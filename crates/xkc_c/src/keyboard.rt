@@ -11,9 +11,8 @@ ghost use Rattle.xkc_c.specs.declared.status.TheConstants.{EMPTY, MEMORY, MISSIN
 use crate::reply::XkcReply;
 use crate::state::XkcState;
 use crate::status::{EMPTY, MEMORY, MISSING, OK};
-use kx_handles::{KeyboardHandle, KeymapHandle};
+use kx_handles::{KeyboardHandle, KeymapHandle, SharedKeyboard, SharedTables};
 use kx_run::Direction;
-use kx_shared::{SharedKeyboard, SharedTables};
 use std::alloc::Global;
 
 /// Starts a keyboard over a keymap, with nothing held, latched or locked, and puts it in the place of what the handle

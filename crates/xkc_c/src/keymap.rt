@@ -2,7 +2,7 @@
 ghost use Rattle.std.specs.Prelude.{◌≡◌, ◌≢◌, ◌⊎◌, ℕ, List, IfErr, IfOk, IfSome, None, Some};
 ghost use Rattle.kx_image.specs.Image.{IsImage};
 ghost use Rattle.kx_print.specs.Printed.{printed};
-ghost use Rattle.kx_shared.specs.Open.{IsRefused};
+ghost use Rattle.kx_handles.specs.Open.{IsRefused};
 ghost use Rattle.kx_tables.specs.Content.{Content};
 ghost use Rattle.xkc_c.specs.Out.{Copies};
 ghost use Rattle.xkc_c.specs.declared.status.TheConstants.{EMPTY, IMAGE, MEMORY, OK};
@@ -10,9 +10,8 @@ ghost use Rattle.xkc_c.specs.declared.status.TheConstants.{EMPTY, IMAGE, MEMORY,
 use crate::out::copy;
 use crate::status::{EMPTY, IMAGE, MEMORY, OK};
 use ks_core::Lent;
-use kx_handles::KeymapHandle;
+use kx_handles::{KeymapHandle, OpenFault, SharedTables};
 use kx_print::print;
-use kx_shared::{OpenFault, SharedTables};
 use std::alloc::Global;
 
 /// Opens an image, whose bytes are copied, and puts the keymap in the place of what the handle has.

@@ -9,9 +9,9 @@ ghost use Rattle.xkc_c.specs.NamesInC.{names_fault_in_c, names_in};
 ghost use Rattle.xkc_c.specs.Out.{Copies};
 ghost use Rattle.xkc_c.specs.declared.status.TheConstants.{MEMORY, MISSING, NAMES, OK};
 
+use arrayvec::ArrayString;
 use crate::out::copy;
 use crate::status::{MEMORY, MISSING, NAMES, OK};
-use arrayvec::ArrayString;
 use ks_core::{Keysym, NameFault, NameTable};
 use kx_handles::NamesHandle;
 use std::alloc::Global;

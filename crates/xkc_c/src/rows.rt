@@ -10,8 +10,7 @@ ghost use Rattle.xkc_c.specs.declared.status.TheConstants.{EMPTY, MISSING, OK};
 use crate::out::copy;
 use crate::row::{XkcCounts, XkcEntry, XkcGroup, XkcIndicator, XkcKey, XkcLevel, XkcType};
 use crate::status::{EMPTY, MISSING, OK};
-use kx_handles::KeymapHandle;
-use kx_shared::SharedTables;
+use kx_handles::{KeymapHandle, SharedTables};
 use kx_tables::{Rows, Tables};
 use std::alloc::Global;
 

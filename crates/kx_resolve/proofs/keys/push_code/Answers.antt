@@ -1,11 +1,11 @@
 use Rattle.std.proofs.Common.{None, Some, [], arith, sym, subst}
 use Rattle.std.proofs.lemmas.List.Elements.{All-nil}
-use Rattle.kx_bearing.specs.Deeds.{deeds_of}
+use Rattle.kx_resolve.specs.Deeds.{deeds_of}
 use Rattle.kx_builder.specs.WithinLimits.{GroupIsWithinLimits, IsWithinLimits}
 use Rattle.kx_codes.specs.Codes.{name_of}
-use Rattle.kx_mapped.specs.Modmaps.{modmap_at}
-use Rattle.kx_masks.specs.Sets.{real_of}
-use Rattle.kx_masks.specs.Standing.{stands_for}
+use Rattle.kx_resolve.specs.Modmaps.{modmap_at}
+use Rattle.kx_virtual_mods.specs.Sets.{real_of}
+use Rattle.kx_virtual_mods.specs.Standing.{stands_for}
 use Rattle.kx_mods.specs.declared.mods.Mods.{Mods}
 use Rattle.kx_resolve.proofs.Growing.{small_with_key}
 use Rattle.kx_resolve.proofs.Names.{bare_of, bounds_of, pushed_of}
@@ -14,7 +14,7 @@ use Rattle.kx_resolve.specs.Bounds.{KeepsBounds}
 use Rattle.kx_symbols.specs.Keys.{key_at}
 use Rattle.kx_tables.specs.declared.rows.Range.TheVariants.{Wrap}
 use Rattle.kx_types.specs.Types.{type_named}
-use Rattle.kx_typing.specs.Given.{given_in}
+use Rattle.kx_resolve.specs.Given.{given_in}
 use Rattle.kx_resolve.proofs.keys.push_code.Goals as goal
 
 pub push_key-requires-clause-short : goal.push_key-requires-clause-short

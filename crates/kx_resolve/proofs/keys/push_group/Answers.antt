@@ -4,15 +4,15 @@ use Rattle.std.proofs.lemmas.List.Elements.{All-nil}
 use Rattle.kx_builder.specs.Pushes.{last_groups, with_cell, with_group}
 use Rattle.kx_builder.specs.Resolved.{Resolved, ResolvedGroup}
 use Rattle.kx_builder.specs.WithinLimits.{CellIsWithinLimits, GroupIsWithinLimits, IsWithinLimits}
-use Rattle.kx_masks.specs.Sets.{real_of}
-use Rattle.kx_masks.specs.Standing.{stands_for}
+use Rattle.kx_virtual_mods.specs.Sets.{real_of}
+use Rattle.kx_virtual_mods.specs.Standing.{stands_for}
 use Rattle.kx_resolve.proofs.Growing.{group_then_cells, groups_grow, new_cells, small_with_group}
 use Rattle.kx_resolve.specs.Bounds.{last_cells}
-use Rattle.kx_typing.specs.Given.{given}
-use Rattle.kx_bearing.specs.Deeds.{deeds_of}
+use Rattle.kx_resolve.specs.Given.{given}
+use Rattle.kx_resolve.specs.Deeds.{deeds_of}
 use Rattle.kx_resolve.specs.Keys.{cells_of, type_place}
 use Rattle.kx_types.specs.Types.{type_named}
-use Rattle.kx_typing.specs.GroupTypes.{type_definition}
+use Rattle.kx_resolve.specs.GroupTypes.{type_definition}
 use Rattle.kx_resolve.proofs.keys.push_group.Goals as goal
 
 abbrev bare : ℕ → ResolvedGroup

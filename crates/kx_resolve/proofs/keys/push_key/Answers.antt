@@ -5,14 +5,14 @@ use Rattle.std.proofs.lemmas.List.Sums.{fold-append}
 use Rattle.kx_builder.specs.Pushes.{key_with_group, last_groups, with_group, with_key}
 use Rattle.kx_builder.specs.Resolved.{Resolved, ResolvedKey}
 use Rattle.kx_builder.specs.WithinLimits.{GroupIsWithinLimits, IsWithinLimits}
-use Rattle.kx_masks.specs.Sets.{real_of}
-use Rattle.kx_masks.specs.Standing.{stands_for}
+use Rattle.kx_virtual_mods.specs.Sets.{real_of}
+use Rattle.kx_virtual_mods.specs.Standing.{stands_for}
 use Rattle.kx_resolve.proofs.Growing.{bare_groups, change_length, groups_grow, key_then_groups, small_with_key}
 use Rattle.kx_resolve.proofs.Steps.{groups_next, groups_none}
 use Rattle.kx_resolve.specs.Bounds.{CellsAreValid, GroupsAreValid, levels_of_group}
-use Rattle.kx_typing.specs.Given.{given}
-use Rattle.kx_typing.specs.GroupTypes.{content_group, group_count}
-use Rattle.kx_bearing.specs.Deeds.{deeds_of}
+use Rattle.kx_resolve.specs.Given.{given}
+use Rattle.kx_resolve.specs.GroupTypes.{content_group, group_count}
+use Rattle.kx_resolve.specs.Deeds.{deeds_of}
 use Rattle.kx_resolve.specs.Keys.{resolved_group, groups_of, key_of}
 use Rattle.kx_types.specs.Types.{type_named}
 use Rattle.kx_resolve.proofs.keys.push_key.Goals as goal

@@ -1,8 +1,8 @@
 use Rattle.std.proofs.Common.{◌≡◌, ◌++◌, length, sym, subst, ap, ◌∙◌, arith}
 use Rattle.kx_builder.specs.Resolved.{Resolved}
-use Rattle.kx_mapped.specs.Modmaps.{modmap_at}
-use Rattle.kx_masks.specs.Sets.{real_of}
-use Rattle.kx_masks.specs.Standing.{stands_for}
+use Rattle.kx_resolve.specs.Modmaps.{modmap_at}
+use Rattle.kx_virtual_mods.specs.Sets.{real_of}
+use Rattle.kx_virtual_mods.specs.Standing.{stands_for}
 use Rattle.kx_resolve.proofs.Gathering.{bounds_whole, keys_whole}
 use Rattle.kx_resolve.proofs.Steps.{below_next, below_none}
 use Rattle.kx_resolve.proofs.Whole.{below_few, bounds_next}

@@ -1,7 +1,7 @@
 use Rattle.std.proofs.Common.{◌≡◌}
-use Rattle.kx_mapped.specs.Modmaps.{modmap_at}
-use Rattle.kx_masks.specs.Sets.{real_of}
-use Rattle.kx_masks.specs.Standing.{stands_for}
+use Rattle.kx_resolve.specs.Modmaps.{modmap_at}
+use Rattle.kx_virtual_mods.specs.Sets.{real_of}
+use Rattle.kx_virtual_mods.specs.Standing.{stands_for}
 use Rattle.kx_resolve.specs.Bounds.{BoundsBelow}
 use Rattle.kx_resolve.specs.Keys.{keyed_of, keys_below}
 use Rattle.kx_builder.specs.WithinLimits.{IsWithinLimits}

@@ -5,13 +5,13 @@ use Rattle.kx_builder.specs.Valid.{CellIsValid}
 use Rattle.kx_builder.specs.Pushes.{last_groups, with_cell}
 use Rattle.kx_builder.specs.Resolved.{Resolved}
 use Rattle.kx_builder.specs.WithinLimits.{IsWithinLimits}
-use Rattle.kx_masks.specs.Sets.{real_of}
-use Rattle.kx_masks.specs.Standing.{stands_for}
+use Rattle.kx_virtual_mods.specs.Sets.{real_of}
+use Rattle.kx_virtual_mods.specs.Standing.{stands_for}
 use Rattle.kx_resolve.proofs.Growing.{cells_grow, groups_count, small_with_cell}
 use Rattle.kx_resolve.proofs.Steps.{cells_next, cells_none}
 use Rattle.kx_resolve.specs.Bounds.{CellsAreValid, last_cells}
-use Rattle.kx_typing.specs.Given.{given}
-use Rattle.kx_bearing.specs.Deeds.{deeds_of}
+use Rattle.kx_resolve.specs.Given.{given}
+use Rattle.kx_resolve.specs.Deeds.{deeds_of}
 use Rattle.kx_resolve.specs.Keys.{cell_of, cells_of}
 use Rattle.kx_resolve.proofs.keys.push_levels.Goals as goal
 

@@ -1,11 +1,11 @@
 use Rattle.std.proofs.Common.{◌≡◌, ◌<◌, fold, length}
 use Rattle.kx_builder.specs.Pushes.{last_groups, with_cell}
 use Rattle.kx_builder.specs.WithinLimits.{IsWithinLimits}
-use Rattle.kx_masks.specs.Sets.{real_of}
-use Rattle.kx_masks.specs.Standing.{stands_for}
+use Rattle.kx_virtual_mods.specs.Sets.{real_of}
+use Rattle.kx_virtual_mods.specs.Standing.{stands_for}
 use Rattle.kx_resolve.specs.Bounds.{CellsAreValid, last_cells}
-use Rattle.kx_typing.specs.Given.{given}
-use Rattle.kx_bearing.specs.Deeds.{deeds_of}
+use Rattle.kx_resolve.specs.Given.{given}
+use Rattle.kx_resolve.specs.Deeds.{deeds_of}
 use Rattle.kx_resolve.specs.Keys.{cells_of}
 use Rattle.kx_resolve.proofs.keys.push_levels.Given as goal
 

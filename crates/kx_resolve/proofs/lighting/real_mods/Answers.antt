@@ -1,7 +1,7 @@
 use Rattle.std.proofs.Common.{rules, ◌<◌, ◌^◌}
-use Rattle.kx_levels.proofs.Bits.{mods_is}
-use Rattle.kx_masks.specs.Sets.{real_of}
-use Rattle.kx_masks.specs.Standing.{stands_for}
+use Rattle.kx_resolve.proofs.Bits.{mods_is}
+use Rattle.kx_virtual_mods.specs.Sets.{real_of}
+use Rattle.kx_virtual_mods.specs.Standing.{stands_for}
 use Rattle.kx_mods.specs.Mods.{mask}
 use Rattle.kx_resolve.proofs.lighting.real_mods.Goals as goal
 

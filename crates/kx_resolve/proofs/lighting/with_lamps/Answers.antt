@@ -1,7 +1,7 @@
 use Rattle.std.proofs.Common.{ℕ, All, Bor, List, ap, map, subst, sym, ◌∙◌}
 use Rattle.kx_builder.specs.Lamps.{GroupNameIsValid, IndicatorIsValid, indicator_of}
-use Rattle.kx_masks.specs.Sets.{real_of}
-use Rattle.kx_masks.specs.Standing.{stands_for}
+use Rattle.kx_virtual_mods.specs.Sets.{real_of}
+use Rattle.kx_virtual_mods.specs.Standing.{stands_for}
 use Rattle.kx_resolve.proofs.Lamps.{lamps_valid}
 use Rattle.kx_resolve.proofs.lighting.with_lamps.Goals as goal
 

@@ -4,10 +4,10 @@ use Rattle.kx_builder.specs.Lamps.{with_lamps}
 use Rattle.kx_builder.specs.Placed.{content_of_resolved}
 use Rattle.kx_builder.specs.Resolved.{Resolved}
 use Rattle.kx_codes.specs.Codes.{name_of}
-use Rattle.kx_levels.specs.Selecting.{RealSet}
-use Rattle.kx_mapped.specs.Modmaps.{modmap_at}
-use Rattle.kx_masks.specs.Sets.{real_of}
-use Rattle.kx_masks.specs.Standing.{stands_for}
+use Rattle.kx_resolve.specs.Selecting.{RealSet}
+use Rattle.kx_resolve.specs.Modmaps.{modmap_at}
+use Rattle.kx_virtual_mods.specs.Sets.{real_of}
+use Rattle.kx_virtual_mods.specs.Standing.{stands_for}
 use Rattle.kx_resolve.proofs.Ending.{built_agrees, built_valid, built_whole}
 use Rattle.kx_resolve.proofs.Typed.{IsUsable, used_usable}
 use Rattle.kx_resolve.proofs.Whole.{tree_whole}
@@ -18,7 +18,7 @@ use Rattle.kx_tables.specs.Keymap.{keymap_of}
 use Rattle.kx_tables.specs.RawTables.{content_of}
 use Rattle.kx_types.specs.KeyTypes.{Definition}
 use Rattle.kx_types.specs.Types.{type_named}
-use Rattle.kx_typing.specs.Given.{given_in}
+use Rattle.kx_resolve.specs.Given.{given_in}
 use Rattle.kx_resolve.proofs.resolving.resolve.Goals as goal
 
 pub with_types-requires-clause-few : goal.with_types-requires-clause-few

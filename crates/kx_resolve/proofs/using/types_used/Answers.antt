@@ -1,11 +1,11 @@
 use Rattle.std.proofs.Common.{ℕ, ◌≡◌, ◌≤◌, ◌+◌, length, [], List, Option, ap, sym, ◌∙◌, arith}
 use Rattle.kx_codes.specs.Codes.{IsEnd, name_of}
-use Rattle.kx_masks.specs.Counted.{with_names}
+use Rattle.kx_virtual_mods.specs.Counted.{with_names}
 use Rattle.kx_resolve.proofs.Gathering.{used_whole}
 use Rattle.kx_resolve.proofs.Order.{with_more}
 use Rattle.kx_resolve.proofs.Typed.{used_few}
 use Rattle.kx_resolve.proofs.Steps.{used_is, used_next, used_none}
-use Rattle.kx_typing.specs.Given.{KeyGiven, given_in}
+use Rattle.kx_resolve.specs.Given.{KeyGiven, given_in}
 use Rattle.kx_resolve.specs.Keys.{type_names_below, type_names_if, types_used}
 use Rattle.kx_symbols.specs.Keys.{key_at}
 use Rattle.kx_types.specs.Types.{NamedTypes, type_named}

@@ -1,7 +1,7 @@
 use Rattle.std.proofs.Common.{◌≡◌, []}
 use Rattle.kx_codes.specs.Codes.{name_of}
-use Rattle.kx_masks.specs.Counted.{with_names}
-use Rattle.kx_typing.specs.Given.{given_in}
+use Rattle.kx_virtual_mods.specs.Counted.{with_names}
+use Rattle.kx_resolve.specs.Given.{given_in}
 use Rattle.kx_resolve.specs.Keys.{type_names_below}
 use Rattle.kx_symbols.specs.Keys.{key_at}
 use Rattle.kx_types.specs.Types.{type_named}

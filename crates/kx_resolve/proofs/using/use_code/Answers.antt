@@ -1,7 +1,7 @@
 use Rattle.std.proofs.Common.{ap, sym, ◌∙◌}
-use Rattle.kx_masks.specs.Counted.{with_names}
+use Rattle.kx_virtual_mods.specs.Counted.{with_names}
 use Rattle.kx_resolve.proofs.Steps.{none_names}
-use Rattle.kx_typing.specs.Given.{given_in}
+use Rattle.kx_resolve.specs.Given.{given_in}
 use Rattle.kx_resolve.specs.Keys.{type_names_if}
 use Rattle.kx_types.specs.Types.{type_named}
 use Rattle.kx_resolve.proofs.using.use_code.Goals as goal

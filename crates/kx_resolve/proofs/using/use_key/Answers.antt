@@ -1,11 +1,11 @@
 use Rattle.std.proofs.Common.{◌≡◌, ap, sym, ◌∙◌, arith}
 use Rattle.std.specs.Str.{bytes_eq}
-use Rattle.kx_masks.specs.Counted.{with_names}
+use Rattle.kx_virtual_mods.specs.Counted.{with_names}
 use Rattle.kx_merge.specs.Offers.{with_name}
 use Rattle.kx_resolve.proofs.Order.{with_next}
 use Rattle.kx_resolve.proofs.Steps.{names_next, names_none}
-use Rattle.kx_typing.specs.Given.{given}
-use Rattle.kx_typing.specs.GroupTypes.{group_count, group_type_name}
+use Rattle.kx_resolve.specs.Given.{given}
+use Rattle.kx_resolve.specs.GroupTypes.{group_count, group_type_name}
 use Rattle.kx_resolve.specs.Keys.{type_names}
 use Rattle.kx_types.specs.Types.{type_named}
 use Rattle.kx_resolve.proofs.using.use_key.Goals as goal

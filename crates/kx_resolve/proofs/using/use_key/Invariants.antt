@@ -1,6 +1,6 @@
 use Rattle.std.proofs.Common.{◌≡◌}
-use Rattle.kx_masks.specs.Counted.{with_names}
-use Rattle.kx_typing.specs.Given.{given}
+use Rattle.kx_virtual_mods.specs.Counted.{with_names}
+use Rattle.kx_resolve.specs.Given.{given}
 use Rattle.kx_resolve.specs.Keys.{type_names}
 use Rattle.kx_types.specs.Types.{type_named}
 use Rattle.kx_resolve.proofs.using.use_key.Given as goal

@@ -5,8 +5,8 @@ use Rattle.std.proofs.lemmas.Option.{slice_get-get_or}
 use Rattle.kx_builder.specs.Pushes.{with_type}
 use Rattle.kx_builder.specs.Resolved.{Resolved}
 use Rattle.kx_builder.specs.WithinLimits.{IsWithinLimits}
-use Rattle.kx_masks.specs.Sets.{real_of}
-use Rattle.kx_masks.specs.Standing.{stands_for}
+use Rattle.kx_virtual_mods.specs.Sets.{real_of}
+use Rattle.kx_virtual_mods.specs.Standing.{stands_for}
 use Rattle.kx_resolve.proofs.Typed.{tree_small}
 use Rattle.kx_resolve.specs.Bounds.{TypeHolds}
 use Rattle.kx_resolve.specs.Keys.{type_of}

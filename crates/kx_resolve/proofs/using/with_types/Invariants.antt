@@ -1,6 +1,6 @@
 use Rattle.std.proofs.Common.{◌≡◌, All, [], map, take}
-use Rattle.kx_masks.specs.Sets.{real_of}
-use Rattle.kx_masks.specs.Standing.{stands_for}
+use Rattle.kx_virtual_mods.specs.Sets.{real_of}
+use Rattle.kx_virtual_mods.specs.Standing.{stands_for}
 use Rattle.kx_resolve.specs.Bounds.{TypeHolds}
 use Rattle.kx_resolve.specs.Keys.{type_of}
 use Rattle.kx_types.specs.Types.{type_named}

@@ -2,10 +2,10 @@ use Rattle.std.proofs.Common.{◌≡◌, ◌⊎◌, ◌∷◌, ◌++◌, [], Con
 use Rattle.kx_codes.specs.CodeFaults.{faults_of as keycodes_faults}
 use Rattle.kx_codes.specs.Codes.{CodesShow}
 use Rattle.kx_compat.specs.Meaning.{compat_faults}
-use Rattle.kx_lamps.specs.Meaning.{lamps_faults}
+use Rattle.kx_indicators.specs.Meaning.{lamps_faults}
 use Rattle.kx_lex.specs.declared.fault.Fault.{Fault}
 use Rattle.kx_lex.specs.declared.fault.Fault.TheVariants.{Memory}
-use Rattle.kx_masks.specs.Declarations.{modifier_faults}
+use Rattle.kx_virtual_mods.specs.Declarations.{modifier_faults}
 use Rattle.kx_source.proofs.Ending.{made_holds, made_keymap}
 use Rattle.kx_source.proofs.Joining.{bodies_same, keys_faults_same, maps_faults_same, modifiers_same}
 use Rattle.kx_source.proofs.Names.{one_code}

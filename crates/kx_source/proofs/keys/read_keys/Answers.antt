@@ -1,6 +1,6 @@
 use Rattle.std.proofs.Common.{ap, ◌∙◌}
 use Rattle.kx_include.specs.Shared.{expanded_body}
-use Rattle.kx_mapped.specs.Mapping.{modmap_of}
+use Rattle.kx_resolve.specs.Mapping.{modmap_of}
 use Rattle.kx_source.proofs.Mapped.{mapping_same}
 use Rattle.kx_source.proofs.keys.read_keys.Goals as goal
 

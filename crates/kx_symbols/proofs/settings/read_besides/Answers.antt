@@ -1,7 +1,7 @@
 use Rattle.std.proofs.Common.{◌≡◌, ◌∷◌, [], Contains, IfErr, OnOk, subst}
 use Rattle.kx_lex.specs.declared.fault.Fault.{Fault}
 use Rattle.kx_lex.specs.declared.fault.Fault.TheVariants.{Memory}
-use Rattle.kx_settings.specs.KeyFields.{setting_faults}
+use Rattle.kx_key_fields.specs.KeyFields.{setting_faults}
 use Rattle.kx_symbols.specs.Known.{Known}
 use Rattle.kx_symbols.proofs.settings.read_besides.Goals as goal
 

@@ -1,5 +1,5 @@
 use Rattle.std.proofs.Common.{ap, ◌∙◌, subst, sym, map, arith}
-use Rattle.kx_masks.specs.Counted.{names_behind, statements_of}
+use Rattle.kx_virtual_mods.specs.Counted.{names_behind, statements_of}
 use Rattle.kx_types.specs.Types.{type_names}
 use Rattle.std.proofs.lemmas.List.{length-map}
 use Rattle.kx_types.specs.Shown.{shown_entry}

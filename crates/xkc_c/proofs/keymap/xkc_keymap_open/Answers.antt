@@ -1,7 +1,7 @@
 use Rattle.std.proofs.Common.{subst}
 use Rattle.kx_image.proofs.Refused.{fault_refuses}
-use Rattle.kx_shared.specs.Open.{IsRefused}
-use Rattle.kx_shared.specs.declared.tables.OpenFault.{OpenFault}
+use Rattle.kx_handles.specs.Open.{IsRefused}
+use Rattle.kx_handles.specs.declared.tables.OpenFault.{OpenFault}
 use Rattle.xkc_c.proofs.keymap.xkc_keymap_open.Goals as goal
 
 pub returns-in-Err-Image-clause-none : goal.returns-in-Err-Image-clause-none

@@ -1,4 +1,0 @@
-mod Borne
-mod Brought
-pub mod Meant
-mod Names

@@ -1,4 +1,0 @@
-pub mod Bearing
-pub mod Deeds
-pub mod Read
-pub mod Bearers

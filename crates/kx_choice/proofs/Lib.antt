@@ -1,4 +1,0 @@
-mod Firsts
-mod Kept
-mod Parting
-pub mod Same

@@ -1,4 +1,0 @@
-pub mod Triggers
-pub mod Interpretations
-pub mod Choosing
-pub mod Indexed

@@ -1,0 +1,83 @@
+//! Interpretations.
+use crate::action::GivenAction;
+use crate::modifier::GivenModifier;
+use crate::trigger::Trigger;
+use kx_actions::KeyAction;
+use kx_virtual_mods::MOST_VIRTUAL_MODIFIERS;
+use std::marker::Model;
+
+/// What a keymap says of keys with some keysyms and modifiers.
+#[derive(Clone, Copy, Debug)]
+pub struct Interpretation {
+    trigger: Trigger,
+    action: Option<GivenAction>,
+    modifier: Option<GivenModifier>,
+    first_level_only: bool,
+}
+
+impl Model for Interpretation {
+    ghost use Rattle.kx_compat.specs.Interpretations.{Interpretation};
+
+    ghost Value = { Interpretation };
+
+    ghost view = { λ i. record { trigger = i.trigger; action = i.action; modifier = i.modifier; first_level_only = i.first_level_only } };
+
+    ghost inverse = { λ i. record { trigger = i.trigger; action = i.action; modifier = i.modifier; first_level_only = i.first_level_only } };
+}
+
+impl Interpretation {
+    ghost use Rattle.std.specs.Prelude.{◌≡◌, ◌<◌, IfSome};
+
+    /// What is said of keys by these.
+    pub fn of(
+        trigger: Trigger,
+        action: Option<GivenAction>,
+        modifier: Option<GivenModifier>,
+        first_level_only: bool,
+    ) -> Interpretation
+        ensures { result ≡ record { trigger = trigger; action = action; modifier = modifier; first_level_only = first_level_only } }
+    {
+        Interpretation {
+            trigger,
+            action,
+            modifier,
+            first_level_only,
+        }
+    }
+
+    /// For which keys it is.
+    pub fn trigger(&self) -> Trigger
+        ensures { result ≡ self.now.trigger }
+    {
+        self.trigger
+    }
+
+    /// What a level of such a key does, where it says so.
+    pub fn action(&self) -> Option<KeyAction>
+        ensures { result ≡ self.now.action }
+    {
+        match self.action {
+            Some(given) => Some(given.action()),
+            None => None,
+        }
+    }
+
+    /// The virtual modifier that such a key bears, by its number, where it says so.
+    pub fn modifier(&self) -> Option<u8>
+        ensures value { result ≡ self.now.modifier }
+        ensures within { IfSome result (λ number. number < MOST_VIRTUAL_MODIFIERS) }
+    {
+        match self.modifier {
+            Some(given) => Some(given.number()),
+            None => None,
+        }
+    }
+
+    /// Whether it sees a key's modifiers at the first level alone: at others the key has none for it. It gives its virtual
+    /// modifier at the first level alone, then.
+    pub fn first_level_only(&self) -> bool
+        ensures { result ≡ self.now.first_level_only }
+    {
+        self.first_level_only
+    }
+}

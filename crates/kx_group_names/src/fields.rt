@@ -1,0 +1,123 @@
+//! The fields that name groups.
+ghost use Rattle.std.specs.Prelude.{◌≡◌, ◌≤◌, ◌++◌, [], Contains, IfErr, IfOk, OnOk, Some, length};
+ghost use Rattle.std.specs.Option.{option_map};
+ghost use Rattle.kx_basics.specs.declared.limits.TheConstants.{MOST_NAME_BYTES};
+ghost use Rattle.kx_group_names.specs.Fields.{expression_faults, field_faults, index_faults, indexed_group, name_in, set_text, text_faults};
+ghost use Rattle.kx_merge.specs.Faults.{value_faults};
+ghost use Rattle.kx_merge.specs.Words.{lone_text, term_text};
+
+use kx_basics::MOST_NAME_BYTES;
+use kx_key_fields::is_group_name;
+use kx_lex::{At, Boxed, Fault, Name, Span};
+use kx_merge::{Counted, bad_value, expression_of, unknown_field};
+use kx_parse::{Expression, Field, Index, Statement, Term};
+
+/// The field of a statement, where it names a group.
+pub(crate) fn name_in(statement: &Statement) -> Option<&Field>
+    ensures { option_map (λ f. f.now) result ≡ name_in statement.now }
+{
+    match statement {
+        Statement::Field(field) => {
+            let field = field.get();
+            if is_group_name(&field.place) {
+                Some(field)
+            } else {
+                None
+            }
+        }
+        Statement::Keycode { .. } => None,
+        Statement::Alias { .. } => None,
+        Statement::IndicatorName { .. } => None,
+        Statement::VirtualModifiers(_) => None,
+        Statement::KeyType { .. } => None,
+        Statement::Interpretation { .. } => None,
+        Statement::Indicator { .. } => None,
+        Statement::Group { .. } => None,
+        Statement::Key { .. } => None,
+        Statement::ModifierMap { .. } => None,
+    }
+}
+
+/// The group, counted from 1, that an index behind a word names.
+fn read_group(file: u32, word: &Name, index: &Option<Boxed<Index>>) -> Result<u8, Fault>
+    ensures value { IfOk result (λ group. Some group ≡ indexed_group index.now) }
+    ensures faultless { OnOk result (index_faults file word.now index.now ≡ []) }
+    ensures fault { IfErr result (λ e. Contains (index_faults file word.now index.now) e) }
+{
+    match index {
+        None => Err(unknown_field(file, word)),
+        Some(index) => Counted::Group.read(file, &index.get().value),
+    }
+}
+
+fn term_text(term: &Term) -> Option<&[u8]>
+    ensures { option_map (λ t. t.now) result ≡ term_text term.now }
+{
+    match term {
+        Term::Text(text) => Some(text.bytes.as_slice()),
+        Term::Number(_) => None,
+        Term::Signed(_) => None,
+        Term::Word(_) => None,
+        Term::KeyName(_) => None,
+    }
+}
+
+/// The text that an expression is, where it is one.
+fn text_of(expression: &Expression) -> Option<&[u8]>
+    ensures { option_map (λ t. t.now) result ≡ lone_text expression.now }
+{
+    match expression.rest.as_slice() {
+        [] => term_text(&expression.first),
+        _ => None,
+    }
+}
+
+/// The text that an expression of a statement is.
+fn expression_text<'a>(
+    file: u32,
+    whole: Span,
+    expression: &'a Expression,
+) -> Result<&'a [u8], Fault>
+    ensures value { IfOk result (λ text. Some text.now ≡ lone_text expression.now) }
+    ensures short { IfOk result (λ text. length text.now ≤ MOST_NAME_BYTES) }
+    ensures faultless { OnOk result (text_faults file whole expression.now.span (lone_text expression.now) ≡ []) }
+    ensures fault { IfErr result (λ e. Contains (text_faults file whole expression.now.span (lone_text expression.now)) e) }
+{
+    match text_of(expression) {
+        None => Err(bad_value(file, expression.span)),
+        Some(text) => {
+            if text.len() > MOST_NAME_BYTES {
+                return Err(Fault::TooMany(At { file, span: whole }));
+            }
+            Ok(text)
+        }
+    }
+}
+
+/// The text that a field of a statement sets.
+fn read_text<'a>(file: u32, whole: Span, field: &'a Field) -> Result<&'a [u8], Fault>
+    ensures value { IfOk result (λ text. Some text.now ≡ set_text field.now.setting) }
+    ensures short { IfOk result (λ text. length text.now ≤ MOST_NAME_BYTES) }
+    ensures faultless { OnOk result (value_faults file (expression_faults file whole) field.now.span field.now.setting ≡ []) }
+    ensures fault { IfErr result (λ e. Contains (value_faults file (expression_faults file whole) field.now.span field.now.setting) e) }
+{
+    let expression = expression_of(file, field.span, &field.setting)?;
+    expression_text(file, whole, expression)
+}
+
+/// The group, counted from 1, that a field of a statement names, and its name.
+pub(crate) fn read_name<'a>(
+    file: u32,
+    whole: Span,
+    field: &'a Field,
+) -> Result<(u8, &'a [u8]), Fault>
+    ensures group { IfOk result (λ name. Some name.0 ≡ indexed_group field.now.place.index) }
+    ensures text { IfOk result (λ name. Some name.1.now ≡ set_text field.now.setting) }
+    ensures short { IfOk result (λ name. length name.1.now ≤ MOST_NAME_BYTES) }
+    ensures faultless { OnOk result (field_faults file whole field.now ≡ []) }
+    ensures fault { IfErr result (λ e. Contains (field_faults file whole field.now) e) }
+{
+    let group = read_group(file, &field.place.word, &field.place.index)?;
+    let text = read_text(file, whole, field)?;
+    Ok((group, text))
+}

@@ -1,0 +1,21 @@
+use Rattle.std.proofs.Common.{◌∷◌, ◌++◌, ap, ◌∙◌, position}
+use Rattle.std.specs.List.{flat_map}
+use Rattle.std.specs.Str.{bytes_eq}
+use Rattle.kx_lex.specs.declared.fault.Fault.TheVariants.{Memory}
+use Rattle.kx_indicators.specs.Blocks.{own_faults, values_of}
+use Rattle.kx_indicators.proofs.Going.{blamed_behind, passed}
+use Rattle.kx_indicators.proofs.Offering.{same_offered}
+use Rattle.kx_indicators.proofs.blocks.read_indicator.Goals as goal
+use Rattle.kx_merge.specs.Faults.{name_faults}
+
+pub returns-in_err-values-clause-fault : goal.returns-in_err-values-clause-fault
+returns-in_err-values-clause-fault c =
+    let names = c.args.names.now.names in
+    let front = name_faults c.args.file c.args.whole c.args.name.now in
+    let fields = flat_map (own_faults c.args.file names) c.args.fields.now in
+    passed c.from_residual.result (Memory ∷ (front ++ fields)) c.in_err-values.field-0.0 c.from_residual.ensures.1 (blamed_behind Memory front fields c.in_err-values.field-0.0 c.in_err-values.ensures.fault)
+
+pub returns-clause-records : goal.returns-clause-records
+returns-clause-records c = λ mode.
+    same_offered (λ v. v.items) c.records_for.result mode c.in_ok-values.values (values_of c.args.names.now.names c.args.defaults c.args.fields.now) c.number_of.result (position (bytes_eq c.args.name.now.bytes) c.args.lamps.now)
+    c.in_ok-values.ensures.value (c.number_of.ensures.value ∙ ap (λ bytes. position (bytes_eq bytes) c.args.lamps.now) c.as_slice-bytes.ensures) (c.records_for.ensures.records mode)

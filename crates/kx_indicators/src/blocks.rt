@@ -1,0 +1,176 @@
+//! What the statements of a compat section say of indicators.
+ghost use Rattle.std.specs.Prelude.{◌≡◌, ◌++◌, ◌∷◌, [], Contains, IfErr, IfOk, OnOk, Some};
+ghost use Rattle.std.specs.List.{flat_map};
+ghost use Rattle.kx_lex.specs.declared.fault.Fault.TheVariants.{Memory};
+ghost use Rattle.kx_parse.specs.declared.tree.Mode.{Mode as ModeValue};
+ghost use Rattle.kx_merge.specs.Records.{AreOffered, mode_of};
+ghost use Rattle.kx_indicators.specs.Blocks.{default_faults, default_in, indicator_in, item_faults, own_faults, own_value, said_faults, values_of};
+ghost use Rattle.kx_indicators.specs.Giving.{values_cell, values_width};
+ghost use Rattle.kx_indicators.specs.Meaning.{item_offers, offers_to, said_offers, values_offer};
+ghost use Rattle.kx_merge.specs.Faults.{name_faults};
+
+use crate::defaults::default_in;
+use crate::fields::read_field;
+use crate::naming::indicator_in;
+use crate::values::{LampValue, LampValues};
+use kx_basics::MOST_NAME_BYTES;
+use kx_lex::{At, Fault, Name, Span};
+use kx_parse::{Field, Item, Statement};
+use kx_virtual_mods::{ModNames, Names};
+use std::alloc::Global;
+
+/// What a field in an indicator gives it.
+fn read_own(names: &ModNames, file: u32, field: &Field) -> Result<Option<LampValue>, Fault>
+    ensures value { IfOk result (λ value. value ≡ own_value names.now.names field.now) }
+    ensures faultless { OnOk result (own_faults file names.now.names field.now ≡ []) }
+    ensures fault { IfErr result (λ e. Contains (own_faults file names.now.names field.now) e) }
+{
+    if field.place.member.is_some() {
+        return Ok(None);
+    }
+    read_field(names, file, &field.place.word, field)
+}
+
+/// What the fields of an indicator give it, behind the defaults.
+fn read_values(
+    names: &ModNames,
+    file: u32,
+    defaults: LampValues,
+    fields: &[Field],
+) -> Result<LampValues, Fault>
+    ensures value { IfOk result (λ values. values ≡ values_of names.now.names defaults fields.now) }
+    ensures faultless { OnOk result (flat_map (own_faults file names.now.names) fields.now ≡ []) }
+    ensures fault { IfErr result (λ e. Contains (flat_map (own_faults file names.now.names) fields.now) e) }
+{
+    let mut values = defaults;
+    'fields: for field in fields {
+        values = values.with(read_own(names, file, field)?);
+    }
+    Ok(values)
+}
+
+fn no_records(alloc: Global) -> Vec<(usize, LampValues)>
+    ensures { (mode : ModeValue) → AreOffered mode (values_cell) (values_width) result.items [] }
+{
+    Vec::new(alloc)
+}
+
+fn one_record(
+    alloc: Global,
+    number: usize,
+    values: LampValues,
+) -> Result<Vec<(usize, LampValues)>, Fault>
+    ensures records { (mode : ModeValue) → IfOk result (λ records. AreOffered mode (values_cell) (values_width) records.items (values_offer mode values number ∷ [])) }
+    ensures err { IfErr result (λ e. e ≡ Memory) }
+{
+    let mut records = Vec::new(alloc);
+    records.push((number, values))?;
+    Ok(records)
+}
+
+/// What is given to the indicator of a number.
+fn records_for(
+    alloc: Global,
+    number: Option<usize>,
+    values: LampValues,
+) -> Result<Vec<(usize, LampValues)>, Fault>
+    ensures records { (mode : ModeValue) → IfOk result (λ records. AreOffered mode (values_cell) (values_width) records.items (offers_to mode values number)) }
+    ensures err { IfErr result (λ e. e ≡ Memory) }
+{
+    match number {
+        None => Ok(no_records(alloc)),
+        Some(number) => one_record(alloc, number, values),
+    }
+}
+
+/// What an indicator gives; `whole` is the statement.
+fn read_indicator(
+    alloc: Global,
+    lamps: &Names,
+    names: &ModNames,
+    file: u32,
+    defaults: LampValues,
+    whole: Span,
+    name: &Name,
+    fields: &[Field],
+) -> Result<Vec<(usize, LampValues)>, Fault>
+    ensures records { (mode : ModeValue) → IfOk result (λ records. AreOffered mode (values_cell) (values_width) records.items (said_offers lamps.now names.now.names defaults mode (Some (name.now, fields.now)))) }
+    ensures faultless { OnOk result (name_faults file whole name.now ++ flat_map (own_faults file names.now.names) fields.now ≡ []) }
+    ensures fault { IfErr result (λ e. Contains (Memory ∷ (name_faults file whole name.now ++ flat_map (own_faults file names.now.names) fields.now)) e) }
+{
+    let bytes = name.bytes.as_slice();
+    if bytes.len() > MOST_NAME_BYTES {
+        return Err(Fault::TooMany(At { file, span: whole }));
+    }
+    let values = read_values(names, file, defaults, fields)?;
+    records_for(alloc, lamps.number_of(bytes), values)
+}
+
+/// Checks a statement that is no indicator.
+fn check_default(names: &ModNames, file: u32, statement: &Statement) -> Result<(), Fault>
+    ensures faultless { OnOk result (default_faults file names.now.names (default_in statement.now) ≡ []) }
+    ensures fault { IfErr result (λ e. Contains (default_faults file names.now.names (default_in statement.now)) e) }
+{
+    match default_in(statement) {
+        None => Ok(()),
+        Some((member, field)) => {
+            read_field(names, file, member, field)?;
+            Ok(())
+        }
+    }
+}
+
+/// What a statement gives; `whole` is all of it.
+fn read_statement(
+    alloc: Global,
+    lamps: &Names,
+    names: &ModNames,
+    file: u32,
+    defaults: LampValues,
+    whole: Span,
+    statement: &Statement,
+) -> Result<Vec<(usize, LampValues)>, Fault>
+    ensures records { (mode : ModeValue) → IfOk result (λ records. AreOffered mode (values_cell) (values_width) records.items (said_offers lamps.now names.now.names defaults mode (indicator_in statement.now))) }
+    ensures faultless { OnOk result (said_faults file names.now.names statement.now whole (indicator_in statement.now) ≡ []) }
+    ensures fault { IfErr result (λ e. Contains (Memory ∷ said_faults file names.now.names statement.now whole (indicator_in statement.now)) e) }
+{
+    match indicator_in(statement) {
+        Some((name, fields)) => read_indicator(
+            alloc,
+            lamps,
+            names,
+            file,
+            defaults,
+            whole,
+            name,
+            fields.as_slice(),
+        ),
+        None => {
+            check_default(names, file, statement)?;
+            Ok(no_records(alloc))
+        }
+    }
+}
+
+/// What an item gives, under the defaults before it in its section.
+pub(crate) fn read_item(
+    alloc: Global,
+    lamps: &Names,
+    names: &ModNames,
+    file: u32,
+    defaults: LampValues,
+    item: &Item,
+) -> Result<Vec<(usize, LampValues)>, Fault>
+    ensures records { IfOk result (λ records. AreOffered (mode_of item.now) (values_cell) (values_width) records.items (item_offers lamps.now names.now.names defaults item.now)) }
+    ensures faultless { OnOk result (item_faults file names.now.names item.now ≡ []) }
+    ensures fault { IfErr result (λ e. Contains (Memory ∷ item_faults file names.now.names item.now) e) }
+{
+    match item {
+        Item::Include { .. } => Ok(no_records(alloc)),
+        Item::Statement {
+            statement,
+            span,
+            ..
+        } => read_statement(alloc, lamps, names, file, defaults, *span, statement),
+    }
+}

@@ -1,0 +1,109 @@
+//! What the fields of indicators are given.
+ghost use Rattle.std.specs.Prelude.{◌≡◌, [], Contains, IfErr, IfOk, OnOk, Some};
+ghost use Rattle.kx_indicators.specs.LampFields.{expression_faults, expression_value, field_faults, field_value, field_words, known_value, placed_faults};
+ghost use Rattle.kx_merge.specs.Faults.{value_faults};
+ghost use Rattle.kx_merge.specs.Words.{among};
+
+use crate::masks::{MaskKind, read_mask};
+use crate::states::GivenStates;
+use crate::values::{LampField, LampValue};
+use kx_lex::{At, Fault, Name};
+use kx_merge::expression_of;
+use kx_parse::{Expression, Field};
+use kx_virtual_mods::ModNames;
+
+fn field_named(word: &[u8]) -> Option<LampField>
+    ensures { result ≡ among field_words word.now }
+{
+    if word.eq_ignore_ascii_case(b"modifiers") {
+        Some(LampField::Modifiers)
+    } else if word.eq_ignore_ascii_case(b"mods") {
+        Some(LampField::Modifiers)
+    } else if word.eq_ignore_ascii_case(b"whichModState") {
+        Some(LampField::ModStates)
+    } else if word.eq_ignore_ascii_case(b"whichGroupState") {
+        Some(LampField::GroupStates)
+    } else if word.eq_ignore_ascii_case(b"groups") {
+        Some(LampField::Groups)
+    } else {
+        None
+    }
+}
+
+/// What a field is given by an expression.
+fn read_expression(
+    names: &ModNames,
+    file: u32,
+    known: LampField,
+    expression: &Expression,
+) -> Result<LampValue, Fault>
+    ensures value { IfOk result (λ value. value ≡ expression_value names.now.names known expression.now) }
+    ensures faultless { OnOk result (expression_faults file names.now.names known expression.now ≡ []) }
+    ensures fault { IfErr result (λ e. Contains (expression_faults file names.now.names known expression.now) e) }
+{
+    match known {
+        LampField::Modifiers => Ok(LampValue::Modifiers(names.mask_of(file, expression)?)),
+        LampField::ModStates => {
+            let mask = read_mask(MaskKind::States, file, expression)?;
+            Ok(LampValue::ModStates(GivenStates::of(mask)))
+        }
+        LampField::GroupStates => {
+            let mask = read_mask(MaskKind::States, file, expression)?;
+            Ok(LampValue::GroupStates(GivenStates::of(mask)))
+        }
+        LampField::Groups => Ok(LampValue::Groups(read_mask(MaskKind::Groups, file, expression)?)),
+    }
+}
+
+/// What a field is given by its setting.
+fn read_setting(
+    names: &ModNames,
+    file: u32,
+    known: LampField,
+    field: &Field,
+) -> Result<LampValue, Fault>
+    ensures value { IfOk result (λ value. Some value ≡ known_value names.now.names field.now.setting (Some known)) }
+    ensures faultless { OnOk result (value_faults file (expression_faults file names.now.names known) field.now.span field.now.setting ≡ []) }
+    ensures fault { IfErr result (λ e. Contains (value_faults file (expression_faults file names.now.names known) field.now.span field.now.setting) e) }
+{
+    let expression = expression_of(file, field.span, &field.setting)?;
+    read_expression(names, file, known, expression)
+}
+
+/// What a field gives that has a meaning, and takes no index.
+fn read_known(
+    names: &ModNames,
+    file: u32,
+    word: &Name,
+    known: LampField,
+    field: &Field,
+) -> Result<LampValue, Fault>
+    ensures value { IfOk result (λ value. Some value ≡ known_value names.now.names field.now.setting (Some known)) }
+    ensures faultless { OnOk result (placed_faults file names.now.names word.now field.now known field.now.place.index ≡ []) }
+    ensures fault { IfErr result (λ e. Contains (placed_faults file names.now.names word.now field.now known field.now.place.index) e) }
+{
+    match &field.place.index {
+        None => read_setting(names, file, known, field),
+        Some(_) => Err(Fault::UnknownField(At {
+            file,
+            span: word.span,
+        })),
+    }
+}
+
+/// What a field of a file gives that `word` names; nothing, where it is read and not used.
+pub(crate) fn read_field(
+    names: &ModNames,
+    file: u32,
+    word: &Name,
+    field: &Field,
+) -> Result<Option<LampValue>, Fault>
+    ensures value { IfOk result (λ value. value ≡ field_value names.now.names word.now field.now) }
+    ensures faultless { OnOk result (field_faults file names.now.names word.now field.now ≡ []) }
+    ensures fault { IfErr result (λ e. Contains (field_faults file names.now.names word.now field.now) e) }
+{
+    match field_named(word.bytes.as_slice()) {
+        None => Ok(None),
+        Some(known) => Ok(Some(read_known(names, file, word, known, field)?)),
+    }
+}

@@ -1,0 +1,122 @@
+//! The records of indicators.
+ghost use Rattle.std.specs.Prelude.{◌≡◌, ℕ, IfErr, None, OnOk, unwrap_or};
+ghost use Rattle.std.proofs.Common.{◌∙◌, ap, eqb-true, sym};
+ghost use Rattle.kx_lex.specs.declared.fault.Fault.TheVariants.{Memory};
+ghost use Rattle.kx_merge.specs.Moved.{moved_key, moved_value, moved_width};
+ghost use Rattle.kx_merge.specs.Offers.{taken, widened};
+ghost use Rattle.kx_indicators.specs.Giving.{values_cell, values_width};
+ghost use Rattle.kx_indicators.specs.Meaning.{lamp_moves, lamp_rules};
+
+use crate::blocks::read_item;
+use crate::defaults::next_default;
+use crate::values::{LampField, LampValue, LampValues};
+use kx_include::Place;
+use kx_lex::Fault;
+use kx_merge::Fields;
+use kx_parse::{Item, Mode};
+use kx_virtual_mods::{ModNames, Names};
+use std::alloc::Global;
+
+/// What the statements of indicators are read against.
+#[derive(Clone, Copy)]
+pub struct Context<'a> {
+    /// The names of indicators.
+    pub lamps: &'a Names,
+    pub names: &'a ModNames,
+}
+
+impl<'a> Fields<Context<'a>> for LampValues {
+    type Key = usize;
+
+    type Cell = LampField;
+
+    type Value = LampValue;
+
+    type Defaults = LampValues;
+
+    type Notes = ();
+
+    ghost rules = { λ context. lamp_rules context.lamps.now context.names.now.names };
+
+    ghost moves = { lamp_moves };
+
+    ghost cell = { values_cell };
+
+    ghost width = { values_width };
+
+    fn start(_alloc: Global, _context: &Context<'a>) -> LampValues {
+        LampValues::none()
+    }
+
+    fn next(
+        _alloc: Global,
+        context: &Context<'a>,
+        defaults: LampValues,
+        item: &Item,
+    ) -> Result<LampValues, Fault> {
+        Ok(next_default(context.names, defaults, item))
+    }
+
+    fn read(
+        alloc: Global,
+        context: &Context<'a>,
+        defaults: &LampValues,
+        place: Place,
+        item: &Item,
+        _notes: &mut (),
+    ) -> Result<Vec<(usize, LampValues)>, Fault> {
+        read_item(
+            alloc,
+            context.lamps,
+            context.names,
+            place.file,
+            *defaults,
+            item,
+        )
+    }
+
+    fn absorb(&mut self, _alloc: Global, other: LampValues, mode: Mode) -> Result<(), Fault>
+        ensures cells { OnOk result ((c : LampField) → values_cell self.new c ≡ taken mode (values_cell self.old c) (values_cell other c)) }
+        ensures widths { OnOk result ((g : ℕ) → values_width self.new g ≡ widened mode (values_width self.old g) (values_width other g)) }
+        ensures err { IfErr result (λ e. e ≡ Memory) }
+    {
+        *self = self.joined(other, mode);
+        Ok(())
+    }
+
+    fn none(_alloc: Global) -> LampValues
+        ensures cells { (c : LampField) → values_cell result c ≡ None }
+        ensures widths { (g : ℕ) → values_width result g ≡ 0 }
+    {
+        LampValues::none()
+    }
+
+    fn absorb_moved(
+        &mut self,
+        _alloc: Global,
+        other: &LampValues,
+        _group: Option<u8>,
+        mode: Mode,
+    ) -> Result<(), Fault>
+        ensures cells { OnOk result ((c : LampField) → values_cell self.new c ≡ taken mode (values_cell self.old c) (moved_value lamp_moves _group (values_cell other.now) c)) }
+        ensures widths { OnOk result ((g : ℕ) → values_width self.new g ≡ widened mode (values_width self.old g) (moved_width lamp_moves _group (values_width other.now) g)) }
+        ensures err { IfErr result (λ e. e ≡ Memory) }
+    {
+        *self = self.joined(*other, mode);
+        Ok(())
+    }
+
+    fn key_in(key: &usize, _group: Option<u8>) -> Option<usize>
+        ensures { result ≡ moved_key lamp_moves _group key.now }
+    {
+        Some(*key)
+    }
+
+    fn no_notes() {}
+
+    fn add_notes(_notes: &mut (), _other: &()) {}
+
+    ghost apart = { λ n j k to one two. ap (λ key. unwrap_or key 0) (one ∙ sym two) };
+
+    ghost same = { λ j k e. eqb-true j k e };
+}

@@ -1,0 +1,62 @@
+//! Indicators by number.
+ghost use Rattle.std.specs.Prelude.{◌≡◌, length, slice_get};
+ghost use Rattle.std.specs.Option.{option_map};
+
+use crate::lamp::Lamp;
+use kx_virtual_mods::Names;
+use std::marker::Model;
+
+/// The indicators of a keymap, numbered from 0 in the order in which they are first named.
+#[derive(Drop)]
+pub struct Indicators {
+    names: Names,
+    lamps: Vec<Lamp>,
+}
+
+impl Model for Indicators {
+    ghost use Rattle.kx_indicators.specs.Bounds.{AreValid};
+    ghost use Rattle.kx_indicators.specs.Meaning.{Indicators};
+
+    ghost Value = { Indicators };
+
+    ghost view = { λ i. record { names = i.names; lamps = i.lamps.items } };
+
+    ghost invariant = { λ i. AreValid (record { names = i.names; lamps = i.lamps.items }) };
+}
+
+impl Indicators {
+    ghost use Rattle.std.specs.Prelude.{◌≡◌, length, slice_get};
+    ghost use Rattle.std.specs.Option.{option_map};
+    ghost use Rattle.kx_indicators.specs.Bounds.{AreValid, NamesAreValid};
+
+    /// The indicators with these names.
+    pub(crate) fn of(names: Names, lamps: Vec<Lamp>) -> Indicators
+        requires names { NamesAreValid names }
+        requires as_many { length lamps.items ≡ length names }
+        ensures { result ≡ record { names = names; lamps = lamps.items } }
+    {
+        Indicators { names, lamps }
+    }
+
+    /// How many there are.
+    pub fn len(&self) -> usize
+        ensures value { result ≡ length self.now.names }
+        ensures valid { AreValid self.now }
+    {
+        self.names.len()
+    }
+
+    /// The name of an indicator by its number.
+    pub fn name(&self, number: usize) -> Option<&[u8]>
+        ensures { option_map (λ n. n.now) result ≡ slice_get self.now.names number }
+    {
+        self.names.name(number)
+    }
+
+    /// What lights an indicator, by its number.
+    pub fn lamp(&self, number: usize) -> Option<&Lamp>
+        ensures { option_map (λ l. l.now) result ≡ slice_get self.now.lamps number }
+    {
+        self.lamps.get(number)
+    }
+}

@@ -1,0 +1,79 @@
+-- The cells of settings: what is given to them one after another, and joined.
+use Rattle.std.proofs.Common.{◌≡◌, ℕ, ◌+◌, ◌==◌, ◌<◌, Bool, true, false, cond, List, [], ◌∷◌, length, drop, get_or, fold, Option, None, Some, refl, sym, ap, ◌∙◌}
+use Rattle.std.specs.Option.{option_and_then, option_map, option_or}
+use Rattle.kx_parse.specs.declared.tree.Field.{Field}
+use Rattle.kx_parse.specs.declared.tree.KeyField.{KeyField}
+use Rattle.kx_key_fields.specs.KeyFields.{cell_default, cell_given, default_given, defaults_behind, effective, key_given, next_defaults}
+use Rattle.kx_merge.specs.Last.{last_given}
+use Rattle.kx_key_fields.specs.Settings.{Settings, given_to, no_settings, setting_in, type_at, with_given}
+use Rattle.kx_key_fields.specs.declared.cells.SettingCell.{SettingCell}
+use Rattle.kx_key_fields.specs.declared.cells.SettingCell.TheVariants as cells
+use Rattle.kx_key_fields.specs.declared.cells.SettingValue.TheVariants as values
+use Rattle.kx_key_fields.specs.declared.given.Given.{Given}
+use Rattle.kx_key_fields.specs.declared.given.Given.TheVariants as given
+use Rattle.kx_key_fields.proofs.Going.{drop_next}
+use Rattle.kx_key_fields.proofs.Moving.{type_put}
+
+or_inner : {X : Type 0} (a b c : Option X) → option_or (option_or a b) c ≡ option_or a (option_or b c)
+or_inner None b c = refl
+or_inner (Some x) b c = refl
+
+-- a cell that is given something has it, and the others have what they had
+pub cell_put : (s : Settings) (g : Option Given) (cell : SettingCell) → setting_in (with_given s g) cell ≡ option_or (option_and_then (given_to cell) g) (setting_in s cell)
+cell_put s None cell = refl
+cell_put s (Some (given.GroupType group name)) (cells.GroupType h) = ap (option_map values.Type) (type_put s.group_types group name h) ∙ by (h == group)
+  where
+    by : (b : Bool) → option_map values.Type (cond b (Some name) (type_at s.group_types h)) ≡ option_or (cond b (Some (values.Type name)) None) (option_map values.Type (type_at s.group_types h))
+    by true = refl
+    by false = refl
+cell_put s (Some (given.GroupType group name)) cells.KeyType = refl
+cell_put s (Some (given.GroupType group name)) cells.VirtualMods = refl
+cell_put s (Some (given.GroupType group name)) cells.Range = refl
+cell_put s (Some (given.KeyType name)) (cells.GroupType h) = refl
+cell_put s (Some (given.KeyType name)) cells.KeyType = refl
+cell_put s (Some (given.KeyType name)) cells.VirtualMods = refl
+cell_put s (Some (given.KeyType name)) cells.Range = refl
+cell_put s (Some (given.VirtualMods set)) (cells.GroupType h) = refl
+cell_put s (Some (given.VirtualMods set)) cells.KeyType = refl
+cell_put s (Some (given.VirtualMods set)) cells.VirtualMods = refl
+cell_put s (Some (given.VirtualMods set)) cells.Range = refl
+cell_put s (Some (given.Range range)) (cells.GroupType h) = refl
+cell_put s (Some (given.Range range)) cells.KeyType = refl
+cell_put s (Some (given.Range range)) cells.VirtualMods = refl
+cell_put s (Some (given.Range range)) cells.Range = refl
+
+module _ (names : List (List ℕ)) where
+  -- what the fields up to here gave is in the settings, and the others are to come
+  abbrev pub IsLeft : Settings → List KeyField → ℕ → Settings → Type 0
+  IsLeft defaults fields i s = (cell : SettingCell) → effective names defaults fields cell ≡ effective names s (drop i fields) cell
+
+  pub settings_go : (defaults : Settings) (fields : List KeyField) (i : ℕ) (s : Settings) (field : KeyField) (g : Option Given) (next : Settings) → i < length fields → field ≡ get_or fields i field → g ≡ key_given names field → next ≡ with_given s g
+      → IsLeft defaults fields i s → IsLeft defaults fields (i + 1) next
+  settings_go defaults fields i s field g next within is gave put left cell =
+      let rest : List KeyField = drop (i + 1) fields in
+      left cell
+      ∙ ap (λ fs. effective names s fs cell) (drop_next fields i field within is)
+      ∙ or_inner (last_given (cell_given names cell) rest) (cell_given names cell field) (setting_in s cell)
+      ∙ ap (λ o. option_or (last_given (cell_given names cell) rest) (option_or (option_and_then (given_to cell) o) (setting_in s cell))) (sym gave)
+      ∙ sym (ap (option_or (last_given (cell_given names cell) rest)) (ap (λ t. setting_in t cell) put ∙ cell_put s g cell))
+
+  go : (d : Settings) (cell : SettingCell) (statements : List Field) → setting_in (fold (next_defaults names) d statements) cell ≡ option_or (last_given (cell_default names cell) statements) (setting_in d cell)
+  go d cell [] = refl
+  go d cell (s ∷ ss) =
+      go (next_defaults names d s) cell ss
+      ∙ ap (option_or (last_given (cell_default names cell) ss)) (cell_put d (default_given names s) cell)
+      ∙ sym (or_inner (last_given (cell_default names cell) ss) (cell_default names cell s) (setting_in d cell))
+
+  or_none : {X : Type 0} (o : Option X) → option_or o None ≡ o
+  or_none None = refl
+  or_none (Some x) = refl
+
+  none_in : (cell : SettingCell) → setting_in no_settings cell ≡ None
+  none_in (cells.GroupType group) = refl
+  none_in cells.KeyType = refl
+  none_in cells.VirtualMods = refl
+  none_in cells.Range = refl
+
+  -- of default statements the last counts
+  pub last_defaults : (statements : List Field) (cell : SettingCell) → setting_in (defaults_behind names statements) cell ≡ last_given (cell_default names cell) statements
+  last_defaults statements cell = go no_settings cell statements ∙ ap (option_or (last_given (cell_default names cell) statements)) (none_in cell) ∙ or_none (last_given (cell_default names cell) statements)

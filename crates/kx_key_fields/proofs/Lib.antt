@@ -1,0 +1,8 @@
+mod Cellwise
+mod Going
+mod Moving
+mod Virtual
+mod TakenUp
+mod Joining
+mod Values
+mod Widening

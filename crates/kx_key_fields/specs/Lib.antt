@@ -1,0 +1,11 @@
+pub mod Groups
+pub mod Ranges
+pub mod Words
+pub mod VirtualMasks
+pub mod Settings
+pub mod SettingFields
+pub mod KeyFields
+pub mod TypesMoved
+pub mod Lists
+pub mod Places
+pub mod Records

@@ -1,0 +1,45 @@
+-- The words of a key's fields, which are read without regard to case.
+use Rattle.std.specs.Prelude.{ℕ, Bool, not, is_some, ◌&&◌, ◌||◌, List, [], ◌∷◌, Option, Some, if◌then◌else◌, codes}
+use Rattle.std.specs.List.{list_any}
+use Rattle.std.specs.Str.{str_eq_ignore_ascii_case}
+use Rattle.kx_parse.specs.declared.tree.FieldPlace.{FieldPlace}
+use Rattle.kx_merge.specs.Words.{among}
+use Rattle.kx_key_fields.specs.declared.words.RangeField.TheVariants as ranges
+use Rattle.kx_key_fields.specs.declared.words.SettingField.{SettingField}
+use Rattle.kx_key_fields.specs.declared.words.SettingField.TheVariants as fields
+
+abbrev pub used_words : List (List ℕ × SettingField)
+used_words =
+    (codes "type", fields.KeyType) ∷ (codes "vmods", fields.VirtualMods) ∷ (codes "virtualMods", fields.VirtualMods)
+    ∷ (codes "virtualModifiers", fields.VirtualMods)
+    ∷ (codes "groupsWrap", fields.Range ranges.Wrap) ∷ (codes "wrapGroups", fields.Range ranges.Wrap)
+    ∷ (codes "groupsClamp", fields.Range ranges.Clamp) ∷ (codes "clampGroups", fields.Range ranges.Clamp)
+    ∷ (codes "groupsRedirect", fields.Range ranges.Redirect) ∷ (codes "redirectGroups", fields.Range ranges.Redirect) ∷ []
+
+-- fields that are read, with any index and value, and not used
+abbrev pub unused_words : List (List ℕ)
+unused_words =
+    codes "repeat" ∷ codes "repeats" ∷ codes "repeating" ∷ codes "lock" ∷ codes "locks" ∷ codes "locking"
+    ∷ codes "radioGroup" ∷ codes "permanentRadioGroup" ∷ codes "allowNone"
+    ∷ codes "overlay" ∷ codes "overlay1" ∷ codes "overlay2" ∷ []
+
+-- what a field of a word sets, where it isn't a field of lists
+abbrev pub field_named : List ℕ → Option SettingField
+field_named word = if list_any (str_eq_ignore_ascii_case word) unused_words then Some fields.Unused else among used_words word
+
+-- the fields that give a key its lists
+abbrev pub is_list_word : List ℕ → Bool
+is_list_word word = str_eq_ignore_ascii_case word (codes "symbols") || str_eq_ignore_ascii_case word (codes "actions")
+
+-- the word before the point of a default for keys, as `key.type`
+abbrev pub is_key_word : List ℕ → Bool
+is_key_word word = str_eq_ignore_ascii_case word (codes "key")
+
+-- a field of a symbols section that names a group
+abbrev pub is_group_name : FieldPlace → Bool
+is_group_name place = not (is_some place.member) && str_eq_ignore_ascii_case place.word.bytes (codes "name")
+
+-- ---- Under names, for clauses and proofs
+
+abbrev pub is_unused_word : List ℕ → Bool
+is_unused_word word = list_any (str_eq_ignore_ascii_case word) unused_words

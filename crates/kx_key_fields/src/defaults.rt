@@ -1,0 +1,111 @@
+//! Defaults for keys.
+ghost use Rattle.std.specs.Prelude.{◌≡◌, [], Contains, IfErr, IfOk, OnOk};
+ghost use Rattle.std.specs.Result.{result_ok};
+ghost use Rattle.kx_key_fields.specs.KeyFields.{default_faults, default_given};
+ghost use Rattle.kx_key_fields.specs.SettingFields.{given_any};
+
+use crate::cells::SettingCell;
+use crate::given::Given;
+use crate::reading::read_named;
+use crate::settings::KeySettings;
+use crate::words::is_key_word;
+use kx_lex::Fault;
+use kx_merge::unknown_field;
+use kx_parse::Field;
+use kx_virtual_mods::ModNames;
+use std::alloc::{AllocError, Global};
+use std::marker::Model;
+
+/// What a field of a section gives keys as a default.
+fn read_default(names: &ModNames, file: u32, field: &Field) -> Result<Option<Given>, Fault>
+    ensures value { given_any (result_ok result) ≡ default_given names.now.names field.now }
+    ensures faultless { OnOk result (default_faults file names.now.names field.now ≡ []) }
+    ensures fault { IfErr result (λ e. Contains (default_faults file names.now.names field.now) e) }
+{
+    let word = &field.place.word;
+    if !is_key_word(word.bytes.as_slice()) {
+        return Err(unknown_field(file, word));
+    }
+    match &field.place.member {
+        Some(member) => read_named(names, file, member.get(), field),
+        None => Err(unknown_field(file, word)),
+    }
+}
+
+/// Looks for faults in a field of a section as a default for keys, as `key.type = "TWO_LEVEL";`.
+///
+/// # Errors
+/// `UnknownField` at the word before the point where it isn't `key`, or where there is no point; at the word behind it where
+/// it is no field of keys, `symbols` or `actions`, or where it has an index and takes none; else the faults of the value, as
+/// [`read_settings`](crate::read_settings) has them.
+pub fn check_default(names: &ModNames, file: u32, field: &Field) -> Result<(), Fault>
+    ensures faultless { OnOk result (default_faults file names.now.names field.now ≡ []) }
+    ensures fault { IfErr result (λ e. Contains (default_faults file names.now.names field.now) e) }
+{
+    read_default(names, file, field)?;
+    Ok(())
+}
+
+/// What a field gives as a default, where it has no fault.
+fn default_given(names: &ModNames, field: &Field) -> Option<Given>
+    ensures { result ≡ default_given names.now.names field.now }
+{
+    match read_default(names, 0, field) {
+        Ok(given) => given,
+        Err(_) => None,
+    }
+}
+
+/// What the default statements of a section give keys besides lists.
+#[derive(Debug, Drop)]
+pub struct KeyDefaults {
+    settings: KeySettings,
+}
+
+impl Model for KeyDefaults {
+    ghost use Rattle.kx_key_fields.specs.Settings.{Settings};
+
+    ghost Value = { Settings };
+
+    ghost view = { λ d. d.settings };
+}
+
+impl KeyDefaults {
+    ghost use Rattle.std.specs.Prelude.{◌≡◌, List, IfErr, IfOk};
+    ghost use Rattle.kx_lex.specs.declared.fault.Fault.TheVariants.{Memory};
+    ghost use Rattle.kx_parse.specs.declared.tree.Field.{Field as FieldValue};
+    ghost use Rattle.kx_key_fields.specs.KeyFields.{cell_default, defaults_behind, next_defaults};
+    ghost use Rattle.kx_key_fields.specs.Settings.{no_settings, setting_in};
+    ghost use Rattle.kx_merge.specs.Last.{last_given};
+
+    /// No defaults: those at the start of a section.
+    pub fn none(alloc: Global) -> KeyDefaults
+        ensures { result ≡ no_settings }
+    {
+        KeyDefaults {
+            settings: KeySettings::none(alloc),
+        }
+    }
+
+    /// What a key is given where its statement says nothing.
+    pub(crate) fn settings(&self, alloc: Global) -> Result<KeySettings, AllocError>
+        ensures { IfOk result (λ settings. settings ≡ self.now) }
+    {
+        self.settings.copied(alloc)
+    }
+
+    /// The defaults behind one more statement of the section, of which one with a fault changes nothing: behind statements
+    /// each cell has what the last of those gives that give it anything.
+    ///
+    /// # Errors
+    /// `Memory`.
+    pub fn next(self, alloc: Global, names: &ModNames, field: &Field) -> Result<KeyDefaults, Fault>
+        ensures next { IfOk result (λ d. d ≡ next_defaults names.now.names self field.now) }
+        ensures last { (statements : List FieldValue) (cell : SettingCell) → setting_in (defaults_behind names.now.names statements) cell ≡ last_given (cell_default names.now.names cell) statements }
+        ensures err { IfErr result (λ e. e ≡ Memory) }
+    {
+        let mut settings = self.settings;
+        settings.put(alloc, &default_given(names, field))?;
+        Ok(KeyDefaults { settings })
+    }
+}

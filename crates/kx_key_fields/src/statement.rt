@@ -1,0 +1,74 @@
+//! What a key statement says besides its lists.
+ghost use Rattle.std.specs.Prelude.{◌≡◌, ◌∷◌, [], Contains, IfErr, IfOk, OnOk};
+ghost use Rattle.std.specs.Result.{result_ok};
+ghost use Rattle.kx_lex.specs.declared.fault.Fault.TheVariants.{Memory};
+ghost use Rattle.kx_key_fields.specs.KeyFields.{effective, key_field_faults, key_given, own_faults, own_given, setting_faults};
+ghost use Rattle.kx_key_fields.specs.Settings.{setting_in};
+ghost use Rattle.kx_key_fields.specs.SettingFields.{given_any};
+
+use crate::cells::SettingCell;
+use crate::defaults::KeyDefaults;
+use crate::given::Given;
+use crate::reading::read_named;
+use crate::settings::KeySettings;
+use crate::words::is_list_word;
+use kx_lex::Fault;
+use kx_merge::unknown_field;
+use kx_parse::{Field, KeyField};
+use kx_virtual_mods::ModNames;
+use std::alloc::Global;
+
+/// What a field inside a key gives; nothing where it gives a list.
+fn read_own(names: &ModNames, file: u32, field: &Field) -> Result<Option<Given>, Fault>
+    ensures value { given_any (result_ok result) ≡ own_given names.now.names field.now }
+    ensures faultless { OnOk result (own_faults file names.now.names field.now ≡ []) }
+    ensures fault { IfErr result (λ e. Contains (own_faults file names.now.names field.now) e) }
+{
+    let word = &field.place.word;
+    if field.place.member.is_some() {
+        return Err(unknown_field(file, word));
+    }
+    if is_list_word(word.bytes.as_slice()) {
+        return Ok(None);
+    }
+    read_named(names, file, word, field)
+}
+
+fn read_key_field(names: &ModNames, file: u32, field: &KeyField) -> Result<Option<Given>, Fault>
+    ensures value { given_any (result_ok result) ≡ key_given names.now.names field.now }
+    ensures faultless { OnOk result (key_field_faults file names.now.names field.now ≡ []) }
+    ensures fault { IfErr result (λ e. Contains (key_field_faults file names.now.names field.now) e) }
+{
+    match field {
+        KeyField::Field(field) => read_own(names, file, field.get()),
+        KeyField::List(_) => Ok(None),
+    }
+}
+
+/// What the fields of a key statement of a file say besides its lists, under the defaults before it in its section. Of a
+/// field that is written twice the last counts, and of one that isn't written the default. Lists, and the fields
+/// `symbols` and `actions`, are passed over.
+///
+/// # Errors
+/// `UnknownField` at the word of a field that keys don't have, before a point, and at one with an index where none is
+/// taken; `BadValue` at a value of the wrong kind, at a field that needs a value and has none, in `vmods` at a term that is
+/// no word or a name of real modifiers, and at an index that is no group; `GroupRange` at a group outside of 1 to 32;
+/// `UnknownModifier` in `vmods` at a word that isn't declared; `Memory`.
+pub fn read_settings(
+    alloc: Global,
+    names: &ModNames,
+    file: u32,
+    fields: &[KeyField],
+    defaults: &KeyDefaults,
+) -> Result<KeySettings, Fault>
+    ensures cells { IfOk result (λ settings. (cell : SettingCell) → setting_in settings cell ≡ effective names.now.names defaults.now fields.now cell) }
+    ensures faultless { OnOk result (setting_faults file names.now.names fields.now ≡ []) }
+    ensures fault { IfErr result (λ e. Contains (Memory ∷ setting_faults file names.now.names fields.now) e) }
+{
+    let mut settings = defaults.settings(alloc)?;
+    'fields: for field in fields {
+        let given = read_key_field(names, file, field)?;
+        settings.put(alloc, &given)?;
+    }
+    Ok(settings)
+}

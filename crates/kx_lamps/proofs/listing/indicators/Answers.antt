@@ -1,9 +1,0 @@
-use Rattle.kx_lamps.proofs.Behind.{defaults_are_last}
-use Rattle.kx_lamps.proofs.Single.{indicators_once}
-use Rattle.kx_lamps.proofs.listing.indicators.Goals as goal
-
-pub returns-clause-once : goal.returns-clause-once
-returns-clause-once c = λ lamps. indicators_once lamps c.args.names.now.names
-
-pub returns-clause-defaults : goal.returns-clause-defaults
-returns-clause-defaults c = defaults_are_last c.args.names.now.names

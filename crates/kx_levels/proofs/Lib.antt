@@ -1,4 +1,0 @@
-mod Adding
-pub mod Bits
-mod Fining
-mod Whole

@@ -1,3 +1,0 @@
-pub mod Selecting
-pub mod Rows
-pub mod Going

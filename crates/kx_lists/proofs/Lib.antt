@@ -1,4 +1,0 @@
-mod TakenUp
-mod Joining
-mod Values
-mod Widening

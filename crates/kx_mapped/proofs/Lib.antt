@@ -1,5 +1,0 @@
-mod Masks
-mod Visiting
-mod Order
-mod Steps
-mod Walking

@@ -1,9 +1,0 @@
-use Rattle.std.proofs.Common.{nat_eq}
-use Rattle.indexmap.specs.IndexMap.{get}
-use Rattle.kx_typing.specs.Given.{given}
-use Rattle.kx_mapped.specs.Finding.{Visits}
-use Rattle.kx_mapped.specs.Mapping.{level_places}
-use Rattle.kx_mapped.proofs.finding.visit_group.Given as goal
-
-abbrev pub invariant-levels : goal.invariant-levels
-invariant-levels l = Visits (λ k. level_places k (given l.key) l.code l.group l.level) (get nat_eq l.fn.firsts) (get nat_eq l.firsts)

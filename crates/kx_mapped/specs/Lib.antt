@@ -1,4 +1,0 @@
-pub mod Finding
-pub mod Mapping
-pub mod Modmaps
-pub mod Read

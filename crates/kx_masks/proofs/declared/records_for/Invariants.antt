@@ -1,8 +1,0 @@
-use Rattle.std.proofs.Common.{map, take}
-use Rattle.kx_parse.specs.declared.tree.Mode.{Mode}
-use Rattle.kx_masks.specs.Declarations.{mask_offer}
-use Rattle.kx_masks.proofs.Offering.{Offered}
-use Rattle.kx_masks.proofs.declared.records_for.Given as goal
-
-abbrev pub invariant-numbers : goal.invariant-numbers
-invariant-numbers l = (mode : Mode) → Offered mode l.records.items (map (mask_offer mode l.given) (take l.number-index l.numbers))

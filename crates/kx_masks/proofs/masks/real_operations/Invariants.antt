@@ -1,8 +1,0 @@
-use Rattle.std.proofs.Common.{◌≡◌, [], drop, fold}
-use Rattle.std.specs.List.{flat_map}
-use Rattle.kx_mods.specs.Mods.{mask}
-use Rattle.kx_masks.specs.Masks.{operated, operation_faults, real_word_faults}
-use Rattle.kx_masks.proofs.masks.real_operations.Given as goal
-
-abbrev pub invariant-operations : goal.invariant-operations
-invariant-operations l = (fold (operated []) (mask l.fn.before) l.operations ≡ fold (operated []) (mask l.mods) (drop l.operation-index l.operations)) × (flat_map (operation_faults l.file (real_word_faults l.file l.names)) l.operations ≡ flat_map (operation_faults l.file (real_word_faults l.file l.names)) (drop l.operation-index l.operations))

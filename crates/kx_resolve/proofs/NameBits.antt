@@ -1,0 +1,43 @@
+-- Sets of names, bit by bit.
+use Rattle.std.proofs.Common.{◌≡◌, ℕ, ◌+◌, ◌<◌, ◌==◌, ◌||◌, ◌&&◌, Bool, true, false, max, nat_eq, refl, sym, ap, ◌∙◌, arith}
+use Rattle.std.specs.Int.{bit_at}
+use Rattle.std.proofs.lemmas.Bool.{eqb-false, eqb-true}
+use Rattle.std.proofs.lemmas.Bool.Decides.{nat_tests}
+use Rattle.std.proofs.lemmas.Nat.Bits.{bit_at-lt, bit_at-pow_other, bit_at-pow_same, bit_at-zero, bit_at_or}
+use Rattle.kx_virtual_mods.specs.Sets.{any_below, has, has_virtual, union, virtual_set}
+use Rattle.kx_resolve.proofs.Acting.{any_next}
+
+pub has_none : (bit : ℕ) → has 0 bit ≡ false
+has_none bit = ap (λ n. n == 1) (bit_at-zero bit)
+
+pub has_one : (number other : ℕ) → has_virtual (virtual_set number) other ≡ nat_eq other number
+has_one number other = elim (nat_eq other number) as (λ c. nat_eq other number ≡ c → has_virtual (virtual_set number) other ≡ c) [
+  | true ↦ λ e. ap (has_virtual (virtual_set number)) (eqb-true other number e) ∙ ap (λ n. n == 1) (bit_at-pow_same (number + 8))
+  | false ↦ λ e. let apart = eqb-false other number e in ap (λ n. n == 1) (bit_at-pow_other (number + 8) (other + 8) (omega (arith, apart)))
+] refl
+
+one_or : (x y : ℕ) → x < 2 → y < 2 → (max x y == 1) ≡ ((x == 1) || (y == 1))
+one_or x y small other = grind (arith, nat_tests, small, other)
+
+pub has_with : (m n bit : ℕ) → has (union m n) bit ≡ (has m bit || has n bit)
+has_with m n bit = ap (λ b. b == 1) (bit_at_or m n bit) ∙ one_or (bit_at m bit) (bit_at n bit) (bit_at-lt m bit) (bit_at-lt n bit)
+
+-- a set takes up what the next of some numbers gives
+pub next_with : (set more bit n : ℕ) (test : ℕ → Bool) → has set bit ≡ any_below n test → has more bit ≡ test n → has (union set more) bit ≡ any_below (n + 1) test
+next_with set more bit n test before here = has_with set more bit ∙ (λ i. before i || here i) ∙ sym (any_next test n)
+
+-- no modifiers are no modifier
+pub none_brings : (m real : ℕ) (b : Bool) → (m == 0) ≡ true → (b && has m real) ≡ false
+none_brings m real b none = ap (λ c. b && c) (ap (λ n. has n real) (eqb-true m 0 none) ∙ has_none real) ∙ never b
+  where
+    never : (b : Bool) → (b && false) ≡ false
+    never true = refl
+    never false = refl
+
+pub or_false : (a b : Bool) → b ≡ false → a ≡ (a || b)
+or_false true b none = refl
+or_false false b none = sym none
+
+pub or_inner : (a b c : Bool) → ((a || b) || c) ≡ (a || (b || c))
+or_inner true b c = refl
+or_inner false b c = refl

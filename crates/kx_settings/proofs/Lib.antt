@@ -1,4 +1,0 @@
-mod Cellwise
-mod Going
-mod Moving
-mod Virtual

@@ -1,3 +1,0 @@
-pub mod Acting
-mod Back
-pub mod Counting

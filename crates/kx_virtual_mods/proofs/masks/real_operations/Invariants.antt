@@ -1,0 +1,8 @@
+use Rattle.std.proofs.Common.{◌≡◌, [], drop, fold}
+use Rattle.std.specs.List.{flat_map}
+use Rattle.kx_mods.specs.Mods.{mask}
+use Rattle.kx_virtual_mods.specs.Masks.{operated, operation_faults, real_word_faults}
+use Rattle.kx_virtual_mods.proofs.masks.real_operations.Given as goal
+
+abbrev pub invariant-operations : goal.invariant-operations
+invariant-operations l = (fold (operated []) (mask l.fn.before) l.operations ≡ fold (operated []) (mask l.mods) (drop l.operation-index l.operations)) × (flat_map (operation_faults l.file (real_word_faults l.file l.names)) l.operations ≡ flat_map (operation_faults l.file (real_word_faults l.file l.names)) (drop l.operation-index l.operations))

@@ -1,0 +1,328 @@
+//! What statements declare of virtual modifiers.
+ghost use Rattle.std.specs.Prelude.{◌≡◌, ◌==◌, ◌++◌, ◌∷◌, [], ℕ, Contains, IfErr, IfOk, None, OnOk, fold, length, map, nat_eq, slice_get, unwrap_or, if◌then◌else◌};
+ghost use Rattle.std.specs.List.{flat_map, list_any};
+ghost use Rattle.std.specs.Option.{option_or, option_map};
+ghost use Rattle.std.proofs.Common.{◌∙◌, ap, eqb-true, sym};
+ghost use Rattle.kx_lex.specs.declared.fault.Fault.TheVariants.{Memory};
+ghost use Rattle.kx_merge.specs.Moved.{moved_key, moved_value, moved_width};
+ghost use Rattle.kx_merge.specs.Offers.{taken, widened, with_name};
+ghost use Rattle.kx_merge.specs.Records.{AreOffered, mode_of};
+ghost use Rattle.kx_parse.specs.declared.tree.Mode.{Mode as ModeValue};
+ghost use Rattle.kx_virtual_mods.specs.Declarations.{declaration_faults, declarations_in, declarations_of, declared_faults, given_by, given_in, item_faults, item_offers, last_mask, mask_moves, mask_offer, mask_offers, mask_rules, name_faults, named_in, numbers_of};
+ghost use Rattle.kx_virtual_mods.specs.Masks.{mask_set, virtual_number};
+ghost use Rattle.kx_virtual_mods.specs.Records.{declared_cell, declared_width};
+
+use crate::counted::Naming;
+use crate::masks::real_mask_of;
+use crate::names::Names;
+use crate::real_words::real_mask;
+use kx_include::Place;
+use kx_lex::{At, Fault, Name};
+use kx_merge::Fields;
+use kx_parse::{Declaration, Expression, Item, Mode, Statement};
+use std::alloc::Global;
+
+/// What statements declare of a virtual modifier: its mask of real modifiers, as bits, where one is written.
+#[derive(Clone, Copy, Debug)]
+pub struct Declared {
+    pub(crate) mask: Option<u8>,
+}
+
+fn declarations_in(statement: &Statement) -> &[Declaration]
+    ensures { result.now ≡ declarations_in statement.now }
+{
+    match statement {
+        Statement::VirtualModifiers(declarations) => declarations.as_slice(),
+        Statement::Keycode { .. } => &[],
+        Statement::Alias { .. } => &[],
+        Statement::IndicatorName { .. } => &[],
+        Statement::KeyType { .. } => &[],
+        Statement::Interpretation { .. } => &[],
+        Statement::Indicator { .. } => &[],
+        Statement::Group { .. } => &[],
+        Statement::Key { .. } => &[],
+        Statement::ModifierMap { .. } => &[],
+        Statement::Field(_) => &[],
+    }
+}
+
+fn declarations_of(item: &Item) -> &[Declaration]
+    ensures { result.now ≡ declarations_of item.now }
+{
+    match item {
+        Item::Statement { statement, .. } => declarations_in(statement),
+        Item::Include { .. } => &[],
+    }
+}
+
+impl Naming for Declared {
+    ghost names = { named_in };
+
+    fn count(item: &Item) -> usize
+        ensures { result ≡ length (named_in item.now) }
+    {
+        declarations_of(item).len()
+    }
+
+    fn name(item: &Item, place: usize) -> Option<&[u8]>
+        ensures { option_map (λ n. n.now) result ≡ slice_get (named_in item.now) place }
+    {
+        match declarations_of(item).get(place) {
+            None => None,
+            Some(declaration) => Some(declaration.word.bytes.as_slice()),
+        }
+    }
+}
+
+fn check_name(file: u32, word: &Name) -> Result<(), Fault>
+    ensures faultless { OnOk result (name_faults file word.now ≡ []) }
+    ensures fault { IfErr result (λ e. Contains (name_faults file word.now) e) }
+{
+    match real_mask(word.bytes.as_slice()) {
+        None => Ok(()),
+        Some(_) => Err(Fault::BadValue(At {
+            file,
+            span: word.span,
+        })),
+    }
+}
+
+/// The mask that a declaration writes.
+fn read_mask(names: &Names, file: u32, mask: &Option<Expression>) -> Result<Option<u8>, Fault>
+    ensures value { IfOk result (λ m. m ≡ option_map (mask_set []) mask.now) }
+    ensures faultless { OnOk result (declared_faults file names.now mask.now ≡ []) }
+    ensures fault { IfErr result (λ e. Contains (declared_faults file names.now mask.now) e) }
+{
+    match mask {
+        None => Ok(None),
+        Some(expression) => {
+            let mods = real_mask_of(names, file, expression)?;
+            Ok(Some(mods.mask()))
+        }
+    }
+}
+
+/// What a declaration gives, behind others.
+fn read_declaration(
+    names: &Names,
+    file: u32,
+    declaration: &Declaration,
+    given: &mut Vec<(usize, Option<u8>)>,
+) -> Result<(), Fault>
+    ensures value { OnOk result (given.new.items ≡ given.old.items ++ given_by (virtual_number names.now declaration.now.word.bytes) declaration.now.mask) }
+    ensures faultless { OnOk result (declaration_faults file names.now declaration.now ≡ []) }
+    ensures fault { IfErr result (λ e. Contains (Memory ∷ declaration_faults file names.now declaration.now) e) }
+{
+    check_name(file, &declaration.word)?;
+    let mask = read_mask(names, file, &declaration.mask)?;
+    match names.number_of(declaration.word.bytes.as_slice()) {
+        None => Ok(()),
+        Some(number) => {
+            given.push((number, mask))?;
+            Ok(())
+        }
+    }
+}
+
+/// What declarations give, with the numbers of the virtual modifiers, in order.
+fn read_declarations(
+    alloc: Global,
+    names: &Names,
+    file: u32,
+    declarations: &[Declaration],
+) -> Result<Vec<(usize, Option<u8>)>, Fault>
+    ensures value { IfOk result (λ given. given.items ≡ given_in names.now declarations.now) }
+    ensures faultless { OnOk result (flat_map (declaration_faults file names.now) declarations.now ≡ []) }
+    ensures fault { IfErr result (λ e. Contains (Memory ∷ flat_map (declaration_faults file names.now) declarations.now) e) }
+{
+    let mut given = Vec::new(alloc);
+    'declarations: for declaration in declarations {
+        read_declaration(names, file, declaration, &mut given)?;
+    }
+    Ok(given)
+}
+
+fn has_number(numbers: &[usize], number: usize) -> bool
+    ensures { result ≡ list_any (nat_eq number) numbers.now }
+{
+    numbers.iter().any(|other| number == *other)
+}
+
+/// Adds a number behind others, where it isn't among them.
+fn add_number(numbers: &mut Vec<usize>, number: usize) -> Result<(), Fault>
+    ensures added { OnOk result (numbers.new.items ≡ with_name nat_eq numbers.old.items number) }
+    ensures err { IfErr result (λ e. e ≡ Memory) }
+{
+    if has_number(numbers.as_slice(), number) {
+        return Ok(());
+    }
+    numbers.push(number)?;
+    Ok(())
+}
+
+/// The numbers in what declarations give, each once.
+fn numbers_of(alloc: Global, given: &[(usize, Option<u8>)]) -> Result<Vec<usize>, Fault>
+    ensures value { IfOk result (λ numbers. numbers.items ≡ numbers_of given.now) }
+    ensures err { IfErr result (λ e. e ≡ Memory) }
+{
+    let mut numbers = Vec::new(alloc);
+    'given: for one in given {
+        add_number(&mut numbers, one.0)?;
+    }
+    Ok(numbers)
+}
+
+/// The mask of a number once a later declaration is read.
+fn later_mask(mask: Option<u8>, number: usize, one: (usize, Option<u8>)) -> Option<u8>
+    ensures { result ≡ option_or (if number == one.0 then one.1 else None) mask }
+{
+    if number == one.0 {
+        one.1.or(mask)
+    } else {
+        mask
+    }
+}
+
+/// The mask that is written last for a number.
+fn last_mask(given: &[(usize, Option<u8>)], number: usize) -> Option<u8>
+    ensures { result ≡ last_mask given.now number }
+{
+    let mut mask = None;
+    'given: for one in given {
+        mask = later_mask(mask, number, *one);
+    }
+    mask
+}
+
+/// What declarations give the virtual modifiers of some numbers.
+fn records_for(
+    alloc: Global,
+    given: &[(usize, Option<u8>)],
+    numbers: &[usize],
+) -> Result<Vec<(usize, Declared)>, Fault>
+    ensures records { (mode : ModeValue) → IfOk result (λ records. AreOffered mode (declared_cell) (declared_width) records.items (map (mask_offer mode given.now) numbers.now)) }
+    ensures err { IfErr result (λ e. e ≡ Memory) }
+{
+    let mut records = Vec::new(alloc);
+    'numbers: for number in numbers {
+        let mask = last_mask(given, *number);
+        records.push((*number, Declared { mask }))?;
+    }
+    Ok(records)
+}
+
+/// What declarations give each virtual modifier.
+fn records_of(alloc: Global, given: &[(usize, Option<u8>)]) -> Result<Vec<(usize, Declared)>, Fault>
+    ensures records { (mode : ModeValue) → IfOk result (λ records. AreOffered mode (declared_cell) (declared_width) records.items (mask_offers mode given.now)) }
+    ensures err { IfErr result (λ e. e ≡ Memory) }
+{
+    let numbers = numbers_of(alloc, given)?;
+    records_for(alloc, given, numbers.as_slice())
+}
+
+/// What an item declares.
+fn read_item(
+    alloc: Global,
+    names: &Names,
+    file: u32,
+    item: &Item,
+) -> Result<Vec<(usize, Declared)>, Fault>
+    ensures records { IfOk result (λ records. AreOffered (mode_of item.now) (declared_cell) (declared_width) records.items (item_offers names.now item.now)) }
+    ensures faultless { OnOk result (item_faults file names.now item.now ≡ []) }
+    ensures fault { IfErr result (λ e. Contains (Memory ∷ item_faults file names.now item.now) e) }
+{
+    let given = read_declarations(alloc, names, file, declarations_of(item))?;
+    records_of(alloc, given.as_slice())
+}
+
+fn taken(mode: Mode, old: Option<u8>, new: Option<u8>) -> Option<u8>
+    ensures { result ≡ taken mode old new }
+{
+    match mode {
+        Mode::Augment => old.or(new),
+        Mode::Override => new.or(old),
+        Mode::Replace => new,
+    }
+}
+
+impl Fields<Names> for Declared {
+    type Key = usize;
+
+    type Cell = ();
+
+    type Value = u8;
+
+    type Defaults = ();
+
+    type Notes = ();
+
+    ghost rules = { λ names. mask_rules names };
+
+    ghost moves = { mask_moves };
+
+    ghost cell = { λ r c. declared_cell r c };
+
+    ghost width = { λ r g. declared_width r g };
+
+    fn start(_alloc: Global, _names: &Names) {}
+
+    fn next(_alloc: Global, _names: &Names, _defaults: (), _item: &Item) -> Result<(), Fault> {
+        Ok(())
+    }
+
+    fn read(
+        alloc: Global,
+        names: &Names,
+        _defaults: &(),
+        place: Place,
+        item: &Item,
+        _notes: &mut (),
+    ) -> Result<Vec<(usize, Declared)>, Fault> {
+        read_item(alloc, names, place.file, item)
+    }
+
+    fn absorb(&mut self, _alloc: Global, other: Declared, mode: Mode) -> Result<(), Fault>
+        ensures cells { OnOk result ((c : Unit {0}) → declared_cell self.new c ≡ taken mode (declared_cell self.old c) (declared_cell other c)) }
+        ensures widths { OnOk result ((g : ℕ) → declared_width self.new g ≡ widened mode (declared_width self.old g) (declared_width other g)) }
+        ensures err { IfErr result (λ e. e ≡ Memory) }
+    {
+        self.mask = taken(mode, self.mask, other.mask);
+        Ok(())
+    }
+
+    fn none(_alloc: Global) -> Declared
+        ensures cells { (c : Unit {0}) → declared_cell result c ≡ None }
+        ensures widths { (g : ℕ) → declared_width result g ≡ 0 }
+    {
+        Declared { mask: None }
+    }
+
+    fn absorb_moved(
+        &mut self,
+        _alloc: Global,
+        other: &Declared,
+        _group: Option<u8>,
+        mode: Mode,
+    ) -> Result<(), Fault>
+        ensures cells { OnOk result ((c : Unit {0}) → declared_cell self.new c ≡ taken mode (declared_cell self.old c) (moved_value mask_moves _group (declared_cell other.now) c)) }
+        ensures widths { OnOk result ((g : ℕ) → declared_width self.new g ≡ widened mode (declared_width self.old g) (moved_width mask_moves _group (declared_width other.now) g)) }
+        ensures err { IfErr result (λ e. e ≡ Memory) }
+    {
+        self.mask = taken(mode, self.mask, other.mask);
+        Ok(())
+    }
+
+    fn key_in(key: &usize, _group: Option<u8>) -> Option<usize>
+        ensures { result ≡ moved_key mask_moves _group key.now }
+    {
+        Some(*key)
+    }
+
+    fn no_notes() {}
+
+    fn add_notes(_notes: &mut (), _other: &()) {}
+
+    ghost apart = { λ n j k to one two. ap (λ key. unwrap_or key 0) (one ∙ sym two) };
+
+    ghost same = { λ j k e. eqb-true j k e };
+}

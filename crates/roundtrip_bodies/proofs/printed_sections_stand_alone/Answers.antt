@@ -1,5 +1,0 @@
-use Rattle.roundtrip_bodies.proofs.Sources.{read_alone}
-use Rattle.roundtrip_bodies.proofs.printed_sections_stand_alone.Goals as goal
-
-pub returns : goal.returns
-returns k = read_alone

@@ -1,5 +1,0 @@
-use Rattle.roundtrip_resolving.proofs.Resolving.{resolved_again}
-use Rattle.roundtrip_resolving.proofs.read_again_resolves_again.Goals as goal
-
-pub returns : goal.returns
-returns k c real declared keyed sound again = resolved_again c sound real declared keyed again

@@ -1,4 +1,0 @@
-pub mod Joined
-pub mod Tables
-pub mod TablesHold
-pub mod TablesLists

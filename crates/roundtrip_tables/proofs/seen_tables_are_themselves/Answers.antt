@@ -1,5 +1,0 @@
-use Rattle.roundtrip_tables.proofs.Tables.{sound_placed}
-use Rattle.roundtrip_tables.proofs.seen_tables_are_themselves.Goals as goal
-
-pub returns : goal.returns
-returns k = sound_placed
