@@ -1,7 +1,7 @@
 //! Indicators.
 use cases_kit::{Case, Trouble};
 use crate::sources::{bodies_of, library_of, modifiers_of, text_of};
-use kx_indicators::{Indicators, Lamp, indicators};
+use kx_indicators::{Indicators, IndicatorMap, indicators};
 use kx_lex::Fault;
 use std::alloc::Global;
 use std::fmt::Write;
@@ -14,12 +14,12 @@ fn indicators_in(alloc: Global, case: &Case) -> Result<Box<Indicators>, Fault> {
 }
 
 /// Puts an indicator's name, its modifiers, the states of these, the states of groups, and its groups.
-fn push_shown(all: &mut String, name: &[u8], lamp: &Lamp) -> Result<(), Trouble> {
+fn push_shown(all: &mut String, name: &[u8], indicator_map: &IndicatorMap) -> Result<(), Trouble> {
     let name = text_of(name);
-    let modifiers = lamp.modifiers().bits();
-    let states = lamp.mod_states().mask();
-    let group_states = lamp.group_states().mask();
-    let groups = lamp.groups();
+    let modifiers = indicator_map.modifiers().bits();
+    let states = indicator_map.mod_states().mask();
+    let group_states = indicator_map.group_states().mask();
+    let groups = indicator_map.groups();
     write!(all, "{name} {modifiers} {states} {group_states} {groups};")?;
     Ok(())
 }
@@ -29,8 +29,8 @@ pub fn shown(alloc: Global, case: &Case) -> Result<String, Trouble> {
     let found = indicators_in(alloc, case)?;
     let mut all = String::new(alloc);
     for number in 0..found.len() {
-        if let (Some(name), Some(lamp)) = (found.name(number), found.lamp(number)) {
-            push_shown(&mut all, name, lamp)?;
+        if let (Some(name), Some(indicator_map)) = (found.name(number), found.indicator_map(number)) {
+            push_shown(&mut all, name, indicator_map)?;
         }
     }
     Ok(all)

@@ -46,10 +46,10 @@ fn push_keysym(all: &mut String, keysym: WantedKeysym) -> Result<(), Trouble> {
 
 /// Puts the keysym, condition and mask, the action, the virtual modifier and whether it is for the first level alone.
 fn push_shown(all: &mut String, one: &Interpretation) -> Result<(), Trouble> {
-    let trigger = one.trigger();
-    push_keysym(all, trigger.keysym)?;
-    let condition = trigger.condition;
-    let mask = trigger.mods().mask();
+    let interpretation_match = one.interpretation_match();
+    push_keysym(all, interpretation_match.keysym)?;
+    let condition = interpretation_match.condition;
+    let mask = interpretation_match.mods().mask();
     let action = action_word(one.action());
     write!(all, " {condition:?} {mask} {action}")?;
     if let Some(number) = one.modifier() {

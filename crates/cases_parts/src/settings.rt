@@ -2,7 +2,7 @@
 use cases_kit::{Case, Trouble};
 use crate::sources::{bodies_of, library_of, modifiers_of, text_of};
 use kx_include::Place;
-use kx_key_fields::{KeyDefaults, KeySettings, check_default, read_settings};
+use kx_key_fields::{KeyDefaults, KeyAttributes, check_default, read_settings};
 use kx_lex::Fault;
 use kx_parse::{Item, Statement};
 use kx_virtual_mods::ModNames;
@@ -15,7 +15,7 @@ const SYMBOLS: Place = Place {
 };
 
 /// Puts the types of groups, counted from 1, and the type of the key.
-fn push_types(all: &mut String, settings: &KeySettings) -> Result<(), Trouble> {
+fn push_types(all: &mut String, settings: &KeyAttributes) -> Result<(), Trouble> {
     for group in 0..32usize {
         if let Some(name) = settings.group_type(group) {
             let number = group + 1;
@@ -31,7 +31,7 @@ fn push_types(all: &mut String, settings: &KeySettings) -> Result<(), Trouble> {
 }
 
 /// The types of groups and of the key, the virtual modifiers in hexadecimal, and the range.
-pub fn text(alloc: Global, settings: &KeySettings) -> Result<String, Trouble> {
+pub fn text(alloc: Global, settings: &KeyAttributes) -> Result<String, Trouble> {
     let mut all = String::new(alloc);
     push_types(&mut all, settings)?;
     if let Some(set) = settings.virtual_mods() {
@@ -50,7 +50,7 @@ fn join_said(
     names: &ModNames,
     item: &Item,
     defaults: &KeyDefaults,
-    settings: &mut KeySettings,
+    settings: &mut KeyAttributes,
 ) -> Result<(), Fault> {
     if let Item::Statement {
         mode,
@@ -84,8 +84,8 @@ fn defaults_behind(
 }
 
 /// What all key statements among items say, as if they were of one key.
-fn said_by(alloc: Global, names: &ModNames, items: &[Item]) -> Result<KeySettings, Fault> {
-    let mut settings = KeySettings::none(alloc);
+fn said_by(alloc: Global, names: &ModNames, items: &[Item]) -> Result<KeyAttributes, Fault> {
+    let mut settings = KeyAttributes::none(alloc);
     let mut defaults = KeyDefaults::none(alloc);
     for item in items {
         join_said(alloc, names, item, &defaults, &mut settings)?;
@@ -94,7 +94,7 @@ fn said_by(alloc: Global, names: &ModNames, items: &[Item]) -> Result<KeySetting
     Ok(settings)
 }
 
-fn settings_in(alloc: Global, case: &Case) -> Result<Box<KeySettings>, Fault> {
+fn settings_in(alloc: Global, case: &Case) -> Result<Box<KeyAttributes>, Fault> {
     let library = library_of(alloc, case)?;
     let bodies = bodies_of(alloc, &library)?;
     let names = modifiers_of(alloc, &bodies)?;

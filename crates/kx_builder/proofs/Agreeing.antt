@@ -157,7 +157,7 @@ keymaps_agree r whole = record {
   groups = ap (max 1) (most_from r.types [] r.keys);
   known = λ code. known_from r.types code [] r.keys;
   shown = λ code group mods. shown_from r whole code group mods [] r.keys refl whole.each_key;
-  lamps = refl;
+  indicator_maps = refl;
 }
 
 -- the same of any tables that hold r

@@ -7,12 +7,12 @@ use Rattle.std.specs.List.{flat_map}
 use Rattle.std.specs.Result.{IsErrAnd}
 use Rattle.kx_builder.proofs.Placing.{flat_push, rows_push}
 use Rattle.kx_builder.specs.Faults.{IsCause}
-use Rattle.kx_builder.specs.Lamps.{NamesFit, ResolvedIndicator, group_name_row, indicator_of, indicator_row, names_of_groups, names_of_indicators, with_group_names, with_indicators}
-use Rattle.kx_builder.specs.LampsAdded.{NameFits, group_name_added, indicator_added}
+use Rattle.kx_builder.specs.IndicatorMaps.{NamesFit, ResolvedIndicator, group_name_row, indicator_of, indicator_row, names_of_groups, names_of_indicators, with_group_names, with_indicators}
+use Rattle.kx_builder.specs.IndicatorMapsAdded.{NameFits, group_name_added, indicator_added}
 use Rattle.kx_builder.specs.Placed.{rows_of}
 use Rattle.kx_builder.specs.declared.fault.BuildFault.{BuildFault}
 use Rattle.kx_builder.specs.declared.fault.BuildFault.TheVariants.{Memory, Misplaced, TooMany}
-use Rattle.kx_builder.specs.declared.lamps.Indicator.{Indicator}
+use Rattle.kx_builder.specs.declared.indicator_maps.Indicator.{Indicator}
 use Rattle.kx_tables.specs.Content.{Content}
 
 pub no_indicators : (c : Content) → c.indicators ≡ [] → c ≡ with_indicators c []

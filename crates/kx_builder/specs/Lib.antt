@@ -8,5 +8,5 @@ pub mod Whole
 pub mod Valid
 pub mod Agreement
 pub mod WithinLimits
-pub mod Lamps
-pub mod LampsAdded
+pub mod IndicatorMaps
+pub mod IndicatorMapsAdded

@@ -93,5 +93,5 @@ keymap_of_resolved r = record {
   groups = max 1 (most_groups r.keys);
   known = λ code. is_some (key_coded r code);
   shown = λ code group mods. shown_of_key r group mods (key_coded r code);
-  lamps = [];
+  indicator_maps = [];
 }

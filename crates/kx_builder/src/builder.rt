@@ -3,7 +3,7 @@ ghost use Rattle.kx_builder.specs.Added.{TypeFits, KeyFits, GroupFits, CellFits}
 ghost use Rattle.kx_builder.specs.Agreement.{ShowsSame};
 ghost use Rattle.kx_builder.specs.Faults.{IsCause};
 ghost use Rattle.kx_builder.specs.Valid.{IsValid};
-ghost use Rattle.kx_builder.specs.Lamps.{LampsAreValid, LampsFit, indicator_of, keymap_with, with_lamps};
+ghost use Rattle.kx_builder.specs.IndicatorMaps.{IndicatorMapsAreValid, IndicatorMapsFit, indicator_of, keymap_with, with_indicator_maps};
 ghost use Rattle.kx_builder.specs.Placed.{content_of_resolved};
 ghost use Rattle.kx_builder.specs.Pushes.{with_type, with_key, with_group, with_cell, last_groups};
 ghost use Rattle.kx_builder.specs.Resolved.{keymap_of_resolved, nothing_resolved};
@@ -13,7 +13,7 @@ ghost use Rattle.kx_tables.specs.RawTables.{content_of};
 ghost use Rattle.kx_tables.specs.Sound.{Sound};
 
 use crate::fault::BuildFault;
-use crate::lamps::{Indicator, push_group_names, push_indicators};
+use crate::indicator_maps::{Indicator, push_group_names, push_indicators};
 use crate::tables::{
     add_cell, add_group, add_key, add_type, last_count, next_cell, next_key, next_type, no_tables,
     place,
@@ -125,16 +125,16 @@ impl Builder {
     }
 
     /// The tables, with indicators and the names of groups. Where what is resolved is whole and valid, and so are these,
-    /// their keymap is its keymap with these lamps, and they are sound.
-    pub fn with_lamps(
+    /// their keymap is its keymap with these indicator maps, and they are sound.
+    pub fn with_indicator_maps(
         self,
         indicators: &[Indicator<'_>],
         group_names: &[&[u8]],
     ) -> Result<RawTables, BuildFault>
-        ensures content { IfOk result (λ parts. content_of parts ≡ with_lamps (content_of_resolved self) (map indicator_of indicators.now) (map (λ g. g.now) group_names.now)) }
+        ensures content { IfOk result (λ parts. content_of parts ≡ with_indicator_maps (content_of_resolved self) (map indicator_of indicators.now) (map (λ g. g.now) group_names.now)) }
         ensures agrees { IsWhole self → IfOk result (λ parts. ShowsSame (keymap_of (content_of parts)) (keymap_with (keymap_of_resolved self) (map indicator_of indicators.now))) }
-        ensures sound { IsValid self → LampsAreValid (map indicator_of indicators.now) (map (λ g. g.now) group_names.now) → IfOk result (λ parts. Sound (content_of parts)) }
-        ensures fault { IfErr result (λ e. IsCause e (LampsFit (content_of_resolved self) (map indicator_of indicators.now) (map (λ g. g.now) group_names.now)) ⊤) }
+        ensures sound { IsValid self → IndicatorMapsAreValid (map indicator_of indicators.now) (map (λ g. g.now) group_names.now) → IfOk result (λ parts. Sound (content_of parts)) }
+        ensures fault { IfErr result (λ e. IsCause e (IndicatorMapsFit (content_of_resolved self) (map indicator_of indicators.now) (map (λ g. g.now) group_names.now)) ⊤) }
     {
         let mut parts = self.parts;
         push_indicators(&mut parts, indicators)?;

@@ -3,9 +3,9 @@
 
 mod builder;
 mod fault;
-mod lamps;
+mod indicator_maps;
 mod tables;
 
 pub use builder::Builder;
 pub use fault::BuildFault;
-pub use lamps::Indicator;
+pub use indicator_maps::Indicator;

@@ -10,9 +10,9 @@ use Rattle.kx_include.specs.Expansion.{Body}
 use Rattle.kx_merge.specs.Bodies.{offers_of}
 use Rattle.kx_merge.specs.Records.{Shows, cell_in}
 use Rattle.kx_compat.specs.Interpretations.{Interpretation}
-use Rattle.kx_compat.specs.SameMatch.{same_trigger}
-use Rattle.kx_compat.specs.contracts.trigger.TriggerPartialEq.TheImpl.{ghosts}
-use Rattle.kx_compat.specs.declared.trigger.Trigger.{Trigger}
+use Rattle.kx_compat.specs.SameMatch.{same_match}
+use Rattle.kx_compat.specs.contracts.interpretation_match.InterpretationMatchPartialEq.TheImpl.{ghosts}
+use Rattle.kx_compat.specs.declared.interpretation_match.InterpretationMatch.{InterpretationMatch}
 use Rattle.kx_compat.proofs.Same.{told_as_said}
 use Rattle.kx_compat.specs.Given.{FieldValues}
 use Rattle.kx_compat.specs.Giving.{no_values, value_action, value_first_level_only, value_modifier, values_cell, values_width, interpretation_with}
@@ -47,28 +47,28 @@ levels_shown (Some v) = one v.first_level_only
     one None = refl
     one (Some x) = refl
 
-module _ {S : Type 0} (records : IndexMap Trigger FieldValues S) (table : List Entry) (names : List (List ℕ)) (body : Body) where
-  as-said : Shows {K = Trigger} {C = Cell} {V = FieldValue} {R = FieldValues} values_cell values_width ghosts.eq (keys records) (get ghosts.eq records) (offers_of ghosts.eq (compat_rules table names) compat_moves body)
-      → Shows {K = Trigger} {C = Cell} {V = FieldValue} {R = FieldValues} values_cell values_width same_trigger (keys records) (get same_trigger records) (interpretation_offers table names body)
-  as-said shows = subst (λ eq. Shows {K = Trigger} {C = Cell} {V = FieldValue} {R = FieldValues} values_cell values_width eq (keys records) (get eq records) (offers_of eq (compat_rules table names) compat_moves body)) told_as_said shows
+module _ {S : Type 0} (records : IndexMap InterpretationMatch FieldValues S) (table : List Entry) (names : List (List ℕ)) (body : Body) where
+  as-said : Shows {K = InterpretationMatch} {C = Cell} {V = FieldValue} {R = FieldValues} values_cell values_width ghosts.eq (keys records) (get ghosts.eq records) (offers_of ghosts.eq (compat_rules table names) compat_moves body)
+      → Shows {K = InterpretationMatch} {C = Cell} {V = FieldValue} {R = FieldValues} values_cell values_width same_match (keys records) (get same_match records) (interpretation_offers table names body)
+  as-said shows = subst (λ eq. Shows {K = InterpretationMatch} {C = Cell} {V = FieldValue} {R = FieldValues} values_cell values_width eq (keys records) (get eq records) (offers_of eq (compat_rules table names) compat_moves body)) told_as_said shows
 
-  shown-by : Shows {K = Trigger} {C = Cell} {V = FieldValue} {R = FieldValues} values_cell values_width same_trigger (keys records) (get same_trigger records) (interpretation_offers table names body) → (trigger : Trigger) → interpretation_recorded records trigger ≡ interpretation_by (interpretation_offers table names body) trigger
-  shown-by shows trigger =
-      let o = get same_trigger records trigger in
-      let a = action_shown o ∙ ap (option_and_then value_action) (shows.cells_are trigger cells.Action) in
-      let m = modifier_shown o ∙ ap (option_and_then value_modifier) (shows.cells_are trigger cells.Modifier) in
-      let l = levels_shown o ∙ ap (option_and_then value_first_level_only) (shows.cells_are trigger cells.Levels) in
-      λ i. record { trigger = trigger; action = a i; modifier = m i; first_level_only = unwrap_or (l i) false }
+  shown-by : Shows {K = InterpretationMatch} {C = Cell} {V = FieldValue} {R = FieldValues} values_cell values_width same_match (keys records) (get same_match records) (interpretation_offers table names body) → (interpretation_match : InterpretationMatch) → interpretation_recorded records interpretation_match ≡ interpretation_by (interpretation_offers table names body) interpretation_match
+  shown-by shows interpretation_match =
+      let o = get same_match records interpretation_match in
+      let a = action_shown o ∙ ap (option_and_then value_action) (shows.cells_are interpretation_match cells.Action) in
+      let m = modifier_shown o ∙ ap (option_and_then value_modifier) (shows.cells_are interpretation_match cells.Modifier) in
+      let l = levels_shown o ∙ ap (option_and_then value_first_level_only) (shows.cells_are interpretation_match cells.Levels) in
+      λ i. record { interpretation_match = interpretation_match; action = a i; modifier = m i; first_level_only = unwrap_or (l i) false }
 
-  pub listed_are : (all : List Interpretation) → Shows {K = Trigger} {C = Cell} {V = FieldValue} {R = FieldValues} values_cell values_width ghosts.eq (keys records) (get ghosts.eq records) (offers_of ghosts.eq (compat_rules table names) compat_moves body)
+  pub listed_are : (all : List Interpretation) → Shows {K = InterpretationMatch} {C = Cell} {V = FieldValue} {R = FieldValues} values_cell values_width ghosts.eq (keys records) (get ghosts.eq records) (offers_of ghosts.eq (compat_rules table names) compat_moves body)
       → all ≡ map (interpretation_recorded records) (keys records) → all ≡ interpretations_of table names body
   listed_are all derived is =
       let shows = as-said derived in
       is ∙ ap (λ f. map f (keys records)) (fun_ext (shown-by shows)) ∙ ap (map (interpretation_by (interpretation_offers table names body))) shows.names_are
 
--- what is read of records for a trigger
-pub recorded : {S : Type 0} (records : IndexMap Trigger FieldValues S) (trigger : Trigger) (o : Option FieldValues) (i : Interpretation) → o ≡ get ghosts.eq records trigger → i ≡ interpretation_with trigger (unwrap_or o no_values) → i ≡ interpretation_recorded records trigger
-recorded records trigger o i found is = is ∙ ap (λ p. interpretation_with trigger (unwrap_or p no_values)) (found ∙ ap (λ eq. get eq records trigger) told_as_said)
+-- what is read of records for an interpretation match
+pub recorded : {S : Type 0} (records : IndexMap InterpretationMatch FieldValues S) (interpretation_match : InterpretationMatch) (o : Option FieldValues) (i : Interpretation) → o ≡ get ghosts.eq records interpretation_match → i ≡ interpretation_with interpretation_match (unwrap_or o no_values) → i ≡ interpretation_recorded records interpretation_match
+recorded records interpretation_match o i found is = is ∙ ap (λ p. interpretation_with interpretation_match (unwrap_or p no_values)) (found ∙ ap (λ eq. get eq records interpretation_match) told_as_said)
 
 -- the keys of entries, one by one
 listed_next : {K V A : Type 0} (f : K → A) (es : List (K × V)) (i : ℕ) (d : K × V) → i < length es → map f (take (i + 1) (keys_of es)) ≡ map f (take i (keys_of es)) ++ f (get_or es i d).0 ∷ []

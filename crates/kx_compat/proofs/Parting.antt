@@ -5,10 +5,10 @@ use Rattle.std.proofs.lemmas.Bool.Decides.{nat_tests}
 use Rattle.kx_compat.specs.Choosing.{allows, chosen, condition_rank, earlier, fits, keysym_rank, least, matches, rank}
 use Rattle.kx_compat.specs.Interpretations.{Interpretation}
 use Rattle.kx_compat.specs.Indexed.{is_for_any, is_named, names_keysym, wants_any}
-use Rattle.kx_compat.specs.declared.trigger.Condition.{Condition}
-use Rattle.kx_compat.specs.declared.trigger.Condition.TheVariants.{Exactly, AllOf, NoneOf, AnyOf, AnyOfOrNone}
-use Rattle.kx_compat.specs.declared.trigger.WantedKeysym.{WantedKeysym}
-use Rattle.kx_compat.specs.declared.trigger.WantedKeysym.TheVariants.{Any, Named}
+use Rattle.kx_compat.specs.declared.interpretation_match.Condition.{Condition}
+use Rattle.kx_compat.specs.declared.interpretation_match.Condition.TheVariants.{Exactly, AllOf, NoneOf, AnyOf, AnyOfOrNone}
+use Rattle.kx_compat.specs.declared.interpretation_match.WantedKeysym.{WantedKeysym}
+use Rattle.kx_compat.specs.declared.interpretation_match.WantedKeysym.TheVariants.{Any, Named}
 
 low : (c : Condition) → condition_rank c < 5
 low Exactly = omega arith
@@ -85,13 +85,13 @@ module _ (first : Bool) (modmap keysym : ℕ) where
     named_at low true = named_step (ofBoth is) (ofNamed is) (ofAny is) rest i low (held i)
     named_at low false = rest
 
-    at : (w : WantedKeysym) → rank i ≡ keysym_rank w + condition_rank i.trigger.condition → Splits (cond (fits w keysym && held i) (i ∷ ofBoth is) (ofBoth is)) (filter held (cond (names_keysym keysym w) (i ∷ filter (is_named keysym) is) (filter (is_named keysym) is))) (filter held (cond (wants_any w) (i ∷ filter is_for_any is) (filter is_for_any is)))
+    at : (w : WantedKeysym) → rank i ≡ keysym_rank w + condition_rank i.interpretation_match.condition → Splits (cond (fits w keysym && held i) (i ∷ ofBoth is) (ofBoth is)) (filter held (cond (names_keysym keysym w) (i ∷ filter (is_named keysym) is) (filter (is_named keysym) is))) (filter held (cond (wants_any w) (i ∷ filter is_for_any is) (filter is_for_any is)))
     at Any r = any_step (ofBoth is) (ofNamed is) (ofAny is) rest i (omega (arith, r)) (held i)
-    at (Named v) r = let few = low i.trigger.condition in named_at (omega (arith, r, few)) (nat_eq v keysym)
+    at (Named v) r = let few = low i.interpretation_match.condition in named_at (omega (arith, r, few)) (nat_eq v keysym)
 
   parts : (is : List Interpretation) → Splits (ofBoth is) (ofNamed is) (ofAny is)
   parts [] a b p q = refl
-  parts (i ∷ is) a b p q = at i is (parts is) i.trigger.keysym refl a b p q
+  parts (i ∷ is) a b p q = at i is (parts is) i.interpretation_match.keysym refl a b p q
 
 pub least_of_parts : (first : Bool) (modmap keysym : ℕ) (is : List Interpretation) → chosen is keysym first modmap ≡ option_or (least (filter (allows first modmap) (filter (is_named keysym) is))) (least (filter (allows first modmap) (filter is_for_any is)))
 least_of_parts first modmap keysym is = parts first modmap keysym is None None tt tt

@@ -5,29 +5,29 @@ use Rattle.ks_core.specs.Entry.{Entry}
 use Rattle.kx_virtual_mods.specs.Once.{OffersOnce}
 use Rattle.kx_parse.specs.declared.tree.Item.TheVariants.{Include, Statement}
 use Rattle.kx_parse.specs.declared.tree.Mode.{Mode}
-use Rattle.kx_compat.specs.SameMatch.{same_trigger}
-use Rattle.kx_compat.specs.declared.trigger.Trigger.{Trigger}
+use Rattle.kx_compat.specs.SameMatch.{same_match}
+use Rattle.kx_compat.specs.declared.interpretation_match.InterpretationMatch.{InterpretationMatch}
 use Rattle.kx_compat.specs.Given.{FieldValues}
 use Rattle.kx_compat.specs.Meaning.{InterpretationOffer, compat_rules, offers_to, said_offers}
 use Rattle.kx_compat.specs.Sections.{Interpreted, interpretation_in, values_of}
-use Rattle.kx_compat.specs.Triggers.{trigger_of}
+use Rattle.kx_compat.specs.Matches.{match_of}
 use Rattle.kx_compat.specs.declared.defaults.CompatDefaults.{CompatDefaults}
 
 abbrev AreApart : List InterpretationOffer → Type 0
-AreApart os = IsDistinct same_trigger (map (λ (o : InterpretationOffer). o.name) os)
+AreApart os = IsDistinct same_match (map (λ (o : InterpretationOffer). o.name) os)
 
-one_trigger : (mode : Mode) (values : FieldValues) (o : Option Trigger) → AreApart (offers_to mode values o)
+one_match : (mode : Mode) (values : FieldValues) (o : Option InterpretationMatch) → AreApart (offers_to mode values o)
 unfolding IsDistinct
-one_trigger mode values None = tt
-one_trigger mode values (Some trigger) = (tt, tt)
+one_match mode values None = tt
+one_match mode values (Some interpretation_match) = (tt, tt)
 
 module _ (table : List Entry) (names : List (List ℕ)) where
   one_said : (d : CompatDefaults) (mode : Mode) (o : Option Interpreted) → AreApart (said_offers table names d mode o)
   unfolding IsDistinct
   one_said d mode None = tt
-  one_said d mode (Some i) = one_trigger mode (values_of names d i.2) (trigger_of table i.0 i.1)
+  one_said d mode (Some i) = one_match mode (values_of names d i.2) (match_of table i.0 i.1)
 
-  pub interpretations_once : OffersOnce same_trigger (compat_rules table names)
+  pub interpretations_once : OffersOnce same_match (compat_rules table names)
   unfolding IsDistinct
   interpretations_once d place (Statement mode statement first whole) = one_said d mode (interpretation_in statement)
   interpretations_once d place (Include mode text span) = tt

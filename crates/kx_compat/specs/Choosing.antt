@@ -2,10 +2,10 @@
 use Rattle.std.specs.Prelude.{◌≡◌, ℕ, ◌<◌, ◌≤◌, ◌∷◌, ◌++◌, All, ◌+◌, ◌==◌, ◌&&◌, ◌||◌, not, nat_eq, nat_lt, Bool, true, false, List, fold, Option, None, Some, if◌then◌else◌, filter}
 use Rattle.kx_virtual_mods.specs.Sets.{meet}
 use Rattle.kx_compat.specs.Interpretations.{Interpretation}
-use Rattle.kx_compat.specs.declared.trigger.Condition.{Condition}
-use Rattle.kx_compat.specs.declared.trigger.Condition.TheVariants.{Exactly, AllOf, NoneOf, AnyOf, AnyOfOrNone}
-use Rattle.kx_compat.specs.declared.trigger.WantedKeysym.{WantedKeysym}
-use Rattle.kx_compat.specs.declared.trigger.WantedKeysym.TheVariants.{Any, Named}
+use Rattle.kx_compat.specs.declared.interpretation_match.Condition.{Condition}
+use Rattle.kx_compat.specs.declared.interpretation_match.Condition.TheVariants.{Exactly, AllOf, NoneOf, AnyOf, AnyOfOrNone}
+use Rattle.kx_compat.specs.declared.interpretation_match.WantedKeysym.{WantedKeysym}
+use Rattle.kx_compat.specs.declared.interpretation_match.WantedKeysym.TheVariants.{Any, Named}
 
 -- whether an interpretation's modifiers, a mask, go together with those of a key, a mask
 abbrev pub holds : Condition → ℕ → ℕ → Bool
@@ -20,7 +20,7 @@ fits Any keysym = true
 fits (Named wanted) keysym = nat_eq wanted keysym
 
 abbrev pub matches : Bool → ℕ → ℕ → Interpretation → Bool
-matches first modmap keysym i = fits i.trigger.keysym keysym && (holds i.trigger.condition i.trigger.mask (if i.first_level_only && not first then 0 else modmap))
+matches first modmap keysym i = fits i.interpretation_match.keysym keysym && (holds i.interpretation_match.condition i.interpretation_match.mask (if i.first_level_only && not first then 0 else modmap))
 
 abbrev pub condition_rank : Condition → ℕ
 condition_rank Exactly = 0
@@ -35,7 +35,7 @@ keysym_rank (Named keysym) = 0
 keysym_rank Any = 5
 
 abbrev pub rank : Interpretation → ℕ
-rank i = keysym_rank i.trigger.keysym + condition_rank i.trigger.condition
+rank i = keysym_rank i.interpretation_match.keysym + condition_rank i.interpretation_match.condition
 
 abbrev pub earlier : Option Interpretation → Interpretation → Option Interpretation
 earlier None i = Some i
@@ -69,4 +69,4 @@ abbrev pub seen_modmap : (first : Bool) → (modmap : ℕ) → Interpretation �
 seen_modmap first modmap i = if i.first_level_only && not first then 0 else modmap
 
 abbrev pub allows : (first : Bool) → (modmap : ℕ) → Interpretation → Bool
-allows first modmap i = holds i.trigger.condition i.trigger.mask (if i.first_level_only && not first then 0 else modmap)
+allows first modmap i = holds i.interpretation_match.condition i.interpretation_match.mask (if i.first_level_only && not first then 0 else modmap)

@@ -4,7 +4,7 @@ use Rattle.std.specs.Option.{option_and_then, option_map, option_or}
 use Rattle.kx_merge.specs.Last.{last_given}
 use Rattle.kx_actions.specs.declared.action.KeyAction.{KeyAction}
 use Rattle.kx_compat.specs.Interpretations.{Interpretation}
-use Rattle.kx_compat.specs.declared.trigger.Trigger.{Trigger}
+use Rattle.kx_compat.specs.declared.interpretation_match.InterpretationMatch.{InterpretationMatch}
 use Rattle.kx_compat.specs.declared.values.Cell.{Cell}
 use Rattle.kx_compat.specs.declared.values.Cell.TheVariants as cells
 use Rattle.kx_compat.specs.declared.values.FieldValue.{FieldValue}
@@ -44,8 +44,8 @@ abbrev pub values_width : FieldValues → ℕ → ℕ
 values_width v group = 0
 
 -- without `useModMapMods` it sees the modifiers of its key at any level
-abbrev pub interpretation_with : Trigger → FieldValues → Interpretation
-interpretation_with trigger values = record { trigger = trigger; action = values.action; modifier = values.modifier; first_level_only = unwrap_or values.first_level_only false }
+abbrev pub interpretation_with : InterpretationMatch → FieldValues → Interpretation
+interpretation_with interpretation_match values = record { interpretation_match = interpretation_match; action = values.action; modifier = values.modifier; first_level_only = unwrap_or values.first_level_only false }
 
 -- ---- Under names, for proofs
 

@@ -5,8 +5,8 @@ use Rattle.std.specs.Option.{option_map_or}
 use Rattle.indexmap.specs.IndexMap.{IndexMap, get}
 use Rattle.kx_compat.specs.Choosing.{allows, least}
 use Rattle.kx_compat.specs.Interpretations.{Interpretation}
-use Rattle.kx_compat.specs.declared.trigger.WantedKeysym.{WantedKeysym}
-use Rattle.kx_compat.specs.declared.trigger.WantedKeysym.TheVariants.{Any, Named}
+use Rattle.kx_compat.specs.declared.interpretation_match.WantedKeysym.{WantedKeysym}
+use Rattle.kx_compat.specs.declared.interpretation_match.WantedKeysym.TheVariants.{Any, Named}
 
 abbrev pub names_keysym : ℕ → WantedKeysym → Bool
 names_keysym keysym Any = false
@@ -17,10 +17,10 @@ wants_any Any = true
 wants_any (Named wanted) = false
 
 abbrev pub is_named : ℕ → Interpretation → Bool
-is_named keysym i = names_keysym keysym i.trigger.keysym
+is_named keysym i = names_keysym keysym i.interpretation_match.keysym
 
 abbrev pub is_for_any : Interpretation → Bool
-is_for_any i = wants_any i.trigger.keysym
+is_for_any i = wants_any i.interpretation_match.keysym
 
 module _ {V S : Type 0} (items : V → List Interpretation) (named : IndexMap ℕ V S) where
   abbrev pub bucket_in : ℕ → List Interpretation

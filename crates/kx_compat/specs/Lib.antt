@@ -2,7 +2,7 @@ pub mod SameMatch
 pub mod Interpretations
 pub mod Choosing
 pub mod Indexed
-pub mod Triggers
+pub mod Matches
 pub mod FieldWords
 pub mod Given
 pub mod Giving

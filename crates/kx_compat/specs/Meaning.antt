@@ -10,10 +10,10 @@ use Rattle.kx_parse.specs.declared.tree.Item.{Item}
 use Rattle.kx_parse.specs.declared.tree.Item.TheVariants.{Include, Statement}
 use Rattle.kx_parse.specs.declared.tree.Mode.{Mode}
 use Rattle.kx_compat.specs.Interpretations.{Interpretation}
-use Rattle.kx_compat.specs.SameMatch.{same_trigger}
-use Rattle.kx_compat.specs.declared.trigger.Trigger.{Trigger}
+use Rattle.kx_compat.specs.SameMatch.{same_match}
+use Rattle.kx_compat.specs.declared.interpretation_match.InterpretationMatch.{InterpretationMatch}
 use Rattle.kx_compat.specs.Sections.{Interpreted, interpretation_in, item_faults, next_default, no_defaults, values_of}
-use Rattle.kx_compat.specs.Triggers.{trigger_of}
+use Rattle.kx_compat.specs.Matches.{match_of}
 use Rattle.kx_compat.specs.Giving.{values_cell, only}
 use Rattle.kx_compat.specs.declared.defaults.CompatDefaults.{CompatDefaults}
 use Rattle.kx_compat.specs.declared.values.Cell.{Cell}
@@ -22,49 +22,49 @@ use Rattle.kx_compat.specs.declared.values.FieldValue.{FieldValue}
 use Rattle.kx_compat.specs.Given.{FieldValues}
 
 abbrev pub InterpretationOffer : Type 0
-InterpretationOffer = Offer Trigger Cell FieldValue
+InterpretationOffer = Offer InterpretationMatch Cell FieldValue
 
--- what a statement offers the interpretations of a trigger
-abbrev pub offers_to : Mode → FieldValues → Option Trigger → List InterpretationOffer
-offers_to mode values trigger = option_map_or (λ t. plain_offer mode t (values_cell values) ∷ []) trigger []
+-- what a statement offers the interpretations of an interpretation match
+abbrev pub offers_to : Mode → FieldValues → Option InterpretationMatch → List InterpretationOffer
+offers_to mode values interpretation_match = option_map_or (λ t. plain_offer mode t (values_cell values) ∷ []) interpretation_match []
 
 -- `table` are the names of keysyms, `names` the virtual modifiers by number
 module _ (table : List Entry) (names : List (List ℕ)) where
   -- an interpretation of an unknown keysym offers nothing
   abbrev pub said_offers : CompatDefaults → Mode → Option Interpreted → List InterpretationOffer
-  said_offers d mode i = option_map_or (λ i. offers_to mode (values_of names d i.2) (trigger_of table i.0 i.1)) i []
+  said_offers d mode i = option_map_or (λ i. offers_to mode (values_of names d i.2) (match_of table i.0 i.1)) i []
 
   abbrev pub item_offers : CompatDefaults → Item → List InterpretationOffer
   item_offers d (Statement mode statement first whole) = said_offers d mode (interpretation_in statement)
   item_offers d (Include mode text span) = []
 
-  abbrev pub compat_rules : Rules Trigger Cell FieldValue CompatDefaults
+  abbrev pub compat_rules : Rules InterpretationMatch Cell FieldValue CompatDefaults
   compat_rules = record { start = no_defaults; next = next_default names; offers = λ d place item. item_offers d item; faults = λ d place item. item_faults place.file names item }
 
 -- what offers make of an interpretation, each field by precedence; without `useModMapMods` it sees the modifiers of its key at any level
-abbrev pub interpretation_by : List InterpretationOffer → Trigger → Interpretation
-interpretation_by os trigger = record {
-  trigger = trigger;
-  action = option_and_then (λ v. (only v).action) (value_of same_trigger os trigger cells.Action);
-  modifier = option_and_then (λ v. (only v).modifier) (value_of same_trigger os trigger cells.Modifier);
-  first_level_only = unwrap_or (option_and_then (λ v. (only v).first_level_only) (value_of same_trigger os trigger cells.Levels)) false;
+abbrev pub interpretation_by : List InterpretationOffer → InterpretationMatch → Interpretation
+interpretation_by os interpretation_match = record {
+  interpretation_match = interpretation_match;
+  action = option_and_then (λ v. (only v).action) (value_of same_match os interpretation_match cells.Action);
+  modifier = option_and_then (λ v. (only v).modifier) (value_of same_match os interpretation_match cells.Modifier);
+  first_level_only = unwrap_or (option_and_then (λ v. (only v).first_level_only) (value_of same_match os interpretation_match cells.Levels)) false;
 }
 
 module _ (table : List Entry) (names : List (List ℕ)) (body : Body) where
   abbrev pub interpretation_offers : List InterpretationOffer
-  interpretation_offers = offers_of same_trigger (compat_rules table names) no_moves body
+  interpretation_offers = offers_of same_match (compat_rules table names) no_moves body
 
   -- in the order of first appearance, hidden or not
   abbrev pub interpretations_of : List Interpretation
-  interpretations_of = map (interpretation_by interpretation_offers) (names_of same_trigger interpretation_offers)
+  interpretations_of = map (interpretation_by interpretation_offers) (names_of same_match interpretation_offers)
 
   abbrev pub compat_faults : List Fault
-  compat_faults = faults_of same_trigger (compat_rules table names) no_moves body
+  compat_faults = faults_of same_match (compat_rules table names) no_moves body
 
 -- ---- Under names, for clauses and proofs
 
-abbrev pub values_offer : Mode → Trigger → FieldValues → InterpretationOffer
-values_offer mode trigger values = plain_offer mode trigger (values_cell values)
+abbrev pub values_offer : Mode → InterpretationMatch → FieldValues → InterpretationOffer
+values_offer mode interpretation_match values = plain_offer mode interpretation_match (values_cell values)
 
-abbrev pub compat_moves : Moves Trigger Cell
+abbrev pub compat_moves : Moves InterpretationMatch Cell
 compat_moves = no_moves

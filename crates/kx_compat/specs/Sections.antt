@@ -22,7 +22,7 @@ use Rattle.kx_parse.specs.declared.tree.Statement.TheVariants as said
 use Rattle.kx_parse.specs.declared.tree.Symbol.{Symbol}
 use Rattle.kx_symbols.specs.KeyFaults.{symbol_faults}
 use Rattle.kx_compat.specs.FieldWords.{field_faults, field_value}
-use Rattle.kx_compat.specs.Triggers.{predicate_faults}
+use Rattle.kx_compat.specs.Matches.{predicate_faults}
 use Rattle.kx_compat.specs.Giving.{last_values, no_values, with_value}
 use Rattle.kx_compat.specs.declared.defaults.CompatDefaults.{CompatDefaults}
 use Rattle.kx_compat.specs.declared.values.FieldValue.{FieldValue}
@@ -128,8 +128,8 @@ default_value names actions member field = if is_faultless (field_faults 0 names
 abbrev pub is_indicator : List ℕ → Bool
 is_indicator word = str_eq_ignore_ascii_case word (codes "indicator")
 
-abbrev pub lamp_faults : (file : ℕ) → (names : List (List ℕ)) → Field → Option Name → List Fault
-lamp_faults file names field member = if is_some member then [] else (unknown_word file names) field.place.word
+abbrev pub indicator_map_faults : (file : ℕ) → (names : List (List ℕ)) → Field → Option Name → List Fault
+indicator_map_faults file names field member = if is_some member then [] else (unknown_word file names) field.place.word
 
 abbrev pub member_faults : (file : ℕ) → (names : List (List ℕ)) → Field → Option Name → List Fault
 member_faults file names field member = option_map_or (λ m. field_faults file names m field) member (unknown_word file names field.place.word)

@@ -5,7 +5,7 @@ ghost use Rattle.kx_mods.specs.Mods.{mask};
 ghost use Rattle.kx_compat.specs.Choosing.{allows, condition_rank, earlier, holds, keysym_rank, least, rank, seen_modmap};
 
 use crate::interpretation::Interpretation;
-use crate::trigger::{Condition, WantedKeysym};
+use crate::interpretation_match::{Condition, WantedKeysym};
 use kx_mods::Mods;
 
 /// Whether an interpretation's modifiers go together with those of a key.
@@ -37,10 +37,10 @@ fn seen_modmap(interpretation: &Interpretation, first_level: bool, modmap: Mods)
 fn allows(interpretation: &Interpretation, first_level: bool, modmap: Mods) -> bool
     ensures { result ≡ allows first_level (mask modmap) interpretation.now }
 {
-    let trigger = interpretation.trigger();
+    let interpretation_match = interpretation.interpretation_match();
     holds(
-        trigger.condition,
-        trigger.mods(),
+        interpretation_match.condition,
+        interpretation_match.mods(),
         seen_modmap(interpretation, first_level, modmap),
     )
 }
@@ -69,8 +69,8 @@ fn keysym_rank(keysym: WantedKeysym) -> u8
 fn rank(interpretation: &Interpretation) -> u16
     ensures { result ≡ rank interpretation.now }
 {
-    let trigger = interpretation.trigger();
-    u16::from(keysym_rank(trigger.keysym)) + u16::from(condition_rank(trigger.condition))
+    let interpretation_match = interpretation.interpretation_match();
+    u16::from(keysym_rank(interpretation_match.keysym)) + u16::from(condition_rank(interpretation_match.condition))
 }
 
 /// The one that comes first of an interpretation and one that stands before it, if any.

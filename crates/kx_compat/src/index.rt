@@ -9,7 +9,7 @@ ghost use Rattle.kx_compat.specs.Interpretations.{Interpretation as Interpretati
 
 use crate::bucket::Bucket;
 use crate::interpretation::Interpretation;
-use crate::trigger::WantedKeysym;
+use crate::interpretation_match::WantedKeysym;
 use kx_lex::Fault;
 use kx_mods::Mods;
 use kx_ordered::Ordered;
@@ -146,7 +146,7 @@ fn add_indexed(
     ensures added { (all : List InterpretationValue) → IsIndexed (λ b. b) named.old any.old all → OnOk result (IsIndexed (λ b. b) named.new any.new (all ++ interpretation ∷ [])) }
     ensures err { IfErr result (λ e. e ≡ Memory) }
 {
-    match interpretation.trigger().keysym {
+    match interpretation.interpretation_match().keysym {
         WantedKeysym::Named(keysym) => add_named(alloc, named, keysym, interpretation),
         WantedKeysym::Any => {
             any.push(interpretation)?;

@@ -1,7 +1,7 @@
 //! Interpretations.
 use crate::action::GivenAction;
 use crate::modifier::GivenModifier;
-use crate::trigger::Trigger;
+use crate::interpretation_match::InterpretationMatch;
 use kx_actions::KeyAction;
 use kx_virtual_mods::MOST_VIRTUAL_MODIFIERS;
 use std::marker::Model;
@@ -9,7 +9,7 @@ use std::marker::Model;
 /// What a keymap says of keys with some keysyms and modifiers.
 #[derive(Clone, Copy, Debug)]
 pub struct Interpretation {
-    trigger: Trigger,
+    interpretation_match: InterpretationMatch,
     action: Option<GivenAction>,
     modifier: Option<GivenModifier>,
     first_level_only: bool,
@@ -20,9 +20,9 @@ impl Model for Interpretation {
 
     ghost Value = { Interpretation };
 
-    ghost view = { λ i. record { trigger = i.trigger; action = i.action; modifier = i.modifier; first_level_only = i.first_level_only } };
+    ghost view = { λ i. record { interpretation_match = i.interpretation_match; action = i.action; modifier = i.modifier; first_level_only = i.first_level_only } };
 
-    ghost inverse = { λ i. record { trigger = i.trigger; action = i.action; modifier = i.modifier; first_level_only = i.first_level_only } };
+    ghost inverse = { λ i. record { interpretation_match = i.interpretation_match; action = i.action; modifier = i.modifier; first_level_only = i.first_level_only } };
 }
 
 impl Interpretation {
@@ -30,15 +30,15 @@ impl Interpretation {
 
     /// What is said of keys by these.
     pub fn of(
-        trigger: Trigger,
+        interpretation_match: InterpretationMatch,
         action: Option<GivenAction>,
         modifier: Option<GivenModifier>,
         first_level_only: bool,
     ) -> Interpretation
-        ensures { result ≡ record { trigger = trigger; action = action; modifier = modifier; first_level_only = first_level_only } }
+        ensures { result ≡ record { interpretation_match = interpretation_match; action = action; modifier = modifier; first_level_only = first_level_only } }
     {
         Interpretation {
-            trigger,
+            interpretation_match,
             action,
             modifier,
             first_level_only,
@@ -46,10 +46,10 @@ impl Interpretation {
     }
 
     /// For which keys it is.
-    pub fn trigger(&self) -> Trigger
-        ensures { result ≡ self.now.trigger }
+    pub fn interpretation_match(&self) -> InterpretationMatch
+        ensures { result ≡ self.now.interpretation_match }
     {
-        self.trigger
+        self.interpretation_match
     }
 
     /// What a level of such a key does, where it says so.

@@ -13,7 +13,7 @@ mod modifier;
 mod predicates;
 mod record;
 mod statements;
-mod trigger;
+mod interpretation_match;
 mod values;
 
 pub use action::GivenAction;
@@ -21,4 +21,4 @@ pub use index::Interpretations;
 pub use interpretation::Interpretation;
 pub use listing::interpretations;
 pub use modifier::GivenModifier;
-pub use trigger::{Condition, Trigger, WantedKeysym};
+pub use interpretation_match::{Condition, InterpretationMatch, WantedKeysym};

@@ -7,13 +7,13 @@ ghost use Rattle.kx_virtual_mods.specs.Once.{OffersOnce};
 ghost use Rattle.kx_compat.specs.Giving.{interpretation_with};
 ghost use Rattle.kx_compat.specs.Meaning.{compat_faults, compat_rules, interpretations_of};
 ghost use Rattle.kx_compat.specs.Sections.{DefaultsAreLast};
-ghost use Rattle.kx_compat.specs.SameMatch.{same_trigger};
+ghost use Rattle.kx_compat.specs.SameMatch.{same_match};
 ghost use Rattle.kx_compat.specs.Shown.{interpretation_recorded};
 
 use crate::index::Interpretations;
 use crate::interpretation::Interpretation;
 use crate::record::Context;
-use crate::trigger::Trigger;
+use crate::interpretation_match::InterpretationMatch;
 use crate::values::FieldValues;
 use ks_core::{NameTable, Notes};
 use kx_include::Expansion;
@@ -24,11 +24,11 @@ use kx_virtual_mods::ModNames;
 use std::alloc::Global;
 
 /// What these values say of keys.
-fn interpretation_with(trigger: Trigger, values: FieldValues) -> Interpretation
-    ensures { result ≡ interpretation_with trigger values }
+fn interpretation_with(interpretation_match: InterpretationMatch, values: FieldValues) -> Interpretation
+    ensures { result ≡ interpretation_with interpretation_match values }
 {
     Interpretation::of(
-        trigger,
+        interpretation_match,
         values.action(),
         values.modifier(),
         values.first_level_only().unwrap_or(false),
@@ -37,22 +37,22 @@ fn interpretation_with(trigger: Trigger, values: FieldValues) -> Interpretation
 
 /// The interpretation that records have for the keys of one of them.
 fn interpretation_among(
-    records: &Ordered<Trigger, FieldValues>,
-    named: &(Trigger, FieldValues),
+    records: &Ordered<InterpretationMatch, FieldValues>,
+    named: &(InterpretationMatch, FieldValues),
 ) -> Interpretation
     ensures { result ≡ interpretation_recorded records.now named.now.0 }
 {
-    let trigger = named.0;
-    match records.get(&trigger) {
-        Some(values) => interpretation_with(trigger, *values),
-        None => interpretation_with(trigger, FieldValues::none()),
+    let interpretation_match = named.0;
+    match records.get(&interpretation_match) {
+        Some(values) => interpretation_with(interpretation_match, *values),
+        None => interpretation_with(interpretation_match, FieldValues::none()),
     }
 }
 
 /// The interpretations that records have, in order.
 fn listed(
     alloc: Global,
-    records: &Ordered<Trigger, FieldValues>,
+    records: &Ordered<InterpretationMatch, FieldValues>,
 ) -> Result<Vec<Interpretation>, Fault>
     ensures value { IfOk result (λ all. all.items ≡ map (interpretation_recorded records.now) (keys records.now)) }
     ensures err { IfErr result (λ e. e ≡ Memory) }
@@ -81,7 +81,7 @@ pub fn interpretations(
 ) -> Result<(Interpretations, Notes), Fault>
     ensures shows { IfOk result (λ found. found.0 ≡ interpretations_of table.now names.now.names (expanded_body expansion.now)) }
     ensures defaults { DefaultsAreLast names.now.names }
-    ensures once { OffersOnce same_trigger (compat_rules table.now names.now.names) }
+    ensures once { OffersOnce same_match (compat_rules table.now names.now.names) }
     ensures faultless { OnOk result (compat_faults table.now names.now.names (expanded_body expansion.now) ≡ []) }
     ensures fault { IfErr result (λ e. Contains (Memory ∷ compat_faults table.now names.now.names (expanded_body expansion.now)) e) }
 {

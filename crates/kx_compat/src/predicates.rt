@@ -6,9 +6,9 @@ ghost use Rattle.kx_lex.specs.declared.fault.Fault.TheVariants.{Memory};
 ghost use Rattle.kx_virtual_mods.specs.Masks.{mask_set};
 ghost use Rattle.kx_mods.specs.Mods.{mask};
 ghost use Rattle.kx_symbols.specs.KeyFaults.{symbol_faults};
-ghost use Rattle.kx_compat.specs.Triggers.{call_wants, condition_faults, condition_words, is_any, is_any_word, keysym_among, mask_predicate_faults, mask_wants, only_mask, only_mask_faults, plain_mask, predicate_faults, predicate_wants, wanted_keysym};
+ghost use Rattle.kx_compat.specs.Matches.{call_wants, condition_faults, condition_words, is_any, is_any_word, keysym_among, mask_predicate_faults, mask_wants, only_mask, only_mask_faults, plain_mask, predicate_faults, predicate_wants, wanted_keysym};
 
-use crate::trigger::{Condition, WantedKeysym};
+use crate::interpretation_match::{Condition, WantedKeysym};
 use ks_core::{NameTable, Notes};
 use kx_lex::{At, Boxed, Fault, Name, Span};
 use kx_merge::{bad_value, lone_word, unknown_field};

@@ -9,7 +9,7 @@ ghost use Rattle.kx_compat.specs.Giving.{values_cell, values_width};
 
 use crate::defaults::CompatDefaults;
 use crate::statements::read_item;
-use crate::trigger::Trigger;
+use crate::interpretation_match::InterpretationMatch;
 use crate::values::{Cell, FieldValue, FieldValues};
 use ks_core::{NameTable, Notes};
 use kx_include::Place;
@@ -27,7 +27,7 @@ pub struct Context<'a> {
 }
 
 impl<'a> Fields<Context<'a>> for FieldValues {
-    type Key = Trigger;
+    type Key = InterpretationMatch;
 
     type Cell = Cell;
 
@@ -65,7 +65,7 @@ impl<'a> Fields<Context<'a>> for FieldValues {
         place: Place,
         item: &Item,
         notes: &mut Notes,
-    ) -> Result<Vec<(Trigger, FieldValues)>, Fault> {
+    ) -> Result<Vec<(InterpretationMatch, FieldValues)>, Fault> {
         read_item(
             alloc,
             context.table,
@@ -108,7 +108,7 @@ impl<'a> Fields<Context<'a>> for FieldValues {
         Ok(())
     }
 
-    fn key_in(key: &Trigger, _group: Option<u8>) -> Option<Trigger>
+    fn key_in(key: &InterpretationMatch, _group: Option<u8>) -> Option<InterpretationMatch>
         ensures { result ≡ moved_key compat_moves _group key.now }
     {
         Some(*key)

@@ -7,16 +7,16 @@ ghost use Rattle.kx_parse.specs.declared.tree.Mode.{Mode as ModeValue};
 ghost use Rattle.kx_merge.specs.Records.{AreOffered, mode_of};
 ghost use Rattle.kx_symbols.specs.KeyFaults.{symbol_faults};
 ghost use Rattle.kx_compat.specs.Meaning.{item_offers, offers_to, said_offers, values_offer};
-ghost use Rattle.kx_compat.specs.Sections.{alone_faults, interpretation_faults, interpretation_in, is_indicator, is_other, item_faults, lamp_faults, lone_faults, member_faults, own_faults, own_value, said_faults, values_of};
+ghost use Rattle.kx_compat.specs.Sections.{alone_faults, interpretation_faults, interpretation_in, is_indicator, is_other, item_faults, indicator_map_faults, lone_faults, member_faults, own_faults, own_value, said_faults, values_of};
 ghost use Rattle.kx_symbols.specs.Keys.{field_in};
-ghost use Rattle.kx_compat.specs.Triggers.{predicate_faults, trigger_of, trigger_with};
+ghost use Rattle.kx_compat.specs.Matches.{predicate_faults, match_of, match_with};
 ghost use Rattle.kx_compat.specs.Giving.{values_cell, values_width};
 ghost use Rattle.kx_mods.specs.Mods.{mask};
 
 use crate::defaults::{CompatDefaults, field_in, is_interpret};
 use crate::fields::read_field;
 use crate::predicates::{read_keysym, read_predicate};
-use crate::trigger::{Condition, Trigger, WantedKeysym};
+use crate::interpretation_match::{Condition, InterpretationMatch, WantedKeysym};
 use crate::values::{FieldValue, FieldValues};
 use ks_core::{NameTable, Notes};
 use kx_actions::ActionDefaults;
@@ -71,11 +71,11 @@ fn is_other(statement: &Statement) -> bool
     }
 }
 
-fn trigger_with(keysym: Option<WantedKeysym>, condition: Condition, mods: Mods) -> Option<Trigger>
-    ensures { result ≡ trigger_with keysym (Some (condition, mask mods)) }
+fn match_with(keysym: Option<WantedKeysym>, condition: Condition, mods: Mods) -> Option<InterpretationMatch>
+    ensures { result ≡ match_with keysym (Some (condition, mask mods)) }
 {
     match keysym {
-        Some(keysym) => Some(Trigger {
+        Some(keysym) => Some(InterpretationMatch {
             keysym,
             condition,
             mask: mods.mask(),
@@ -85,21 +85,21 @@ fn trigger_with(keysym: Option<WantedKeysym>, condition: Condition, mods: Mods) 
 }
 
 /// For which keys an interpretation is; for none, where no keysym has its name, which is noted.
-fn read_trigger(
+fn read_match(
     table: &NameTable,
     names: &ModNames,
     file: u32,
     symbol: &Symbol,
     predicate: &Option<Boxed<Predicate>>,
     notes: &mut Notes,
-) -> Result<Option<Trigger>, Fault>
-    ensures value { IfOk result (λ trigger. trigger ≡ trigger_of table.now symbol.now predicate.now) }
+) -> Result<Option<InterpretationMatch>, Fault>
+    ensures value { IfOk result (λ interpretation_match. interpretation_match ≡ match_of table.now symbol.now predicate.now) }
     ensures faultless { OnOk result (symbol_faults file symbol.now ++ predicate_faults file names.now.names predicate.now ≡ []) }
     ensures fault { IfErr result (λ e. Contains (Memory ∷ (symbol_faults file symbol.now ++ predicate_faults file names.now.names predicate.now)) e) }
 {
     let keysym = read_keysym(table, file, symbol, notes)?;
     let (condition, mods) = read_predicate(names, file, predicate)?;
-    Ok(trigger_with(keysym, condition, mods))
+    Ok(match_with(keysym, condition, mods))
 }
 
 /// What a field in an interpretation gives it.
@@ -140,7 +140,7 @@ fn read_values(
     Ok(values)
 }
 
-fn no_records(alloc: Global) -> Vec<(Trigger, FieldValues)>
+fn no_records(alloc: Global) -> Vec<(InterpretationMatch, FieldValues)>
     ensures { (mode : ModeValue) → AreOffered mode (values_cell) (values_width) result.items [] }
 {
     Vec::new(alloc)
@@ -148,29 +148,29 @@ fn no_records(alloc: Global) -> Vec<(Trigger, FieldValues)>
 
 fn one_record(
     alloc: Global,
-    trigger: Trigger,
+    interpretation_match: InterpretationMatch,
     values: FieldValues,
-) -> Result<Vec<(Trigger, FieldValues)>, Fault>
-    ensures records { (mode : ModeValue) → IfOk result (λ records. AreOffered mode (values_cell) (values_width) records.items (values_offer mode trigger values ∷ [])) }
+) -> Result<Vec<(InterpretationMatch, FieldValues)>, Fault>
+    ensures records { (mode : ModeValue) → IfOk result (λ records. AreOffered mode (values_cell) (values_width) records.items (values_offer mode interpretation_match values ∷ [])) }
     ensures err { IfErr result (λ e. e ≡ Memory) }
 {
     let mut records = Vec::new(alloc);
-    records.push((trigger, values))?;
+    records.push((interpretation_match, values))?;
     Ok(records)
 }
 
 /// What is given to the interpretation for some keys.
 fn records_for(
     alloc: Global,
-    trigger: Option<Trigger>,
+    interpretation_match: Option<InterpretationMatch>,
     values: FieldValues,
-) -> Result<Vec<(Trigger, FieldValues)>, Fault>
-    ensures records { (mode : ModeValue) → IfOk result (λ records. AreOffered mode (values_cell) (values_width) records.items (offers_to mode values trigger)) }
+) -> Result<Vec<(InterpretationMatch, FieldValues)>, Fault>
+    ensures records { (mode : ModeValue) → IfOk result (λ records. AreOffered mode (values_cell) (values_width) records.items (offers_to mode values interpretation_match)) }
     ensures err { IfErr result (λ e. e ≡ Memory) }
 {
-    match trigger {
+    match interpretation_match {
         None => Ok(no_records(alloc)),
-        Some(trigger) => one_record(alloc, trigger, values),
+        Some(interpretation_match) => one_record(alloc, interpretation_match, values),
     }
 }
 
@@ -185,14 +185,14 @@ fn read_interpretation(
     predicate: &Option<Boxed<Predicate>>,
     fields: &[Field],
     notes: &mut Notes,
-) -> Result<Vec<(Trigger, FieldValues)>, Fault>
+) -> Result<Vec<(InterpretationMatch, FieldValues)>, Fault>
     ensures records { (mode : ModeValue) → IfOk result (λ records. AreOffered mode (values_cell) (values_width) records.items (said_offers table.now names.now.names defaults.now mode (Some (symbol.now, predicate.now, fields.now)))) }
     ensures faultless { OnOk result (interpretation_faults file names.now.names (symbol.now, predicate.now, fields.now) ≡ []) }
     ensures fault { IfErr result (λ e. Contains (Memory ∷ interpretation_faults file names.now.names (symbol.now, predicate.now, fields.now)) e) }
 {
-    let trigger = read_trigger(table, names, file, symbol, predicate, notes)?;
+    let interpretation_match = read_match(table, names, file, symbol, predicate, notes)?;
     let values = read_values(names, file, defaults, fields, notes)?;
-    records_for(alloc, trigger, values)
+    records_for(alloc, interpretation_match, values)
 }
 
 fn is_indicator(word: &[u8]) -> bool
@@ -222,9 +222,9 @@ fn check_member(
 }
 
 /// Checks a default for a field of indicators.
-fn check_lamp(file: u32, field: &Field) -> Result<(), Fault>
-    ensures faultless { OnOk result (lamp_faults file [] field.now field.now.place.member ≡ []) }
-    ensures fault { IfErr result (λ e. Contains (lamp_faults file [] field.now field.now.place.member) e) }
+fn check_indicator_map(file: u32, field: &Field) -> Result<(), Fault>
+    ensures faultless { OnOk result (indicator_map_faults file [] field.now field.now.place.member ≡ []) }
+    ensures fault { IfErr result (λ e. Contains (indicator_map_faults file [] field.now field.now.place.member) e) }
 {
     if field.place.member.is_some() {
         Ok(())
@@ -249,7 +249,7 @@ fn check_lone(
         return check_member(names, file, actions, field, notes);
     }
     if is_indicator(word) {
-        return check_lamp(file, field);
+        return check_indicator_map(file, field);
     }
     match actions.behind(names, file, field) {
         Ok(_) => Ok(()),
@@ -290,7 +290,7 @@ fn read_statement(
     word: Span,
     statement: &Statement,
     notes: &mut Notes,
-) -> Result<Vec<(Trigger, FieldValues)>, Fault>
+) -> Result<Vec<(InterpretationMatch, FieldValues)>, Fault>
     ensures records { (mode : ModeValue) → IfOk result (λ records. AreOffered mode (values_cell) (values_width) records.items (said_offers table.now names.now.names defaults.now mode (interpretation_in statement.now))) }
     ensures faultless { OnOk result (said_faults file names.now.names statement.now word (interpretation_in statement.now) ≡ []) }
     ensures fault { IfErr result (λ e. Contains (Memory ∷ said_faults file names.now.names statement.now word (interpretation_in statement.now)) e) }
@@ -323,7 +323,7 @@ pub(crate) fn read_item(
     defaults: &CompatDefaults,
     item: &Item,
     notes: &mut Notes,
-) -> Result<Vec<(Trigger, FieldValues)>, Fault>
+) -> Result<Vec<(InterpretationMatch, FieldValues)>, Fault>
     ensures records { IfOk result (λ records. AreOffered (mode_of item.now) (values_cell) (values_width) records.items (item_offers table.now names.now.names defaults.now item.now)) }
     ensures faultless { OnOk result (item_faults file names.now.names item.now ≡ []) }
     ensures fault { IfErr result (λ e. Contains (Memory ∷ item_faults file names.now.names item.now) e) }

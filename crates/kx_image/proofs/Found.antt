@@ -15,13 +15,13 @@ use Rattle.kx_tables.specs.Sound.{Sound}
 use Rattle.kx_image.specs.Cut.{rows_at, record_at}
 use Rattle.kx_image.specs.Image.{IsImage, IsExpressible, IsCanonical, body, content_in, header_for, image}
 use Rattle.kx_image.specs.Records.{two, four, two_at, four_at, type_bytes, type_of, entry_bytes, entry_of, key_bytes, key_of, group_bytes, group_of, cell_bytes, cell_of, keysym_bytes, keysym_of, indicator_bytes, indicator_of, group_name_bytes, group_name_of}
-use Rattle.kx_image.specs.Shape.{magic, edition_number, edition_of, new_count_at, front_fault, length_fault, shape_fault, called_for, header_bytes, header_of, header_size, entries_start, keys_start, groups_start, cells_start, keysyms_start, indicators_start, group_names_start, names_start, group_count}
+use Rattle.kx_image.specs.Shape.{magic, version_number, version_of, new_count_at, front_fault, length_fault, shape_fault, called_for, header_bytes, header_of, header_size, entries_start, keys_start, groups_start, cells_start, keysyms_start, indicators_start, group_names_start, names_start, group_count}
 use Rattle.kx_image.specs.Canonical.{AreCanonical}
 use Rattle.kx_image.specs.declared.fault.ImageFault.{ImageFault}
 use Rattle.kx_image.specs.declared.fault.ImageFault.TheVariants.{Truncated, Magic, Version, Length}
 use Rattle.kx_image.specs.declared.header.Header.{Header}
-use Rattle.kx_image.specs.declared.header.Edition.{Edition}
-use Rattle.kx_image.specs.declared.header.Edition.TheVariants.{One, Two}
+use Rattle.kx_image.specs.declared.header.ImageVersion.{ImageVersion}
+use Rattle.kx_image.specs.declared.header.ImageVersion.TheVariants.{One, Two}
 use Rattle.kx_image.proofs.Slicing.{length-rows_at, table_bytes}
 use Rattle.kx_image.proofs.Reading.{length-part}
 
@@ -62,9 +62,9 @@ module _ (s : List ℕ) (bytes : AreBytes s) where
       ∙ ap (λ t. four (four_at s 16) ++ t) (four_then 20 24 (omega arith) refl ∙ ap (λ t. four (four_at s 20) ++ t) (four_then 24 28 (omega arith) refl)))))))
 
 -- the header of a version
-abbrev header_with : Edition → List ℕ → Header
+abbrev header_with : ImageVersion → List ℕ → Header
 header_with e s = record {
-  edition = e;
+  version = e;
   groups = two_at s 6;
   types = two_at s 8;
   keys = two_at s 10;
@@ -76,7 +76,7 @@ header_with e s = record {
   group_names = new_count_at e s 30;
 }
 
-header_told : (e : Edition) (s : List ℕ) → AreBytes s → take 4 s ≡ magic → two_at s 4 ≡ edition_number e → header_size e ≤ length s → s ≡ header_bytes (header_with e s) ++ drop (header_size e) s
+header_told : (e : ImageVersion) (s : List ℕ) → AreBytes s → take 4 s ≡ magic → two_at s 4 ≡ version_number e → header_size e ≤ length s → s ≡ header_bytes (header_with e s) ++ drop (header_size e) s
 header_told One s bytes begins number long =
     sym (take-append-drop 4 s) ∙ ap (λ m. m ++ drop 4 s) begins ∙ ap (λ t. magic ++ t) (common s bytes long)
     ∙ ap (λ n. magic ++ (two n ++ (two (two_at s 6) ++ (two (two_at s 8) ++ (two (two_at s 10) ++ (four (four_at s 12) ++ (four (four_at s 16) ++ (four (four_at s 20) ++ (four (four_at s 24) ++ drop 28 s))))))))) number
@@ -101,8 +101,8 @@ first_none (Some f) b none = cc
 
 record Front (s : List ℕ) : Type 0 where
   begins : take 4 s ≡ magic
-  number : two_at s 4 ≡ edition_number (edition_of (two_at s 4))
-  long : header_size (edition_of (two_at s 4)) ≤ length s
+  number : two_at s 4 ≡ version_number (version_of (two_at s 4))
+  long : header_size (version_of (two_at s 4)) ≤ length s
 
 front_whole : (s : List ℕ) → shape_fault s ≡ None → Front s
 front_whole s whole =
@@ -112,27 +112,27 @@ front_whole s whole =
     elim facts.2 [
       | inl one ↦ record {
         begins = begins;
-        number = eqb-true (two_at s 4) 1 one ∙ sym (ap (λ b. edition_number (cond b One Two)) one);
+        number = eqb-true (two_at s 4) 1 one ∙ sym (ap (λ b. version_number (cond b One Two)) one);
         long = subst (λ (b : Bool). header_size (cond b One Two) ≤ length s) (sym one) long;
       }
       | inr other ↦ record {
         begins = begins;
-        number = eqb-true (two_at s 4) 2 other.1 ∙ sym (ap (λ b. edition_number (cond b One Two)) other.0);
+        number = eqb-true (two_at s 4) 2 other.1 ∙ sym (ap (λ b. version_number (cond b One Two)) other.0);
         long = subst (λ (b : Bool). header_size (cond b One Two) ≤ length s) (sym other.0) (ltb-false (length s) 32 other.2);
       }
     ]
 
-same_header : (e : Edition) (a b c d f g h i j a' b' c' d' f' g' h' i' j' : ℕ) → a ≡ a' → b ≡ b' → c ≡ c' → d ≡ d' → f ≡ f' → g ≡ g' → h ≡ h' → i ≡ i' → j ≡ j'
-    → ◌≡◌ {A = Header} (record { edition = e; groups = a; types = b; keys = c; entries = d; cells = f; keysyms = g; names = h; indicators = i; group_names = j }) (record { edition = e; groups = a'; types = b'; keys = c'; entries = d'; cells = f'; keysyms = g'; names = h'; indicators = i'; group_names = j' })
+same_header : (e : ImageVersion) (a b c d f g h i j a' b' c' d' f' g' h' i' j' : ℕ) → a ≡ a' → b ≡ b' → c ≡ c' → d ≡ d' → f ≡ f' → g ≡ g' → h ≡ h' → i ≡ i' → j ≡ j'
+    → ◌≡◌ {A = Header} (record { version = e; groups = a; types = b; keys = c; entries = d; cells = f; keysyms = g; names = h; indicators = i; group_names = j }) (record { version = e; groups = a'; types = b'; keys = c'; entries = d'; cells = f'; keysyms = g'; names = h'; indicators = i'; group_names = j' })
 same_header e a b c d f g h i j a' b' c' d' f' g' h' i' j' p q r t u v w x y = cc
 
-header_is : (s : List ℕ) → length s ≡ called_for s → (header_of s).groups ≡ greatest_groups (content_in s).keys → header_for (header_of s).edition (content_in s) ≡ header_of s
+header_is : (s : List ℕ) → length s ≡ called_for s → (header_of s).groups ≡ greatest_groups (content_in s).keys → header_for (header_of s).version (content_in s) ≡ header_of s
 header_is s end groups_are =
     let h = header_of s in
     let groups = group_count h s in
     same_header _ _ _ _ _ _ _ _ _ _ _ _ _ _ _ _ _ _ _
     (sym groups_are)
-    (length-rows_at type_of 16 h.types (header_size h.edition) s)
+    (length-rows_at type_of 16 h.types (header_size h.version) s)
     (length-rows_at key_of 16 h.keys (keys_start h) s)
     (length-rows_at entry_of 4 h.entries (entries_start h) s)
     (length-rows_at cell_of 12 h.cells (cells_start h groups) s)
@@ -145,11 +145,11 @@ header_is s end groups_are =
 last_part : (s : List ℕ) (start n : ℕ) → length s ≡ start + n → drop start s ≡ part s start n
 last_part s start n end = sym (take-append-drop n (drop start s)) ∙ ap (λ t. take n (drop start s) ++ t) (drop-drop n start s ∙ ap (λ k. drop k s) (sym end) ∙ drop-length s) ∙ append-nil (take n (drop start s))
 
-body_is : (s : List ℕ) → length s ≡ called_for s → AreCanonical s → drop (header_size (header_of s).edition) s ≡ body (content_in s)
+body_is : (s : List ℕ) → length s ≡ called_for s → AreCanonical s → drop (header_size (header_of s).version) s ≡ body (content_in s)
 body_is s end all =
     let h = header_of s in
     let groups = group_count h s in
-    table_bytes type_bytes type_of 16 h.types (header_size h.edition) s all.types.each
+    table_bytes type_bytes type_of 16 h.types (header_size h.version) s all.types.each
     ∙ ap (λ t. flat_map type_bytes (content_in s).types ++ t) (table_bytes entry_bytes entry_of 4 h.entries (entries_start h) s all.entries.each
     ∙ ap (λ t. flat_map entry_bytes (content_in s).entries ++ t) (table_bytes key_bytes key_of 16 h.keys (keys_start h) s all.keys.each
     ∙ ap (λ t. flat_map key_bytes (content_in s).keys ++ t) (table_bytes group_bytes group_of 8 groups (groups_start h) s all.groups.each
@@ -159,16 +159,16 @@ body_is s end all =
     ∙ ap (λ t. flat_map indicator_bytes (content_in s).indicators ++ t) (table_bytes group_name_bytes group_name_of 8 h.group_names (group_names_start h groups) s all.group_names.each
     ∙ ap (λ t. flat_map group_name_bytes (content_in s).group_names ++ t) (last_part s (names_start h groups) h.names end))))))))
 
-expressible_in : (e : Edition) (s : List ℕ) (a b : ℕ) (c : Content) → c.indicators ≡ rows_at indicator_of 16 (new_count_at e s 28) a s → c.group_names ≡ rows_at group_name_of 8 (new_count_at e s 30) b s → IsExpressible e c
+expressible_in : (e : ImageVersion) (s : List ℕ) (a b : ℕ) (c : Content) → c.indicators ≡ rows_at indicator_of 16 (new_count_at e s 28) a s → c.group_names ≡ rows_at group_name_of 8 (new_count_at e s 30) b s → IsExpressible e c
 expressible_in One s a b c p q = (p, q)
 expressible_in Two s a b c p q = tt
 
 pub image_found : (s : List ℕ) → AreBytes s → shape_fault s ≡ None → length s ≡ called_for s → AreCanonical s → (header_of s).groups ≡ greatest_groups (content_in s).keys → Sound (content_in s) → IsImage (content_in s) s
 image_found s bytes whole end all groups_are sound =
     let front = front_whole s whole in
-    let e = edition_of (two_at s 4) in
+    let e = version_of (two_at s 4) in
     record {
-      edition = e;
+      version = e;
       sound = sound;
       expressible = expressible_in e s (indicators_start (header_of s) (group_count (header_of s) s)) (group_names_start (header_of s) (group_count (header_of s) s)) (content_in s) refl refl;
       is = header_told e s bytes front.begins front.number front.long ∙ ap (λ t. header_bytes (header_of s) ++ t) (body_is s end all)

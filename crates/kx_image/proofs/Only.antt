@@ -14,10 +14,10 @@ use Rattle.kx_tables.specs.Sound.{Sound, KeyHolds}
 use Rattle.kx_tables.specs.declared.rows.KeyRow.{KeyRow}
 use Rattle.kx_image.specs.Image.{IsImage, IsExpressible, body, content_in, header_for, image}
 use Rattle.kx_image.specs.Records.{two, four, two_at, four_at, key_bytes}
-use Rattle.kx_image.specs.Shape.{magic, edition_number, edition_of, new_count_at, front_fault, shape_fault, called_for, header_bytes, header_of, header_size, groups_from}
+use Rattle.kx_image.specs.Shape.{magic, version_number, version_of, new_count_at, front_fault, shape_fault, called_for, header_bytes, header_of, header_size, groups_from}
 use Rattle.kx_image.specs.declared.header.Header.{Header}
-use Rattle.kx_image.specs.declared.header.Edition.{Edition}
-use Rattle.kx_image.specs.declared.header.Edition.TheVariants.{One, Two}
+use Rattle.kx_image.specs.declared.header.ImageVersion.{ImageVersion}
+use Rattle.kx_image.specs.declared.header.ImageVersion.TheVariants.{One, Two}
 
 -- a header whose numbers fit
 pub record HeaderFits (h : Header) : Type 0 where
@@ -32,16 +32,16 @@ pub record HeaderFits (h : Header) : Type 0 where
   pub group_names : h.group_names < 2 ^ 16
 
 -- version 1 has no new counts
-abbrev pub Old : Edition → Header → Type 0
+abbrev pub Old : ImageVersion → Header → Type 0
 Old One h = (h.indicators ≡ 0) × (h.group_names ≡ 0)
 Old Two h = Unit {0}
 
-same_header : (e : Edition) (a b c d f g h i j a' b' c' d' f' g' h' i' j' : ℕ) → a ≡ a' → b ≡ b' → c ≡ c' → d ≡ d' → f ≡ f' → g ≡ g' → h ≡ h' → i ≡ i' → j ≡ j'
-    → ◌≡◌ {A = Header} (record { edition = e; groups = a; types = b; keys = c; entries = d; cells = f; keysyms = g; names = h; indicators = i; group_names = j }) (record { edition = e; groups = a'; types = b'; keys = c'; entries = d'; cells = f'; keysyms = g'; names = h'; indicators = i'; group_names = j' })
+same_header : (e : ImageVersion) (a b c d f g h i j a' b' c' d' f' g' h' i' j' : ℕ) → a ≡ a' → b ≡ b' → c ≡ c' → d ≡ d' → f ≡ f' → g ≡ g' → h ≡ h' → i ≡ i' → j ≡ j'
+    → ◌≡◌ {A = Header} (record { version = e; groups = a; types = b; keys = c; entries = d; cells = f; keysyms = g; names = h; indicators = i; group_names = j }) (record { version = e; groups = a'; types = b'; keys = c'; entries = d'; cells = f'; keysyms = g'; names = h'; indicators = i'; group_names = j' })
 same_header e a b c d f g h i j a' b' c' d' f' g' h' i' j' p q r t u v w x y = cc
 
-header_at : (e : Edition) (a b c d f g k n i j : ℕ) (rest : List ℕ) (h : Header) → h ≡ record { edition = e; groups = a; types = b; keys = c; entries = d; cells = f; keysyms = g; names = k; indicators = i; group_names = j } → n ≡ 0 → HeaderFits h → Old e h
-    → header_of (header_bytes (record { edition = e; groups = a; types = b; keys = c; entries = d; cells = f; keysyms = g; names = k; indicators = i; group_names = j }) ++ rest) ≡ record { edition = e; groups = a; types = b; keys = c; entries = d; cells = f; keysyms = g; names = k; indicators = i; group_names = j }
+header_at : (e : ImageVersion) (a b c d f g k n i j : ℕ) (rest : List ℕ) (h : Header) → h ≡ record { version = e; groups = a; types = b; keys = c; entries = d; cells = f; keysyms = g; names = k; indicators = i; group_names = j } → n ≡ 0 → HeaderFits h → Old e h
+    → header_of (header_bytes (record { version = e; groups = a; types = b; keys = c; entries = d; cells = f; keysyms = g; names = k; indicators = i; group_names = j }) ++ rest) ≡ record { version = e; groups = a; types = b; keys = c; entries = d; cells = f; keysyms = g; names = k; indicators = i; group_names = j }
 header_at One a b c d f g k n i j rest h is none fits old = let fit = subst HeaderFits is fits in let without = subst (Old One) is old in
     same_header One _ _ _ _ _ _ _ _ _ _ _ _ _ _ _ _ _ _ (from_le_bytes-to_le_bytes_2 a fit.groups) (from_le_bytes-to_le_bytes_2 b fit.types) (from_le_bytes-to_le_bytes_2 c fit.keys)
     (from_le_bytes-to_le_bytes_4 d fit.entries) (from_le_bytes-to_le_bytes_4 f fit.cells) (from_le_bytes-to_le_bytes_4 g fit.keysyms) (from_le_bytes-to_le_bytes_4 k fit.names) (sym without.0) (sym without.1)
@@ -49,29 +49,29 @@ header_at Two a b c d f g k n i j rest h is none fits old = let fit = subst Head
     same_header Two _ _ _ _ _ _ _ _ _ _ _ _ _ _ _ _ _ _ (from_le_bytes-to_le_bytes_2 a fit.groups) (from_le_bytes-to_le_bytes_2 b fit.types) (from_le_bytes-to_le_bytes_2 c fit.keys)
     (from_le_bytes-to_le_bytes_4 d fit.entries) (from_le_bytes-to_le_bytes_4 f fit.cells) (from_le_bytes-to_le_bytes_4 g fit.keysyms) (from_le_bytes-to_le_bytes_4 k fit.names) (from_le_bytes-to_le_bytes_2 i fit.indicators) (from_le_bytes-to_le_bytes_2 j fit.group_names)
 
-pub header_again : (h : Header) (rest : List ℕ) → HeaderFits h → Old h.edition h → header_of (header_bytes h ++ rest) ≡ h
-header_again h rest fits old = header_at h.edition h.groups h.types h.keys h.entries h.cells h.keysyms h.names 0 h.indicators h.group_names rest h refl refl fits old
+pub header_again : (h : Header) (rest : List ℕ) → HeaderFits h → Old h.version h → header_of (header_bytes h ++ rest) ≡ h
+header_again h rest fits old = header_at h.version h.groups h.types h.keys h.entries h.cells h.keysyms h.names 0 h.indicators h.group_names rest h refl refl fits old
 
-front_at : (e : Edition) (a b c d f g k i j : ℕ) (rest : List ℕ) → front_fault (header_bytes (record { edition = e; groups = a; types = b; keys = c; entries = d; cells = f; keysyms = g; names = k; indicators = i; group_names = j }) ++ rest) ≡ None
-front_at One a b c d f g k i j rest = rw (le-ltb (length (header_bytes (record { edition = One; groups = a; types = b; keys = c; entries = d; cells = f; keysyms = g; names = k; indicators = i; group_names = j }) ++ rest)) 28 (omega arith)) refl
-front_at Two a b c d f g k i j rest = rw (le-ltb (length (header_bytes (record { edition = Two; groups = a; types = b; keys = c; entries = d; cells = f; keysyms = g; names = k; indicators = i; group_names = j }) ++ rest)) 28 (omega arith), le-ltb (length (header_bytes (record { edition = Two; groups = a; types = b; keys = c; entries = d; cells = f; keysyms = g; names = k; indicators = i; group_names = j }) ++ rest)) 32 (omega arith)) refl
+front_at : (e : ImageVersion) (a b c d f g k i j : ℕ) (rest : List ℕ) → front_fault (header_bytes (record { version = e; groups = a; types = b; keys = c; entries = d; cells = f; keysyms = g; names = k; indicators = i; group_names = j }) ++ rest) ≡ None
+front_at One a b c d f g k i j rest = rw (le-ltb (length (header_bytes (record { version = One; groups = a; types = b; keys = c; entries = d; cells = f; keysyms = g; names = k; indicators = i; group_names = j }) ++ rest)) 28 (omega arith)) refl
+front_at Two a b c d f g k i j rest = rw (le-ltb (length (header_bytes (record { version = Two; groups = a; types = b; keys = c; entries = d; cells = f; keysyms = g; names = k; indicators = i; group_names = j }) ++ rest)) 28 (omega arith), le-ltb (length (header_bytes (record { version = Two; groups = a; types = b; keys = c; entries = d; cells = f; keysyms = g; names = k; indicators = i; group_names = j }) ++ rest)) 32 (omega arith)) refl
 
 pub front_again : (h : Header) (rest : List ℕ) → front_fault (header_bytes h ++ rest) ≡ None
-front_again h rest = front_at h.edition h.groups h.types h.keys h.entries h.cells h.keysyms h.names h.indicators h.group_names rest
+front_again h rest = front_at h.version h.groups h.types h.keys h.entries h.cells h.keysyms h.names h.indicators h.group_names rest
 
-behind_at : (e : Edition) (a b c d f g k i j : ℕ) (rest : List ℕ) → drop (header_size e) (header_bytes (record { edition = e; groups = a; types = b; keys = c; entries = d; cells = f; keysyms = g; names = k; indicators = i; group_names = j }) ++ rest) ≡ rest
+behind_at : (e : ImageVersion) (a b c d f g k i j : ℕ) (rest : List ℕ) → drop (header_size e) (header_bytes (record { version = e; groups = a; types = b; keys = c; entries = d; cells = f; keysyms = g; names = k; indicators = i; group_names = j }) ++ rest) ≡ rest
 behind_at One a b c d f g k i j rest = refl
 behind_at Two a b c d f g k i j rest = refl
 
-pub behind_header : (h : Header) (rest : List ℕ) → drop (header_size h.edition) (header_bytes h ++ rest) ≡ rest
-behind_header h rest = behind_at h.edition h.groups h.types h.keys h.entries h.cells h.keysyms h.names h.indicators h.group_names rest
+pub behind_header : (h : Header) (rest : List ℕ) → drop (header_size h.version) (header_bytes h ++ rest) ≡ rest
+behind_header h rest = behind_at h.version h.groups h.types h.keys h.entries h.cells h.keysyms h.names h.indicators h.group_names rest
 
-size_at : (e : Edition) (a b c d f g k i j : ℕ) → length (header_bytes (record { edition = e; groups = a; types = b; keys = c; entries = d; cells = f; keysyms = g; names = k; indicators = i; group_names = j })) ≡ header_size e
+size_at : (e : ImageVersion) (a b c d f g k i j : ℕ) → length (header_bytes (record { version = e; groups = a; types = b; keys = c; entries = d; cells = f; keysyms = g; names = k; indicators = i; group_names = j })) ≡ header_size e
 size_at One a b c d f g k i j = refl
 size_at Two a b c d f g k i j = refl
 
-pub length-header : (h : Header) → length (header_bytes h) ≡ header_size h.edition
-length-header h = size_at h.edition h.groups h.types h.keys h.entries h.cells h.keysyms h.names h.indicators h.group_names
+pub length-header : (h : Header) → length (header_bytes h) ≡ header_size h.version
+length-header h = size_at h.version h.groups h.types h.keys h.entries h.cells h.keysyms h.names h.indicators h.group_names
 
 pub length-table : {X : Type 0} (bytes_of : X → List ℕ) (size : ℕ) → ((x : X) → length (bytes_of x) ≡ size) → (xs : List X) → length (flat_map bytes_of xs) ≡ size * length xs
 length-table bytes_of size each [] = omega arith

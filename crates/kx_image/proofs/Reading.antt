@@ -38,7 +38,7 @@ counts_told s end =
     let h = header_of s in
     let groups = group_count h s in
     same_counts _ _ _ _ _ _ _ _ _ _ _ _ _ _ _ _ _ _
-    (sym (length-rows_at type_of 16 h.types (header_size h.edition) s))
+    (sym (length-rows_at type_of 16 h.types (header_size h.version) s))
     (sym (length-rows_at entry_of 4 h.entries (entries_start h) s))
     (sym (length-rows_at key_of 16 h.keys (keys_start h) s))
     (sym (length-rows_at group_of 8 groups (groups_start h) s))

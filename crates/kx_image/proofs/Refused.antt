@@ -29,25 +29,25 @@ use Rattle.kx_image.specs.Shape.{front_fault, length_fault, shape_fault, called_
 use Rattle.kx_image.specs.declared.fault.ImageFault.{ImageFault}
 use Rattle.kx_image.specs.declared.fault.ImageFault.TheVariants.{Truncated, Magic, Version, Length, BadRecord}
 use Rattle.kx_image.specs.declared.header.Header.{Header}
-use Rattle.kx_image.specs.declared.header.Edition.{Edition}
-use Rattle.kx_image.specs.declared.header.Edition.TheVariants.{One, Two}
+use Rattle.kx_image.specs.declared.header.ImageVersion.{ImageVersion}
+use Rattle.kx_image.specs.declared.header.ImageVersion.TheVariants.{One, Two}
 use Rattle.kx_image.proofs.Again.{type_again, entry_again, key_again, group_again, cell_again, keysym_again, indicator_again, group_name_again}
 use Rattle.kx_image.proofs.Only.{HeaderFits, Old, header_again, front_again, behind_header, length-header, length-table, groups_again}
 use Rattle.kx_image.proofs.Slicing.{Read, table_again}
 
-header_fits : (c : Content) (e : Edition) → Sound c → HeaderFits (header_for e c)
+header_fits : (c : Content) (e : ImageVersion) → Sound c → HeaderFits (header_for e c)
 header_fits c e sound =
     let fit = sound_fits c sound in
     let few = groups_fit c sound in
     record { groups = omega arith; types = fit.types; keys = fit.keys; entries = fit.entries; cells = fit.cells; keysyms = fit.keysyms; names = fit.names; indicators = fit.indicators; group_names = fit.group_names }
 
-old_header : (c : Content) (e : Edition) → IsExpressible e c → Old e (header_for e c)
+old_header : (c : Content) (e : ImageVersion) → IsExpressible e c → Old e (header_for e c)
 old_header c One expressible = (ap length expressible.0, ap length expressible.1)
 old_header c Two expressible = tt
 
 -- what a content's image gives back, table by table
 record Whole (c : Content) (h : Header) (s : List ℕ) : Type 0 where
-  types : Read type_bytes type_of 16 c.types (header_size h.edition) s (drop (entries_start h) s)
+  types : Read type_bytes type_of 16 c.types (header_size h.version) s (drop (entries_start h) s)
   entries : Read entry_bytes entry_of 4 c.entries (entries_start h) s (drop (keys_start h) s)
   keys : Read key_bytes key_of 16 c.keys (keys_start h) s (drop (groups_start h) s)
   groups : Read group_bytes group_of 8 c.groups (groups_start h) s (drop (cells_start h (length c.groups)) s)
@@ -107,7 +107,7 @@ module _ (c : Content) (sound : Sound c) where
       let q = group_name_within c sound i n at in let g = sound.counts.names_fit in
       (refl, group_name_again n (let h = holds.name_length in omega arith) (omega arith))
 
-length-image : (c : Content) (e : Edition) → length (image e c) ≡ names_start (header_for e c) (length c.groups) + length c.names
+length-image : (c : Content) (e : ImageVersion) → length (image e c) ≡ names_start (header_for e c) (length c.groups) + length c.names
 length-image c e =
     let tables = body c in
     let a = flat_map type_bytes c.types in
@@ -141,7 +141,7 @@ length-image c e =
     )
 
 -- the tables of an image, one behind another
-whole_of : (c : Content) (e : Edition) (s : List ℕ) → Sound c → s ≡ image e c → Whole c (header_for e c) s
+whole_of : (c : Content) (e : ImageVersion) (s : List ℕ) → Sound c → s ≡ image e c → Whole c (header_for e c) s
 whole_of c e s sound is =
     let h = header_for e c in
     let n = length c.groups in
@@ -175,7 +175,7 @@ same_content a a' b b' k k' g g' d d' y y' i i' m m' n n' p q r t u v w x z = cc
 -- the rows that bytes tell with a header and so many groups
 abbrev content_with : Header → ℕ → List ℕ → Content
 content_with h groups s = record {
-  types = rows_at type_of 16 h.types (header_size h.edition) s;
+  types = rows_at type_of 16 h.types (header_size h.version) s;
   entries = rows_at entry_of 4 h.entries (entries_start h) s;
   keys = rows_at key_of 16 h.keys (keys_start h) s;
   groups = rows_at group_of 8 groups (groups_start h) s;
@@ -186,12 +186,12 @@ content_with h groups s = record {
   names = part s (names_start h groups) h.names;
 }
 
-content_again : (c : Content) (e : Edition) (s : List ℕ) → Whole c (header_for e c) s → content_with (header_for e c) (length c.groups) s ≡ c
+content_again : (c : Content) (e : ImageVersion) (s : List ℕ) → Whole c (header_for e c) s → content_with (header_for e c) (length c.groups) s ≡ c
 content_again c e s whole =
     same_content _ _ _ _ _ _ _ _ _ _ _ _ _ _ _ _ _ _ whole.types.rows whole.entries.rows whole.keys.rows whole.groups.rows whole.cells.rows whole.keysyms.rows whole.indicators.rows whole.group_names.rows
     (ap (take (length c.names)) whole.group_names.behind ∙ take-length c.names)
 
-record Told (c : Content) (e : Edition) (s : List ℕ) : Type 0 where
+record Told (c : Content) (e : ImageVersion) (s : List ℕ) : Type 0 where
   header : header_of s ≡ header_for e c
   whole : Whole c (header_for e c) s
   counted : group_count (header_of s) s ≡ length c.groups
@@ -204,19 +204,19 @@ form_of s front end =
     let second : nat_lt (called_for s) (length s) ≡ false = le-ltb (called_for s) (length s) (omega (arith, end)) in
     rw front (rw (first, second))
 
-told_of : (c : Content) (s : List ℕ) (img : IsImage c s) → Told c img.edition s
+told_of : (c : Content) (s : List ℕ) (img : IsImage c s) → Told c img.version s
 told_of c s img =
-    let e = img.edition in
-    let header : header_of s ≡ header_for img.edition c = ap header_of img.is ∙ header_again (header_for img.edition c) (body c) (header_fits c img.edition img.sound) (old_header c img.edition img.expressible) in
-    let whole = whole_of c img.edition s img.sound img.is in
+    let e = img.version in
+    let header : header_of s ≡ header_for img.version c = ap header_of img.is ∙ header_again (header_for img.version c) (body c) (header_fits c img.version img.sound) (old_header c img.version img.expressible) in
+    let whole = whole_of c img.version s img.sound img.is in
     let counted : group_count (header_of s) s ≡ length c.groups = ap (λ (h : Header). group_count h s) header ∙ whole.counted in
-    let end : length s ≡ called_for s = whole.end ∙ sym (ap (λ (h : Header). names_start h (group_count h s) + h.names) header ∙ ap (λ n. names_start (header_for img.edition c) n + length c.names) whole.counted) in
+    let end : length s ≡ called_for s = whole.end ∙ sym (ap (λ (h : Header). names_start h (group_count h s) + h.names) header ∙ ap (λ n. names_start (header_for img.version c) n + length c.names) whole.counted) in
     record {
       header = header;
       whole = whole;
       counted = counted;
-      content = ap (λ (h : Header). content_with h (group_count h s) s) header ∙ ap (λ n. content_with (header_for img.edition c) n s) whole.counted ∙ content_again c img.edition s whole;
-      form = form_of s (ap front_fault img.is ∙ front_again (header_for img.edition c) (body c)) end;
+      content = ap (λ (h : Header). content_with h (group_count h s) s) header ∙ ap (λ n. content_with (header_for img.version c) n s) whole.counted ∙ content_again c img.version s whole;
+      form = form_of s (ap front_fault img.is ∙ front_again (header_for img.version c) (body c)) end;
     }
 
 -- a record that is the bytes of a row isn't garbled
@@ -229,9 +229,9 @@ ungarbled bytes_of of size xs start s rest read again i bad =
       | inr past ↦ absurd (let low = bad.below in let h = past.0 in omega arith)
     ]
 
-no_garbled : (c : Content) (e : Edition) (s : List ℕ) → Sound c → Told c e s → (part : RecordKind) (i : ℕ) → RecordGarbled s part i → ⊥
+no_garbled : (c : Content) (e : ImageVersion) (s : List ℕ) → Sound c → Told c e s → (part : RecordKind) (i : ℕ) → RecordGarbled s part i → ⊥
 no_garbled c e s sound told parts.Header i bad = bad.1 (ap (λ (h : Header). h.groups) told.header ∙ sym (ap (λ (d : Content). greatest_groups d.keys) told.content))
-no_garbled c e s sound told parts.KeyType i bad = ungarbled type_bytes type_of 16 c.types (header_size e) s _ told.whole.types (type_rereads c sound) i (subst (λ (h : Header). Garbled type_bytes type_of 16 h.types (header_size h.edition) s i) told.header bad)
+no_garbled c e s sound told parts.KeyType i bad = ungarbled type_bytes type_of 16 c.types (header_size e) s _ told.whole.types (type_rereads c sound) i (subst (λ (h : Header). Garbled type_bytes type_of 16 h.types (header_size h.version) s i) told.header bad)
 no_garbled c e s sound told parts.Entry i bad = ungarbled entry_bytes entry_of 4 c.entries (entries_start (header_for e c)) s _ told.whole.entries (λ j x at. (refl, entry_again x)) i (subst (λ (h : Header). Garbled entry_bytes entry_of 4 h.entries (entries_start h) s i) told.header bad)
 no_garbled c e s sound told parts.Key i bad = ungarbled key_bytes key_of 16 c.keys (keys_start (header_for e c)) s _ told.whole.keys (key_rereads c sound) i (subst (λ (h : Header). Garbled key_bytes key_of 16 h.keys (keys_start h) s i) told.header bad)
 no_garbled c e s sound told parts.Group i bad = ungarbled group_bytes group_of 8 c.groups (groups_start (header_for e c)) s _ told.whole.groups (group_rereads c sound) i
@@ -254,7 +254,7 @@ fault_refuses s Length has c img = let told = told_of c s img in let form = told
 fault_refuses s (BadRecord part i) has c img =
     let told = told_of c s img in
     elim has.1 [
-      | inl bad ↦ no_garbled c img.edition s img.sound told part i bad
+      | inl bad ↦ no_garbled c img.version s img.sound told part i bad
       | inr bad ↦ breaks_unsound (content_in s) part i bad (subst Sound (sym told.content) img.sound)
     ]
 

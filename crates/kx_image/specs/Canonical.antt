@@ -20,7 +20,7 @@ pub record NamesGarbled (is_canonical : List ℕ → Type 0) (part : RecordKind)
   pub garbled : is_canonical (record_at s start size index) → ⊥
 
 pub record AreCanonical (s : List ℕ) : Type 0 where
-  pub types : IsCanonicalTable (IsCanonical type_bytes type_of) 16 (header_of s).types (header_size (header_of s).edition) s
+  pub types : IsCanonicalTable (IsCanonical type_bytes type_of) 16 (header_of s).types (header_size (header_of s).version) s
   pub entries : IsCanonicalTable (IsCanonical entry_bytes entry_of) 4 (header_of s).entries (entries_start (header_of s)) s
   pub keys : IsCanonicalTable (IsCanonical key_bytes key_of) 16 (header_of s).keys (keys_start (header_of s)) s
   pub groups : IsCanonicalTable (IsCanonical group_bytes group_of) 8 (group_count (header_of s) s) (groups_start (header_of s)) s

@@ -12,12 +12,12 @@ use Rattle.kx_image.specs.Shape.{header_bytes, header_of, header_size, entries_s
 use Rattle.kx_image.specs.declared.fault.ImageFault.{ImageFault}
 use Rattle.kx_image.specs.declared.fault.ImageFault.TheVariants.{Truncated, Magic, Version, Length, BadRecord}
 use Rattle.kx_image.specs.declared.header.Header.{Header}
-use Rattle.kx_image.specs.declared.header.Edition.{Edition}
-use Rattle.kx_image.specs.declared.header.Edition.TheVariants.{One, Two}
+use Rattle.kx_image.specs.declared.header.ImageVersion.{ImageVersion}
+use Rattle.kx_image.specs.declared.header.ImageVersion.TheVariants.{One, Two}
 
-abbrev pub header_for : Edition → Content → Header
+abbrev pub header_for : ImageVersion → Content → Header
 header_for e c = record {
-  edition = e;
+  version = e;
   groups = greatest_groups c.keys;
   types = length c.types;
   keys = length c.keys;
@@ -34,20 +34,20 @@ abbrev pub body : Content → List ℕ
 body c = flat_map type_bytes c.types ++ (flat_map entry_bytes c.entries ++ (flat_map key_bytes c.keys ++ (flat_map group_bytes c.groups ++ (flat_map cell_bytes c.cells
     ++ (flat_map keysym_bytes c.keysyms ++ (flat_map indicator_bytes c.indicators ++ (flat_map group_name_bytes c.group_names ++ c.names)))))))
 
-abbrev pub image : Edition → Content → List ℕ
+abbrev pub image : ImageVersion → Content → List ℕ
 image e c = header_bytes (header_for e c) ++ body c
 
 -- what a version can tell: version 1 has no indicators and no group names
-abbrev pub IsExpressible : Edition → Content → Type 0
+abbrev pub IsExpressible : ImageVersion → Content → Type 0
 IsExpressible One c = (c.indicators ≡ []) × (c.group_names ≡ [])
 IsExpressible Two c = Unit {0}
 
 -- the bytes are the image of a sound content, in one of the versions
 pub record IsImage (c : Content) (s : List ℕ) : Type 0 where
-  pub edition : Edition
+  pub version : ImageVersion
   pub sound : Sound c
-  pub expressible : IsExpressible edition c
-  pub is : s ≡ image edition c
+  pub expressible : IsExpressible version c
+  pub is : s ≡ image version c
 
 -- the content whose rows the bytes tell, record by record
 abbrev pub content_in : List ℕ → Content
@@ -55,7 +55,7 @@ content_in s =
     let h = header_of s in
     let groups = group_count h s in
     record {
-      types = rows_at type_of 16 h.types (header_size h.edition) s;
+      types = rows_at type_of 16 h.types (header_size h.version) s;
       entries = rows_at entry_of 4 h.entries (entries_start h) s;
       keys = rows_at key_of 16 h.keys (keys_start h) s;
       groups = rows_at group_of 8 groups (groups_start h) s;
@@ -77,7 +77,7 @@ pub record Garbled {X : Type 0} (bytes_of : X → List ℕ) (of : List ℕ → X
 
 abbrev pub RecordGarbled : List ℕ → RecordKind → ℕ → Type 0
 RecordGarbled s parts.Header i = (i ≡ 0) × ((header_of s).groups ≡ greatest_groups (content_in s).keys → ⊥)
-RecordGarbled s parts.KeyType i = Garbled type_bytes type_of 16 (header_of s).types (header_size (header_of s).edition) s i
+RecordGarbled s parts.KeyType i = Garbled type_bytes type_of 16 (header_of s).types (header_size (header_of s).version) s i
 RecordGarbled s parts.Entry i = Garbled entry_bytes entry_of 4 (header_of s).entries (entries_start (header_of s)) s i
 RecordGarbled s parts.Key i = Garbled key_bytes key_of 16 (header_of s).keys (keys_start (header_of s)) s i
 RecordGarbled s parts.Group i = Garbled group_bytes group_of 8 (group_count (header_of s) s) (groups_start (header_of s)) s i

@@ -6,41 +6,41 @@ use Rattle.kx_image.specs.Records.{two, four, two_at, four_at}
 use Rattle.kx_image.specs.declared.fault.ImageFault.{ImageFault}
 use Rattle.kx_image.specs.declared.fault.ImageFault.TheVariants.{Truncated, Magic, Version, Length}
 use Rattle.kx_image.specs.declared.header.Header.{Header}
-use Rattle.kx_image.specs.declared.header.Edition.{Edition}
-use Rattle.kx_image.specs.declared.header.Edition.TheVariants.{One, Two}
+use Rattle.kx_image.specs.declared.header.ImageVersion.{ImageVersion}
+use Rattle.kx_image.specs.declared.header.ImageVersion.TheVariants.{One, Two}
 
 -- the first four bytes, `KXI` and a line feed
 abbrev pub magic : List ℕ
 magic = 75 ∷ 88 ∷ 73 ∷ 10 ∷ []
 
-abbrev pub edition_number : Edition → ℕ
-edition_number One = 1
-edition_number Two = 2
+abbrev pub version_number : ImageVersion → ℕ
+version_number One = 1
+version_number Two = 2
 
 -- what version 2 has after the header of version 1
-abbrev pub new_counts : Edition → ℕ → ℕ → List ℕ
+abbrev pub new_counts : ImageVersion → ℕ → ℕ → List ℕ
 new_counts One indicators group_names = []
 new_counts Two indicators group_names = two indicators ++ two group_names
 
 abbrev pub header_bytes : Header → List ℕ
-header_bytes h = magic ++ two (edition_number h.edition) ++ two h.groups ++ two h.types ++ two h.keys ++ four h.entries ++ four h.cells ++ four h.keysyms ++ four h.names ++ new_counts h.edition h.indicators h.group_names
+header_bytes h = magic ++ two (version_number h.version) ++ two h.groups ++ two h.types ++ two h.keys ++ four h.entries ++ four h.cells ++ four h.keysyms ++ four h.names ++ new_counts h.version h.indicators h.group_names
 
-abbrev pub header_size : Edition → ℕ
+abbrev pub header_size : ImageVersion → ℕ
 header_size One = 28
 header_size Two = 32
 
-abbrev pub edition_of : ℕ → Edition
-edition_of n = cond (n == 1) One Two
+abbrev pub version_of : ℕ → ImageVersion
+version_of n = cond (n == 1) One Two
 
 -- a count that version 1 doesn't have
-abbrev pub new_count_at : Edition → List ℕ → ℕ → ℕ
+abbrev pub new_count_at : ImageVersion → List ℕ → ℕ → ℕ
 new_count_at One s i = 0
 new_count_at Two s i = two_at s i
 
 -- the header that bytes of version 1 or 2 begin with
 abbrev pub header_of : List ℕ → Header
 header_of s = record {
-  edition = edition_of (two_at s 4);
+  version = version_of (two_at s 4);
   groups = two_at s 6;
   types = two_at s 8;
   keys = two_at s 10;
@@ -48,8 +48,8 @@ header_of s = record {
   cells = four_at s 16;
   keysyms = four_at s 20;
   names = four_at s 24;
-  indicators = new_count_at (edition_of (two_at s 4)) s 28;
-  group_names = new_count_at (edition_of (two_at s 4)) s 30;
+  indicators = new_count_at (version_of (two_at s 4)) s 28;
+  group_names = new_count_at (version_of (two_at s 4)) s 30;
 }
 
 -- what is wrong with the header's form: too short, another magic, another version, too short for version 2
@@ -64,7 +64,7 @@ front_fault s =
 
 -- where each table begins
 abbrev pub entries_start : Header → ℕ
-entries_start h = header_size h.edition + 16 * h.types
+entries_start h = header_size h.version + 16 * h.types
 
 abbrev pub keys_start : Header → ℕ
 keys_start h = entries_start h + 4 * h.entries

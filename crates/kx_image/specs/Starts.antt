@@ -6,7 +6,7 @@ use Rattle.kx_image.specs.declared.shape.Starts.{Starts}
 
 abbrev pub starts_of : Header → ℕ → Starts
 starts_of h groups = record {
-  types = header_size h.edition;
+  types = header_size h.version;
   entries = entries_start h;
   keys = keys_start h;
   groups = groups_start h;

@@ -4,7 +4,7 @@ use Rattle.std.specs.Io.KnownBytes.{Appends}
 use Rattle.ks_core.specs.Device.{Begins}
 use Rattle.kx_tables.specs.Content.{Content}
 use Rattle.kx_image.specs.Image.{IsImage, HasImageFault, image}
-use Rattle.kx_image.specs.declared.header.Edition.TheVariants.{Two}
+use Rattle.kx_image.specs.declared.header.ImageVersion.TheVariants.{Two}
 use Rattle.kx_image.specs.declared.upgrading.UpgradeFault.{UpgradeFault}
 use Rattle.kx_image.specs.declared.upgrading.UpgradeFault.TheVariants as faults
 

@@ -136,7 +136,7 @@ fn check_table<R: Record>(
 
 fn check_types(bytes: &[u8], header: Header, groups: u32) -> Result<(), ImageFault>
     requires { IsShape bytes.now header groups }
-    ensures ok { OnOk result (IsCanonicalTable (IsCanonical spec.type_bytes spec.type_of) 16 (header_of bytes.now).types (header_size (header_of bytes.now).edition) bytes.now) }
+    ensures ok { OnOk result (IsCanonicalTable (IsCanonical spec.type_bytes spec.type_of) 16 (header_of bytes.now).types (header_size (header_of bytes.now).version) bytes.now) }
     ensures fault { IfErr result (HasImageFault bytes.now) }
 {
     let start = Starts::of(header, groups).types;

@@ -1,14 +1,14 @@
 ghost use Rattle.std.specs.Prelude.{◌≡◌, ◌≤◌, ◌+◌, ◌*◌, None, Some, MatchResult, length};
 ghost use Rattle.kx_image.specs.Records as Records;
 ghost use Rattle.kx_image.specs.Shape as spec;
-ghost use Rattle.kx_image.specs.declared.header.Edition.TheVariants.{Two};
+ghost use Rattle.kx_image.specs.declared.header.ImageVersion.TheVariants.{Two};
 
 use crate::fault::ImageFault;
 use crate::numbers::{u16_at, u16_bytes, u32_at, u32_bytes};
 
 /// A version of the image.
 #[derive(Clone, Copy, PartialEq, Eq, Debug)]
-pub enum Edition {
+pub enum ImageVersion {
     /// Without indicators and group names.
     One,
     Two,
@@ -17,7 +17,7 @@ pub enum Edition {
 /// What the header of an image tells: its version, and how many rows each table has.
 #[derive(Clone, Copy, PartialEq, Eq, Debug)]
 pub struct Header {
-    pub edition: Edition,
+    pub version: ImageVersion,
     /// The greatest number of groups of a key.
     pub groups: u16,
     pub types: u16,
@@ -38,7 +38,7 @@ impl Header {
     /// The header that bytes begin with, or the first fault of its form.
     pub fn read(bytes: &[u8]) -> Result<Header, ImageFault>
         ensures { MatchResult result
-            (λ h. (spec.front_fault bytes.now ≡ None) × (h ≡ spec.header_of bytes.now) × (spec.header_size h.edition ≤ length bytes.now))
+            (λ h. (spec.front_fault bytes.now ≡ None) × (h ≡ spec.header_of bytes.now) × (spec.header_size h.version ≤ length bytes.now))
             (λ f. spec.front_fault bytes.now ≡ Some f) }
     {
         if bytes.len() < 28 {
@@ -59,7 +59,7 @@ impl Header {
 impl Header {
     /// The header's bytes in version 2.
     pub fn bytes(&self) -> [u8; 32]
-        requires { self.now.edition ≡ Two }
+        requires { self.now.version ≡ Two }
         ensures { result ≡ spec.header_bytes self.now }
     {
         let [g0, g1] = u16_bytes(self.groups);
@@ -81,11 +81,11 @@ impl Header {
 /// The header of version 1.
 fn header_one(bytes: &[u8]) -> Header
     requires long { 28 ≤ length bytes.now }
-    requires edition { Records.two_at bytes.now 4 ≡ 1 }
+    requires version { Records.two_at bytes.now 4 ≡ 1 }
     ensures { result ≡ spec.header_of bytes.now }
 {
     Header {
-        edition: Edition::One,
+        version: ImageVersion::One,
         groups: u16_at(bytes, 6),
         types: u16_at(bytes, 8),
         keys: u16_at(bytes, 10),
@@ -101,11 +101,11 @@ fn header_one(bytes: &[u8]) -> Header
 /// The header of version 2.
 fn header_two(bytes: &[u8]) -> Header
     requires long { 32 ≤ length bytes.now }
-    requires edition { Records.two_at bytes.now 4 ≡ 2 }
+    requires version { Records.two_at bytes.now 4 ≡ 2 }
     ensures { result ≡ spec.header_of bytes.now }
 {
     Header {
-        edition: Edition::Two,
+        version: ImageVersion::Two,
         groups: u16_at(bytes, 6),
         types: u16_at(bytes, 8),
         keys: u16_at(bytes, 10),

@@ -4,7 +4,7 @@ ghost use Rattle.kx_image.specs.Shape as spec;
 ghost use Rattle.kx_image.specs.Starts.{starts_of, IsShape};
 
 use crate::fault::ImageFault;
-use crate::header::{Edition, Header};
+use crate::header::{ImageVersion, Header};
 use crate::records::{
     CELL_SIZE, ENTRY_SIZE, GROUP_NAME_SIZE, GROUP_SIZE, INDICATOR_SIZE, KEY_SIZE, KEYSYM_SIZE,
     TYPE_SIZE,
@@ -30,7 +30,7 @@ impl Starts {
     pub fn of(header: Header, groups: u32) -> Starts
         ensures { result ≡ starts_of header groups }
     {
-        let types = header_size(header.edition);
+        let types = header_size(header.version);
         let entries = types + TYPE_SIZE * usize::from(header.types);
         let keys = entries + ENTRY_SIZE * header.entries as usize;
         let first_group = keys + KEY_SIZE * usize::from(header.keys);
@@ -55,13 +55,13 @@ impl Starts {
 }
 
 /// How many bytes the header of a version has.
-fn header_size(edition: Edition) -> usize
-    ensures value { result ≡ spec.header_size edition }
+fn header_size(version: ImageVersion) -> usize
+    ensures value { result ≡ spec.header_size version }
     ensures small { result ≤ 32 }
 {
-    match edition {
-        Edition::One => 28,
-        Edition::Two => 32,
+    match version {
+        ImageVersion::One => 28,
+        ImageVersion::Two => 32,
     }
 }
 

@@ -5,9 +5,9 @@ ghost use Rattle.ks_core.specs.BufferedOut.{Writes};
 ghost use Rattle.kx_image.specs.Image.{body, header_for, image};
 ghost use Rattle.kx_image.specs.Records as spec;
 ghost use Rattle.kx_image.specs.Shape.{header_bytes};
-ghost use Rattle.kx_image.specs.declared.header.Edition.TheVariants.{Two};
+ghost use Rattle.kx_image.specs.declared.header.ImageVersion.TheVariants.{Two};
 
-use crate::header::{Edition, Header};
+use crate::header::{ImageVersion, Header};
 use crate::records::{
     cell_bytes, entry_bytes, group_bytes, group_name_bytes, indicator_bytes, key_bytes,
     keysym_bytes, type_bytes,
@@ -22,7 +22,7 @@ fn header_of<T: Tables>(tables: &T) -> Header
 {
     let counts = tables.counts();
     Header {
-        edition: Edition::Two,
+        version: ImageVersion::Two,
         groups: u16::from(tables.greatest_groups()),
         types: counts.types,
         keys: counts.keys,

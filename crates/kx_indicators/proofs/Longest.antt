@@ -18,12 +18,12 @@ use Rattle.kx_parse.specs.declared.tree.Field.{Field}
 use Rattle.kx_parse.specs.declared.tree.Item.{Item}
 use Rattle.kx_parse.specs.declared.tree.Item.TheVariants.{Include, Statement}
 use Rattle.kx_parse.specs.declared.tree.Statement.{Statement as StatementValue}
-use Rattle.kx_indicators.specs.Blocks.{indicator_in, item_faults, lamp_names, next_default, own_faults, said_faults, written_name}
+use Rattle.kx_indicators.specs.Blocks.{indicator_in, item_faults, indicator_map_names, next_default, own_faults, said_faults, written_name}
 use Rattle.kx_indicators.specs.Bounds.{NamesAreValid}
 use Rattle.kx_indicators.specs.declared.limits.TheConstants.{MOST_INDICATORS}
-use Rattle.kx_indicators.specs.Given.{LampValues}
+use Rattle.kx_indicators.specs.Given.{IndicatorMapValues}
 use Rattle.kx_indicators.specs.Giving.{no_values}
-use Rattle.kx_indicators.specs.Meaning.{lamp_moves, lamp_rules}
+use Rattle.kx_indicators.specs.Meaning.{indicator_map_moves, indicator_map_rules}
 
 none_left : {X : Type 0} (xs ys : List X) → xs ++ ys ≡ [] → xs ≡ []
 none_left [] ys h = refl
@@ -46,29 +46,29 @@ said_short : (file : ℕ) (names : List (List ℕ)) (statement : StatementValue)
 said_short file names statement whole None h = All-nil IsShort
 said_short file names statement whole (Some i) h = All-push IsShort [] i.0.bytes (All-nil IsShort) (not_long (length i.0.bytes) (nat_lt MOST_NAME_BYTES (length i.0.bytes)) file whole refl (none_left (cond (nat_lt MOST_NAME_BYTES (length i.0.bytes)) (TooMany (at file whole) ∷ []) []) (flat_map (own_faults file names) i.1) h))
 
-item_short : (file : ℕ) (names : List (List ℕ)) (item : Item) → item_faults file names item ≡ [] → All IsShort (lamp_names item)
+item_short : (file : ℕ) (names : List (List ℕ)) (item : Item) → item_faults file names item ≡ [] → All IsShort (indicator_map_names item)
 item_short file names (Statement mode statement first whole) h = said_short file names statement whole (indicator_in statement) h
 item_short file names (Include mode text span) h = All-nil IsShort
 
 abbrev EachShort : List Said → Type 0
 EachShort [] = Unit {0}
-EachShort (s ∷ ss) = All IsShort (lamp_names s.1) × EachShort ss
+EachShort (s ∷ ss) = All IsShort (indicator_map_names s.1) × EachShort ss
 
 each_append : (ss ts : List Said) → EachShort ss → EachShort ts → EachShort (ss ++ ts)
 each_append [] ts h g = g
 each_append (s ∷ ss) ts h g = (h.0, each_append ss ts h.1 g)
 
-module _ (lamps names : List (List ℕ)) where
-  body_short : (body : Body) (d : LampValues) → faults nat_eq (lamp_rules lamps names) lamp_moves d body ≡ [] → EachShort (statements_of body)
+module _ (indicator_maps names : List (List ℕ)) where
+  body_short : (body : Body) (d : IndicatorMapValues) → faults nat_eq (indicator_map_rules indicator_maps names) indicator_map_moves d body ≡ [] → EachShort (statements_of body)
   body_short End d h = tt
   body_short (Begin rest) d h = body_short rest no_values h
   body_short (Own place item rest) d h =
       let own = item_faults place.file names item in
-      let more = faults nat_eq (lamp_rules lamps names) lamp_moves (next_default names d item) rest in
+      let more = faults nat_eq (indicator_map_rules indicator_maps names) indicator_map_moves (next_default names d item) rest in
       (item_short place.file names item (none_left own more h), body_short rest (next_default names d item) (none_right own more h))
   body_short (Inc mode group body rest) d h =
-      let inner = faults nat_eq (lamp_rules lamps names) lamp_moves no_values body in
-      let more = faults nat_eq (lamp_rules lamps names) lamp_moves d rest in
+      let inner = faults nat_eq (indicator_map_rules indicator_maps names) indicator_map_moves no_values body in
+      let more = faults nat_eq (indicator_map_rules indicator_maps names) indicator_map_moves d rest in
       each_append (statements_of body) (statements_of rest) (body_short body no_values (none_left inner more h)) (body_short rest d (none_right inner more h))
 
 -- ---- Each once
@@ -85,12 +85,12 @@ with_all : (ks more : List (List ℕ)) → All IsShort ks → All IsShort more �
 with_all ks [] all h = all
 with_all ks (k ∷ more) all h = with_all (with_name bytes_eq ks k) more (with_one IsShort ks k all (All-head IsShort k more h)) (All-tail IsShort k more h)
 
-behind_short : (ks : List (List ℕ)) (saids : List Said) → All IsShort ks → EachShort saids → All IsShort (names_behind lamp_names ks saids)
+behind_short : (ks : List (List ℕ)) (saids : List Said) → All IsShort ks → EachShort saids → All IsShort (names_behind indicator_map_names ks saids)
 behind_short ks [] all h = all
-behind_short ks (s ∷ ss) all h = behind_short (with_names ks (lamp_names s.1)) ss (with_all ks (lamp_names s.1) all h.0) h.1
+behind_short ks (s ∷ ss) all h = behind_short (with_names ks (indicator_map_names s.1)) ss (with_all ks (indicator_map_names s.1) all h.0) h.1
 
-pub names_short : (lamps names : List (List ℕ)) (body : Body) → faults_of nat_eq (lamp_rules lamps names) lamp_moves body ≡ [] → All IsShort (names_of lamp_names (statements_of body))
-names_short lamps names body h = behind_short [] (statements_of body) (All-nil IsShort) (body_short lamps names body no_values h)
+pub names_short : (indicator_maps names : List (List ℕ)) (body : Body) → faults_of nat_eq (indicator_map_rules indicator_maps names) indicator_map_moves body ≡ [] → All IsShort (names_of indicator_map_names (statements_of body))
+names_short indicator_maps names body h = behind_short [] (statements_of body) (All-nil IsShort) (body_short indicator_maps names body no_values h)
 
 all-push : (P : List ℕ → Type 0) (ks : List (List ℕ)) (k : List ℕ) → AllByRecursion P ks → P k → AllByRecursion P (ks ++ k ∷ [])
 all-push P [] k all last = (last, tt)
@@ -125,17 +125,17 @@ distinct-fold : (ks more : List (List ℕ)) → IsDistinct bytes_eq ks → IsDis
 distinct-fold ks [] d = d
 distinct-fold ks (k ∷ more) d = distinct-fold (with_name bytes_eq ks k) more (distinct-with ks k d)
 
-distinct-behind : (ks : List (List ℕ)) (saids : List Said) → IsDistinct bytes_eq ks → IsDistinct bytes_eq (names_behind lamp_names ks saids)
+distinct-behind : (ks : List (List ℕ)) (saids : List Said) → IsDistinct bytes_eq ks → IsDistinct bytes_eq (names_behind indicator_map_names ks saids)
 distinct-behind ks [] d = d
-distinct-behind ks (s ∷ ss) d = distinct-behind (with_names ks (lamp_names s.1)) ss (distinct-fold ks (lamp_names s.1) d)
+distinct-behind ks (s ∷ ss) d = distinct-behind (with_names ks (indicator_map_names s.1)) ss (distinct-fold ks (indicator_map_names s.1) d)
 
-pub names_apart : (saids : List Said) → IsDistinct bytes_eq (names_of lamp_names saids)
+pub names_apart : (saids : List Said) → IsDistinct bytes_eq (names_of indicator_map_names saids)
 unfolding IsDistinct
 names_apart saids = distinct-behind [] saids tt
 
-pub names_valid : (lamps names : List (List ℕ)) (body : Body) (ks : List (List ℕ)) → ks ≡ names_of lamp_names (statements_of body) → length ks ≤ MOST_INDICATORS → faults_of nat_eq (lamp_rules lamps names) lamp_moves body ≡ [] → NamesAreValid ks
-names_valid lamps names body ks are few h = record {
+pub names_valid : (indicator_maps names : List (List ℕ)) (body : Body) (ks : List (List ℕ)) → ks ≡ names_of indicator_map_names (statements_of body) → length ks ≤ MOST_INDICATORS → faults_of nat_eq (indicator_map_rules indicator_maps names) indicator_map_moves body ≡ [] → NamesAreValid ks
+names_valid indicator_maps names body ks are few h = record {
   few = few;
-  short = subst (All IsShort) (sym are) (names_short lamps names body h);
+  short = subst (All IsShort) (sym are) (names_short indicator_maps names body h);
   apart = subst (IsDistinct bytes_eq) (sym are) (names_apart (statements_of body));
 }

@@ -8,24 +8,24 @@ use Rattle.kx_parse.specs.declared.tree.Field.{Field}
 use Rattle.kx_parse.specs.declared.tree.Item.TheVariants.{Include, Statement}
 use Rattle.kx_parse.specs.declared.tree.Mode.{Mode}
 use Rattle.kx_indicators.specs.Blocks.{indicator_in, values_of}
-use Rattle.kx_indicators.specs.Given.{LampValues}
-use Rattle.kx_indicators.specs.Meaning.{LampOffer, lamp_rules, offers_to, said_offers}
+use Rattle.kx_indicators.specs.Given.{IndicatorMapValues}
+use Rattle.kx_indicators.specs.Meaning.{IndicatorMapOffer, indicator_map_rules, offers_to, said_offers}
 
-abbrev AreApart : List LampOffer → Type 0
-AreApart os = IsDistinct nat_eq (map (λ (o : LampOffer). o.name) os)
+abbrev AreApart : List IndicatorMapOffer → Type 0
+AreApart os = IsDistinct nat_eq (map (λ (o : IndicatorMapOffer). o.name) os)
 
-one_number : (mode : Mode) (values : LampValues) (o : Option ℕ) → AreApart (offers_to mode values o)
+one_number : (mode : Mode) (values : IndicatorMapValues) (o : Option ℕ) → AreApart (offers_to mode values o)
 unfolding IsDistinct
 one_number mode values None = tt
 one_number mode values (Some number) = (tt, tt)
 
-module _ (lamps names : List (List ℕ)) where
-  one_said : (d : LampValues) (mode : Mode) (o : Option (Name × List Field)) → AreApart (said_offers lamps names d mode o)
+module _ (indicator_maps names : List (List ℕ)) where
+  one_said : (d : IndicatorMapValues) (mode : Mode) (o : Option (Name × List Field)) → AreApart (said_offers indicator_maps names d mode o)
   unfolding IsDistinct
   one_said d mode None = tt
-  one_said d mode (Some i) = one_number mode (values_of names d i.1) (position (bytes_eq i.0.bytes) lamps)
+  one_said d mode (Some i) = one_number mode (values_of names d i.1) (position (bytes_eq i.0.bytes) indicator_maps)
 
-  pub indicators_once : OffersOnce nat_eq (lamp_rules lamps names)
+  pub indicators_once : OffersOnce nat_eq (indicator_map_rules indicator_maps names)
   unfolding IsDistinct
   indicators_once d place (Statement mode statement first whole) = one_said d mode (indicator_in statement)
   indicators_once d place (Include mode text span) = tt

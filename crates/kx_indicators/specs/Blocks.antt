@@ -12,10 +12,10 @@ use Rattle.kx_parse.specs.declared.tree.Item.{Item}
 use Rattle.kx_parse.specs.declared.tree.Item.TheVariants.{Include, Statement}
 use Rattle.kx_parse.specs.declared.tree.Statement.{Statement as Said}
 use Rattle.kx_parse.specs.declared.tree.Statement.TheVariants as said
-use Rattle.kx_indicators.specs.Given.{LampValues}
+use Rattle.kx_indicators.specs.Given.{IndicatorMapValues}
 use Rattle.kx_indicators.specs.Giving.{last_values, no_values, with_value}
-use Rattle.kx_indicators.specs.LampFields.{field_faults, field_value}
-use Rattle.kx_indicators.specs.declared.values.LampValue.{LampValue}
+use Rattle.kx_indicators.specs.IndicatorMapFields.{field_faults, field_value}
+use Rattle.kx_indicators.specs.declared.values.IndicatorMapValue.{IndicatorMapValue}
 use Rattle.kx_merge.specs.Faults.{name_faults}
 
 -- the name and the fields of an indicator
@@ -33,20 +33,20 @@ item_default (Statement mode statement first whole) = default_in statement
 item_default (Include mode text span) = None
 
 -- the name of the indicator that a statement is about
-abbrev pub lamp_names : Item → List (List ℕ)
-lamp_names (Statement mode statement first whole) = option_map_or (λ i. i.0.bytes ∷ []) (indicator_in statement) []
-lamp_names (Include mode text span) = []
+abbrev pub indicator_map_names : Item → List (List ℕ)
+indicator_map_names (Statement mode statement first whole) = option_map_or (λ i. i.0.bytes ∷ []) (indicator_in statement) []
+indicator_map_names (Include mode text span) = []
 
 -- ---- Defaults
 
 -- `names` are the virtual modifiers by number
 module _ (names : List (List ℕ)) where
   -- a default with a fault, in whatever file it stands, gives nothing
-  abbrev pub default_value : Name → Field → Option LampValue
+  abbrev pub default_value : Name → Field → Option IndicatorMapValue
   default_value member field = if is_faultless (field_faults 0 names member field) then field_value names member field else None
 
   -- the defaults behind one more statement
-  abbrev pub next_default : LampValues → Item → LampValues
+  abbrev pub next_default : IndicatorMapValues → Item → IndicatorMapValues
   next_default d item = with_value d (option_and_then (λ given. default_value given.0 given.1) (item_default item))
 
   -- a law, the clause `defaults` of `indicators`: the defaults behind the statements of a section are what the last of them gives that gives a field
@@ -55,7 +55,7 @@ module _ (names : List (List ℕ)) where
   DefaultsAreLast = (statements : List Item) → fold next_default no_values statements ≡ last_values (λ item. option_and_then (λ given. default_value given.0 given.1) (item_default item)) no_values statements
 
   -- what is written last in an indicator, else the default before it; a field of two words is read and not used
-  abbrev pub values_of : LampValues → List Field → LampValues
+  abbrev pub values_of : IndicatorMapValues → List Field → IndicatorMapValues
   values_of d fields = last_values (λ field. if is_some field.place.member then None else field_value names field.place.word field) d fields
 
 -- ---- Faults
@@ -77,7 +77,7 @@ module _ (file : ℕ) (names : List (List ℕ)) where
 abbrev pub given_of : Field → Option Name → Option (Name × Field)
 given_of field member = option_map (λ m. (m, field)) member
 
-abbrev pub given_value : List (List ℕ) → Option (Name × Field) → Option LampValue
+abbrev pub given_value : List (List ℕ) → Option (Name × Field) → Option IndicatorMapValue
 given_value names given = option_and_then (λ g. default_value names g.0 g.1) given
 
 abbrev pub written_name : Option (Name × List Field) → List (List ℕ)
@@ -89,7 +89,7 @@ is_indicator word = str_eq_ignore_ascii_case word (codes "indicator")
 abbrev pub member_of : Field → Option Name
 member_of field = if str_eq_ignore_ascii_case field.place.word.bytes (codes "indicator") then field.place.member else None
 
-abbrev pub own_value : (names : List (List ℕ)) → Field → Option LampValue
+abbrev pub own_value : (names : List (List ℕ)) → Field → Option IndicatorMapValue
 own_value names field = if is_some field.place.member then None else field_value names field.place.word field
 
 abbrev pub default_faults : (file : ℕ) → (names : List (List ℕ)) → Option (Name × Field) → List Fault

@@ -15,4 +15,4 @@ pub record NamesAreValid (names : List (List ℕ)) : Type 0 where
 -- for each name there is what lights its indicator
 pub record AreValid (is : Indicators) : Type 0 where
   pub names : NamesAreValid is.names
-  pub as_many : length is.lamps ≡ length is.names
+  pub as_many : length is.indicator_maps ≡ length is.names

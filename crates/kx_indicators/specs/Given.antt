@@ -1,7 +1,7 @@
 -- What the fields of an indicator are given; nothing, where they aren't written.
 use Rattle.std.specs.Prelude.{ℕ, Option}
 
-pub record LampValues : Type 0 where
+pub record IndicatorMapValues : Type 0 where
   -- a set of names of modifiers
   pub modifiers : Option ℕ
   -- masks of states

@@ -1,8 +1,8 @@
-pub mod LampMasks
-pub mod LampFields
+pub mod IndicatorMapMasks
+pub mod IndicatorMapFields
 pub mod Given
 pub mod Giving
-pub mod Lamps
+pub mod IndicatorMaps
 pub mod Blocks
 pub mod Meaning
 pub mod Bounds

@@ -12,72 +12,72 @@ use Rattle.kx_parse.specs.declared.tree.Field.{Field}
 use Rattle.kx_parse.specs.declared.tree.Item.{Item}
 use Rattle.kx_parse.specs.declared.tree.Item.TheVariants.{Include, Statement}
 use Rattle.kx_parse.specs.declared.tree.Mode.{Mode}
-use Rattle.kx_indicators.specs.Blocks.{indicator_in, item_faults, lamp_names, next_default, values_of}
-use Rattle.kx_indicators.specs.Given.{LampValues}
-use Rattle.kx_indicators.specs.Lamps.{Lamp, lamp_with}
+use Rattle.kx_indicators.specs.Blocks.{indicator_in, item_faults, indicator_map_names, next_default, values_of}
+use Rattle.kx_indicators.specs.Given.{IndicatorMapValues}
+use Rattle.kx_indicators.specs.IndicatorMaps.{IndicatorMap, indicator_map_with}
 use Rattle.kx_indicators.specs.Giving.{no_values, values_cell, only}
-use Rattle.kx_indicators.specs.declared.values.LampField.{LampField}
-use Rattle.kx_indicators.specs.declared.values.LampField.TheVariants as fields
-use Rattle.kx_indicators.specs.declared.values.LampValue.{LampValue}
+use Rattle.kx_indicators.specs.declared.values.IndicatorMapField.{IndicatorMapField}
+use Rattle.kx_indicators.specs.declared.values.IndicatorMapField.TheVariants as fields
+use Rattle.kx_indicators.specs.declared.values.IndicatorMapValue.{IndicatorMapValue}
 use Rattle.kx_indicators.specs.declared.limits.TheConstants.{MOST_INDICATORS}
 
 -- indicators are numbered from 0 in the order in which they are first named
-abbrev pub LampOffer : Type 0
-LampOffer = Offer ℕ LampField LampValue
+abbrev pub IndicatorMapOffer : Type 0
+IndicatorMapOffer = Offer ℕ IndicatorMapField IndicatorMapValue
 
 -- what a statement offers the indicator of a number
-abbrev pub offers_to : Mode → LampValues → Option ℕ → List LampOffer
+abbrev pub offers_to : Mode → IndicatorMapValues → Option ℕ → List IndicatorMapOffer
 offers_to mode values number = option_map_or (λ n. plain_offer mode n (values_cell values) ∷ []) number []
 
--- `lamps` are the names of indicators, `names` the virtual modifiers, both by number
-module _ (lamps names : List (List ℕ)) where
-  abbrev pub item_offers : LampValues → Item → List LampOffer
-  item_offers d (Statement mode statement first whole) = option_map_or (λ i. offers_to mode (values_of names d i.1) (position (bytes_eq i.0.bytes) lamps)) (indicator_in statement) []
+-- `indicator_maps` are the names of indicators, `names` the virtual modifiers, both by number
+module _ (indicator_maps names : List (List ℕ)) where
+  abbrev pub item_offers : IndicatorMapValues → Item → List IndicatorMapOffer
+  item_offers d (Statement mode statement first whole) = option_map_or (λ i. offers_to mode (values_of names d i.1) (position (bytes_eq i.0.bytes) indicator_maps)) (indicator_in statement) []
   item_offers d (Include mode text span) = []
 
-  abbrev pub lamp_rules : Rules ℕ LampField LampValue LampValues
-  lamp_rules = record { start = no_values; next = next_default names; offers = λ d place item. item_offers d item; faults = λ d place item. item_faults place.file names item }
+  abbrev pub indicator_map_rules : Rules ℕ IndicatorMapField IndicatorMapValue IndicatorMapValues
+  indicator_map_rules = record { start = no_values; next = next_default names; offers = λ d place item. item_offers d item; faults = λ d place item. item_faults place.file names item }
 
 -- the names in the order of first appearance, hidden or not
 abbrev pub indicator_names : Body → List (List ℕ)
-indicator_names body = names_of lamp_names (statements_of body)
+indicator_names body = names_of indicator_map_names (statements_of body)
 
 module _ (names : List (List ℕ)) (body : Body) where
-  abbrev pub lamp_offers : List LampOffer
-  lamp_offers = offers_of nat_eq (lamp_rules (indicator_names body) names) no_moves body
+  abbrev pub indicator_map_offers : List IndicatorMapOffer
+  indicator_map_offers = offers_of nat_eq (indicator_map_rules (indicator_names body) names) no_moves body
 
   -- each field by precedence; undefined masks are none, undefined states are the effective one
-  abbrev pub lamp_of : ℕ → Lamp
-  lamp_of number = lamp_with (record {
-    modifiers = option_and_then (λ v. (only v).modifiers) (value_of nat_eq lamp_offers number fields.Modifiers);
-    mod_states = option_and_then (λ v. (only v).mod_states) (value_of nat_eq lamp_offers number fields.ModStates);
-    group_states = option_and_then (λ v. (only v).group_states) (value_of nat_eq lamp_offers number fields.GroupStates);
-    groups = option_and_then (λ v. (only v).groups) (value_of nat_eq lamp_offers number fields.Groups);
+  abbrev pub indicator_map_of : ℕ → IndicatorMap
+  indicator_map_of number = indicator_map_with (record {
+    modifiers = option_and_then (λ v. (only v).modifiers) (value_of nat_eq indicator_map_offers number fields.Modifiers);
+    mod_states = option_and_then (λ v. (only v).mod_states) (value_of nat_eq indicator_map_offers number fields.ModStates);
+    group_states = option_and_then (λ v. (only v).group_states) (value_of nat_eq indicator_map_offers number fields.GroupStates);
+    groups = option_and_then (λ v. (only v).groups) (value_of nat_eq indicator_map_offers number fields.Groups);
   })
 
   -- the statement with which there are too many, and the faults of the statements
-  abbrev pub lamps_faults : List Fault
-  lamps_faults = count_faults lamp_names MOST_INDICATORS (statements_of body) ++ faults_of nat_eq (lamp_rules (indicator_names body) names) no_moves body
+  abbrev pub indicator_maps_faults : List Fault
+  indicator_maps_faults = count_faults indicator_map_names MOST_INDICATORS (statements_of body) ++ faults_of nat_eq (indicator_map_rules (indicator_names body) names) no_moves body
 
 -- indicators by number
 pub record Indicators : Type 0 where
   pub names : List (List ℕ)
-  pub lamps : List Lamp
+  pub indicator_maps : List IndicatorMap
 
 -- those that a body declares, with the virtual modifiers by number
 pub record AreIndicators (is : Indicators) (names : List (List ℕ)) (body : Body) : Type 0 where
   pub names_are : is.names ≡ indicator_names body
   pub few : length is.names ≤ MOST_INDICATORS
-  pub as_many : length is.lamps ≡ length is.names
-  pub lamps_are : (number : ℕ) → number < length is.names → slice_get is.lamps number ≡ Some (lamp_of names body number)
+  pub as_many : length is.indicator_maps ≡ length is.names
+  pub indicator_maps_are : (number : ℕ) → number < length is.names → slice_get is.indicator_maps number ≡ Some (indicator_map_of names body number)
 
 -- ---- Under names, for clauses and proofs
 
-abbrev pub values_offer : Mode → LampValues → ℕ → LampOffer
+abbrev pub values_offer : Mode → IndicatorMapValues → ℕ → IndicatorMapOffer
 values_offer mode values number = plain_offer mode number (values_cell values)
 
-abbrev pub said_offers : List (List ℕ) → List (List ℕ) → LampValues → Mode → Option (Name × List Field) → List LampOffer
-said_offers lamps names d mode i = option_map_or (λ i. offers_to mode (values_of names d i.1) (position (bytes_eq i.0.bytes) lamps)) i []
+abbrev pub said_offers : List (List ℕ) → List (List ℕ) → IndicatorMapValues → Mode → Option (Name × List Field) → List IndicatorMapOffer
+said_offers indicator_maps names d mode i = option_map_or (λ i. offers_to mode (values_of names d i.1) (position (bytes_eq i.0.bytes) indicator_maps)) i []
 
-abbrev pub lamp_moves : Moves ℕ LampField
-lamp_moves = no_moves
+abbrev pub indicator_map_moves : Moves ℕ IndicatorMapField
+indicator_map_moves = no_moves

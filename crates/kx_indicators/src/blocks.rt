@@ -12,7 +12,7 @@ ghost use Rattle.kx_merge.specs.Faults.{name_faults};
 use crate::defaults::default_in;
 use crate::fields::read_field;
 use crate::naming::indicator_in;
-use crate::values::{LampValue, LampValues};
+use crate::values::{IndicatorMapValue, IndicatorMapValues};
 use kx_basics::MOST_NAME_BYTES;
 use kx_lex::{At, Fault, Name, Span};
 use kx_parse::{Field, Item, Statement};
@@ -20,7 +20,7 @@ use kx_virtual_mods::{ModNames, Names};
 use std::alloc::Global;
 
 /// What a field in an indicator gives it.
-fn read_own(names: &ModNames, file: u32, field: &Field) -> Result<Option<LampValue>, Fault>
+fn read_own(names: &ModNames, file: u32, field: &Field) -> Result<Option<IndicatorMapValue>, Fault>
     ensures value { IfOk result (λ value. value ≡ own_value names.now.names field.now) }
     ensures faultless { OnOk result (own_faults file names.now.names field.now ≡ []) }
     ensures fault { IfErr result (λ e. Contains (own_faults file names.now.names field.now) e) }
@@ -35,9 +35,9 @@ fn read_own(names: &ModNames, file: u32, field: &Field) -> Result<Option<LampVal
 fn read_values(
     names: &ModNames,
     file: u32,
-    defaults: LampValues,
+    defaults: IndicatorMapValues,
     fields: &[Field],
-) -> Result<LampValues, Fault>
+) -> Result<IndicatorMapValues, Fault>
     ensures value { IfOk result (λ values. values ≡ values_of names.now.names defaults fields.now) }
     ensures faultless { OnOk result (flat_map (own_faults file names.now.names) fields.now ≡ []) }
     ensures fault { IfErr result (λ e. Contains (flat_map (own_faults file names.now.names) fields.now) e) }
@@ -49,7 +49,7 @@ fn read_values(
     Ok(values)
 }
 
-fn no_records(alloc: Global) -> Vec<(usize, LampValues)>
+fn no_records(alloc: Global) -> Vec<(usize, IndicatorMapValues)>
     ensures { (mode : ModeValue) → AreOffered mode (values_cell) (values_width) result.items [] }
 {
     Vec::new(alloc)
@@ -58,8 +58,8 @@ fn no_records(alloc: Global) -> Vec<(usize, LampValues)>
 fn one_record(
     alloc: Global,
     number: usize,
-    values: LampValues,
-) -> Result<Vec<(usize, LampValues)>, Fault>
+    values: IndicatorMapValues,
+) -> Result<Vec<(usize, IndicatorMapValues)>, Fault>
     ensures records { (mode : ModeValue) → IfOk result (λ records. AreOffered mode (values_cell) (values_width) records.items (values_offer mode values number ∷ [])) }
     ensures err { IfErr result (λ e. e ≡ Memory) }
 {
@@ -72,8 +72,8 @@ fn one_record(
 fn records_for(
     alloc: Global,
     number: Option<usize>,
-    values: LampValues,
-) -> Result<Vec<(usize, LampValues)>, Fault>
+    values: IndicatorMapValues,
+) -> Result<Vec<(usize, IndicatorMapValues)>, Fault>
     ensures records { (mode : ModeValue) → IfOk result (λ records. AreOffered mode (values_cell) (values_width) records.items (offers_to mode values number)) }
     ensures err { IfErr result (λ e. e ≡ Memory) }
 {
@@ -86,15 +86,15 @@ fn records_for(
 /// What an indicator gives; `whole` is the statement.
 fn read_indicator(
     alloc: Global,
-    lamps: &Names,
+    indicator_maps: &Names,
     names: &ModNames,
     file: u32,
-    defaults: LampValues,
+    defaults: IndicatorMapValues,
     whole: Span,
     name: &Name,
     fields: &[Field],
-) -> Result<Vec<(usize, LampValues)>, Fault>
-    ensures records { (mode : ModeValue) → IfOk result (λ records. AreOffered mode (values_cell) (values_width) records.items (said_offers lamps.now names.now.names defaults mode (Some (name.now, fields.now)))) }
+) -> Result<Vec<(usize, IndicatorMapValues)>, Fault>
+    ensures records { (mode : ModeValue) → IfOk result (λ records. AreOffered mode (values_cell) (values_width) records.items (said_offers indicator_maps.now names.now.names defaults mode (Some (name.now, fields.now)))) }
     ensures faultless { OnOk result (name_faults file whole name.now ++ flat_map (own_faults file names.now.names) fields.now ≡ []) }
     ensures fault { IfErr result (λ e. Contains (Memory ∷ (name_faults file whole name.now ++ flat_map (own_faults file names.now.names) fields.now)) e) }
 {
@@ -103,7 +103,7 @@ fn read_indicator(
         return Err(Fault::TooMany(At { file, span: whole }));
     }
     let values = read_values(names, file, defaults, fields)?;
-    records_for(alloc, lamps.number_of(bytes), values)
+    records_for(alloc, indicator_maps.number_of(bytes), values)
 }
 
 /// Checks a statement that is no indicator.
@@ -123,21 +123,21 @@ fn check_default(names: &ModNames, file: u32, statement: &Statement) -> Result<(
 /// What a statement gives; `whole` is all of it.
 fn read_statement(
     alloc: Global,
-    lamps: &Names,
+    indicator_maps: &Names,
     names: &ModNames,
     file: u32,
-    defaults: LampValues,
+    defaults: IndicatorMapValues,
     whole: Span,
     statement: &Statement,
-) -> Result<Vec<(usize, LampValues)>, Fault>
-    ensures records { (mode : ModeValue) → IfOk result (λ records. AreOffered mode (values_cell) (values_width) records.items (said_offers lamps.now names.now.names defaults mode (indicator_in statement.now))) }
+) -> Result<Vec<(usize, IndicatorMapValues)>, Fault>
+    ensures records { (mode : ModeValue) → IfOk result (λ records. AreOffered mode (values_cell) (values_width) records.items (said_offers indicator_maps.now names.now.names defaults mode (indicator_in statement.now))) }
     ensures faultless { OnOk result (said_faults file names.now.names statement.now whole (indicator_in statement.now) ≡ []) }
     ensures fault { IfErr result (λ e. Contains (Memory ∷ said_faults file names.now.names statement.now whole (indicator_in statement.now)) e) }
 {
     match indicator_in(statement) {
         Some((name, fields)) => read_indicator(
             alloc,
-            lamps,
+            indicator_maps,
             names,
             file,
             defaults,
@@ -155,13 +155,13 @@ fn read_statement(
 /// What an item gives, under the defaults before it in its section.
 pub(crate) fn read_item(
     alloc: Global,
-    lamps: &Names,
+    indicator_maps: &Names,
     names: &ModNames,
     file: u32,
-    defaults: LampValues,
+    defaults: IndicatorMapValues,
     item: &Item,
-) -> Result<Vec<(usize, LampValues)>, Fault>
-    ensures records { IfOk result (λ records. AreOffered (mode_of item.now) (values_cell) (values_width) records.items (item_offers lamps.now names.now.names defaults item.now)) }
+) -> Result<Vec<(usize, IndicatorMapValues)>, Fault>
+    ensures records { IfOk result (λ records. AreOffered (mode_of item.now) (values_cell) (values_width) records.items (item_offers indicator_maps.now names.now.names defaults item.now)) }
     ensures faultless { OnOk result (item_faults file names.now.names item.now ≡ []) }
     ensures fault { IfErr result (λ e. Contains (Memory ∷ item_faults file names.now.names item.now) e) }
 {
@@ -171,6 +171,6 @@ pub(crate) fn read_item(
             statement,
             span,
             ..
-        } => read_statement(alloc, lamps, names, file, defaults, *span, statement),
+        } => read_statement(alloc, indicator_maps, names, file, defaults, *span, statement),
     }
 }

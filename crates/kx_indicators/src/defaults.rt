@@ -4,7 +4,7 @@ ghost use Rattle.std.specs.Option.{option_map};
 ghost use Rattle.kx_indicators.specs.Blocks.{default_in, default_value, given_of, is_indicator, item_default, member_of, next_default};
 
 use crate::fields::read_field;
-use crate::values::{LampValue, LampValues};
+use crate::values::{IndicatorMapValue, IndicatorMapValues};
 use kx_lex::Name;
 use kx_parse::{Field, Item, Statement};
 use kx_virtual_mods::ModNames;
@@ -57,7 +57,7 @@ pub(crate) fn default_in(statement: &Statement) -> Option<(&Name, &Field)>
 }
 
 /// What a default gives; nothing, where it has a fault.
-fn default_value(names: &ModNames, member: &Name, field: &Field) -> Option<LampValue>
+fn default_value(names: &ModNames, member: &Name, field: &Field) -> Option<IndicatorMapValue>
     ensures { result ≡ default_value names.now.names member.now field.now }
 {
     match read_field(names, 0, member, field) {
@@ -76,7 +76,7 @@ fn item_default(item: &Item) -> Option<(&Name, &Field)>
 }
 
 /// The defaults behind one more statement.
-pub(crate) fn next_default(names: &ModNames, defaults: LampValues, item: &Item) -> LampValues
+pub(crate) fn next_default(names: &ModNames, defaults: IndicatorMapValues, item: &Item) -> IndicatorMapValues
     ensures { result ≡ next_default names.now.names defaults item.now }
 {
     match item_default(item) {

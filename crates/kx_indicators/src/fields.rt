@@ -1,30 +1,30 @@
 //! What the fields of indicators are given.
 ghost use Rattle.std.specs.Prelude.{◌≡◌, [], Contains, IfErr, IfOk, OnOk, Some};
-ghost use Rattle.kx_indicators.specs.LampFields.{expression_faults, expression_value, field_faults, field_value, field_words, known_value, placed_faults};
+ghost use Rattle.kx_indicators.specs.IndicatorMapFields.{expression_faults, expression_value, field_faults, field_value, field_words, known_value, placed_faults};
 ghost use Rattle.kx_merge.specs.Faults.{value_faults};
 ghost use Rattle.kx_merge.specs.Words.{among};
 
 use crate::masks::{MaskKind, read_mask};
 use crate::states::GivenStates;
-use crate::values::{LampField, LampValue};
+use crate::values::{IndicatorMapField, IndicatorMapValue};
 use kx_lex::{At, Fault, Name};
 use kx_merge::expression_of;
 use kx_parse::{Expression, Field};
 use kx_virtual_mods::ModNames;
 
-fn field_named(word: &[u8]) -> Option<LampField>
+fn field_named(word: &[u8]) -> Option<IndicatorMapField>
     ensures { result ≡ among field_words word.now }
 {
     if word.eq_ignore_ascii_case(b"modifiers") {
-        Some(LampField::Modifiers)
+        Some(IndicatorMapField::Modifiers)
     } else if word.eq_ignore_ascii_case(b"mods") {
-        Some(LampField::Modifiers)
+        Some(IndicatorMapField::Modifiers)
     } else if word.eq_ignore_ascii_case(b"whichModState") {
-        Some(LampField::ModStates)
+        Some(IndicatorMapField::ModStates)
     } else if word.eq_ignore_ascii_case(b"whichGroupState") {
-        Some(LampField::GroupStates)
+        Some(IndicatorMapField::GroupStates)
     } else if word.eq_ignore_ascii_case(b"groups") {
-        Some(LampField::Groups)
+        Some(IndicatorMapField::Groups)
     } else {
         None
     }
@@ -34,24 +34,24 @@ fn field_named(word: &[u8]) -> Option<LampField>
 fn read_expression(
     names: &ModNames,
     file: u32,
-    known: LampField,
+    known: IndicatorMapField,
     expression: &Expression,
-) -> Result<LampValue, Fault>
+) -> Result<IndicatorMapValue, Fault>
     ensures value { IfOk result (λ value. value ≡ expression_value names.now.names known expression.now) }
     ensures faultless { OnOk result (expression_faults file names.now.names known expression.now ≡ []) }
     ensures fault { IfErr result (λ e. Contains (expression_faults file names.now.names known expression.now) e) }
 {
     match known {
-        LampField::Modifiers => Ok(LampValue::Modifiers(names.mask_of(file, expression)?)),
-        LampField::ModStates => {
+        IndicatorMapField::Modifiers => Ok(IndicatorMapValue::Modifiers(names.mask_of(file, expression)?)),
+        IndicatorMapField::ModStates => {
             let mask = read_mask(MaskKind::States, file, expression)?;
-            Ok(LampValue::ModStates(GivenStates::of(mask)))
+            Ok(IndicatorMapValue::ModStates(GivenStates::of(mask)))
         }
-        LampField::GroupStates => {
+        IndicatorMapField::GroupStates => {
             let mask = read_mask(MaskKind::States, file, expression)?;
-            Ok(LampValue::GroupStates(GivenStates::of(mask)))
+            Ok(IndicatorMapValue::GroupStates(GivenStates::of(mask)))
         }
-        LampField::Groups => Ok(LampValue::Groups(read_mask(MaskKind::Groups, file, expression)?)),
+        IndicatorMapField::Groups => Ok(IndicatorMapValue::Groups(read_mask(MaskKind::Groups, file, expression)?)),
     }
 }
 
@@ -59,9 +59,9 @@ fn read_expression(
 fn read_setting(
     names: &ModNames,
     file: u32,
-    known: LampField,
+    known: IndicatorMapField,
     field: &Field,
-) -> Result<LampValue, Fault>
+) -> Result<IndicatorMapValue, Fault>
     ensures value { IfOk result (λ value. Some value ≡ known_value names.now.names field.now.setting (Some known)) }
     ensures faultless { OnOk result (value_faults file (expression_faults file names.now.names known) field.now.span field.now.setting ≡ []) }
     ensures fault { IfErr result (λ e. Contains (value_faults file (expression_faults file names.now.names known) field.now.span field.now.setting) e) }
@@ -75,9 +75,9 @@ fn read_known(
     names: &ModNames,
     file: u32,
     word: &Name,
-    known: LampField,
+    known: IndicatorMapField,
     field: &Field,
-) -> Result<LampValue, Fault>
+) -> Result<IndicatorMapValue, Fault>
     ensures value { IfOk result (λ value. Some value ≡ known_value names.now.names field.now.setting (Some known)) }
     ensures faultless { OnOk result (placed_faults file names.now.names word.now field.now known field.now.place.index ≡ []) }
     ensures fault { IfErr result (λ e. Contains (placed_faults file names.now.names word.now field.now known field.now.place.index) e) }
@@ -97,7 +97,7 @@ pub(crate) fn read_field(
     file: u32,
     word: &Name,
     field: &Field,
-) -> Result<Option<LampValue>, Fault>
+) -> Result<Option<IndicatorMapValue>, Fault>
     ensures value { IfOk result (λ value. value ≡ field_value names.now.names word.now field.now) }
     ensures faultless { OnOk result (field_faults file names.now.names word.now field.now ≡ []) }
     ensures fault { IfErr result (λ e. Contains (field_faults file names.now.names word.now field.now) e) }

@@ -4,7 +4,7 @@
 mod blocks;
 mod defaults;
 mod fields;
-mod lamp;
+mod indicator_map;
 mod limits;
 mod listing;
 mod masks;
@@ -14,7 +14,7 @@ mod states;
 mod table;
 mod values;
 
-pub use lamp::Lamp;
+pub use indicator_map::IndicatorMap;
 pub use limits::MOST_INDICATORS;
 pub use listing::indicators;
 pub use table::Indicators;

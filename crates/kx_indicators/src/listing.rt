@@ -6,15 +6,15 @@ ghost use Rattle.kx_lex.specs.declared.fault.Fault.TheVariants.{Memory};
 ghost use Rattle.kx_virtual_mods.specs.Once.{OffersOnce};
 ghost use Rattle.kx_indicators.specs.Blocks.{DefaultsAreLast};
 ghost use Rattle.kx_indicators.specs.Bounds.{NamesAreValid};
-ghost use Rattle.kx_indicators.specs.Meaning.{AreIndicators, lamp_rules, lamps_faults};
-ghost use Rattle.kx_indicators.specs.Shown.{lamp_recorded};
+ghost use Rattle.kx_indicators.specs.Meaning.{AreIndicators, indicator_map_rules, indicator_maps_faults};
+ghost use Rattle.kx_indicators.specs.Shown.{indicator_map_recorded};
 
-use crate::lamp::Lamp;
+use crate::indicator_map::IndicatorMap;
 use crate::limits::MOST_INDICATORS;
-use crate::naming::LampNaming;
+use crate::naming::IndicatorMapNaming;
 use crate::record::Context;
 use crate::table::Indicators;
-use crate::values::LampValues;
+use crate::values::IndicatorMapValues;
 use kx_include::Expansion;
 use kx_lex::Fault;
 use kx_merge::merge;
@@ -23,30 +23,30 @@ use kx_virtual_mods::{ModNames, Names, count_names};
 use std::alloc::Global;
 
 /// The indicator that records have for a number.
-fn lamp_among(records: &Ordered<usize, LampValues>, number: usize) -> Lamp
-    ensures { result ≡ lamp_recorded records.now number }
+fn indicator_map_among(records: &Ordered<usize, IndicatorMapValues>, number: usize) -> IndicatorMap
+    ensures { result ≡ indicator_map_recorded records.now number }
 {
     match records.get(&number) {
-        Some(values) => Lamp::of(*values),
-        None => Lamp::of(LampValues::none()),
+        Some(values) => IndicatorMap::of(*values),
+        None => IndicatorMap::of(IndicatorMapValues::none()),
     }
 }
 
 /// The indicators that records have for the numbers below a limit.
-fn lamps_below(
+fn indicator_maps_below(
     alloc: Global,
-    records: &Ordered<usize, LampValues>,
+    records: &Ordered<usize, IndicatorMapValues>,
     limit: usize,
-) -> Result<Vec<Lamp>, Fault>
-    ensures as_many { IfOk result (λ lamps. length lamps.items ≡ limit) }
-    ensures lamps { IfOk result (λ lamps. (number : ℕ) → number < limit → slice_get lamps.items number ≡ Some (lamp_recorded records.now number)) }
+) -> Result<Vec<IndicatorMap>, Fault>
+    ensures as_many { IfOk result (λ indicator_maps. length indicator_maps.items ≡ limit) }
+    ensures indicator_maps { IfOk result (λ indicator_maps. (number : ℕ) → number < limit → slice_get indicator_maps.items number ≡ Some (indicator_map_recorded records.now number)) }
     ensures err { IfErr result (λ e. e ≡ Memory) }
 {
-    let mut lamps = Vec::new(alloc);
+    let mut indicator_maps = Vec::new(alloc);
     'numbers: for number in 0..limit {
-        lamps.push(lamp_among(records, number))?;
+        indicator_maps.push(indicator_map_among(records, number))?;
     }
-    Ok(lamps)
+    Ok(indicator_maps)
 }
 
 /// The indicators that the compat sections of a keymap declare.
@@ -64,9 +64,9 @@ pub fn indicators(
     ensures shows { IfOk result (λ found. AreIndicators found names.now.names (expanded_body expansion.now)) }
     ensures valid { IfOk result (λ found. NamesAreValid found.names) }
     ensures defaults { DefaultsAreLast names.now.names }
-    ensures once { (lamps : List (List ℕ)) → OffersOnce nat_eq (lamp_rules lamps names.now.names) }
-    ensures faultless { OnOk result (lamps_faults names.now.names (expanded_body expansion.now) ≡ []) }
-    ensures fault { IfErr result (λ e. Contains (Memory ∷ lamps_faults names.now.names (expanded_body expansion.now)) e) }
+    ensures once { (indicator_maps : List (List ℕ)) → OffersOnce nat_eq (indicator_map_rules indicator_maps names.now.names) }
+    ensures faultless { OnOk result (indicator_maps_faults names.now.names (expanded_body expansion.now) ≡ []) }
+    ensures fault { IfErr result (λ e. Contains (Memory ∷ indicator_maps_faults names.now.names (expanded_body expansion.now)) e) }
 {
     list_indicators(alloc, expansion, names)
 }
@@ -78,15 +78,15 @@ fn list_indicators(
 ) -> Result<Indicators, Fault>
     ensures shows { IfOk result (λ found. AreIndicators found names.now.names (expanded_body expansion.now)) }
     ensures valid { IfOk result (λ found. NamesAreValid found.names) }
-    ensures faultless { OnOk result (lamps_faults names.now.names (expanded_body expansion.now) ≡ []) }
-    ensures fault { IfErr result (λ e. Contains (Memory ∷ lamps_faults names.now.names (expanded_body expansion.now)) e) }
+    ensures faultless { OnOk result (indicator_maps_faults names.now.names (expanded_body expansion.now) ≡ []) }
+    ensures fault { IfErr result (λ e. Contains (Memory ∷ indicator_maps_faults names.now.names (expanded_body expansion.now)) e) }
 {
-    let lamps = count_names::<LampNaming>(alloc, MOST_INDICATORS, Names::new(alloc), expansion)?;
+    let indicator_maps = count_names::<IndicatorMapNaming>(alloc, MOST_INDICATORS, Names::new(alloc), expansion)?;
     let context = Context {
-        lamps: &lamps,
+        indicator_maps: &indicator_maps,
         names,
     };
-    let merged = merge::<Context, LampValues>(alloc, &context, expansion)?;
-    let shown = lamps_below(alloc, &merged.records, lamps.len())?;
-    Ok(Indicators::of(lamps, shown))
+    let merged = merge::<Context, IndicatorMapValues>(alloc, &context, expansion)?;
+    let shown = indicator_maps_below(alloc, &merged.records, indicator_maps.len())?;
+    Ok(Indicators::of(indicator_maps, shown))
 }

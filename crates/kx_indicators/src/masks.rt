@@ -6,7 +6,7 @@ ghost use Rattle.kx_merge.specs.Numbers.{word_number};
 ghost use Rattle.kx_merge.specs.declared.numbers.Counted.TheVariants.{Group};
 ghost use Rattle.kx_virtual_mods.specs.Masks.{joined};
 ghost use Rattle.kx_indicators.specs.declared.masks.MaskKind.TheVariants.{Groups, States};
-ghost use Rattle.kx_indicators.specs.LampMasks.{group_bit, group_in, mask_faults, mask_of, named_group, number_mask, operated, operation_faults, other_faults, term_faults, term_mask, width, word_mask, words};
+ghost use Rattle.kx_indicators.specs.IndicatorMapMasks.{group_bit, group_in, mask_faults, mask_of, named_group, number_mask, operated, operation_faults, other_faults, term_faults, term_mask, width, word_mask, words};
 ghost use Rattle.kx_merge.specs.Words.{among};
 ghost use Rattle.kx_merge.specs.Terms.{term_span};
 
@@ -80,7 +80,7 @@ fn groups_named(word: &[u8]) -> Option<u32>
 
 impl MaskKind {
     ghost use Rattle.std.specs.Prelude.{◌≡◌, ◌<◌, ◌^◌, IfSome, is_some};
-    ghost use Rattle.kx_indicators.specs.LampMasks.{named_group, number_mask, term_mask, width, word_mask};
+    ghost use Rattle.kx_indicators.specs.IndicatorMapMasks.{named_group, number_mask, term_mask, width, word_mask};
 
     /// The mask that a word stands for.
     fn word_mask(self, word: &[u8]) -> Option<u32>

@@ -1,7 +1,7 @@
 //! The names that statements of indicators write.
 ghost use Rattle.std.specs.Prelude.{◌≡◌, length, option_to_list, slice_get};
 ghost use Rattle.std.specs.Option.{option_map};
-ghost use Rattle.kx_indicators.specs.Blocks.{indicator_in, lamp_names};
+ghost use Rattle.kx_indicators.specs.Blocks.{indicator_in, indicator_map_names};
 
 use kx_lex::{Name, Row};
 use kx_parse::{Field, Item, Statement};
@@ -28,7 +28,7 @@ pub(crate) fn indicator_in(statement: &Statement) -> Option<(&Name, &Row<Field>)
 
 /// The name of the indicator that a statement is about.
 fn written_name(item: &Item) -> Option<&[u8]>
-    ensures { option_to_list (option_map (λ n. n.now) result) ≡ lamp_names item.now }
+    ensures { option_to_list (option_map (λ n. n.now) result) ≡ indicator_map_names item.now }
 {
     match item {
         Item::Include { .. } => None,
@@ -40,13 +40,13 @@ fn written_name(item: &Item) -> Option<&[u8]>
 }
 
 /// The names of indicators.
-pub struct LampNaming;
+pub struct IndicatorMapNaming;
 
-impl Naming for LampNaming {
-    ghost names = { lamp_names };
+impl Naming for IndicatorMapNaming {
+    ghost names = { indicator_map_names };
 
     fn count(item: &Item) -> usize
-        ensures { result ≡ length (lamp_names item.now) }
+        ensures { result ≡ length (indicator_map_names item.now) }
     {
         match written_name(item) {
             None => 0,
@@ -55,7 +55,7 @@ impl Naming for LampNaming {
     }
 
     fn name(item: &Item, place: usize) -> Option<&[u8]>
-        ensures { option_map (λ n. n.now) result ≡ slice_get (lamp_names item.now) place }
+        ensures { option_map (λ n. n.now) result ≡ slice_get (indicator_map_names item.now) place }
     {
         if place > 0 {
             return None;

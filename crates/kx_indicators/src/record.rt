@@ -5,11 +5,11 @@ ghost use Rattle.kx_lex.specs.declared.fault.Fault.TheVariants.{Memory};
 ghost use Rattle.kx_merge.specs.Moved.{moved_key, moved_value, moved_width};
 ghost use Rattle.kx_merge.specs.Offers.{taken, widened};
 ghost use Rattle.kx_indicators.specs.Giving.{values_cell, values_width};
-ghost use Rattle.kx_indicators.specs.Meaning.{lamp_moves, lamp_rules};
+ghost use Rattle.kx_indicators.specs.Meaning.{indicator_map_moves, indicator_map_rules};
 
 use crate::blocks::read_item;
 use crate::defaults::next_default;
-use crate::values::{LampField, LampValue, LampValues};
+use crate::values::{IndicatorMapField, IndicatorMapValue, IndicatorMapValues};
 use kx_include::Place;
 use kx_lex::Fault;
 use kx_merge::Fields;
@@ -21,53 +21,53 @@ use std::alloc::Global;
 #[derive(Clone, Copy)]
 pub struct Context<'a> {
     /// The names of indicators.
-    pub lamps: &'a Names,
+    pub indicator_maps: &'a Names,
     pub names: &'a ModNames,
 }
 
-impl<'a> Fields<Context<'a>> for LampValues {
+impl<'a> Fields<Context<'a>> for IndicatorMapValues {
     type Key = usize;
 
-    type Cell = LampField;
+    type Cell = IndicatorMapField;
 
-    type Value = LampValue;
+    type Value = IndicatorMapValue;
 
-    type Defaults = LampValues;
+    type Defaults = IndicatorMapValues;
 
     type Notes = ();
 
-    ghost rules = { λ context. lamp_rules context.lamps.now context.names.now.names };
+    ghost rules = { λ context. indicator_map_rules context.indicator_maps.now context.names.now.names };
 
-    ghost moves = { lamp_moves };
+    ghost moves = { indicator_map_moves };
 
     ghost cell = { values_cell };
 
     ghost width = { values_width };
 
-    fn start(_alloc: Global, _context: &Context<'a>) -> LampValues {
-        LampValues::none()
+    fn start(_alloc: Global, _context: &Context<'a>) -> IndicatorMapValues {
+        IndicatorMapValues::none()
     }
 
     fn next(
         _alloc: Global,
         context: &Context<'a>,
-        defaults: LampValues,
+        defaults: IndicatorMapValues,
         item: &Item,
-    ) -> Result<LampValues, Fault> {
+    ) -> Result<IndicatorMapValues, Fault> {
         Ok(next_default(context.names, defaults, item))
     }
 
     fn read(
         alloc: Global,
         context: &Context<'a>,
-        defaults: &LampValues,
+        defaults: &IndicatorMapValues,
         place: Place,
         item: &Item,
         _notes: &mut (),
-    ) -> Result<Vec<(usize, LampValues)>, Fault> {
+    ) -> Result<Vec<(usize, IndicatorMapValues)>, Fault> {
         read_item(
             alloc,
-            context.lamps,
+            context.indicator_maps,
             context.names,
             place.file,
             *defaults,
@@ -75,8 +75,8 @@ impl<'a> Fields<Context<'a>> for LampValues {
         )
     }
 
-    fn absorb(&mut self, _alloc: Global, other: LampValues, mode: Mode) -> Result<(), Fault>
-        ensures cells { OnOk result ((c : LampField) → values_cell self.new c ≡ taken mode (values_cell self.old c) (values_cell other c)) }
+    fn absorb(&mut self, _alloc: Global, other: IndicatorMapValues, mode: Mode) -> Result<(), Fault>
+        ensures cells { OnOk result ((c : IndicatorMapField) → values_cell self.new c ≡ taken mode (values_cell self.old c) (values_cell other c)) }
         ensures widths { OnOk result ((g : ℕ) → values_width self.new g ≡ widened mode (values_width self.old g) (values_width other g)) }
         ensures err { IfErr result (λ e. e ≡ Memory) }
     {
@@ -84,22 +84,22 @@ impl<'a> Fields<Context<'a>> for LampValues {
         Ok(())
     }
 
-    fn none(_alloc: Global) -> LampValues
-        ensures cells { (c : LampField) → values_cell result c ≡ None }
+    fn none(_alloc: Global) -> IndicatorMapValues
+        ensures cells { (c : IndicatorMapField) → values_cell result c ≡ None }
         ensures widths { (g : ℕ) → values_width result g ≡ 0 }
     {
-        LampValues::none()
+        IndicatorMapValues::none()
     }
 
     fn absorb_moved(
         &mut self,
         _alloc: Global,
-        other: &LampValues,
+        other: &IndicatorMapValues,
         _group: Option<u8>,
         mode: Mode,
     ) -> Result<(), Fault>
-        ensures cells { OnOk result ((c : LampField) → values_cell self.new c ≡ taken mode (values_cell self.old c) (moved_value lamp_moves _group (values_cell other.now) c)) }
-        ensures widths { OnOk result ((g : ℕ) → values_width self.new g ≡ widened mode (values_width self.old g) (moved_width lamp_moves _group (values_width other.now) g)) }
+        ensures cells { OnOk result ((c : IndicatorMapField) → values_cell self.new c ≡ taken mode (values_cell self.old c) (moved_value indicator_map_moves _group (values_cell other.now) c)) }
+        ensures widths { OnOk result ((g : ℕ) → values_width self.new g ≡ widened mode (values_width self.old g) (moved_width indicator_map_moves _group (values_width other.now) g)) }
         ensures err { IfErr result (λ e. e ≡ Memory) }
     {
         *self = self.joined(*other, mode);
@@ -107,7 +107,7 @@ impl<'a> Fields<Context<'a>> for LampValues {
     }
 
     fn key_in(key: &usize, _group: Option<u8>) -> Option<usize>
-        ensures { result ≡ moved_key lamp_moves _group key.now }
+        ensures { result ≡ moved_key indicator_map_moves _group key.now }
     {
         Some(*key)
     }

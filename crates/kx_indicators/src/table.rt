@@ -2,7 +2,7 @@
 ghost use Rattle.std.specs.Prelude.{◌≡◌, length, slice_get};
 ghost use Rattle.std.specs.Option.{option_map};
 
-use crate::lamp::Lamp;
+use crate::indicator_map::IndicatorMap;
 use kx_virtual_mods::Names;
 use std::marker::Model;
 
@@ -10,7 +10,7 @@ use std::marker::Model;
 #[derive(Drop)]
 pub struct Indicators {
     names: Names,
-    lamps: Vec<Lamp>,
+    indicator_maps: Vec<IndicatorMap>,
 }
 
 impl Model for Indicators {
@@ -19,9 +19,9 @@ impl Model for Indicators {
 
     ghost Value = { Indicators };
 
-    ghost view = { λ i. record { names = i.names; lamps = i.lamps.items } };
+    ghost view = { λ i. record { names = i.names; indicator_maps = i.indicator_maps.items } };
 
-    ghost invariant = { λ i. AreValid (record { names = i.names; lamps = i.lamps.items }) };
+    ghost invariant = { λ i. AreValid (record { names = i.names; indicator_maps = i.indicator_maps.items }) };
 }
 
 impl Indicators {
@@ -30,12 +30,12 @@ impl Indicators {
     ghost use Rattle.kx_indicators.specs.Bounds.{AreValid, NamesAreValid};
 
     /// The indicators with these names.
-    pub(crate) fn of(names: Names, lamps: Vec<Lamp>) -> Indicators
+    pub(crate) fn of(names: Names, indicator_maps: Vec<IndicatorMap>) -> Indicators
         requires names { NamesAreValid names }
-        requires as_many { length lamps.items ≡ length names }
-        ensures { result ≡ record { names = names; lamps = lamps.items } }
+        requires as_many { length indicator_maps.items ≡ length names }
+        ensures { result ≡ record { names = names; indicator_maps = indicator_maps.items } }
     {
-        Indicators { names, lamps }
+        Indicators { names, indicator_maps }
     }
 
     /// How many there are.
@@ -54,9 +54,9 @@ impl Indicators {
     }
 
     /// What lights an indicator, by its number.
-    pub fn lamp(&self, number: usize) -> Option<&Lamp>
-        ensures { option_map (λ l. l.now) result ≡ slice_get self.now.lamps number }
+    pub fn indicator_map(&self, number: usize) -> Option<&IndicatorMap>
+        ensures { option_map (λ l. l.now) result ≡ slice_get self.now.indicator_maps number }
     {
-        self.lamps.get(number)
+        self.indicator_maps.get(number)
     }
 }

@@ -9,7 +9,7 @@ use std::marker::Model;
 
 /// What the fields of an indicator set.
 #[derive(Clone, Copy)]
-pub enum LampField {
+pub enum IndicatorMapField {
     Modifiers,
     ModStates,
     GroupStates,
@@ -18,7 +18,7 @@ pub enum LampField {
 
 /// What one field gives.
 #[derive(Clone, Copy)]
-pub enum LampValue {
+pub enum IndicatorMapValue {
     Modifiers(NameSet),
     ModStates(GivenStates),
     GroupStates(GivenStates),
@@ -28,17 +28,17 @@ pub enum LampValue {
 
 /// What fields give; nothing, where they aren't written.
 #[derive(Clone, Copy)]
-pub struct LampValues {
+pub struct IndicatorMapValues {
     modifiers: Option<NameSet>,
     mod_states: Option<GivenStates>,
     group_states: Option<GivenStates>,
     groups: Option<u32>,
 }
 
-impl Model for LampValues {
-    ghost use Rattle.kx_indicators.specs.Given.{LampValues};
+impl Model for IndicatorMapValues {
+    ghost use Rattle.kx_indicators.specs.Given.{IndicatorMapValues};
 
-    ghost Value = { LampValues };
+    ghost Value = { IndicatorMapValues };
 
     ghost view = { λ v. record { modifiers = v.modifiers; mod_states = v.mod_states; group_states = v.group_states; groups = v.groups } };
 
@@ -56,17 +56,17 @@ fn taken<T: Drop>(mode: Mode, old: Option<T>, new: Option<T>) -> Option<T>
     }
 }
 
-impl LampValues {
+impl IndicatorMapValues {
     ghost use Rattle.std.specs.Prelude.{◌≡◌, Some, unwrap_or};
     ghost use Rattle.kx_merge.specs.Offers.{taken};
     ghost use Rattle.kx_indicators.specs.Giving.{no_values, values_cell, with_value};
-    ghost use Rattle.kx_indicators.specs.declared.values.LampField.{LampField as FieldName};
+    ghost use Rattle.kx_indicators.specs.declared.values.IndicatorMapField.{IndicatorMapField as FieldName};
 
     /// Nothing is given.
-    pub(crate) fn none() -> LampValues
+    pub(crate) fn none() -> IndicatorMapValues
         ensures { result ≡ no_values }
     {
-        LampValues {
+        IndicatorMapValues {
             modifiers: None,
             mod_states: None,
             group_states: None,
@@ -75,7 +75,7 @@ impl LampValues {
     }
 
     /// These with what a field gives anew.
-    pub(crate) fn with(self, value: Option<LampValue>) -> LampValues
+    pub(crate) fn with(self, value: Option<IndicatorMapValue>) -> IndicatorMapValues
         ensures { result ≡ with_value self value }
     {
         match value {
@@ -84,24 +84,24 @@ impl LampValues {
         }
     }
 
-    fn with_one(self, value: LampValue) -> LampValues
+    fn with_one(self, value: IndicatorMapValue) -> IndicatorMapValues
         ensures { result ≡ with_value self (Some value) }
     {
         let mut values = self;
         match value {
-            LampValue::Modifiers(set) => values.modifiers = Some(set),
-            LampValue::ModStates(states) => values.mod_states = Some(states),
-            LampValue::GroupStates(states) => values.group_states = Some(states),
-            LampValue::Groups(groups) => values.groups = Some(groups),
+            IndicatorMapValue::Modifiers(set) => values.modifiers = Some(set),
+            IndicatorMapValue::ModStates(states) => values.mod_states = Some(states),
+            IndicatorMapValue::GroupStates(states) => values.group_states = Some(states),
+            IndicatorMapValue::Groups(groups) => values.groups = Some(groups),
         }
         values
     }
 
     /// What is given once more is given under a mode.
-    pub(crate) fn joined(self, other: LampValues, mode: Mode) -> LampValues
+    pub(crate) fn joined(self, other: IndicatorMapValues, mode: Mode) -> IndicatorMapValues
         ensures { (c : FieldName) → values_cell result c ≡ taken mode (values_cell self c) (values_cell other c) }
     {
-        LampValues {
+        IndicatorMapValues {
             modifiers: taken(mode, self.modifiers, other.modifiers),
             mod_states: taken(mode, self.mod_states, other.mod_states),
             group_states: taken(mode, self.group_states, other.group_states),

@@ -5,10 +5,10 @@ use Rattle.kx_parse.specs.declared.tree.Field.{Field}
 use Rattle.kx_parse.specs.declared.tree.KeyField.{KeyField}
 use Rattle.kx_key_fields.specs.KeyFields.{cell_default, cell_given, default_given, defaults_behind, effective, key_given, next_defaults}
 use Rattle.kx_merge.specs.Last.{last_given}
-use Rattle.kx_key_fields.specs.Settings.{Settings, given_to, no_settings, setting_in, type_at, with_given}
-use Rattle.kx_key_fields.specs.declared.cells.SettingCell.{SettingCell}
-use Rattle.kx_key_fields.specs.declared.cells.SettingCell.TheVariants as cells
-use Rattle.kx_key_fields.specs.declared.cells.SettingValue.TheVariants as values
+use Rattle.kx_key_fields.specs.Attributes.{Settings, given_to, no_settings, attribute_in, type_at, with_given}
+use Rattle.kx_key_fields.specs.declared.cells.AttributeCell.{AttributeCell}
+use Rattle.kx_key_fields.specs.declared.cells.AttributeCell.TheVariants as cells
+use Rattle.kx_key_fields.specs.declared.cells.AttributeValue.TheVariants as values
 use Rattle.kx_key_fields.specs.declared.given.Given.{Given}
 use Rattle.kx_key_fields.specs.declared.given.Given.TheVariants as given
 use Rattle.kx_key_fields.proofs.Going.{drop_next}
@@ -19,7 +19,7 @@ or_inner None b c = refl
 or_inner (Some x) b c = refl
 
 -- a cell that is given something has it, and the others have what they had
-pub cell_put : (s : Settings) (g : Option Given) (cell : SettingCell) → setting_in (with_given s g) cell ≡ option_or (option_and_then (given_to cell) g) (setting_in s cell)
+pub cell_put : (s : Settings) (g : Option Given) (cell : AttributeCell) → attribute_in (with_given s g) cell ≡ option_or (option_and_then (given_to cell) g) (attribute_in s cell)
 cell_put s None cell = refl
 cell_put s (Some (given.GroupType group name)) (cells.GroupType h) = ap (option_map values.Type) (type_put s.group_types group name h) ∙ by (h == group)
   where
@@ -45,7 +45,7 @@ cell_put s (Some (given.Range range)) cells.Range = refl
 module _ (names : List (List ℕ)) where
   -- what the fields up to here gave is in the settings, and the others are to come
   abbrev pub IsLeft : Settings → List KeyField → ℕ → Settings → Type 0
-  IsLeft defaults fields i s = (cell : SettingCell) → effective names defaults fields cell ≡ effective names s (drop i fields) cell
+  IsLeft defaults fields i s = (cell : AttributeCell) → effective names defaults fields cell ≡ effective names s (drop i fields) cell
 
   pub settings_go : (defaults : Settings) (fields : List KeyField) (i : ℕ) (s : Settings) (field : KeyField) (g : Option Given) (next : Settings) → i < length fields → field ≡ get_or fields i field → g ≡ key_given names field → next ≡ with_given s g
       → IsLeft defaults fields i s → IsLeft defaults fields (i + 1) next
@@ -53,27 +53,27 @@ module _ (names : List (List ℕ)) where
       let rest : List KeyField = drop (i + 1) fields in
       left cell
       ∙ ap (λ fs. effective names s fs cell) (drop_next fields i field within is)
-      ∙ or_inner (last_given (cell_given names cell) rest) (cell_given names cell field) (setting_in s cell)
-      ∙ ap (λ o. option_or (last_given (cell_given names cell) rest) (option_or (option_and_then (given_to cell) o) (setting_in s cell))) (sym gave)
-      ∙ sym (ap (option_or (last_given (cell_given names cell) rest)) (ap (λ t. setting_in t cell) put ∙ cell_put s g cell))
+      ∙ or_inner (last_given (cell_given names cell) rest) (cell_given names cell field) (attribute_in s cell)
+      ∙ ap (λ o. option_or (last_given (cell_given names cell) rest) (option_or (option_and_then (given_to cell) o) (attribute_in s cell))) (sym gave)
+      ∙ sym (ap (option_or (last_given (cell_given names cell) rest)) (ap (λ t. attribute_in t cell) put ∙ cell_put s g cell))
 
-  go : (d : Settings) (cell : SettingCell) (statements : List Field) → setting_in (fold (next_defaults names) d statements) cell ≡ option_or (last_given (cell_default names cell) statements) (setting_in d cell)
+  go : (d : Settings) (cell : AttributeCell) (statements : List Field) → attribute_in (fold (next_defaults names) d statements) cell ≡ option_or (last_given (cell_default names cell) statements) (attribute_in d cell)
   go d cell [] = refl
   go d cell (s ∷ ss) =
       go (next_defaults names d s) cell ss
       ∙ ap (option_or (last_given (cell_default names cell) ss)) (cell_put d (default_given names s) cell)
-      ∙ sym (or_inner (last_given (cell_default names cell) ss) (cell_default names cell s) (setting_in d cell))
+      ∙ sym (or_inner (last_given (cell_default names cell) ss) (cell_default names cell s) (attribute_in d cell))
 
   or_none : {X : Type 0} (o : Option X) → option_or o None ≡ o
   or_none None = refl
   or_none (Some x) = refl
 
-  none_in : (cell : SettingCell) → setting_in no_settings cell ≡ None
+  none_in : (cell : AttributeCell) → attribute_in no_settings cell ≡ None
   none_in (cells.GroupType group) = refl
   none_in cells.KeyType = refl
   none_in cells.VirtualMods = refl
   none_in cells.Range = refl
 
   -- of default statements the last counts
-  pub last_defaults : (statements : List Field) (cell : SettingCell) → setting_in (defaults_behind names statements) cell ≡ last_given (cell_default names cell) statements
+  pub last_defaults : (statements : List Field) (cell : AttributeCell) → attribute_in (defaults_behind names statements) cell ≡ last_given (cell_default names cell) statements
   last_defaults statements cell = go no_settings cell statements ∙ ap (option_or (last_given (cell_default names cell) statements)) (none_in cell) ∙ or_none (last_given (cell_default names cell) statements)

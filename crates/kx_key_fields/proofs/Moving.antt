@@ -8,7 +8,7 @@ use Rattle.std.proofs.lemmas.Bool.{false≢true, eqb-true, eq-eqb, ltb-true, ltb
 use Rattle.kx_parse.specs.declared.tree.Mode.{Mode}
 use Rattle.kx_parse.specs.declared.tree.Mode.TheVariants.{Augment, Override, Replace}
 use Rattle.kx_merge.specs.Offers.{is_replace, taken}
-use Rattle.kx_key_fields.specs.Settings.{GroupTypes, type_at, widened_to, with_type}
+use Rattle.kx_key_fields.specs.Attributes.{GroupTypes, type_at, widened_to, with_type}
 
 append-inner : {X : Type 0} (xs ys zs : List X) → (xs ++ ys) ++ zs ≡ xs ++ (ys ++ zs)
 append-inner [] ys zs = refl

@@ -10,11 +10,11 @@ use Rattle.kx_parse.specs.declared.tree.Field.{Field}
 use Rattle.kx_parse.specs.declared.tree.KeyField.{KeyField}
 use Rattle.kx_parse.specs.declared.tree.KeyField.TheVariants as keys
 use Rattle.kx_merge.specs.Last.{last_given}
-use Rattle.kx_key_fields.specs.SettingFields.{named_faults, named_given}
-use Rattle.kx_key_fields.specs.Settings.{Settings, given_to, no_settings, setting_in, with_given}
+use Rattle.kx_key_fields.specs.AttributeFields.{named_faults, named_given}
+use Rattle.kx_key_fields.specs.Attributes.{Settings, given_to, no_settings, attribute_in, with_given}
 use Rattle.kx_key_fields.specs.Words.{is_key_word, is_list_word}
-use Rattle.kx_key_fields.specs.declared.cells.SettingCell.{SettingCell}
-use Rattle.kx_key_fields.specs.declared.cells.SettingValue.{SettingValue}
+use Rattle.kx_key_fields.specs.declared.cells.AttributeCell.{AttributeCell}
+use Rattle.kx_key_fields.specs.declared.cells.AttributeValue.{AttributeValue}
 use Rattle.kx_key_fields.specs.declared.given.Given.{Given}
 
 module _ (names : List (List ℕ)) where
@@ -26,7 +26,7 @@ module _ (names : List (List ℕ)) where
   abbrev pub default_given : Field → Option Given
   default_given field = if is_key_word field.place.word.bytes then option_and_then (λ member. named_given names member field) field.place.member else None
 
-  abbrev pub cell_default : SettingCell → Field → Option SettingValue
+  abbrev pub cell_default : AttributeCell → Field → Option AttributeValue
   cell_default cell field = option_and_then (given_to cell) (default_given field)
 
   -- the defaults behind one more statement of a section, and behind all of them
@@ -37,8 +37,8 @@ module _ (names : List (List ℕ)) where
   defaults_behind statements = fold next_defaults no_settings statements
 
   -- a cell has the value that is written last in the statement, else its default
-  abbrev pub effective : Settings → List KeyField → SettingCell → Option SettingValue
-  effective defaults fields cell = option_or (last_given (λ field. option_and_then (given_to cell) (key_given field)) fields) (setting_in defaults cell)
+  abbrev pub effective : Settings → List KeyField → AttributeCell → Option AttributeValue
+  effective defaults fields cell = option_or (last_given (λ field. option_and_then (given_to cell) (key_given field)) fields) (attribute_in defaults cell)
 
 module _ (file : ℕ) (names : List (List ℕ)) where
   -- a field of lists is another's to judge
@@ -63,7 +63,7 @@ module _ (file : ℕ) (names : List (List ℕ)) where
 
 -- ---- Under names, for clauses and proofs
 
-abbrev pub cell_given : (names : List (List ℕ)) → SettingCell → KeyField → Option SettingValue
+abbrev pub cell_given : (names : List (List ℕ)) → AttributeCell → KeyField → Option AttributeValue
 cell_given names cell field = option_and_then (given_to cell) (key_given names field)
 
 abbrev pub own_given : (names : List (List ℕ)) → Field → Option Given

@@ -2,8 +2,8 @@ pub mod Groups
 pub mod Ranges
 pub mod Words
 pub mod VirtualMasks
-pub mod Settings
-pub mod SettingFields
+pub mod Attributes
+pub mod AttributeFields
 pub mod KeyFields
 pub mod TypesMoved
 pub mod Lists

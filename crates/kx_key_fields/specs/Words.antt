@@ -5,10 +5,10 @@ use Rattle.std.specs.Str.{str_eq_ignore_ascii_case}
 use Rattle.kx_parse.specs.declared.tree.FieldPlace.{FieldPlace}
 use Rattle.kx_merge.specs.Words.{among}
 use Rattle.kx_key_fields.specs.declared.words.RangeField.TheVariants as ranges
-use Rattle.kx_key_fields.specs.declared.words.SettingField.{SettingField}
-use Rattle.kx_key_fields.specs.declared.words.SettingField.TheVariants as fields
+use Rattle.kx_key_fields.specs.declared.words.AttributeField.{AttributeField}
+use Rattle.kx_key_fields.specs.declared.words.AttributeField.TheVariants as fields
 
-abbrev pub used_words : List (List ℕ × SettingField)
+abbrev pub used_words : List (List ℕ × AttributeField)
 used_words =
     (codes "type", fields.KeyType) ∷ (codes "vmods", fields.VirtualMods) ∷ (codes "virtualMods", fields.VirtualMods)
     ∷ (codes "virtualModifiers", fields.VirtualMods)
@@ -24,7 +24,7 @@ unused_words =
     ∷ codes "overlay" ∷ codes "overlay1" ∷ codes "overlay2" ∷ []
 
 -- what a field of a word sets, where it isn't a field of lists
-abbrev pub field_named : List ℕ → Option SettingField
+abbrev pub field_named : List ℕ → Option AttributeField
 field_named word = if list_any (str_eq_ignore_ascii_case word) unused_words then Some fields.Unused else among used_words word
 
 -- the fields that give a key its lists

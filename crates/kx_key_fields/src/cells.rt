@@ -5,7 +5,7 @@ use kx_virtual_mods::NameSet;
 
 /// What can have a value in a key besides its lists.
 #[derive(Clone, Copy, Debug, PartialEq, Eq)]
-pub enum SettingCell {
+pub enum AttributeCell {
     /// The type of a group, counted from 0.
     GroupType(usize),
     /// The type of the groups that aren't given one of their own.
@@ -18,7 +18,7 @@ pub enum SettingCell {
 
 /// The value of a cell.
 #[derive(Debug, Drop)]
-pub enum SettingValue {
+pub enum AttributeValue {
     /// A type by its name.
     Type(Bytes),
     Mods(NameSet),

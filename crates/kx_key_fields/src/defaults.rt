@@ -2,12 +2,12 @@
 ghost use Rattle.std.specs.Prelude.{◌≡◌, [], Contains, IfErr, IfOk, OnOk};
 ghost use Rattle.std.specs.Result.{result_ok};
 ghost use Rattle.kx_key_fields.specs.KeyFields.{default_faults, default_given};
-ghost use Rattle.kx_key_fields.specs.SettingFields.{given_any};
+ghost use Rattle.kx_key_fields.specs.AttributeFields.{given_any};
 
-use crate::cells::SettingCell;
+use crate::cells::AttributeCell;
 use crate::given::Given;
 use crate::reading::read_named;
-use crate::settings::KeySettings;
+use crate::attributes::KeyAttributes;
 use crate::words::is_key_word;
 use kx_lex::Fault;
 use kx_merge::unknown_field;
@@ -59,11 +59,11 @@ fn default_given(names: &ModNames, field: &Field) -> Option<Given>
 /// What the default statements of a section give keys besides lists.
 #[derive(Debug, Drop)]
 pub struct KeyDefaults {
-    settings: KeySettings,
+    settings: KeyAttributes,
 }
 
 impl Model for KeyDefaults {
-    ghost use Rattle.kx_key_fields.specs.Settings.{Settings};
+    ghost use Rattle.kx_key_fields.specs.Attributes.{Settings};
 
     ghost Value = { Settings };
 
@@ -75,7 +75,7 @@ impl KeyDefaults {
     ghost use Rattle.kx_lex.specs.declared.fault.Fault.TheVariants.{Memory};
     ghost use Rattle.kx_parse.specs.declared.tree.Field.{Field as FieldValue};
     ghost use Rattle.kx_key_fields.specs.KeyFields.{cell_default, defaults_behind, next_defaults};
-    ghost use Rattle.kx_key_fields.specs.Settings.{no_settings, setting_in};
+    ghost use Rattle.kx_key_fields.specs.Attributes.{no_settings, attribute_in};
     ghost use Rattle.kx_merge.specs.Last.{last_given};
 
     /// No defaults: those at the start of a section.
@@ -83,12 +83,12 @@ impl KeyDefaults {
         ensures { result ≡ no_settings }
     {
         KeyDefaults {
-            settings: KeySettings::none(alloc),
+            settings: KeyAttributes::none(alloc),
         }
     }
 
     /// What a key is given where its statement says nothing.
-    pub(crate) fn settings(&self, alloc: Global) -> Result<KeySettings, AllocError>
+    pub(crate) fn settings(&self, alloc: Global) -> Result<KeyAttributes, AllocError>
         ensures { IfOk result (λ settings. settings ≡ self.now) }
     {
         self.settings.copied(alloc)
@@ -101,7 +101,7 @@ impl KeyDefaults {
     /// `Memory`.
     pub fn next(self, alloc: Global, names: &ModNames, field: &Field) -> Result<KeyDefaults, Fault>
         ensures next { IfOk result (λ d. d ≡ next_defaults names.now.names self field.now) }
-        ensures last { (statements : List FieldValue) (cell : SettingCell) → setting_in (defaults_behind names.now.names statements) cell ≡ last_given (cell_default names.now.names cell) statements }
+        ensures last { (statements : List FieldValue) (cell : AttributeCell) → attribute_in (defaults_behind names.now.names statements) cell ≡ last_given (cell_default names.now.names cell) statements }
         ensures err { IfErr result (λ e. e ≡ Memory) }
     {
         let mut settings = self.settings;

@@ -34,7 +34,7 @@ fn front_of(bytes: &[u8], len: usize) -> &[u8]
 impl KeptName {
     ghost use Rattle.std.specs.Prelude.{◌≡◌, ◌≤◌, length};
     ghost use Rattle.kx_key_fields.specs.declared.given.TheConstants.{MOST_KEPT_BYTES};
-    ghost use Rattle.kx_key_fields.specs.Settings.{kept_name};
+    ghost use Rattle.kx_key_fields.specs.Attributes.{kept_name};
 
     fn whole(name: &[u8]) -> KeptName
         requires { length name.now ≤ MOST_KEPT_BYTES }

@@ -2,7 +2,7 @@
 ghost use Rattle.std.specs.Prelude.{◌≡◌, ◌+◌, ◌==◌, ◌≤◌, [], ℕ, IfOk, None, OnOk, false, length, max, nat_eq, if◌then◌else◌};
 ghost use Rattle.std.specs.Option.{option_map};
 ghost use Rattle.kx_merge.specs.Offers.{is_replace, taken};
-ghost use Rattle.kx_key_fields.specs.Settings.{type_at, widened_to, with_type};
+ghost use Rattle.kx_key_fields.specs.Attributes.{type_at, widened_to, with_type};
 ghost use Rattle.kx_key_fields.specs.TypesMoved.{type_moved};
 
 use kx_lex::Bytes;
@@ -18,7 +18,7 @@ pub(crate) struct GroupTypes {
 }
 
 impl Model for GroupTypes {
-    ghost use Rattle.kx_key_fields.specs.Settings.{GroupTypes};
+    ghost use Rattle.kx_key_fields.specs.Attributes.{GroupTypes};
 
     ghost Value = { GroupTypes };
 

@@ -27,7 +27,7 @@ impl KeyRange {
     ghost use Rattle.kx_basics.specs.declared.limits.TheConstants.{MOST_GROUPS};
     ghost use Rattle.kx_tables.specs.Sound.{RangeHolds};
     ghost use Rattle.kx_tables.specs.declared.rows.Range.TheVariants.{Redirect};
-    ghost use Rattle.kx_key_fields.specs.SettingFields.{clamp_if, wrap_if};
+    ghost use Rattle.kx_key_fields.specs.AttributeFields.{clamp_if, wrap_if};
 
     /// Groups are wrapped, or else clamped.
     pub(crate) fn wrap_if(wraps: bool) -> KeyRange

@@ -1,7 +1,7 @@
 //! What a field of a key says that isn't a list.
 ghost use Rattle.std.specs.Prelude.{◌≡◌, [], Contains, IfErr, OnOk, Some};
 ghost use Rattle.std.specs.Result.{result_ok};
-ghost use Rattle.kx_key_fields.specs.SettingFields.{field_faults, field_given, given_any, mods_faults, mods_in, named_faults, name_in, named_given, range_faults, range_in, term_text, text_faults, text_of, type_faults, type_given};
+ghost use Rattle.kx_key_fields.specs.AttributeFields.{field_faults, field_given, given_any, mods_faults, mods_in, named_faults, name_in, named_given, range_faults, range_in, term_text, text_faults, text_of, type_faults, type_given};
 ghost use Rattle.kx_merge.specs.Faults.{value_faults};
 ghost use Rattle.kx_key_fields.specs.declared.words.RangeField.TheVariants as words;
 
@@ -10,7 +10,7 @@ use crate::groups::read_group;
 use crate::key_range::KeyRange;
 use crate::masks::virtual_mask;
 use crate::truths::read_flag;
-use crate::words::{RangeField, SettingField, field_named};
+use crate::words::{RangeField, AttributeField, field_named};
 use kx_lex::{Fault, Name};
 use kx_merge::{bad_value, expression_of, unknown_field};
 use kx_parse::{Expression, Field, Term};
@@ -110,7 +110,7 @@ fn read_field(
     names: &ModNames,
     file: u32,
     word: &Name,
-    kind: SettingField,
+    kind: AttributeField,
     field: &Field,
 ) -> Result<Option<Given>, Fault>
     ensures value { given_any (result_ok result) ≡ field_given names.now.names (Some kind) field.now.place.index field.now.setting }
@@ -119,15 +119,15 @@ fn read_field(
 {
     let indexed = field.place.index.is_some();
     match kind {
-        SettingField::Unused => Ok(None),
-        SettingField::KeyType => Ok(Some(read_type(file, field)?)),
-        SettingField::VirtualMods => {
+        AttributeField::Unused => Ok(None),
+        AttributeField::KeyType => Ok(Some(read_type(file, field)?)),
+        AttributeField::VirtualMods => {
             if indexed {
                 return Err(unknown_field(file, word));
             }
             Ok(Some(Given::VirtualMods(read_mods(names, file, field)?)))
         }
-        SettingField::Range(which) => {
+        AttributeField::Range(which) => {
             if indexed {
                 return Err(unknown_field(file, word));
             }

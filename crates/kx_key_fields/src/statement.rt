@@ -3,14 +3,14 @@ ghost use Rattle.std.specs.Prelude.{◌≡◌, ◌∷◌, [], Contains, IfErr, I
 ghost use Rattle.std.specs.Result.{result_ok};
 ghost use Rattle.kx_lex.specs.declared.fault.Fault.TheVariants.{Memory};
 ghost use Rattle.kx_key_fields.specs.KeyFields.{effective, key_field_faults, key_given, own_faults, own_given, setting_faults};
-ghost use Rattle.kx_key_fields.specs.Settings.{setting_in};
-ghost use Rattle.kx_key_fields.specs.SettingFields.{given_any};
+ghost use Rattle.kx_key_fields.specs.Attributes.{attribute_in};
+ghost use Rattle.kx_key_fields.specs.AttributeFields.{given_any};
 
-use crate::cells::SettingCell;
+use crate::cells::AttributeCell;
 use crate::defaults::KeyDefaults;
 use crate::given::Given;
 use crate::reading::read_named;
-use crate::settings::KeySettings;
+use crate::attributes::KeyAttributes;
 use crate::words::is_list_word;
 use kx_lex::Fault;
 use kx_merge::unknown_field;
@@ -60,8 +60,8 @@ pub fn read_settings(
     file: u32,
     fields: &[KeyField],
     defaults: &KeyDefaults,
-) -> Result<KeySettings, Fault>
-    ensures cells { IfOk result (λ settings. (cell : SettingCell) → setting_in settings cell ≡ effective names.now.names defaults.now fields.now cell) }
+) -> Result<KeyAttributes, Fault>
+    ensures cells { IfOk result (λ settings. (cell : AttributeCell) → attribute_in settings cell ≡ effective names.now.names defaults.now fields.now cell) }
     ensures faultless { OnOk result (setting_faults file names.now.names fields.now ≡ []) }
     ensures fault { IfErr result (λ e. Contains (Memory ∷ setting_faults file names.now.names fields.now) e) }
 {

@@ -15,7 +15,7 @@ pub(crate) enum RangeField {
 
 /// What fields of a key set besides lists.
 #[derive(Clone, Copy, Debug, PartialEq, Eq)]
-pub(crate) enum SettingField {
+pub(crate) enum AttributeField {
     KeyType,
     VirtualMods,
     Range(RangeField),
@@ -23,29 +23,29 @@ pub(crate) enum SettingField {
     Unused,
 }
 
-fn used_field(word: &[u8]) -> Option<SettingField>
+fn used_field(word: &[u8]) -> Option<AttributeField>
     ensures { result ≡ among used_words word.now }
 {
     if word.eq_ignore_ascii_case(b"type") {
-        Some(SettingField::KeyType)
+        Some(AttributeField::KeyType)
     } else if word.eq_ignore_ascii_case(b"vmods") {
-        Some(SettingField::VirtualMods)
+        Some(AttributeField::VirtualMods)
     } else if word.eq_ignore_ascii_case(b"virtualMods") {
-        Some(SettingField::VirtualMods)
+        Some(AttributeField::VirtualMods)
     } else if word.eq_ignore_ascii_case(b"virtualModifiers") {
-        Some(SettingField::VirtualMods)
+        Some(AttributeField::VirtualMods)
     } else if word.eq_ignore_ascii_case(b"groupsWrap") {
-        Some(SettingField::Range(RangeField::Wrap))
+        Some(AttributeField::Range(RangeField::Wrap))
     } else if word.eq_ignore_ascii_case(b"wrapGroups") {
-        Some(SettingField::Range(RangeField::Wrap))
+        Some(AttributeField::Range(RangeField::Wrap))
     } else if word.eq_ignore_ascii_case(b"groupsClamp") {
-        Some(SettingField::Range(RangeField::Clamp))
+        Some(AttributeField::Range(RangeField::Clamp))
     } else if word.eq_ignore_ascii_case(b"clampGroups") {
-        Some(SettingField::Range(RangeField::Clamp))
+        Some(AttributeField::Range(RangeField::Clamp))
     } else if word.eq_ignore_ascii_case(b"groupsRedirect") {
-        Some(SettingField::Range(RangeField::Redirect))
+        Some(AttributeField::Range(RangeField::Redirect))
     } else if word.eq_ignore_ascii_case(b"redirectGroups") {
-        Some(SettingField::Range(RangeField::Redirect))
+        Some(AttributeField::Range(RangeField::Redirect))
     } else {
         None
     }
@@ -69,11 +69,11 @@ fn is_unused(word: &[u8]) -> bool
 }
 
 /// What a field of a word sets, where it isn't a field of lists.
-pub(crate) fn field_named(word: &[u8]) -> Option<SettingField>
+pub(crate) fn field_named(word: &[u8]) -> Option<AttributeField>
     ensures { result ≡ field_named word.now }
 {
     if is_unused(word) {
-        Some(SettingField::Unused)
+        Some(AttributeField::Unused)
     } else {
         used_field(word)
     }
@@ -81,7 +81,7 @@ pub(crate) fn field_named(word: &[u8]) -> Option<SettingField>
 
 /// Whether a field of this word, in capital letters or small, says something of a key besides its lists, or is read and
 /// not used.
-pub fn is_setting_word(word: &[u8]) -> bool
+pub fn is_attribute_word(word: &[u8]) -> bool
     ensures { result ≡ is_some (field_named word.now) }
 {
     field_named(word).is_some()

@@ -52,14 +52,14 @@ type_block c t =
 -- ---- indicators
 
 -- what lights an indicator; bit g of its groups is group g, counted from 0
-unfoldable pub lamp_lines : IndicatorRow → List ℕ
-lamp_lines d =
+unfoldable pub indicator_map_lines : IndicatorRow → List ℕ
+indicator_map_lines d =
     setting (codes "whichModState") (states_text d.mod_states)
     ++ (setting (codes "modifiers") (mods_text d.mods)
     ++ (setting (codes "whichGroupState") (states_text d.group_states) ++ setting (codes "groups") (hexadecimal d.groups)))
 
 unfoldable pub indicator_block : Content → IndicatorRow → List ℕ
-indicator_block c d = block (codes "indicator " ++ quoted (indicator_name c d)) (lamp_lines d)
+indicator_block c d = block (codes "indicator " ++ quoted (indicator_name c d)) (indicator_map_lines d)
 
 -- ---- names of groups
 

@@ -4,7 +4,7 @@ ghost use Rattle.std.specs.List.{flat_map};
 ghost use Rattle.ks_core.specs.BufferedOut.{Writes};
 ghost use Rattle.kx_print.specs.Masks.{states_text};
 ghost use Rattle.kx_print.specs.Phrases.{block, hexadecimal, numbered, quoted, setting};
-ghost use Rattle.kx_print.specs.Printed.{compat_section, group_name_line, indicator_block, lamp_lines, name_line};
+ghost use Rattle.kx_print.specs.Printed.{compat_section, group_name_line, indicator_block, indicator_map_lines, name_line};
 
 use crate::sets::write_states;
 use crate::types::write_mods_line;
@@ -33,18 +33,18 @@ fn write_each_indicator<T: Tables, O: Out>(tables: &T, buffered: &mut BufferedOu
 }
 
 fn write_indicator<O: Out>(buffered: &mut BufferedOut, out: &mut O, name: &[u8], row: IndicatorRow)
-    ensures { Writes O.written O.failures out.old buffered.old out.new buffered.new (block (codes "indicator " ++ quoted name.now) (lamp_lines row)) }
+    ensures { Writes O.written O.failures out.old buffered.old out.new buffered.new (block (codes "indicator " ++ quoted name.now) (indicator_map_lines row)) }
 {
     buffered.write(out, b"indicator ");
     write_quoted(buffered, out, name);
     buffered.write(out, b" {\n");
-    write_lamp(buffered, out, row);
+    write_indicator_map(buffered, out, row);
     buffered.write(out, b"};\n");
 }
 
 /// Writes what lights an indicator.
-fn write_lamp<O: Out>(buffered: &mut BufferedOut, out: &mut O, row: IndicatorRow)
-    ensures { Writes O.written O.failures out.old buffered.old out.new buffered.new (lamp_lines row) }
+fn write_indicator_map<O: Out>(buffered: &mut BufferedOut, out: &mut O, row: IndicatorRow)
+    ensures { Writes O.written O.failures out.old buffered.old out.new buffered.new (indicator_map_lines row) }
 {
     write_states_line(buffered, out, b"whichModState", row.mod_states);
     write_mods_line(buffered, out, row.mods);

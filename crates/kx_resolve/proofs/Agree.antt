@@ -21,7 +21,7 @@ use Rattle.kx_resolve.proofs.Bits.{has_set, same_masks, set_small}
 use Rattle.kx_resolve.specs.Bounds.{TypeHolds}
 use Rattle.kx_resolve.specs.Given.{KeyGiven}
 use Rattle.kx_resolve.specs.GroupTypes.{content_group, group_count, group_type_name, type_definition}
-use Rattle.kx_resolve.specs.Deeds.{Deeds}
+use Rattle.kx_resolve.specs.LevelActions.{LevelActions}
 use Rattle.kx_resolve.specs.Keys.{Keyed, cells_of, resolved_group, groups_of, key_if_named, key_of, keys_below, resolved_of, type_of, types_used}
 use Rattle.kx_resolve.specs.Shown.{groups_if, keymap_meant, most_groups_below, name_within, shown_by, shown_for, shown_if, shown_in}
 use Rattle.kx_tables.specs.Keymap.{level_of, nothing_shown}
@@ -64,14 +64,14 @@ module _ (t : ResolvedType) (valid : TypeIsValid t) where
   chosen_same w = ap (λ n. find (λ (e : ResolvedEntry). mask e.mods == n) t.entries) (cut_mods w (mask t.mods) valid.mods)
 
 module _ (real : ℕ → RealSet) (declared : List ℕ → Option Definition) where
-  module _ (name : List ℕ) (holds : TypeHolds real declared name) (deeds : Deeds) (key : KeyGiven) (content : ℕ) where
+  module _ (name : List ℕ) (holds : TypeHolds real declared name) (level_actions : LevelActions) (key : KeyGiven) (content : ℕ) where
     abbrev type : ResolvedType
     type = type_of real declared name
 
     abbrev definition : Definition
     definition = type_definition declared name
 
-    cell_shown : (w : ℕ) → shown_of_cell (consumed_mods type (entry_chosen type w)) (slice_get (cells_of deeds key content type.levels) (level_of (entry_chosen type w))) ≡ shown_by real declared definition deeds key content (has (real_part w))
+    cell_shown : (w : ℕ) → shown_of_cell (consumed_mods type (entry_chosen type w)) (slice_get (cells_of level_actions key content type.levels) (level_of (entry_chosen type w))) ≡ shown_by real declared definition level_actions key content (has (real_part w))
     cell_shown w =
         let entry = entry_chosen type (real_part w) in
         let low = small_part w in
@@ -79,9 +79,9 @@ module _ (real : ℕ → RealSet) (declared : List ℕ → Option Definition) wh
         let gone : consumed_mods type entry ≡ set_mask (consumed real definition (has (real_part w))) =
         same_masks (consumed_mods type entry) (set_mask (consumed real definition (has (real_part w)))) (consumed_small type holds.valid entry) (set_small (consumed real definition (has (real_part w))))
         (λ r within. holds.shows.consumed_are name (real_part w) r low within ∙ sym (has_set (consumed real definition (has (real_part w))) r within)) in
-        ap (λ o. shown_of_cell (consumed_mods type o) (slice_get (cells_of deeds key content type.levels) (level_of o))) (chosen_same type holds.valid w)
-        ∙ ap (shown_of_cell (consumed_mods type entry)) (cell_at deeds key content type.levels (level_of entry) (level_within type holds.valid (real_part w)))
-        ∙ (λ i. record { syms = unwrap_or (key.keysyms content (level i)) []; consumed = gone i; action = deeds content (level i) })
+        ap (λ o. shown_of_cell (consumed_mods type o) (slice_get (cells_of level_actions key content type.levels) (level_of o))) (chosen_same type holds.valid w)
+        ∙ ap (shown_of_cell (consumed_mods type entry)) (cell_at level_actions key content type.levels (level_of entry) (level_within type holds.valid (real_part w)))
+        ∙ (λ i. record { syms = unwrap_or (key.keysyms content (level i)) []; consumed = gone i; action = level_actions content (level i) })
 
 -- ---- Keys by code
 
@@ -94,11 +94,11 @@ module _ (declared : List ℕ → Option Definition) (used : List (List ℕ)) (k
 
   abbrev pub key_seen : Option (List ℕ) → ℕ → Option ResolvedKey
   key_seen None code = None
-  key_seen (Some n) code = Some (key_of declared used (keyed.deeds code) (key code) code n (keyed.modmap code))
+  key_seen (Some n) code = Some (key_of declared used (keyed.level_actions code) (key code) code n (keyed.modmap code))
 
-  find_one : (n code : ℕ) (o : Option (List ℕ)) → find (λ (k : ResolvedKey). k.code == code) (key_if_named declared used (keyed.deeds n) (key n) n o (keyed.modmap n)) ≡ (if n == code then key_seen o n else None)
+  find_one : (n code : ℕ) (o : Option (List ℕ)) → find (λ (k : ResolvedKey). k.code == code) (key_if_named declared used (keyed.level_actions n) (key n) n o (keyed.modmap n)) ≡ (if n == code then key_seen o n else None)
   find_one n code None = elim (n == code) as (λ b. ◌≡◌ {A = Option ResolvedKey} None (if b then None else None)) [ true ↦ refl | false ↦ refl ]
-  find_one n code (Some of_key) = elim (n == code) as (λ b. cond b (Some (key_of declared used (keyed.deeds n) (key n) n of_key (keyed.modmap n))) None ≡ (if b then Some (key_of declared used (keyed.deeds n) (key n) n of_key (keyed.modmap n)) else None)) [ true ↦ refl | false ↦ refl ]
+  find_one n code (Some of_key) = elim (n == code) as (λ b. cond b (Some (key_of declared used (keyed.level_actions n) (key n) n of_key (keyed.modmap n))) None ≡ (if b then Some (key_of declared used (keyed.level_actions n) (key n) n of_key (keyed.modmap n)) else None)) [ true ↦ refl | false ↦ refl ]
 
   or_none : {X : Type 0} (o : Option X) → option_or o None ≡ o
   or_none None = refl
@@ -108,7 +108,7 @@ module _ (declared : List ℕ → Option Definition) (used : List (List ℕ)) (k
   unfolding keys_below
   key_found zero code = sym (ap (λ b. if b then key_seen (name code) code else None) (le-ltb code 0 (omega arith)))
   key_found (suc n) code =
-      find-append (λ (k : ResolvedKey). k.code == code) (keys_below declared used keyed n) (key_if_named declared used (keyed.deeds n) (key n) n (name n) (keyed.modmap n))
+      find-append (λ (k : ResolvedKey). k.code == code) (keys_below declared used keyed n) (key_if_named declared used (keyed.level_actions n) (key n) n (name n) (keyed.modmap n))
       ∙ (λ i. option_or (key_found n code i) (find_one n code (name n) i))
       ∙ by (cases_lt code n) (n == code) refl
     where
@@ -133,14 +133,14 @@ module _ (declared : List ℕ → Option Definition) (used : List (List ℕ)) (k
   most_append [] ys = omega arith
   most_append (x ∷ xs) ys = let rest = most_append xs ys in omega (arith, rest)
 
-  most_one : (n : ℕ) (o : Option (List ℕ)) → most_groups (key_if_named declared used (keyed.deeds n) (key n) n o (keyed.modmap n)) ≡ groups_if name key o n
+  most_one : (n : ℕ) (o : Option (List ℕ)) → most_groups (key_if_named declared used (keyed.level_actions n) (key n) n o (keyed.modmap n)) ≡ groups_if name key o n
   most_one n None = refl
-  most_one n (Some of_key) = omega (arith, groups_length declared used (keyed.deeds n) (key n) (group_count (key n)))
+  most_one n (Some of_key) = omega (arith, groups_length declared used (keyed.level_actions n) (key n) (group_count (key n)))
 
   pub most_is : (n : ℕ) → most_groups (keys_below declared used keyed n) ≡ most_groups_below name key n
   unfolding keys_below most_groups_below
   most_is zero = refl
-  most_is (suc n) = most_append (keys_below declared used keyed n) (key_if_named declared used (keyed.deeds n) (key n) n (name n) (keyed.modmap n)) ∙ (λ i. max (most_is n i) (most_one n (name n) i))
+  most_is (suc n) = most_append (keys_below declared used keyed n) (key_if_named declared used (keyed.level_actions n) (key n) n (name n) (keyed.modmap n)) ∙ (λ i. max (most_is n i) (most_one n (name n) i))
 
 -- ---- The keymap
 
@@ -151,23 +151,23 @@ module _ (real : ℕ → RealSet) (declared : List ℕ → Option Definition) (k
   abbrev tree : Resolved
   tree = record { types = map (type_of real declared) used; keys = keys_below declared used keyed 4096 }
 
-  group_shown : (code group mods : ℕ) (of_key : List ℕ) → code < 4096 → keyed.name code ≡ Some of_key → group < group_count (keyed.key code) → shown_of_group tree mods (Some (resolved_group declared used (keyed.deeds code) (keyed.key code) group)) ≡ shown_in real declared (keyed.deeds code) (keyed.key code) group mods
+  group_shown : (code group mods : ℕ) (of_key : List ℕ) → code < 4096 → keyed.name code ≡ Some of_key → group < group_count (keyed.key code) → shown_of_group tree mods (Some (resolved_group declared used (keyed.level_actions code) (keyed.key code) group)) ≡ shown_in real declared (keyed.level_actions code) (keyed.key code) group mods
   group_shown code group mods of_key less is within =
       let of_group = group_type_name declared (keyed.key code) group in
-      ap (shown_of_type (resolved_group declared used (keyed.deeds code) (keyed.key code) group) mods) (type_at real declared keyed code group of_key less is within)
-      ∙ cell_shown real declared of_group (each of_group (type_used real declared keyed code group of_key less is within)) (keyed.deeds code) (keyed.key code) (content_group (keyed.key code) group) mods
+      ap (shown_of_type (resolved_group declared used (keyed.level_actions code) (keyed.key code) group) mods) (type_at real declared keyed code group of_key less is within)
+      ∙ cell_shown real declared of_group (each of_group (type_used real declared keyed code group of_key less is within)) (keyed.level_actions code) (keyed.key code) (content_group (keyed.key code) group) mods
 
-  key_shown : (code group mods : ℕ) (of_key : List ℕ) → code < 4096 → keyed.name code ≡ Some of_key → shown_of_key tree group mods (Some (key_of declared used (keyed.deeds code) (keyed.key code) code of_key (keyed.modmap code))) ≡ shown_for real declared (keyed.deeds code) (keyed.key code) group mods
+  key_shown : (code group mods : ℕ) (of_key : List ℕ) → code < 4096 → keyed.name code ≡ Some of_key → shown_of_key tree group mods (Some (key_of declared used (keyed.level_actions code) (keyed.key code) code of_key (keyed.modmap code))) ≡ shown_for real declared (keyed.level_actions code) (keyed.key code) group mods
   key_shown code group mods of_key less is =
-      (λ i. cond (groups_length declared used (keyed.deeds code) (keyed.key code) (group_count (keyed.key code)) i == 0) nothing_shown (shown_of_group tree mods (slice_get (groups_of declared used (keyed.deeds code) (keyed.key code) (group_count (keyed.key code))) (in_range (pos group) (groups_length declared used (keyed.deeds code) (keyed.key code) (group_count (keyed.key code)) i) (keyed.key code).range))))
+      (λ i. cond (groups_length declared used (keyed.level_actions code) (keyed.key code) (group_count (keyed.key code)) i == 0) nothing_shown (shown_of_group tree mods (slice_get (groups_of declared used (keyed.level_actions code) (keyed.key code) (group_count (keyed.key code))) (in_range (pos group) (groups_length declared used (keyed.level_actions code) (keyed.key code) (group_count (keyed.key code)) i) (keyed.key code).range))))
       ∙ by (group_count (keyed.key code) == 0) refl
     where
-      by : (b : Bool) → (group_count (keyed.key code) == 0) ≡ b → cond b nothing_shown (shown_of_group tree mods (slice_get (groups_of declared used (keyed.deeds code) (keyed.key code) (group_count (keyed.key code))) (in_range (pos group) (group_count (keyed.key code)) (keyed.key code).range))) ≡ (if b then nothing_shown else shown_in real declared (keyed.deeds code) (keyed.key code) (in_range (pos group) (group_count (keyed.key code)) (keyed.key code).range) mods)
+      by : (b : Bool) → (group_count (keyed.key code) == 0) ≡ b → cond b nothing_shown (shown_of_group tree mods (slice_get (groups_of declared used (keyed.level_actions code) (keyed.key code) (group_count (keyed.key code))) (in_range (pos group) (group_count (keyed.key code)) (keyed.key code).range))) ≡ (if b then nothing_shown else shown_in real declared (keyed.level_actions code) (keyed.key code) (in_range (pos group) (group_count (keyed.key code)) (keyed.key code).range) mods)
       by true none = refl
       by false some =
           let count : 0 < group_count (keyed.key code) = let other = eqb-false (group_count (keyed.key code)) 0 some in omega (arith, other) in
           let within = group_below group (group_count (keyed.key code)) (keyed.key code).range count in
-          ap (shown_of_group tree mods) (group_at declared used (keyed.deeds code) (keyed.key code) (group_count (keyed.key code)) (in_range (pos group) (group_count (keyed.key code)) (keyed.key code).range) within)
+          ap (shown_of_group tree mods) (group_at declared used (keyed.level_actions code) (keyed.key code) (group_count (keyed.key code)) (in_range (pos group) (group_count (keyed.key code)) (keyed.key code).range) within)
           ∙ group_shown code (in_range (pos group) (group_count (keyed.key code)) (keyed.key code).range) mods of_key less is within
 
   seen_shown : (code group mods : ℕ) (o : Option (List ℕ)) → keyed.name code ≡ o → code < 4096 → shown_of_key tree group mods (key_seen declared used keyed o code) ≡ shown_if real declared keyed o code group mods
@@ -194,5 +194,5 @@ module _ (real : ℕ → RealSet) (declared : List ℕ → Option Definition) (k
     groups = ap (max 1) (most_is declared used keyed 4096);
     known = code_known;
     shown = code_shown;
-    lamps = refl;
+    indicator_maps = refl;
   }

@@ -2,7 +2,7 @@
 use Rattle.std.proofs.Common.{◌≡◌, ℕ, List, Option, None, Some, refl}
 use Rattle.std.specs.Option.{option_map}
 use Rattle.kx_actions.specs.declared.action.KeyAction.{KeyAction}
-use Rattle.kx_key_fields.specs.declared.cells.SettingValue.TheVariants as said
+use Rattle.kx_key_fields.specs.declared.cells.AttributeValue.TheVariants as said
 use Rattle.kx_symbols.specs.declared.cells.CellValue.TheVariants as values
 use Rattle.kx_tables.specs.declared.rows.Range.{Range}
 use Rattle.kx_resolve.specs.Given.{action_of, keysyms_of, name_of, range_of, set_of}

@@ -23,7 +23,7 @@ use Rattle.kx_resolve.proofs.Typed.{types_valid, used_distinct}
 use Rattle.kx_resolve.specs.Bounds.{BoundsBelow, CellsAreValid, GroupsAreValid, KeepsBounds, OneCode, TypeHolds, levels_of_group}
 use Rattle.kx_resolve.specs.Given.{KeyGiven}
 use Rattle.kx_resolve.specs.GroupTypes.{content_group, group_count, group_type_name}
-use Rattle.kx_resolve.specs.Deeds.{Deeds}
+use Rattle.kx_resolve.specs.LevelActions.{LevelActions}
 use Rattle.kx_resolve.specs.Keys.{Keyed, cell_of, cells_of, resolved_group, groups_of, key_if_named, key_of, keys_below, resolved_of, type_names, type_names_below, type_names_if, type_of, type_place, types_used}
 use Rattle.kx_types.specs.KeyTypes.{Definition}
 
@@ -68,52 +68,52 @@ end_at (y ∷ ys) x = end_at ys x
 
 -- ---- Levels and groups by their numbers
 
-module _ (deeds : Deeds) (key : KeyGiven) (group : ℕ) where
-  pub cells_length : (n : ℕ) → length (cells_of deeds key group n) ≡ n
+module _ (level_actions : LevelActions) (key : KeyGiven) (group : ℕ) where
+  pub cells_length : (n : ℕ) → length (cells_of level_actions key group n) ≡ n
   unfolding cells_of
   cells_length zero = refl
-  cells_length (suc n) = omega (arith, length-append (cells_of deeds key group n) (cell_of deeds key group n ∷ []), cells_length n)
+  cells_length (suc n) = omega (arith, length-append (cells_of level_actions key group n) (cell_of level_actions key group n ∷ []), cells_length n)
 
-  pub cell_at : (n level : ℕ) → level < n → slice_get (cells_of deeds key group n) level ≡ Some (cell_of deeds key group level)
+  pub cell_at : (n level : ℕ) → level < n → slice_get (cells_of level_actions key group n) level ≡ Some (cell_of level_actions key group level)
   unfolding cells_of
   cell_at zero level less = absurd (omega (arith, less))
   cell_at (suc n) level less =
       elim (eq-or-lt_of_le upto) [
-        | inl same ↦ ap (slice_get (cells_of deeds key group n ++ cell_of deeds key group n ∷ [])) (same ∙ sym (cells_length n)) ∙ end_at (cells_of deeds key group n) (cell_of deeds key group n) ∙ ap (λ l. Some (cell_of deeds key group l)) (sym same)
-        | inr before ↦ front_at (cells_of deeds key group n) (cell_of deeds key group n ∷ []) level (omega (arith, before, cells_length n)) ∙ cell_at n level before
+        | inl same ↦ ap (slice_get (cells_of level_actions key group n ++ cell_of level_actions key group n ∷ [])) (same ∙ sym (cells_length n)) ∙ end_at (cells_of level_actions key group n) (cell_of level_actions key group n) ∙ ap (λ l. Some (cell_of level_actions key group l)) (sym same)
+        | inr before ↦ front_at (cells_of level_actions key group n) (cell_of level_actions key group n ∷ []) level (omega (arith, before, cells_length n)) ∙ cell_at n level before
       ]
     where
       upto : level ≤ n
       upto = omega (arith, less)
 
-  cells_valid : (n : ℕ) → CellsAreValid deeds key group n → All CellIsValid (cells_of deeds key group n)
+  cells_valid : (n : ℕ) → CellsAreValid level_actions key group n → All CellIsValid (cells_of level_actions key group n)
   unfolding cells_of
   cells_valid zero valid = All-nil CellIsValid
-  cells_valid (suc n) valid = All-push CellIsValid (cells_of deeds key group n) (cell_of deeds key group n) (cells_valid n (λ level less. valid level (lt_trans less (lt-suc_self n)))) (valid n (lt-suc_self n))
+  cells_valid (suc n) valid = All-push CellIsValid (cells_of level_actions key group n) (cell_of level_actions key group n) (cells_valid n (λ level less. valid level (lt_trans less (lt-suc_self n)))) (valid n (lt-suc_self n))
 
-module _ (declared : List ℕ → Option Definition) (used : List (List ℕ)) (deeds : Deeds) (key : KeyGiven) where
-  pub groups_length : (n : ℕ) → length (groups_of declared used deeds key n) ≡ n
+module _ (declared : List ℕ → Option Definition) (used : List (List ℕ)) (level_actions : LevelActions) (key : KeyGiven) where
+  pub groups_length : (n : ℕ) → length (groups_of declared used level_actions key n) ≡ n
   unfolding groups_of
   groups_length zero = refl
-  groups_length (suc n) = omega (arith, length-append (groups_of declared used deeds key n) (resolved_group declared used deeds key n ∷ []), groups_length n)
+  groups_length (suc n) = omega (arith, length-append (groups_of declared used level_actions key n) (resolved_group declared used level_actions key n ∷ []), groups_length n)
 
-  pub group_at : (n group : ℕ) → group < n → slice_get (groups_of declared used deeds key n) group ≡ Some (resolved_group declared used deeds key group)
+  pub group_at : (n group : ℕ) → group < n → slice_get (groups_of declared used level_actions key n) group ≡ Some (resolved_group declared used level_actions key group)
   unfolding groups_of
   group_at zero group less = absurd (omega (arith, less))
   group_at (suc n) group less =
       elim (eq-or-lt_of_le upto) [
-        | inl same ↦ ap (slice_get (groups_of declared used deeds key n ++ resolved_group declared used deeds key n ∷ [])) (same ∙ sym (groups_length n)) ∙ end_at (groups_of declared used deeds key n) (resolved_group declared used deeds key n) ∙ ap (λ g. Some (resolved_group declared used deeds key g)) (sym same)
-        | inr before ↦ front_at (groups_of declared used deeds key n) (resolved_group declared used deeds key n ∷ []) group (omega (arith, before, groups_length n)) ∙ group_at n group before
+        | inl same ↦ ap (slice_get (groups_of declared used level_actions key n ++ resolved_group declared used level_actions key n ∷ [])) (same ∙ sym (groups_length n)) ∙ end_at (groups_of declared used level_actions key n) (resolved_group declared used level_actions key n) ∙ ap (λ g. Some (resolved_group declared used level_actions key g)) (sym same)
+        | inr before ↦ front_at (groups_of declared used level_actions key n) (resolved_group declared used level_actions key n ∷ []) group (omega (arith, before, groups_length n)) ∙ group_at n group before
       ]
     where
       upto : group ≤ n
       upto = omega (arith, less)
 
-  group_types : (n : ℕ) → map (λ (g : ResolvedGroup). g.key_type) (groups_of declared used deeds key n) ≡ map (type_place used) (type_names declared key n)
+  group_types : (n : ℕ) → map (λ (g : ResolvedGroup). g.key_type) (groups_of declared used level_actions key n) ≡ map (type_place used) (type_names declared key n)
   unfolding groups_of type_names
   group_types zero = refl
   group_types (suc n) =
-      map-append (λ (g : ResolvedGroup). g.key_type) (groups_of declared used deeds key n) (resolved_group declared used deeds key n ∷ [])
+      map-append (λ (g : ResolvedGroup). g.key_type) (groups_of declared used level_actions key n) (resolved_group declared used level_actions key n ∷ [])
       ∙ ap (λ ps. ps ++ type_place used (group_type_name declared key n) ∷ []) (group_types n)
       ∙ sym (map-append (type_place used) (type_names declared key n) (group_type_name declared key n ∷ []))
 
@@ -191,17 +191,17 @@ module _ (real : ℕ → RealSet) (declared : List ℕ → Option Definition) (k
       slice_get-map (type_of real declared) used (type_place used (group_type_name declared (key code) group))
       ∙ ap (option_map (type_of real declared)) (stands_at (group_type_name declared (key code) group) used (type_used code group of_key less is within))
 
-  group_valid : (code group : ℕ) (of_key : List ℕ) → code < 4096 → name code ≡ Some of_key → group < group_count (key code) → CellsAreValid (keyed.deeds code) (key code) (content_group (key code) group) (levels_of_group declared (key code) group) → GroupIsValid types (resolved_group declared used (keyed.deeds code) (key code) group)
+  group_valid : (code group : ℕ) (of_key : List ℕ) → code < 4096 → name code ≡ Some of_key → group < group_count (key code) → CellsAreValid (keyed.level_actions code) (key code) (content_group (key code) group) (levels_of_group declared (key code) group) → GroupIsValid types (resolved_group declared used (keyed.level_actions code) (key code) group)
   group_valid code group of_key less is within valid = record {
-    whole = subst (λ o. IsSomeAnd o (λ (t : ResolvedType). length (resolved_group declared used (keyed.deeds code) (key code) group).cells ≡ t.levels)) (sym (type_at code group of_key less is within)) (cells_length (keyed.deeds code) (key code) (content_group (key code) group) (levels_of_group declared (key code) group));
-    each_cell = cells_valid (keyed.deeds code) (key code) (content_group (key code) group) (levels_of_group declared (key code) group) valid;
+    whole = subst (λ o. IsSomeAnd o (λ (t : ResolvedType). length (resolved_group declared used (keyed.level_actions code) (key code) group).cells ≡ t.levels)) (sym (type_at code group of_key less is within)) (cells_length (keyed.level_actions code) (key code) (content_group (key code) group) (levels_of_group declared (key code) group));
+    each_cell = cells_valid (keyed.level_actions code) (key code) (content_group (key code) group) (levels_of_group declared (key code) group) valid;
   }
 
-  groups_valid : (code n : ℕ) (of_key : List ℕ) → code < 4096 → name code ≡ Some of_key → n ≤ group_count (key code) → GroupsAreValid declared (keyed.deeds code) (key code) n → All (GroupIsValid types) (groups_of declared used (keyed.deeds code) (key code) n)
+  groups_valid : (code n : ℕ) (of_key : List ℕ) → code < 4096 → name code ≡ Some of_key → n ≤ group_count (key code) → GroupsAreValid declared (keyed.level_actions code) (key code) n → All (GroupIsValid types) (groups_of declared used (keyed.level_actions code) (key code) n)
   unfolding groups_of
   groups_valid code zero of_key less is within valid = All-nil (GroupIsValid types)
   groups_valid code (suc n) of_key less is within valid =
-      All-push (GroupIsValid types) (groups_of declared used (keyed.deeds code) (key code) n) (resolved_group declared used (keyed.deeds code) (key code) n)
+      All-push (GroupIsValid types) (groups_of declared used (keyed.level_actions code) (key code) n) (resolved_group declared used (keyed.level_actions code) (key code) n)
       (groups_valid code n of_key less is (omega (arith, within)) (λ group below. valid group (lt_trans below (lt-suc_self n))))
       (group_valid code n of_key less is (omega (arith, within)) (valid n (lt-suc_self n)))
 
@@ -211,21 +211,21 @@ module _ (real : ℕ → RealSet) (declared : List ℕ → Option Definition) (k
     below : k.code < n
     named : name k.code ≡ Some k.name
 
-  named_one : (n : ℕ) (o : Option (List ℕ)) → name n ≡ o → All (IsNamed (suc n)) (key_if_named declared used (keyed.deeds n) (key n) n o (keyed.modmap n))
+  named_one : (n : ℕ) (o : Option (List ℕ)) → name n ≡ o → All (IsNamed (suc n)) (key_if_named declared used (keyed.level_actions n) (key n) n o (keyed.modmap n))
   named_one n None is = All-nil (IsNamed (suc n))
-  named_one n (Some of_key) is = All-cons (IsNamed (suc n)) (key_of declared used (keyed.deeds n) (key n) n of_key (keyed.modmap n)) [] (record { below = lt-suc_self n; named = is }) (All-nil (IsNamed (suc n)))
+  named_one n (Some of_key) is = All-cons (IsNamed (suc n)) (key_of declared used (keyed.level_actions n) (key n) n of_key (keyed.modmap n)) [] (record { below = lt-suc_self n; named = is }) (All-nil (IsNamed (suc n)))
 
   all_named : (n : ℕ) → All (IsNamed n) (keys_below declared used keyed n)
   unfolding keys_below
   all_named zero = All-nil (IsNamed zero)
   all_named (suc n) =
-      All-append (IsNamed (suc n)) (keys_below declared used keyed n) (key_if_named declared used (keyed.deeds n) (key n) n (name n) (keyed.modmap n))
+      All-append (IsNamed (suc n)) (keys_below declared used keyed n) (key_if_named declared used (keyed.level_actions n) (key n) n (name n) (keyed.modmap n))
       (All-weaker (IsNamed n) (IsNamed (suc n)) (λ k is. record { below = lt_trans is.below (lt-suc_self n); named = is.named }) (keys_below declared used keyed n) (all_named n))
       (named_one n (name n) refl)
 
-  rises_one : (n : ℕ) (o : Option (List ℕ)) (ks : List ResolvedKey) → Rising (λ (k : ResolvedKey). k.code) ks → All (λ (k : ResolvedKey). k.code < n) ks → Rising (λ (k : ResolvedKey). k.code) (ks ++ key_if_named declared used (keyed.deeds n) (key n) n o (keyed.modmap n))
+  rises_one : (n : ℕ) (o : Option (List ℕ)) (ks : List ResolvedKey) → Rising (λ (k : ResolvedKey). k.code) ks → All (λ (k : ResolvedKey). k.code < n) ks → Rising (λ (k : ResolvedKey). k.code) (ks ++ key_if_named declared used (keyed.level_actions n) (key n) n o (keyed.modmap n))
   rises_one n None ks rising below = subst (Rising (λ (k : ResolvedKey). k.code)) (sym (append-nil ks)) rising
-  rises_one n (Some of_key) ks rising below = rising_push (λ (k : ResolvedKey). k.code) ks (key_of declared used (keyed.deeds n) (key n) n of_key (keyed.modmap n)) rising below
+  rises_one n (Some of_key) ks rising below = rising_push (λ (k : ResolvedKey). k.code) ks (key_of declared used (keyed.level_actions n) (key n) n of_key (keyed.modmap n)) rising below
 
   rises : (n : ℕ) → Rising (λ (k : ResolvedKey). k.code) (keys_below declared used keyed n)
   unfolding keys_below
@@ -240,16 +240,16 @@ module _ (real : ℕ → RealSet) (declared : List ℕ → Option Definition) (k
       let equal : y.code ≡ x.code = one y.code x.code x.name (earlier.named ∙ ap Some same) later.named in
       omega (arith, rise, equal)
 
-  key_valid : (n : ℕ) (o : Option (List ℕ)) → name n ≡ o → n < 4096 → ((of_key : List ℕ) → name n ≡ Some of_key → KeepsBounds declared of_key (keyed.modmap n) (keyed.deeds n) (key n)) → All (KeyIsValid types) (key_if_named declared used (keyed.deeds n) (key n) n o (keyed.modmap n))
+  key_valid : (n : ℕ) (o : Option (List ℕ)) → name n ≡ o → n < 4096 → ((of_key : List ℕ) → name n ≡ Some of_key → KeepsBounds declared of_key (keyed.modmap n) (keyed.level_actions n) (key n)) → All (KeyIsValid types) (key_if_named declared used (keyed.level_actions n) (key n) n o (keyed.modmap n))
   key_valid n None is small bounds = All-nil (KeyIsValid types)
   key_valid n (Some of_key) is small bounds =
       let keeps = bounds of_key is in
-      All-cons (KeyIsValid types) (key_of declared used (keyed.deeds n) (key n) n of_key (keyed.modmap n)) []
+      All-cons (KeyIsValid types) (key_of declared used (keyed.level_actions n) (key n) n of_key (keyed.modmap n)) []
       (record {
         code_fits = omega (arith, small);
         mapped = keeps.mapped;
         range_holds = keeps.range;
-        few = omega (arith, groups_length declared used (keyed.deeds n) (key n) (group_count (key n)), count_few (key n));
+        few = omega (arith, groups_length declared used (keyed.level_actions n) (key n) (group_count (key n)), count_few (key n));
         each_group = groups_valid n (group_count (key n)) of_key small is (omega arith) keeps.cells;
         name_fits = keeps.short;
         each_byte = keeps.bytes;
@@ -260,22 +260,22 @@ module _ (real : ℕ → RealSet) (declared : List ℕ → Option Definition) (k
   unfolding keys_below
   keys_valid zero small bounds = All-nil (KeyIsValid types)
   keys_valid (suc n) small bounds =
-      All-append (KeyIsValid types) (keys_below declared used keyed n) (key_if_named declared used (keyed.deeds n) (key n) n (name n) (keyed.modmap n))
+      All-append (KeyIsValid types) (keys_below declared used keyed n) (key_if_named declared used (keyed.level_actions n) (key n) n (name n) (keyed.modmap n))
       (keys_valid n (omega (arith, small)) (λ code less. bounds code (lt_trans less (lt-suc_self n))))
       (key_valid n (name n) refl (omega (arith, small)) (bounds n (lt-suc_self n)))
 
   -- ---- Types stand by first use, and no two have one name
 
-  one_types : (n : ℕ) (o : Option (List ℕ)) → map (λ (g : ResolvedGroup). g.key_type) (all_groups (key_if_named declared used (keyed.deeds n) (key n) n o (keyed.modmap n))) ≡ map (type_place used) (type_names_if declared o (key n))
+  one_types : (n : ℕ) (o : Option (List ℕ)) → map (λ (g : ResolvedGroup). g.key_type) (all_groups (key_if_named declared used (keyed.level_actions n) (key n) n o (keyed.modmap n))) ≡ map (type_place used) (type_names_if declared o (key n))
   one_types n None = refl
-  one_types n (Some of_key) = ap (map (λ (g : ResolvedGroup). g.key_type)) (append-nil (groups_of declared used (keyed.deeds n) (key n) (group_count (key n)))) ∙ group_types declared used (keyed.deeds n) (key n) (group_count (key n))
+  one_types n (Some of_key) = ap (map (λ (g : ResolvedGroup). g.key_type)) (append-nil (groups_of declared used (keyed.level_actions n) (key n) (group_count (key n)))) ∙ group_types declared used (keyed.level_actions n) (key n) (group_count (key n))
 
   below_types : (n : ℕ) → map (λ (g : ResolvedGroup). g.key_type) (all_groups (keys_below declared used keyed n)) ≡ map (type_place used) (type_names_below declared name key n)
   unfolding keys_below type_names_below
   below_types zero = refl
   below_types (suc n) =
-      ap (map (λ (g : ResolvedGroup). g.key_type)) (flat_map-append (λ (k : ResolvedKey). k.groups) (keys_below declared used keyed n) (key_if_named declared used (keyed.deeds n) (key n) n (name n) (keyed.modmap n)))
-      ∙ map-append (λ (g : ResolvedGroup). g.key_type) (all_groups (keys_below declared used keyed n)) (all_groups (key_if_named declared used (keyed.deeds n) (key n) n (name n) (keyed.modmap n)))
+      ap (map (λ (g : ResolvedGroup). g.key_type)) (flat_map-append (λ (k : ResolvedKey). k.groups) (keys_below declared used keyed n) (key_if_named declared used (keyed.level_actions n) (key n) n (name n) (keyed.modmap n)))
+      ∙ map-append (λ (g : ResolvedGroup). g.key_type) (all_groups (keys_below declared used keyed n)) (all_groups (key_if_named declared used (keyed.level_actions n) (key n) n (name n) (keyed.modmap n)))
       ∙ (λ i. below_types n i ++ one_types n (name n) i)
       ∙ sym (map-append (type_place used) (type_names_below declared name key n) (type_names_if declared (name n) (key n)))
 

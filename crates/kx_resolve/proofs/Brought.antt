@@ -3,8 +3,8 @@ use Rattle.std.proofs.Common.{◌≡◌, ◌<◌, ◌≤◌, ℕ, ◌+◌, zero,
 use Rattle.std.specs.List.{list_any, slice_get}
 use Rattle.std.specs.Option.{option_map_or}
 use Rattle.std.proofs.lemmas.List.Folds.{list_any-append}
-use Rattle.kx_resolve.specs.Bearers.{is_brought}
-use Rattle.kx_resolve.specs.declared.standing.Bearer.{Bearer}
+use Rattle.kx_resolve.specs.MappedKeys.{is_brought}
+use Rattle.kx_resolve.specs.declared.virtual_modifiers.MappedKey.{MappedKey}
 use Rattle.kx_virtual_mods.specs.Sets.{has, has_virtual}
 use Rattle.kx_virtual_mods.specs.Standing.{stands_for}
 use Rattle.kx_mods.specs.Mods.{mask}
@@ -18,10 +18,10 @@ alone false false = refl
 pub brought_none : (number real : ℕ) → is_brought [] number real ≡ false
 brought_none number real = refl
 
-pub brought_push : (bearers : List Bearer) (b : Bearer) (number real : ℕ) → is_brought (bearers ++ b ∷ []) number real ≡ (is_brought bearers number real || (has_virtual b.borne number && has (mask b.mods) real))
-brought_push bearers b number real =
-    let test : Bearer → Bool = λ b. has_virtual b.borne number && has (mask b.mods) real in
-    list_any-append test bearers (b ∷ []) ∙ alone (list_any test bearers) (test b)
+pub brought_push : (mapped_keys : List MappedKey) (b : MappedKey) (number real : ℕ) → is_brought (mapped_keys ++ b ∷ []) number real ≡ (is_brought mapped_keys number real || (has_virtual b.vmodmap number && has (mask b.mods) real))
+brought_push mapped_keys b number real =
+    let test : MappedKey → Bool = λ b. has_virtual b.vmodmap number && has (mask b.mods) real in
+    list_any-append test mapped_keys (b ∷ []) ∙ alone (list_any test mapped_keys) (test b)
 
 front : (made more : List Mods) (k : ℕ) → k < length made → slice_get (made ++ more) k ≡ slice_get made k
 front [] more k less = absurd (omega (arith, less))

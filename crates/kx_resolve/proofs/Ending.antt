@@ -2,13 +2,13 @@
 use Rattle.std.proofs.Common.{ℕ, ◌≡◌, ◌≤◌, All, List, Option, length, sym, subst}
 use Rattle.kx_builder.specs.Agreement.{ShowsSame}
 use Rattle.kx_builder.specs.Valid.{IsValid}
-use Rattle.kx_builder.specs.Lamps.{ResolvedIndicator, keymap_with}
+use Rattle.kx_builder.specs.IndicatorMaps.{ResolvedIndicator, keymap_with}
 use Rattle.kx_builder.specs.Resolved.{Resolved, keymap_of_resolved}
 use Rattle.kx_builder.specs.Whole.{IsWhole}
 use Rattle.kx_resolve.specs.Selecting.{RealSet}
 use Rattle.kx_resolve.proofs.Agree.{keymaps_agree}
 use Rattle.kx_resolve.proofs.Bounded.{resolved_valid, resolved_whole}
-use Rattle.kx_resolve.proofs.Lamps.{same_with}
+use Rattle.kx_resolve.proofs.IndicatorMaps.{same_with}
 use Rattle.kx_resolve.proofs.Whole.{each_holds, same_trans}
 use Rattle.kx_resolve.specs.Bounds.{BoundsBelow, OneCode, TypeHolds}
 use Rattle.kx_resolve.specs.Keys.{Keyed, resolved_of, types_used}

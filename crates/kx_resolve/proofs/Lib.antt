@@ -10,7 +10,7 @@ mod Visiting
 mod PlaceOrder
 mod PlaceSteps
 mod Walking
-mod Borne
+mod VmodmapShown
 mod Brought
 pub mod Meant
 mod NameBits
@@ -19,7 +19,7 @@ mod Ending
 mod Bounded
 mod Gathering
 mod Growing
-mod Lamps
+mod IndicatorMaps
 mod Names
 mod Order
 mod Small

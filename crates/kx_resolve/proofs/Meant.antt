@@ -11,7 +11,7 @@ use Rattle.kx_virtual_mods.specs.Sets.{has, real_of}
 use Rattle.kx_virtual_mods.specs.Standing.{stands_for}
 use Rattle.kx_mods.specs.Mods.{mask}
 use Rattle.kx_mods.specs.declared.mods.Mods.{Mods}
-use Rattle.kx_resolve.specs.Deeds.{about, action_meant}
+use Rattle.kx_resolve.specs.LevelActions.{about, action_meant}
 use Rattle.kx_tables.specs.Sound.{ActionHolds}
 use Rattle.kx_tables.specs.declared.rows.Action.{Action}
 use Rattle.kx_tables.specs.declared.rows.Action.TheVariants as rows

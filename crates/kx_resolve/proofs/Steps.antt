@@ -4,7 +4,7 @@ use Rattle.kx_resolve.specs.Selecting.{RealSet}
 use Rattle.kx_virtual_mods.specs.Counted.{with_names}
 use Rattle.kx_resolve.specs.Given.{KeyGiven, given_in}
 use Rattle.kx_resolve.specs.GroupTypes.{group_count, group_type_name, groups_within}
-use Rattle.kx_resolve.specs.Deeds.{Deeds}
+use Rattle.kx_resolve.specs.LevelActions.{LevelActions}
 use Rattle.kx_resolve.specs.Keys.{Keyed, cell_of, cells_of, resolved_group, groups_of, key_if_named, keys_below, resolved_of, type_names, type_names_below, type_names_if, type_of, types_used}
 use Rattle.kx_types.specs.KeyTypes.{Definition}
 
@@ -14,14 +14,14 @@ one_more n = omega arith
 -- ---- Levels
 
 module _ (key : KeyGiven) where
-  module _ (deeds : Deeds) (group : ℕ) where
-    pub cells_none : cells_of deeds key group 0 ≡ []
+  module _ (level_actions : LevelActions) (group : ℕ) where
+    pub cells_none : cells_of level_actions key group 0 ≡ []
     unfolding cells_of
     cells_none = refl
 
-    pub cells_next : (n : ℕ) → cells_of deeds key group (n + 1) ≡ cells_of deeds key group n ++ cell_of deeds key group n ∷ []
+    pub cells_next : (n : ℕ) → cells_of level_actions key group (n + 1) ≡ cells_of level_actions key group n ++ cell_of level_actions key group n ∷ []
     unfolding cells_of
-    cells_next n = subst (λ m. cells_of deeds key group m ≡ cells_of deeds key group n ++ cell_of deeds key group n ∷ []) (one_more n) refl
+    cells_next n = subst (λ m. cells_of level_actions key group m ≡ cells_of level_actions key group n ++ cell_of level_actions key group n ∷ []) (one_more n) refl
 
   module _ (declared : List ℕ → Option Definition) where
     pub names_none : type_names declared key 0 ≡ []
@@ -32,14 +32,14 @@ module _ (key : KeyGiven) where
     unfolding type_names
     names_next n = subst (λ m. type_names declared key m ≡ type_names declared key n ++ group_type_name declared key n ∷ []) (one_more n) refl
 
-    module _ (used : List (List ℕ)) (deeds : Deeds) where
-      pub groups_none : groups_of declared used deeds key 0 ≡ []
+    module _ (used : List (List ℕ)) (level_actions : LevelActions) where
+      pub groups_none : groups_of declared used level_actions key 0 ≡ []
       unfolding groups_of
       groups_none = refl
 
-      pub groups_next : (n : ℕ) → groups_of declared used deeds key (n + 1) ≡ groups_of declared used deeds key n ++ resolved_group declared used deeds key n ∷ []
+      pub groups_next : (n : ℕ) → groups_of declared used level_actions key (n + 1) ≡ groups_of declared used level_actions key n ++ resolved_group declared used level_actions key n ∷ []
       unfolding groups_of
-      groups_next n = subst (λ m. groups_of declared used deeds key m ≡ groups_of declared used deeds key n ++ resolved_group declared used deeds key n ∷ []) (one_more n) refl
+      groups_next n = subst (λ m. groups_of declared used level_actions key m ≡ groups_of declared used level_actions key n ++ resolved_group declared used level_actions key n ∷ []) (one_more n) refl
 
 -- ---- Keys
 
@@ -61,9 +61,9 @@ module _ (declared : List ℕ → Option Definition) (used : List (List ℕ)) (k
   unfolding keys_below
   below_none = refl
 
-  pub below_next : (n : ℕ) → keys_below declared used keyed (n + 1) ≡ keys_below declared used keyed n ++ key_if_named declared used (keyed.deeds n) (keyed.key n) n (keyed.name n) (keyed.modmap n)
+  pub below_next : (n : ℕ) → keys_below declared used keyed (n + 1) ≡ keys_below declared used keyed n ++ key_if_named declared used (keyed.level_actions n) (keyed.key n) n (keyed.name n) (keyed.modmap n)
   unfolding keys_below
-  below_next n = subst (λ m. keys_below declared used keyed m ≡ keys_below declared used keyed n ++ key_if_named declared used (keyed.deeds n) (keyed.key n) n (keyed.name n) (keyed.modmap n)) (one_more n) refl
+  below_next n = subst (λ m. keys_below declared used keyed m ≡ keys_below declared used keyed n ++ key_if_named declared used (keyed.level_actions n) (keyed.key n) n (keyed.name n) (keyed.modmap n)) (one_more n) refl
 
 pub resolved_is : (real : ℕ → RealSet) (declared : List ℕ → Option Definition) (keyed : Keyed) → record { types = map (type_of real declared) (types_used declared keyed.name keyed.key); keys = keys_below declared (types_used declared keyed.name keyed.key) keyed 4096 } ≡ resolved_of real declared keyed
 unfolding resolved_of
@@ -81,8 +81,8 @@ unfolding group_count
 none_count = none_within 32
 
 module _ (declared : List ℕ → Option Definition) where
-  pub none_groups : (used : List (List ℕ)) (deeds : Deeds) → groups_of declared used deeds (given_in None) (group_count (given_in None)) ≡ []
-  none_groups used deeds = ap (groups_of declared used deeds (given_in None)) none_count ∙ groups_none (given_in None) declared used deeds
+  pub none_groups : (used : List (List ℕ)) (level_actions : LevelActions) → groups_of declared used level_actions (given_in None) (group_count (given_in None)) ≡ []
+  none_groups used level_actions = ap (groups_of declared used level_actions (given_in None)) none_count ∙ groups_none (given_in None) declared used level_actions
 
   pub none_names : type_names declared (given_in None) (group_count (given_in None)) ≡ []
   none_names = ap (type_names declared (given_in None)) none_count ∙ names_none (given_in None) declared

@@ -18,25 +18,25 @@ same_trans a b c one two = record {
   groups = one.groups ∙ two.groups;
   known = λ code. one.known code ∙ two.known code;
   shown = λ code group mods. one.shown code group mods ∙ two.shown code group mods;
-  lamps = one.lamps ∙ two.lamps;
+  indicator_maps = one.indicator_maps ∙ two.indicator_maps;
 }
 
 module _ (declared : List ℕ → Option Definition) (used : List (List ℕ)) (keyed : Keyed) where
-  one_at_most : (n : ℕ) (o : Option (List ℕ)) → length (key_if_named declared used (keyed.deeds n) (keyed.key n) n o (keyed.modmap n)) ≤ 1
+  one_at_most : (n : ℕ) (o : Option (List ℕ)) → length (key_if_named declared used (keyed.level_actions n) (keyed.key n) n o (keyed.modmap n)) ≤ 1
   one_at_most n None = omega arith
   one_at_most n (Some of_key) = omega arith
 
   pub below_few : (n : ℕ) → length (keys_below declared used keyed n) ≤ n
   unfolding keys_below
   below_few zero = omega arith
-  below_few (suc n) = omega (arith, below_few n, one_at_most n (keyed.name n), length-append (keys_below declared used keyed n) (key_if_named declared used (keyed.deeds n) (keyed.key n) n (keyed.name n) (keyed.modmap n)))
+  below_few (suc n) = omega (arith, below_few n, one_at_most n (keyed.name n), length-append (keys_below declared used keyed n) (key_if_named declared used (keyed.level_actions n) (keyed.key n) n (keyed.name n) (keyed.modmap n)))
 
 module _ (declared : List ℕ → Option Definition) (keyed : Keyed) where
-  pub bounds_next : (n : ℕ) → BoundsBelow declared keyed n → ((of_key : List ℕ) → keyed.name n ≡ Some of_key → KeepsBounds declared of_key (keyed.modmap n) (keyed.deeds n) (keyed.key n)) → BoundsBelow declared keyed (n + 1)
+  pub bounds_next : (n : ℕ) → BoundsBelow declared keyed n → ((of_key : List ℕ) → keyed.name n ≡ Some of_key → KeepsBounds declared of_key (keyed.modmap n) (keyed.level_actions n) (keyed.key n)) → BoundsBelow declared keyed (n + 1)
   bounds_next n below keeps = λ code less of_key is.
       let upto : code ≤ n = omega (arith, less) in
       elim (eq-or-lt_of_le upto) [
-        | inl same ↦ subst (λ c. KeepsBounds declared of_key (keyed.modmap c) (keyed.deeds c) (keyed.key c)) (sym same) (keeps of_key (ap keyed.name (sym same) ∙ is))
+        | inl same ↦ subst (λ c. KeepsBounds declared of_key (keyed.modmap c) (keyed.level_actions c) (keyed.key c)) (sym same) (keeps of_key (ap keyed.name (sym same) ∙ is))
         | inr before ↦ below code before of_key is
       ]
 

@@ -6,7 +6,7 @@ use Rattle.kx_resolve.specs.Given.{KeyGiven}
 use Rattle.kx_resolve.specs.GroupTypes.{content_group, group_count, group_type_name, one_level_name, type_definition}
 use Rattle.kx_mods.specs.Mods.{mask}
 use Rattle.kx_mods.specs.declared.mods.Mods.{Mods}
-use Rattle.kx_resolve.specs.Deeds.{Deeds}
+use Rattle.kx_resolve.specs.LevelActions.{LevelActions}
 use Rattle.kx_resolve.specs.Keys.{Keyed, cell_of, type_of}
 use Rattle.kx_tables.specs.Sound.{RangeHolds}
 use Rattle.kx_builder.specs.Valid.{CellIsValid, TypeIsValid}
@@ -19,27 +19,27 @@ use Rattle.kx_types.specs.KeyTypes.{Definition}
 use Rattle.kx_basics.specs.declared.limits.TheConstants.{MOST_NAME_BYTES}
 
 -- the cells of a group's levels below a number
-abbrev pub CellsAreValid : Deeds → KeyGiven → ℕ → ℕ → Type 0
-CellsAreValid deeds key group n = (level : ℕ) → level < n → CellIsValid (cell_of deeds key group level)
+abbrev pub CellsAreValid : LevelActions → KeyGiven → ℕ → ℕ → Type 0
+CellsAreValid level_actions key group n = (level : ℕ) → level < n → CellIsValid (cell_of level_actions key group level)
 
 module _ (declared : List ℕ → Option Definition) where
   abbrev pub levels_of_group : KeyGiven → ℕ → ℕ
   levels_of_group key group = (type_definition declared (group_type_name declared key group)).levels
 
   -- those of the groups below a number
-  abbrev pub GroupsAreValid : Deeds → KeyGiven → ℕ → Type 0
-  GroupsAreValid deeds key n = (group : ℕ) → group < n → CellsAreValid deeds key (content_group key group) (levels_of_group key group)
+  abbrev pub GroupsAreValid : LevelActions → KeyGiven → ℕ → Type 0
+  GroupsAreValid level_actions key n = (group : ℕ) → group < n → CellsAreValid level_actions key (content_group key group) (levels_of_group key group)
 
-  pub record KeepsBounds (name : List ℕ) (modmap : Mods) (deeds : Deeds) (key : KeyGiven) : Type 0 where
+  pub record KeepsBounds (name : List ℕ) (modmap : Mods) (level_actions : LevelActions) (key : KeyGiven) : Type 0 where
     pub short : length name ≤ MOST_NAME_BYTES
     pub bytes : All IsKeyByte name
     pub mapped : mask modmap < 2 ^ 8
     pub range : RangeHolds key.range
-    pub cells : GroupsAreValid deeds key (group_count key)
+    pub cells : GroupsAreValid level_actions key (group_count key)
 
   -- each key of a code below a number does
   abbrev pub BoundsBelow : Keyed → ℕ → Type 0
-  BoundsBelow keyed n = (code : ℕ) → code < n → (of_key : List ℕ) → keyed.name code ≡ Some of_key → KeepsBounds of_key (keyed.modmap code) (keyed.deeds code) (keyed.key code)
+  BoundsBelow keyed n = (code : ℕ) → code < n → (of_key : List ℕ) → keyed.name code ≡ Some of_key → KeepsBounds of_key (keyed.modmap code) (keyed.level_actions code) (keyed.key code)
 
 -- a name is that of one code
 abbrev pub OneCode : (ℕ → Option (List ℕ)) → Type 0

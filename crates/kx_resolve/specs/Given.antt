@@ -1,8 +1,8 @@
 -- What the statements of a keymap give its keys, by the values of their cells and the widths of their groups.
 use Rattle.std.specs.Prelude.{ℕ, List, Option, None, Some, unwrap_or}
 use Rattle.kx_actions.specs.declared.action.KeyAction.{KeyAction}
-use Rattle.kx_key_fields.specs.declared.cells.SettingCell.TheVariants as settings
-use Rattle.kx_key_fields.specs.declared.cells.SettingValue.TheVariants as said
+use Rattle.kx_key_fields.specs.declared.cells.AttributeCell.TheVariants as settings
+use Rattle.kx_key_fields.specs.declared.cells.AttributeValue.TheVariants as said
 use Rattle.kx_symbols.specs.Keys.{KeyContent, cell_in_any, width_in_any}
 use Rattle.kx_symbols.specs.declared.cells.Cell.{Cell}
 use Rattle.kx_symbols.specs.declared.cells.Cell.TheVariants as cells

@@ -6,7 +6,7 @@ use Rattle.kx_resolve.specs.Rows.{entry_rows, mods_of}
 use Rattle.kx_resolve.specs.Selecting.{RealSet}
 use Rattle.kx_virtual_mods.specs.Counted.{with_names}
 use Rattle.kx_mods.specs.declared.mods.Mods.{Mods}
-use Rattle.kx_resolve.specs.Deeds.{Deeds, deeds_of}
+use Rattle.kx_resolve.specs.LevelActions.{LevelActions, level_actions_of}
 use Rattle.kx_compat.specs.Interpretations.{Interpretation}
 use Rattle.kx_symbols.specs.Keys.{KeyContent, key_at}
 use Rattle.kx_codes.specs.Codes.{Codes, name_of}
@@ -47,10 +47,10 @@ module _ (declared : List ℕ → Option Definition) where
 
 -- ---- Keys
 
--- `deeds` are what the levels of the key do
-module _ (deeds : Deeds) (key : KeyGiven) where
+-- `level_actions` are what the levels of the key do
+module _ (level_actions : LevelActions) (key : KeyGiven) where
   abbrev pub cell_of : ℕ → ℕ → ResolvedCell
-  cell_of group level = record { syms = unwrap_or (key.keysyms group level) []; action = deeds group level }
+  cell_of group level = record { syms = unwrap_or (key.keysyms group level) []; action = level_actions group level }
 
   -- the cells of a group's levels below a number: what is behind the levels of its type is lost
   unfoldable pub cells_of : ℕ → ℕ → List ResolvedCell
@@ -61,11 +61,11 @@ module _ (deeds : Deeds) (key : KeyGiven) where
 abbrev pub type_place : List (List ℕ) → List ℕ → ℕ
 type_place used name = unwrap_or (position (bytes_eq name) used) 0
 
-module _ (declared : List ℕ → Option Definition) (used : List (List ℕ)) (deeds : Deeds) (key : KeyGiven) where
+module _ (declared : List ℕ → Option Definition) (used : List (List ℕ)) (level_actions : LevelActions) (key : KeyGiven) where
   abbrev pub resolved_group : ℕ → ResolvedGroup
   resolved_group group = record {
     key_type = type_place used (group_type_name declared key group);
-    cells = cells_of deeds key (content_group key group) (type_definition declared (group_type_name declared key group)).levels;
+    cells = cells_of level_actions key (content_group key group) (type_definition declared (group_type_name declared key group)).levels;
   }
 
   -- the groups of a number of them, in order
@@ -87,13 +87,13 @@ pub record Keyed : Type 0 where
   pub name : ℕ → Option (List ℕ)
   pub key : ℕ → KeyGiven
   pub modmap : ℕ → Mods
-  pub deeds : ℕ → Deeds
+  pub level_actions : ℕ → LevelActions
 
 module _ (declared : List ℕ → Option Definition) (used : List (List ℕ)) (keyed : Keyed) where
   -- the keys of the codes below a number, in order
   unfoldable pub keys_below : ℕ → List ResolvedKey
   keys_below zero = []
-  keys_below (suc code) = keys_below code ++ key_if_named declared used (keyed.deeds code) (keyed.key code) code (keyed.name code) (keyed.modmap code)
+  keys_below (suc code) = keys_below code ++ key_if_named declared used (keyed.level_actions code) (keyed.key code) code (keyed.name code) (keyed.modmap code)
 
 -- ---- All together
 
@@ -112,5 +112,5 @@ keyed_of real codes keys modmap interpretations = record {
   name = name_of codes;
   key = λ code. given_in (key_at keys code);
   modmap = modmap;
-  deeds = λ code. deeds_of real interpretations (modmap code) (given_in (key_at keys code));
+  level_actions = λ code. level_actions_of real interpretations (modmap code) (given_in (key_at keys code));
 }

@@ -7,10 +7,10 @@ pub mod Finding
 pub mod Mapping
 pub mod Modmaps
 pub mod ReadMapping
-pub mod Bearing
-pub mod Deeds
-pub mod ReadBearing
-pub mod Bearers
+pub mod Vmodmap
+pub mod LevelActions
+pub mod ReadVmodmap
+pub mod MappedKeys
 pub mod Keys
 pub mod Shown
 pub mod Bounds

@@ -9,7 +9,7 @@ use Rattle.kx_resolve.specs.Given.{KeyGiven}
 use Rattle.kx_resolve.specs.GroupTypes.{content_group, group_count, group_type_name, type_definition}
 use Rattle.kx_tables.specs.Keymap.{Keymap, Shown, nothing_shown}
 use Rattle.kx_tables.specs.Range.{in_range}
-use Rattle.kx_resolve.specs.Deeds.{Deeds}
+use Rattle.kx_resolve.specs.LevelActions.{LevelActions}
 use Rattle.kx_resolve.specs.Keys.{Keyed}
 use Rattle.kx_types.specs.KeyTypes.{Definition}
 use Rattle.kx_basics.specs.declared.limits.TheConstants.{CODES}
@@ -17,19 +17,19 @@ use Rattle.kx_basics.specs.declared.limits.TheConstants.{CODES}
 -- `real` is what a set of modifiers stands for, `declared` are the types by name
 module _ (real : ℕ → RealSet) (declared : List ℕ → Option Definition) where
   -- what a key gives under a type: the keysyms of the level that the effective modifiers select
-  abbrev pub shown_by : Definition → Deeds → KeyGiven → ℕ → RealSet → Shown
-  shown_by type deeds key group effective = record {
+  abbrev pub shown_by : Definition → LevelActions → KeyGiven → ℕ → RealSet → Shown
+  shown_by type level_actions key group effective = record {
     syms = unwrap_or (key.keysyms group (level_selected real type effective - 1)) [];
     consumed = set_mask (consumed real type effective);
-    action = deeds group (level_selected real type effective - 1);
+    action = level_actions group (level_selected real type effective - 1);
   }
 
-  abbrev pub shown_in : Deeds → KeyGiven → ℕ → ℕ → Shown
-  shown_in deeds key group mods = shown_by (type_definition declared (group_type_name declared key group)) deeds key (content_group key group) (has (real_part mods))
+  abbrev pub shown_in : LevelActions → KeyGiven → ℕ → ℕ → Shown
+  shown_in level_actions key group mods = shown_by (type_definition declared (group_type_name declared key group)) level_actions key (content_group key group) (has (real_part mods))
 
   -- a key without groups gives nothing
-  abbrev pub shown_for : Deeds → KeyGiven → ℕ → ℕ → Shown
-  shown_for deeds key group mods = if group_count key == 0 then nothing_shown else shown_in deeds key (in_range (pos group) (group_count key) key.range) mods
+  abbrev pub shown_for : LevelActions → KeyGiven → ℕ → ℕ → Shown
+  shown_for level_actions key group mods = if group_count key == 0 then nothing_shown else shown_in level_actions key (in_range (pos group) (group_count key) key.range) mods
 
 -- of the keycodes
 abbrev pub name_within : (ℕ → Option (List ℕ)) → ℕ → Option (List ℕ)
@@ -48,12 +48,12 @@ module _ (real : ℕ → RealSet) (declared : List ℕ → Option Definition) (k
   keymap_meant = record {
     groups = max 1 (most_groups_below keyed.name keyed.key CODES);
     known = λ code. is_some (name_within keyed.name code);
-    shown = λ code group mods. option_map_or (λ _. shown_for real declared (keyed.deeds code) (keyed.key code) group mods) (name_within keyed.name code) nothing_shown;
-    lamps = [];
+    shown = λ code group mods. option_map_or (λ _. shown_for real declared (keyed.level_actions code) (keyed.key code) group mods) (name_within keyed.name code) nothing_shown;
+    indicator_maps = [];
   }
 
 abbrev pub groups_if : (ℕ → Option (List ℕ)) → (ℕ → KeyGiven) → Option (List ℕ) → ℕ → ℕ
 groups_if name key of_key code = option_map_or (λ _. group_count (key code)) of_key 0
 
 abbrev pub shown_if : (ℕ → RealSet) → (List ℕ → Option Definition) → Keyed → Option (List ℕ) → ℕ → ℕ → ℕ → Shown
-shown_if real declared keyed of_key code group mods = option_map_or (λ _. shown_for real declared (keyed.deeds code) (keyed.key code) group mods) of_key nothing_shown
+shown_if real declared keyed of_key code group mods = option_map_or (λ _. shown_for real declared (keyed.level_actions code) (keyed.key code) group mods) of_key nothing_shown

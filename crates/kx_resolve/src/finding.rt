@@ -17,7 +17,7 @@ ghost use Rattle.kx_resolve.specs.ReadMapping.{mapping_of};
 
 use crate::given::keysyms_at;
 use crate::places::LevelPlace;
-use crate::typing::{content_group, group_count, group_type};
+use crate::group_types::{content_group, group_count, group_type};
 use kx_codes::Codes;
 use kx_lex::Fault;
 use kx_modmaps::ModifierMaps;

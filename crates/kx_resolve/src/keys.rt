@@ -12,7 +12,7 @@ ghost use Rattle.kx_virtual_mods.specs.Sets.{real_of};
 ghost use Rattle.kx_virtual_mods.specs.Standing.{stands_for};
 ghost use Rattle.kx_mods.specs.Mods.{mask};
 ghost use Rattle.kx_resolve.specs.Bounds.{BoundsBelow, CellsAreValid, GroupsAreValid, KeepsBounds, last_cells, levels_of_group};
-ghost use Rattle.kx_resolve.specs.Deeds.{deeds_of};
+ghost use Rattle.kx_resolve.specs.LevelActions.{level_actions_of};
 ghost use Rattle.kx_resolve.specs.Keys.{cell_of, cells_of, resolved_group, key_if_named, key_of, keyed_of, keys_below, type_place};
 ghost use Rattle.kx_symbols.specs.Keys.{key_at};
 ghost use Rattle.kx_tables.specs.Sound.{ActionHolds, RangeHolds};
@@ -20,11 +20,11 @@ ghost use Rattle.kx_resolve.specs.Given.{given, given_in};
 ghost use Rattle.kx_resolve.specs.GroupTypes.{content_group, group_count, has_action};
 ghost use Rattle.kx_types.specs.Types.{type_named};
 
-use crate::deeds::deed;
+use crate::level_actions::level_action;
 use crate::given::{keysyms_at, range};
-use crate::key_mods::KeyMods;
+use crate::key_modmaps::KeyModmaps;
 use crate::read::Read;
-use crate::typing::{GroupType, content_group, group_count, group_type, has_action};
+use crate::group_types::{GroupType, content_group, group_count, group_type, has_action};
 use ks_core::{Note, Notes};
 use kx_builder::{BuildFault, Builder};
 use kx_compat::Interpretations;
@@ -52,10 +52,10 @@ impl KeyMeaning<'_> {
     /// What a level of a group does, both counted from 0.
     fn action(self, group: usize, level: usize) -> Action
         requires own { self.own ≡ has_action (given self.key.now) }
-        ensures value { result ≡ deeds_of (real_of (stands_for self.entry.stands.now)) self.entry.interpretations.now self.entry.modmap (given self.entry.key.now) group level }
+        ensures value { result ≡ level_actions_of (real_of (stands_for self.entry.stands.now)) self.entry.interpretations.now self.entry.modmap (given self.entry.key.now) group level }
         ensures holds { ActionHolds result }
     {
-        deed(
+        level_action(
             self.interpretations,
             self.key,
             self.own,
@@ -89,8 +89,8 @@ fn push_level(
     requires small { IsWithinLimits builder.old }
     requires some { 0 < length (last_groups builder.old.keys) }
     requires own { key.own ≡ has_action (given key.key.now) }
-    ensures pushed { OnOk result (builder.new ≡ with_cell builder.old (cell_of (deeds_of (real_of (stands_for key.entry.stands.now)) key.entry.interpretations.now key.entry.modmap (given key.entry.key.now)) (given key.entry.key.now) group level)) }
-    ensures valid { CellIsValid (cell_of (deeds_of (real_of (stands_for key.entry.stands.now)) key.entry.interpretations.now key.entry.modmap (given key.entry.key.now)) (given key.entry.key.now) group level) }
+    ensures pushed { OnOk result (builder.new ≡ with_cell builder.old (cell_of (level_actions_of (real_of (stands_for key.entry.stands.now)) key.entry.interpretations.now key.entry.modmap (given key.entry.key.now)) (given key.entry.key.now) group level)) }
+    ensures valid { CellIsValid (cell_of (level_actions_of (real_of (stands_for key.entry.stands.now)) key.entry.interpretations.now key.entry.modmap (given key.entry.key.now)) (given key.entry.key.now) group level) }
     ensures err { IfErr result (λ e. e ≡ Memory) }
 {
     builder
@@ -111,8 +111,8 @@ fn push_levels(
     requires bare { last_cells builder.old.keys ≡ [] }
     requires few { levels ≤ MOST_LEVELS }
     requires own { key.own ≡ has_action (given key.key.now) }
-    ensures pushed { OnOk result (builder.new ≡ fold with_cell builder.old (cells_of (deeds_of (real_of (stands_for key.entry.stands.now)) key.entry.interpretations.now key.entry.modmap (given key.entry.key.now)) (given key.entry.key.now) group levels)) }
-    ensures valid { OnOk result (CellsAreValid (deeds_of (real_of (stands_for key.entry.stands.now)) key.entry.interpretations.now key.entry.modmap (given key.entry.key.now)) (given key.entry.key.now) group levels) }
+    ensures pushed { OnOk result (builder.new ≡ fold with_cell builder.old (cells_of (level_actions_of (real_of (stands_for key.entry.stands.now)) key.entry.interpretations.now key.entry.modmap (given key.entry.key.now)) (given key.entry.key.now) group levels)) }
+    ensures valid { OnOk result (CellsAreValid (level_actions_of (real_of (stands_for key.entry.stands.now)) key.entry.interpretations.now key.entry.modmap (given key.entry.key.now)) (given key.entry.key.now) group levels) }
     ensures small { OnOk result (IsWithinLimits builder.new) }
     ensures err { IfErr result (λ e. e ≡ Memory) }
 {
@@ -171,8 +171,8 @@ fn push_group(
     requires few { length (last_groups builder.old.keys) < MOST_GROUPS }
     requires places { length used.now < 2 ^ 16 }
     requires own { key.own ≡ has_action (given key.key.now) }
-    ensures pushed { OnOk result (builder.new ≡ with_group builder.old (resolved_group (type_named types.now) used.now (deeds_of (real_of (stands_for key.entry.stands.now)) key.entry.interpretations.now key.entry.modmap (given key.entry.key.now)) (given key.entry.key.now) group)) }
-    ensures valid { OnOk result (CellsAreValid (deeds_of (real_of (stands_for key.entry.stands.now)) key.entry.interpretations.now key.entry.modmap (given key.entry.key.now)) (given key.entry.key.now) (content_group (given key.entry.key.now) group) (levels_of_group (type_named types.now) (given key.entry.key.now) group)) }
+    ensures pushed { OnOk result (builder.new ≡ with_group builder.old (resolved_group (type_named types.now) used.now (level_actions_of (real_of (stands_for key.entry.stands.now)) key.entry.interpretations.now key.entry.modmap (given key.entry.key.now)) (given key.entry.key.now) group)) }
+    ensures valid { OnOk result (CellsAreValid (level_actions_of (real_of (stands_for key.entry.stands.now)) key.entry.interpretations.now key.entry.modmap (given key.entry.key.now)) (given key.entry.key.now) (content_group (given key.entry.key.now) group) (levels_of_group (type_named types.now) (given key.entry.key.now) group)) }
     ensures small { OnOk result (IsWithinLimits builder.new) }
     ensures err { IfErr result (λ e. e ≡ Memory) }
 {
@@ -216,8 +216,8 @@ fn push_key(
     requires short { length name.now ≤ MOST_NAME_BYTES }
     requires places { length used.now < 2 ^ 16 }
     requires own { key.own ≡ has_action (given key.key.now) }
-    ensures pushed { OnOk result (builder.new ≡ with_key builder.old (key_of (type_named types.now) used.now (deeds_of (real_of (stands_for key.entry.stands.now)) key.entry.interpretations.now key.entry.modmap (given key.entry.key.now)) (given key.entry.key.now) code name.now key.entry.modmap)) }
-    ensures valid { OnOk result (GroupsAreValid (type_named types.now) (deeds_of (real_of (stands_for key.entry.stands.now)) key.entry.interpretations.now key.entry.modmap (given key.entry.key.now)) (given key.entry.key.now) (group_count (given key.entry.key.now))) }
+    ensures pushed { OnOk result (builder.new ≡ with_key builder.old (key_of (type_named types.now) used.now (level_actions_of (real_of (stands_for key.entry.stands.now)) key.entry.interpretations.now key.entry.modmap (given key.entry.key.now)) (given key.entry.key.now) code name.now key.entry.modmap)) }
+    ensures valid { OnOk result (GroupsAreValid (type_named types.now) (level_actions_of (real_of (stands_for key.entry.stands.now)) key.entry.interpretations.now key.entry.modmap (given key.entry.key.now)) (given key.entry.key.now) (group_count (given key.entry.key.now))) }
     ensures range { RangeHolds (given key.entry.key.now).range }
     ensures small { OnOk result (IsWithinLimits builder.new) }
     ensures err { IfErr result (λ e. e ≡ Memory) }
@@ -230,7 +230,7 @@ fn push_key(
 }
 
 /// What the key of a code is mapped to.
-fn key_mods(modmaps: &KeyMods, code: u16) -> Mods
+fn key_mods(modmaps: &KeyModmaps, code: u16) -> Mods
     ensures value { result ≡ modmap_at modmaps.now code }
     ensures fits { mask result < 2 ^ 8 }
 {
@@ -249,8 +249,8 @@ fn push_code(
     requires small { IsWithinLimits builder.old }
     requires few { length builder.old.keys < CODES }
     requires places { length used.now < 2 ^ 16 }
-    ensures pushed { OnOk result (builder.new ≡ record builder.old { keys = builder.old.keys ++ key_if_named (type_named read.entry.types.now) used.now (deeds_of (real_of (stands_for read.entry.stands.now)) read.entry.interpretations.now (modmap_at read.entry.modmaps.now code) (given_in (key_at read.entry.keys.now code))) (given_in (key_at read.entry.keys.now code)) code (name_of read.entry.codes.now code) (modmap_at read.entry.modmaps.now code) }) }
-    ensures bounds { OnOk result ((name : List ℕ) → name_of read.entry.codes.now code ≡ Some name → KeepsBounds (type_named read.entry.types.now) name (modmap_at read.entry.modmaps.now code) (deeds_of (real_of (stands_for read.entry.stands.now)) read.entry.interpretations.now (modmap_at read.entry.modmaps.now code) (given_in (key_at read.entry.keys.now code))) (given_in (key_at read.entry.keys.now code))) }
+    ensures pushed { OnOk result (builder.new ≡ record builder.old { keys = builder.old.keys ++ key_if_named (type_named read.entry.types.now) used.now (level_actions_of (real_of (stands_for read.entry.stands.now)) read.entry.interpretations.now (modmap_at read.entry.modmaps.now code) (given_in (key_at read.entry.keys.now code))) (given_in (key_at read.entry.keys.now code)) code (name_of read.entry.codes.now code) (modmap_at read.entry.modmaps.now code) }) }
+    ensures bounds { OnOk result ((name : List ℕ) → name_of read.entry.codes.now code ≡ Some name → KeepsBounds (type_named read.entry.types.now) name (modmap_at read.entry.modmaps.now code) (level_actions_of (real_of (stands_for read.entry.stands.now)) read.entry.interpretations.now (modmap_at read.entry.modmaps.now code) (given_in (key_at read.entry.keys.now code))) (given_in (key_at read.entry.keys.now code))) }
     ensures small { OnOk result (IsWithinLimits builder.new) }
     ensures err { IfErr result (λ e. e ≡ Memory) }
 {

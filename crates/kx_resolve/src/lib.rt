@@ -3,27 +3,27 @@
 //! that show what each gives, its indicators, and the names of its groups.
 #![tactic(auto)]
 
-mod bearing;
-mod deeds;
+mod vmodmap;
+mod level_actions;
 mod finding;
 mod given;
-mod key_mods;
+mod key_modmaps;
 mod keys;
 mod lighting;
 mod places;
 mod read;
 mod resolving;
 mod rows;
-mod standing;
-mod typing;
+mod virtual_modifiers;
+mod group_types;
 mod using;
 
-pub use deeds::deed;
+pub use level_actions::level_action;
 pub use given::{action_at, keysyms_at, range, virtual_mods};
-pub use key_mods::KeyMods;
+pub use key_modmaps::KeyModmaps;
 pub use kx_tables::{Owned, Tables, wrap_group};
 pub use read::Read;
 pub use resolving::resolve;
 pub use rows::TypeRows;
-pub use standing::standings;
-pub use typing::{GroupType, content_group, group_count, group_type, has_action};
+pub use virtual_modifiers::virtual_modifier_masks;
+pub use group_types::{GroupType, content_group, group_count, group_type, has_action};

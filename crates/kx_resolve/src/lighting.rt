@@ -3,14 +3,14 @@ ghost use Rattle.std.specs.Prelude.{◌≡◌, ◌≤◌, ◌<◌, ◌∷◌, �
 ghost use Rattle.kx_basics.specs.declared.limits.TheConstants.{MOST_NAME_BYTES};
 ghost use Rattle.kx_builder.specs.Agreement.{ShowsSame};
 ghost use Rattle.kx_builder.specs.Valid.{IsValid};
-ghost use Rattle.kx_builder.specs.Lamps.{GroupNameIsValid, IndicatorIsValid, LampsAreValid, indicator_of, keymap_with, with_lamps};
+ghost use Rattle.kx_builder.specs.IndicatorMaps.{GroupNameIsValid, IndicatorIsValid, IndicatorMapsAreValid, indicator_of, keymap_with, with_indicator_maps};
 ghost use Rattle.kx_builder.specs.Placed.{content_of_resolved};
 ghost use Rattle.kx_builder.specs.Resolved.{keymap_of_resolved};
 ghost use Rattle.kx_builder.specs.WithinLimits.{IsWithinLimits};
 ghost use Rattle.kx_builder.specs.Whole.{IsWhole};
 ghost use Rattle.kx_group_names.specs.Names.{AreCut};
 ghost use Rattle.kx_indicators.specs.Bounds.{AreValid};
-ghost use Rattle.kx_indicators.specs.Lamps.{Lamp as LampValue};
+ghost use Rattle.kx_indicators.specs.IndicatorMaps.{IndicatorMap as IndicatorMapValue};
 ghost use Rattle.kx_resolve.specs.Rows.{mods_of};
 ghost use Rattle.kx_lex.specs.declared.fault.Fault.TheVariants.{Memory};
 ghost use Rattle.kx_virtual_mods.specs.Sets.{real_of};
@@ -24,7 +24,7 @@ ghost use Rattle.kx_tables.specs.Sound.{Sound};
 use crate::keys::refused;
 use kx_builder::{Builder, Indicator};
 use kx_group_names::GroupNames;
-use kx_indicators::{Indicators, Lamp};
+use kx_indicators::{Indicators, IndicatorMap};
 use kx_lex::Fault;
 use kx_mods::Mods;
 use kx_tables::RawTables;
@@ -40,17 +40,17 @@ fn real_mods(set: NameSet, stands: &[Mods]) -> Mods
 }
 
 /// An indicator of a name.
-fn indicator<'n>(name: &'n [u8], lamp: &Lamp, stands: &[Mods]) -> Indicator<'n>
+fn indicator<'n>(name: &'n [u8], indicator_map: &IndicatorMap, stands: &[Mods]) -> Indicator<'n>
     requires { length name.now ≤ MOST_NAME_BYTES }
-    ensures lit { indicator_of result ≡ indicator_lit (real_of (stands_for stands.now)) name.now lamp.now }
+    ensures lit { indicator_of result ≡ indicator_lit (real_of (stands_for stands.now)) name.now indicator_map.now }
     ensures valid { IndicatorIsValid (indicator_of result) }
 {
     Indicator {
         name,
-        mods: real_mods(lamp.modifiers(), stands),
-        mod_states: lamp.mod_states(),
-        group_states: lamp.group_states(),
-        groups: lamp.groups(),
+        mods: real_mods(indicator_map.modifiers(), stands),
+        mod_states: indicator_map.mod_states(),
+        group_states: indicator_map.group_states(),
+        groups: indicator_map.groups(),
     }
 }
 
@@ -62,13 +62,13 @@ fn push_indicator<'a>(
     number: usize,
 ) -> Result<(), Fault>
     requires { All (λ name. length name ≤ MOST_NAME_BYTES) indicators.now.names }
-    ensures lit { OnOk result ((name : List ℕ) (lamp : LampValue) → slice_get indicators.now.names number ≡ Some name → slice_get indicators.now.lamps number ≡ Some lamp → map indicator_of lit.new.items ≡ map indicator_of lit.old.items ++ indicator_lit (real_of (stands_for stands.now)) name lamp ∷ []) }
+    ensures lit { OnOk result ((name : List ℕ) (indicator_map : IndicatorMapValue) → slice_get indicators.now.names number ≡ Some name → slice_get indicators.now.indicator_maps number ≡ Some indicator_map → map indicator_of lit.new.items ≡ map indicator_of lit.old.items ++ indicator_lit (real_of (stands_for stands.now)) name indicator_map ∷ []) }
     ensures valid { OnOk result (All IndicatorIsValid (map indicator_of lit.old.items) → All IndicatorIsValid (map indicator_of lit.new.items)) }
     ensures err { IfErr result (λ e. e ≡ Memory) }
 {
-    match (indicators.name(number), indicators.lamp(number)) {
-        (Some(name), Some(lamp)) => {
-            lit.push(indicator(name, lamp, stands))?;
+    match (indicators.name(number), indicators.indicator_map(number)) {
+        (Some(name), Some(indicator_map)) => {
+            lit.push(indicator(name, indicator_map, stands))?;
             Ok(())
         }
         (Some(_), None) => Ok(()),
@@ -120,20 +120,20 @@ fn names_in_order<'a>(alloc: Global, group_names: &'a GroupNames) -> Result<Vec<
 }
 
 /// The tables of what is built, with these indicators and names of groups.
-#[tactic(auto, using(crate::proofs::Lamps::lamps_refused))]
+#[tactic(auto, using(crate::proofs::IndicatorMaps::indicator_maps_refused))]
 fn with_these(builder: Builder, lit: &[Indicator<'_>], names: &[&[u8]]) -> Result<RawTables, Fault>
     requires small { IsWithinLimits builder }
-    requires valid { LampsAreValid (map indicator_of lit.now) (map (λ g. g.now) names.now) }
-    ensures content { IfOk result (λ parts. content_of parts ≡ with_lamps (content_of_resolved builder) (map indicator_of lit.now) (map (λ g. g.now) names.now)) }
+    requires valid { IndicatorMapsAreValid (map indicator_of lit.now) (map (λ g. g.now) names.now) }
+    ensures content { IfOk result (λ parts. content_of parts ≡ with_indicator_maps (content_of_resolved builder) (map indicator_of lit.now) (map (λ g. g.now) names.now)) }
     ensures agrees { IsWhole builder → IfOk result (λ parts. ShowsSame (keymap_of (content_of parts)) (keymap_with (keymap_of_resolved builder) (map indicator_of lit.now))) }
     ensures sound { IsValid builder → IfOk result (λ parts. Sound (content_of parts)) }
     ensures err { IfErr result (λ e. e ≡ Memory) }
 {
-    builder.with_lamps(lit, names).map_err(refused)
+    builder.with_indicator_maps(lit, names).map_err(refused)
 }
 
 /// The tables of what is built, with a keymap's indicators and the names of its groups.
-pub(crate) fn with_lamps(
+pub(crate) fn with_indicator_maps(
     alloc: Global,
     builder: Builder,
     indicators: &Indicators,
@@ -141,7 +141,7 @@ pub(crate) fn with_lamps(
     stands: &[Mods],
 ) -> Result<RawTables, Fault>
     requires small { IsWithinLimits builder }
-    ensures content { IfOk result (λ parts. content_of parts ≡ with_lamps (content_of_resolved builder) (indicators_of (real_of (stands_for stands.now)) indicators.now) group_names.now) }
+    ensures content { IfOk result (λ parts. content_of parts ≡ with_indicator_maps (content_of_resolved builder) (indicators_of (real_of (stands_for stands.now)) indicators.now) group_names.now) }
     ensures agrees { IsWhole builder → IfOk result (λ parts. ShowsSame (keymap_of (content_of parts)) (keymap_with (keymap_of_resolved builder) (indicators_of (real_of (stands_for stands.now)) indicators.now))) }
     ensures sound { IsValid builder → IfOk result (λ parts. Sound (content_of parts)) }
     ensures err { IfErr result (λ e. e ≡ Memory) }

@@ -1,5 +1,5 @@
 //! What is read of a keymap.
-use crate::key_mods::KeyMods;
+use crate::key_modmaps::KeyModmaps;
 use kx_codes::Codes;
 use kx_compat::Interpretations;
 use kx_group_names::GroupNames;
@@ -20,7 +20,7 @@ pub struct Read<'a> {
     /// What statements give keys, by their codes.
     pub keys: &'a Keys,
     /// The real modifiers that keys are mapped to.
-    pub modmaps: &'a KeyMods,
+    pub modmaps: &'a KeyModmaps,
     /// What is said of keys by their keysyms and modifiers.
     pub interpretations: &'a Interpretations,
     /// What lights indicators, by their numbers.

@@ -1,7 +1,7 @@
 //! From what is read of a keymap to its tables.
 ghost use Rattle.std.specs.Prelude.{◌≡◌, IfErr, IfOk};
 ghost use Rattle.kx_builder.specs.Agreement.{ShowsSame};
-ghost use Rattle.kx_builder.specs.Lamps.{keymap_with, with_lamps};
+ghost use Rattle.kx_builder.specs.IndicatorMaps.{keymap_with, with_indicator_maps};
 ghost use Rattle.kx_builder.specs.Placed.{content_of_resolved};
 ghost use Rattle.kx_codes.specs.Codes.{name_of};
 ghost use Rattle.kx_lex.specs.declared.fault.Fault.TheVariants.{Memory};
@@ -18,7 +18,7 @@ ghost use Rattle.kx_tables.specs.Sound.{Sound};
 ghost use Rattle.kx_types.specs.Types.{type_named};
 
 use crate::keys::push_keys;
-use crate::lighting::with_lamps;
+use crate::lighting::with_indicator_maps;
 use crate::read::Read;
 use crate::using::{types_used, with_types};
 use ks_core::Notes;
@@ -32,7 +32,7 @@ use std::alloc::Global;
 /// # Errors
 /// `Memory`.
 pub fn resolve(alloc: Global, read: Read) -> Result<(RawTables, Notes), Fault>
-    ensures content { IfOk result (λ made. content_of made.0 ≡ with_lamps (content_of_resolved (resolved_of (real_of (stands_for read.entry.stands.now)) (type_named read.entry.types.now) (keyed_of (real_of (stands_for read.entry.stands.now)) read.entry.codes.now read.entry.keys.now (modmap_at read.entry.modmaps.now) read.entry.interpretations.now))) (indicators_of (real_of (stands_for read.entry.stands.now)) read.entry.indicators.now) read.entry.group_names.now) }
+    ensures content { IfOk result (λ made. content_of made.0 ≡ with_indicator_maps (content_of_resolved (resolved_of (real_of (stands_for read.entry.stands.now)) (type_named read.entry.types.now) (keyed_of (real_of (stands_for read.entry.stands.now)) read.entry.codes.now read.entry.keys.now (modmap_at read.entry.modmaps.now) read.entry.interpretations.now))) (indicators_of (real_of (stands_for read.entry.stands.now)) read.entry.indicators.now) read.entry.group_names.now) }
     ensures sound { OneCode (name_of read.entry.codes.now) → IfOk result (λ made. Sound (content_of made.0)) }
     ensures agrees { IfOk result (λ made. ShowsSame (keymap_of (content_of made.0)) (keymap_with (keymap_meant (real_of (stands_for read.entry.stands.now)) (type_named read.entry.types.now) (keyed_of (real_of (stands_for read.entry.stands.now)) read.entry.codes.now read.entry.keys.now (modmap_at read.entry.modmaps.now) read.entry.interpretations.now)) (indicators_of (real_of (stands_for read.entry.stands.now)) read.entry.indicators.now))) }
     ensures err { IfErr result (λ e. e ≡ Memory) }
@@ -41,7 +41,7 @@ pub fn resolve(alloc: Global, read: Read) -> Result<(RawTables, Notes), Fault>
     let mut builder = with_types(alloc, read.types, read.stands, &used)?;
     let mut notes = Notes::new();
     push_keys(&mut builder, read, &used, &mut notes)?;
-    let parts = with_lamps(
+    let parts = with_indicator_maps(
         alloc,
         builder,
         read.indicators,

@@ -20,7 +20,7 @@ ghost use Rattle.kx_types.specs.declared.limits.TheConstants.{MOST_TYPES};
 
 use crate::keys::refused;
 use crate::rows::TypeRows;
-use crate::typing::{group_count, group_type};
+use crate::group_types::{group_count, group_type};
 use kx_builder::Builder;
 use kx_codes::Codes;
 use kx_lex::Fault;

@@ -7,7 +7,7 @@ use Rattle.kx_parse.specs.declared.tree.Item.{Item}
 use Rattle.kx_parse.specs.declared.tree.Kind.TheVariants.{Compat, Keycodes, Symbols, Types}
 use Rattle.kx_tables.specs.Content.{Content}
 use Rattle.kx_tables.specs.Sound.{Sound}
-use Rattle.kx_builder.specs.Lamps.{ResolvedIndicator}
+use Rattle.kx_builder.specs.IndicatorMaps.{ResolvedIndicator}
 use Rattle.roundtrip_meaning.specs.Bodies.{own_body, place_of}
 use Rattle.roundtrip_meaning.specs.Sources.{IsOwnItem, indicators_body, symbols_place}
 use Rattle.roundtrip_meaning.proofs.Sources.{each_behind, indicators_are, is_whole, keycodes_are, own_items, symbols_are, types_are}

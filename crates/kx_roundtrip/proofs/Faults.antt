@@ -4,12 +4,12 @@ use Rattle.std.proofs.lemmas.List.{length-map}
 use Rattle.std.specs.List.{list_all}
 use Rattle.ks_core.specs.Entry.{Entry}
 use Rattle.ks_core.specs.Lines.{is_sound}
-use Rattle.kx_builder.specs.Lamps.{ResolvedIndicator}
+use Rattle.kx_builder.specs.IndicatorMaps.{ResolvedIndicator}
 use Rattle.kx_builder.specs.Seen.{type_seen}
 use Rattle.kx_codes.specs.CodeFaults.{faults_of as keycodes_faults}
 use Rattle.kx_codes.specs.Codes.{code_of}
 use Rattle.kx_compat.specs.Meaning.{compat_faults}
-use Rattle.kx_indicators.specs.Meaning.{lamps_faults}
+use Rattle.kx_indicators.specs.Meaning.{indicator_maps_faults}
 use Rattle.kx_lex.specs.declared.fault.Fault.{Fault}
 use Rattle.kx_virtual_mods.specs.Declarations.{modifier_faults}
 use Rattle.kx_parse.specs.declared.tree.Item.{Item}
@@ -31,7 +31,7 @@ use Rattle.roundtrip_text.proofs.TablesHold.{codes_rise, indicators_apart, indic
 use Rattle.roundtrip_tree.specs.Indicators.{IsIndicator}
 use Rattle.roundtrip_tree.specs.Shows.{AreShown, IsItem}
 use Rattle.roundtrip_meaning.proofs.GroupNames.{names_faultless}
-use Rattle.roundtrip_meaning.proofs.Indicators.{lamps_faultless, no_lamps_faultless}
+use Rattle.roundtrip_meaning.proofs.Indicators.{indicator_maps_faultless, no_indicator_maps_faultless}
 use Rattle.roundtrip_meaning.proofs.Interpretations.{faultless_without, interpretations_faultless}
 use Rattle.roundtrip_meaning.proofs.NoModifiers.{modifiers_faultless}
 use Rattle.roundtrip_meaning.proofs.Types.{types_faultless}
@@ -45,7 +45,7 @@ faults_by names p =
     ++ ((keys_faults (codes_of p.keycodes) names p.modifiers p.symbols ++ maps_faults (codes_of p.keycodes) names p.modifiers p.symbols)
     ++ (compat_faults names p.modifiers p.compat
     ++ (names_faults p.symbols
-    ++ lamps_faults p.modifiers p.compat)))))
+    ++ indicator_maps_faults p.modifiers p.compat)))))
 
 module _ (c : Content) (sound : Sound c) (names : List Entry) (table : list_all is_sound names ≡ true) (few_types : length c.types ≤ MOST_TYPES) where
   pub codes_again : EachOf (λ (k : PrintedKey). code_of (codes_of (keycodes c sound)) k.name ≡ Some k.code) (keys_printed c)
@@ -54,9 +54,9 @@ module _ (c : Content) (sound : Sound c) (names : List Entry) (table : list_all 
   pub few_printed : length (types_printed c) ≤ MOST_TYPES
   few_printed = let size = length-map c.types (type_seen c) in omega (arith, few_types, size)
 
-  lamps_none : (ds : List ResolvedIndicator) (is : List Item) → AreShown (λ d i. IsItem (IsIndicator d) i) ds is → EachOf IndicatorFits ds → AreApart (λ (d : ResolvedIndicator). d.name) ds → length ds ≤ 32 → lamps_faults [] (indicators_body is) ≡ []
-  lamps_none ds [] are fit apart few = no_lamps_faultless
-  lamps_none ds (i ∷ is) are fit apart few = lamps_faultless (place_of 2) ds (i ∷ is) are fit apart few
+  indicator_maps_none : (ds : List ResolvedIndicator) (is : List Item) → AreShown (λ d i. IsItem (IsIndicator d) i) ds is → EachOf IndicatorFits ds → AreApart (λ (d : ResolvedIndicator). d.name) ds → length ds ≤ 32 → indicator_maps_faults [] (indicators_body is) ≡ []
+  indicator_maps_none ds [] are fit apart few = no_indicator_maps_faultless
+  indicator_maps_none ds (i ∷ is) are fit apart few = indicator_maps_faultless (place_of 2) ds (i ∷ is) are fit apart few
 
   interpretations_none : (ds : List ResolvedIndicator) (is : List Item) → AreShown (λ d i. IsItem (IsIndicator d) i) ds is → compat_faults names [] (indicators_body is) ≡ []
   interpretations_none ds [] are = faultless_without names
@@ -74,7 +74,7 @@ module _ (c : Content) (sound : Sound c) (names : List Entry) (table : list_all 
       (ap₂ (λ (a b : List Fault). a ++ b) (interpretations_none (indicators_printed c) (shown c sound).indicators (shown c sound).indicators_are)
       (ap₂ (λ (a b : List Fault). a ++ b)
       (names_faultless (symbols_place (shown c sound).indicators) (names_printed c) (shown c sound).names (shown c sound).keys (shown c sound).maps (shown c sound).names_are (keys_items c sound) (maps_items c sound) (names_fit c sound))
-      (lamps_none (indicators_printed c) (shown c sound).indicators (shown c sound).indicators_are (indicators_fit c sound) (indicators_apart c sound) (indicators_few c sound)))))))
+      (indicator_maps_none (indicators_printed c) (shown c sound).indicators (shown c sound).indicators_are (indicators_fit c sound) (indicators_apart c sound) (indicators_few c sound)))))))
 
   pub faultless : statement_faults names (library c sound) ≡ []
   faultless = ap (faults_by names) (parts_are c sound) ∙ parts_faultless

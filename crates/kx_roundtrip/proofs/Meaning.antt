@@ -3,9 +3,9 @@ use Rattle.std.proofs.Common.{◌≡◌, ℕ, suc, ◌+◌, ◌<◌, ◌≤◌, 
 use Rattle.std.specs.List.{list_all, zip}
 use Rattle.ks_core.specs.Entry.{Entry}
 use Rattle.ks_core.specs.Lines.{is_sound}
-use Rattle.kx_resolve.specs.Bearing.{stands}
-use Rattle.kx_resolve.specs.Deeds.{deeds_of}
-use Rattle.kx_builder.specs.Lamps.{ResolvedIndicator, with_lamps}
+use Rattle.kx_resolve.specs.Vmodmap.{stands}
+use Rattle.kx_resolve.specs.LevelActions.{level_actions_of}
+use Rattle.kx_builder.specs.IndicatorMaps.{ResolvedIndicator, with_indicator_maps}
 use Rattle.kx_builder.specs.Placed.{content_of_resolved}
 use Rattle.kx_builder.specs.Resolved.{ResolvedCell, ResolvedType}
 use Rattle.kx_builder.specs.Seen.{seen}
@@ -15,8 +15,8 @@ use Rattle.kx_compat.specs.Meaning.{interpretations_of}
 use Rattle.kx_group_names.specs.Names.{AreGroupNames}
 use Rattle.kx_include.specs.Expansion.{Begin, End}
 use Rattle.kx_include.specs.declared.place.Place.{Place}
-use Rattle.kx_indicators.specs.Lamps.{Lamp}
-use Rattle.kx_indicators.specs.Meaning.{lamp_of}
+use Rattle.kx_indicators.specs.IndicatorMaps.{IndicatorMap}
+use Rattle.kx_indicators.specs.Meaning.{indicator_map_of}
 use Rattle.kx_resolve.specs.Selecting.{RealSet}
 use Rattle.kx_resolve.specs.Mapping.{Mapping}
 use Rattle.kx_virtual_mods.specs.Sets.{has}
@@ -28,7 +28,7 @@ use Rattle.kx_modmaps.specs.declared.record.Cell.TheVariants.{Present}
 use Rattle.kx_modmaps.specs.declared.target.Target.TheVariants.{Key as KeyTarget}
 use Rattle.kx_parse.specs.declared.tree.Item.{Item}
 use Rattle.kx_resolve.specs.Lit.{indicator_lit, indicators_of}
-use Rattle.kx_source.specs.Meaning.{codes_of, declared_in, indicators_by, indicators_in, interpretations_in, key_given, key_in, keyed_in, lamps_from, mapping_by, modmap_in, read_keymap_in, real_in, resolved_in}
+use Rattle.kx_source.specs.Meaning.{codes_of, declared_in, indicators_by, indicators_in, interpretations_in, key_given, key_in, keyed_in, indicator_maps_from, mapping_by, modmap_in, read_keymap_in, real_in, resolved_in}
 use Rattle.kx_source.specs.Source.{HoldsAll}
 use Rattle.kx_tables.specs.Content.{Content}
 use Rattle.kx_tables.specs.Sound.{Sound}
@@ -46,7 +46,7 @@ use Rattle.roundtrip_meaning.specs.Given.{IsGiven}
 use Rattle.roundtrip_meaning.proofs.KeySection.{keys_given, maps_given, maps_keysymless}
 use Rattle.roundtrip_meaning.specs.Resolving.{ReadAgain, pair_of}
 use Rattle.roundtrip_meaning.proofs.Resolving.{resolved_again}
-use Rattle.roundtrip_meaning.proofs.ResolvingDeeds.{deeds_again, modmap_again}
+use Rattle.roundtrip_meaning.proofs.ResolvingLevelActions.{level_actions_again, modmap_again}
 use Rattle.roundtrip_meaning.proofs.ResolvingMasks.{mods_again, real_stands}
 use Rattle.roundtrip_text.specs.Source.{AreApart, EachOf, IndicatorFits, KeyFits, PrintedKey, cell_at, indicators_printed, keys_printed, names_printed, types_printed}
 use Rattle.roundtrip_text.proofs.Tables.{sound_placed}
@@ -56,32 +56,32 @@ use Rattle.roundtrip_tree.specs.Indicators.{IsIndicator}
 use Rattle.roundtrip_tree.specs.Shows.{AreShown, IsItem, none}
 use Rattle.roundtrip_meaning.specs.Types.{definition_seen}
 use Rattle.roundtrip_meaning.proofs.GroupNames.{names_printed_again}
-use Rattle.roundtrip_meaning.proofs.Indicators.{indicators_named, lamps_printed}
+use Rattle.roundtrip_meaning.proofs.Indicators.{indicators_named, indicator_maps_printed}
 use Rattle.roundtrip_meaning.proofs.Interpretations.{no_interpretations, none_without}
 use Rattle.roundtrip_meaning.proofs.Types.{types_declared}
 
 -- ---- Indicators
 
-abbrev lamp_for : ResolvedIndicator → Lamp
-lamp_for d = record { modifiers = mask d.mods; mod_states = state_bits d.mod_states; group_states = state_bits d.group_states; groups = d.groups }
+abbrev indicator_map_for : ResolvedIndicator → IndicatorMap
+indicator_map_for d = record { modifiers = mask d.mods; mod_states = state_bits d.mod_states; group_states = state_bits d.group_states; groups = d.groups }
 
 module _ (real : ℕ → RealSet) (real_is : (set r : ℕ) → set < 2 ^ 8 → r < 8 → real set r ≡ has set r) where
-  lit_again : (d : ResolvedIndicator) → IndicatorFits d → indicator_lit real d.name (lamp_for d) ≡ d
+  lit_again : (d : ResolvedIndicator) → IndicatorFits d → indicator_lit real d.name (indicator_map_for d) ≡ d
   lit_again d fits = λ i. record { name = d.name; mods = mods_again d.mods (real (mask d.mods)) fits.mods (λ r less. real_is (mask d.mods) r fits.mods less) i; mod_states = d.mod_states; group_states = d.group_states; groups = d.groups }
 
-  all_lit : (lamp : ℕ → Lamp) (n : ℕ) (ds : List ResolvedIndicator) → EachOf IndicatorFits ds → ((i : ℕ) (d : ResolvedIndicator) → slice_get ds i ≡ Some d → lamp (n + i) ≡ lamp_for d)
-      → map (λ (i : List ℕ × Lamp). indicator_lit real i.0 i.1) (zip (map (λ (d : ResolvedIndicator). d.name) ds) (lamps_from lamp n (map (λ (d : ResolvedIndicator). d.name) ds))) ≡ ds
-  all_lit lamp n [] fit each = refl
-  all_lit lamp n (d ∷ ds) fit each =
-      ap₂ (λ a b. a ∷ b) (ap (indicator_lit real d.name) (ap lamp (let same : n ≡ n + 0 = omega arith in same) ∙ each 0 d refl) ∙ lit_again d fit.0)
-      (all_lit lamp (suc n) ds fit.1 (λ i e is. ap lamp (let same : suc n + i ≡ n + suc i = omega arith in same) ∙ each (suc i) e is))
+  all_lit : (indicator_map : ℕ → IndicatorMap) (n : ℕ) (ds : List ResolvedIndicator) → EachOf IndicatorFits ds → ((i : ℕ) (d : ResolvedIndicator) → slice_get ds i ≡ Some d → indicator_map (n + i) ≡ indicator_map_for d)
+      → map (λ (i : List ℕ × IndicatorMap). indicator_lit real i.0 i.1) (zip (map (λ (d : ResolvedIndicator). d.name) ds) (indicator_maps_from indicator_map n (map (λ (d : ResolvedIndicator). d.name) ds))) ≡ ds
+  all_lit indicator_map n [] fit each = refl
+  all_lit indicator_map n (d ∷ ds) fit each =
+      ap₂ (λ a b. a ∷ b) (ap (indicator_lit real d.name) (ap indicator_map (let same : n ≡ n + 0 = omega arith in same) ∙ each 0 d refl) ∙ lit_again d fit.0)
+      (all_lit indicator_map (suc n) ds fit.1 (λ i e is. ap indicator_map (let same : suc n + i ≡ n + suc i = omega arith in same) ∙ each (suc i) e is))
 
   section_lit : (ds : List ResolvedIndicator) (is : List Item) → AreShown (λ d i. IsItem (IsIndicator d) i) ds is → EachOf IndicatorFits ds → AreApart (λ (d : ResolvedIndicator). d.name) ds → length ds ≤ 32 → indicators_of real (indicators_by [] (indicators_body is)) ≡ ds
   section_lit [] [] none fit apart few = refl
   section_lit (d ∷ ds) [] are fit apart few = elim are [ ]
   section_lit ds (i ∷ is) are fit apart few =
-      ap (λ ns. map (λ (i : List ℕ × Lamp). indicator_lit real i.0 i.1) (zip ns (lamps_from (lamp_of [] (Begin (own_body (place_of 2) (i ∷ is) End))) 0 ns))) (indicators_named (place_of 2) ds (i ∷ is) are fit apart few)
-      ∙ all_lit (lamp_of [] (Begin (own_body (place_of 2) (i ∷ is) End))) 0 ds fit (λ j d at. ap (lamp_of [] (Begin (own_body (place_of 2) (i ∷ is) End))) (let same : 0 + j ≡ j = omega arith in same) ∙ lamps_printed (place_of 2) ds (i ∷ is) are fit apart few j d at)
+      ap (λ ns. map (λ (i : List ℕ × IndicatorMap). indicator_lit real i.0 i.1) (zip ns (indicator_maps_from (indicator_map_of [] (Begin (own_body (place_of 2) (i ∷ is) End))) 0 ns))) (indicators_named (place_of 2) ds (i ∷ is) are fit apart few)
+      ∙ all_lit (indicator_map_of [] (Begin (own_body (place_of 2) (i ∷ is) End))) 0 ds fit (λ j d at. ap (indicator_map_of [] (Begin (own_body (place_of 2) (i ∷ is) End))) (let same : 0 + j ≡ j = omega arith in same) ∙ indicator_maps_printed (place_of 2) ds (i ∷ is) are fit apart few j d at)
 
 -- ---- Interpretations
 
@@ -142,14 +142,14 @@ module _ (c : Content) (sound : Sound c) (names : List Entry) (table : list_all 
   interpretations_are : interpretations_in names (library c sound) ≡ []
   interpretations_are = ap (λ (p : Parts). interpretations_of names p.modifiers p.compat) (parts_are c sound) ∙ interpretations_none names (indicators_printed c) (shown c sound).indicators (shown c sound).indicators_are
 
-  deeds_are : EachOf (λ (k : PrintedKey). (group level : ℕ) (d : ResolvedCell) → cell_at k group level ≡ Some d → (keyed_in names (library c sound)).deeds k.code group level ≡ d.action) ks
-  deeds_are = each_row _ ks (λ i k at group level d there.
-      ap (λ is. deeds_of (real_in names (library c sound)) is (modmap_in names (library c sound) k.code) (key_in names (library c sound) k.code) group level) interpretations_are
-      ∙ deeds_again (real_in names (library c sound)) real_is k (each_at KeyFits ks (keys_fit c sound) i k at) (key_in names (library c sound) k.code)
+  level_actions_are : EachOf (λ (k : PrintedKey). (group level : ℕ) (d : ResolvedCell) → cell_at k group level ≡ Some d → (keyed_in names (library c sound)).level_actions k.code group level ≡ d.action) ks
+  level_actions_are = each_row _ ks (λ i k at group level d there.
+      ap (λ is. level_actions_of (real_in names (library c sound)) is (modmap_in names (library c sound) k.code) (key_in names (library c sound) k.code) group level) interpretations_are
+      ∙ level_actions_again (real_in names (library c sound)) real_is k (each_at KeyFits ks (keys_fit c sound) i k at) (key_in names (library c sound) k.code)
       (each_at (λ (k : PrintedKey). IsGiven k (key_in names (library c sound) k.code)) ks given_are i k at) (modmap_in names (library c sound) k.code) group level d there)
 
   read_again : ReadAgain c (real_in names (library c sound)) (declared_in (library c sound)) (keyed_in names (library c sound))
-  read_again = record { real_is = real_is; declared_are = declared_are; names_are = names_are; given_are = given_are; mapped_are = mapped_are; deeds_are = deeds_are }
+  read_again = record { real_is = real_is; declared_are = declared_are; names_are = names_are; given_are = given_are; mapped_are = mapped_are; level_actions_are = level_actions_are }
 
   resolved_is : resolved_in names (library c sound) ≡ seen c
   resolved_is = resolved_again c sound (real_in names (library c sound)) (declared_in (library c sound)) (keyed_in names (library c sound)) read_again
@@ -168,5 +168,5 @@ module _ (c : Content) (sound : Sound c) (names : List Entry) (table : list_all 
   pub holds_again : (d : Content) → HoldsAll names (library c sound) d → d ≡ c
   holds_again d holds =
       holds.content_is
-      ∙ (λ i. with_lamps (content_of_resolved (resolved_is i)) (indicators_is i) (names_is holds.groups holds.groups_are i))
+      ∙ (λ i. with_indicator_maps (content_of_resolved (resolved_is i)) (indicators_is i) (names_is holds.groups holds.groups_are i))
       ∙ sound_placed c sound

@@ -93,9 +93,9 @@ state_same a b agree world code direction =
 
 lit_same : (a b : Keymap) → Agree a b → (s t : Status) → s ≡ t → lit_in a s ≡ lit_in b t
 lit_same a b agree s t same =
-    ap (λ n. lit_mask n s a.lamps) agree.groups
-    ∙ ap (lit_mask b.groups s) agree.lamps
-    ∙ ap (λ u. lit_mask b.groups u b.lamps) same
+    ap (λ n. lit_mask n s a.indicator_maps) agree.groups
+    ∙ ap (lit_mask b.groups s) agree.indicator_maps
+    ∙ ap (λ u. lit_mask b.groups u b.indicator_maps) same
 
 abbrev put_together : Glance → Status → ℕ → Answer
 put_together look state lit = record { look = look; state = state; lit = lit }
@@ -109,10 +109,10 @@ known_look keymap world code shown known same =
 
 -- the reply to an event that changes nothing
 pub answer_still : (keymap : Keymap) (world : World) (code : ℕ) (direction : Direction) (look : Glance) (state : Status) (lit : ℕ) → is_moved world code direction ≡ false → look ≡ look_at keymap (status_in keymap world) code → state ≡ status_in keymap world → lit ≡ lit_in keymap (status_in keymap world) → put_together look state lit ≡ answer keymap world code direction
-answer_still keymap world code direction look state lit still looks states lamps =
+answer_still keymap world code direction look state lit still looks states indicator_maps =
     ap (λ l. put_together l state lit) looks
     ∙ ap (λ s. put_together (look_at keymap (status_in keymap world) code) s lit) states
-    ∙ ap (put_together (look_at keymap (status_in keymap world) code) (status_in keymap world)) lamps
+    ∙ ap (put_together (look_at keymap (status_in keymap world) code) (status_in keymap world)) indicator_maps
     ∙ ap (λ w. put_together (look_at keymap (status_in keymap world) code) (status_in keymap w) (lit_in keymap (status_in keymap w))) (sym (step_still keymap world code direction still))
 
 answer_same : (a b : Keymap) → Agree a b → (world : World) (code : ℕ) (direction : Direction) → answer a world code direction ≡ answer b world code direction

@@ -16,7 +16,7 @@ use Rattle.kx_tables.specs.declared.rows.GroupChange.{GroupChange}
 use Rattle.kx_tables.specs.declared.rows.GroupChange.TheVariants.{Absolute, Relative}
 use Rattle.kx_tables.specs.declared.rows.KeyRow.{KeyRow}
 use Rattle.kx_tables.specs.declared.rows.TypeRow.{TypeRow}
-use Rattle.kx_tables.specs.Keymap.{lamp_of}
+use Rattle.kx_tables.specs.Keymap.{indicator_map_of}
 use Rattle.kx_tables.specs.Sound.{IndicatorHolds}
 use Rattle.kx_tables.specs.declared.rows.IndicatorRow.{IndicatorRow}
 use Rattle.std.proofs.lemmas.Option.{slice_get_within, get_or_from_slice_get}
@@ -153,24 +153,24 @@ level_within (Some e) levels many some most = omega arith
 
 -- ---- indicators
 
-lamps_few : (k : ℕ) (rows : List IndicatorRow) → k ≤ 32 → ((i : ℕ) (d : IndicatorRow) → slice_get rows i ≡ Some d → k + i < 32) → k + length rows ≤ 32
-lamps_few k [] small places = omega arith
-lamps_few k (row ∷ rows) small places =
+indicator_maps_few : (k : ℕ) (rows : List IndicatorRow) → k ≤ 32 → ((i : ℕ) (d : IndicatorRow) → slice_get rows i ≡ Some d → k + i < 32) → k + length rows ≤ 32
+indicator_maps_few k [] small places = omega arith
+indicator_maps_few k (row ∷ rows) small places =
     let first = places 0 row refl in
-    let rest = lamps_few (k + 1) rows (omega arith) (λ i d at. omega (arith, places (suc i) d at)) in
+    let rest = indicator_maps_few (k + 1) rows (omega arith) (λ i d at. omega (arith, places (suc i) d at)) in
     omega arith
 
-pub few_lamps : (c : Content) → Sound c → length c.indicators ≤ 32
-few_lamps c sound =
-    omega (arith, lamps_few 0 c.indicators (omega arith) (λ i d at. let holds : IndicatorHolds c i d = sound.indicators i d at in omega (arith, holds.place)))
+pub few_indicator_maps : (c : Content) → Sound c → length c.indicators ≤ 32
+few_indicator_maps c sound =
+    omega (arith, indicator_maps_few 0 c.indicators (omega arith) (λ i d at. let holds : IndicatorHolds c i d = sound.indicators i d at in omega (arith, holds.place)))
 
-pub lit_more : (count : ℕ) (s : Status) (rows : List IndicatorRow) (place : ℕ) (row : IndicatorRow) → slice_get rows place ≡ Some row → lit_mask count s (map lamp_of (drop place rows)) ≡ cond (is_lit count s (lamp_of row)) 1 0 + 2 * lit_mask count s (map lamp_of (drop (place + 1) rows))
+pub lit_more : (count : ℕ) (s : Status) (rows : List IndicatorRow) (place : ℕ) (row : IndicatorRow) → slice_get rows place ≡ Some row → lit_mask count s (map indicator_map_of (drop place rows)) ≡ cond (is_lit count s (indicator_map_of row)) 1 0 + 2 * lit_mask count s (map indicator_map_of (drop (place + 1) rows))
 lit_more count s rows place row at =
     let within = slice_get_within rows place row at in
     let read = get_or_from_slice_get rows place row row at in
     let next : suc place ≡ place + 1 = omega arith in
     let front : drop place rows ≡ row ∷ drop (place + 1) rows = drop-cons rows place row within ∙ ap (λ d. d ∷ drop (suc place) rows) read ∙ ap (λ n. row ∷ drop n rows) next in
-    ap (λ ds. lit_mask count s (map lamp_of ds)) front
+    ap (λ ds. lit_mask count s (map indicator_map_of ds)) front
 
 pub small_more : (lit b n p : ℕ) → b ≤ 1 → 0 < p → p ≤ n → lit < 2 ^ (n - p) → 2 * lit + b < 2 ^ (n - (p - 1))
 small_more lit b n p bit some within small =

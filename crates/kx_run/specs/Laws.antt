@@ -44,4 +44,4 @@ pub record Agree (a b : Keymap) : Type 0 where
   pub groups : a.groups ≡ b.groups
   pub known : (code : ℕ) → a.known code ≡ b.known code
   pub shown : (code group mods : ℕ) → a.known code ≡ true → group < a.groups → a.shown code group mods ≡ b.shown code group mods
-  pub lamps : a.lamps ≡ b.lamps
+  pub indicator_maps : a.indicator_maps ≡ b.indicator_maps

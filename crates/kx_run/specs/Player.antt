@@ -20,7 +20,7 @@ pub record IsKept (c : Content) (keys : List (Option KeyRow)) (choices : List Ch
   pub told_keys : TellsKeys keys c
   pub told_choices : TellsChoices choices c
   pub told_state : told state ≡ status_in (keymap_of c) world
-  pub lamps : lit ≡ lit_in (keymap_of c) (told state)
+  pub indicator_maps : lit ≡ lit_in (keymap_of c) (told state)
   pub bounded : IsBounded world
 
 pub record Followed : Type 0 where

@@ -3,7 +3,7 @@ use Rattle.std.specs.Prelude.{ℕ, ◌+◌, ◌*◌, ◌%◌, ◌==◌, Bool, fa
 use Rattle.std.specs.Int.{bit_at}
 use Rattle.std.specs.Int.RustNames.{bit_and, bit_or}
 use Rattle.kx_mods.specs.Mods.{mask}
-use Rattle.kx_tables.specs.Keymap.{Keymap, Lamp}
+use Rattle.kx_tables.specs.Keymap.{Keymap, IndicatorMap}
 use Rattle.kx_run.specs.declared.direction.Event.{Event}
 use Rattle.kx_run.specs.declared.direction.Direction.{Direction}
 use Rattle.kx_run.specs.declared.reply.Components.{Components}
@@ -76,13 +76,13 @@ has_chosen_group count groups parts s =
     || (has_bit parts 3 && has_bit groups (status_group count s))
 
 -- an indicator is lit when its modifiers meet those of the parts that it looks at, or its groups hold the group of one
-abbrev pub is_lit : ℕ → Status → Lamp → Bool
-is_lit count s lamp = not (bit_and lamp.mods (chosen_mods lamp.mod_states s) == 0) || has_chosen_group count lamp.groups lamp.group_states s
+abbrev pub is_lit : ℕ → Status → IndicatorMap → Bool
+is_lit count s indicator_map = not (bit_and indicator_map.mods (chosen_mods indicator_map.mod_states s) == 0) || has_chosen_group count indicator_map.groups indicator_map.group_states s
 
 -- the lit indicators as a mask: bit i is indicator i
-abbrev pub lit_mask : ℕ → Status → List Lamp → ℕ
+abbrev pub lit_mask : ℕ → Status → List IndicatorMap → ℕ
 lit_mask count s [] = 0
-lit_mask count s (lamp ∷ lamps) = (if is_lit count s lamp then 1 else 0) + 2 * lit_mask count s lamps
+lit_mask count s (indicator_map ∷ indicator_maps) = (if is_lit count s indicator_map then 1 else 0) + 2 * lit_mask count s indicator_maps
 
 -- ---- Replies
 
@@ -113,7 +113,7 @@ status_in keymap world = status_of keymap.groups world
 abbrev pub answer : Keymap → World → ℕ → Direction → Answer
 answer keymap world code direction =
     let after = status_in keymap (step keymap world code direction) in
-    record { look = look_at keymap (status_in keymap world) code; state = after; lit = lit_mask keymap.groups after keymap.lamps }
+    record { look = look_at keymap (status_in keymap world) code; state = after; lit = lit_mask keymap.groups after keymap.indicator_maps }
 
 abbrev pub answered : Reply → Answer
 answered reply =
@@ -141,4 +141,4 @@ abbrev pub unknown : Glance
 unknown = record { known = false; syms = []; consumed = 0 }
 
 abbrev pub lit_in : Keymap → Status → ℕ
-lit_in keymap s = lit_mask keymap.groups s keymap.lamps
+lit_in keymap s = lit_mask keymap.groups s keymap.indicator_maps

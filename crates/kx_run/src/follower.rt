@@ -5,7 +5,7 @@ ghost use Rattle.kx_run.specs.World.{World, opening};
 ghost use Rattle.kx_run.specs.declared.direction.Direction.{Direction};
 
 use crate::group::effective;
-use crate::lamps::lit;
+use crate::indicator_maps::lit;
 use crate::lookup::{key_of, look_up, read_keysyms};
 use crate::reply::{Components, Look};
 use arrayvec::ArrayVec;

@@ -9,7 +9,7 @@ mod group;
 mod held;
 mod index;
 mod keyboard;
-mod lamps;
+mod indicator_maps;
 mod lookup;
 mod player;
 mod presses;

@@ -10,7 +10,7 @@ use crate::choices::Choices;
 use crate::direction::{Direction, Event};
 use crate::index::KeyIndex;
 use crate::keyboard::Keyboard;
-use crate::lamps::lit;
+use crate::indicator_maps::lit;
 use crate::lookup::{look_up_chosen, read_keysyms};
 use crate::reply::{Components, Reply};
 use arrayvec::ArrayVec;

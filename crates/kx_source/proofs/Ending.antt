@@ -1,7 +1,7 @@
 -- Tables that are made of a source's bodies are those that the source means.
 use Rattle.std.proofs.Common.{ℕ, ◌≡◌, List, [], Result, Ok, Err, IfOk, OnOk, subst, ◌∙◌}
 use Rattle.ks_core.specs.Entry.{Entry}
-use Rattle.kx_builder.specs.Lamps.{keymap_with, with_lamps}
+use Rattle.kx_builder.specs.IndicatorMaps.{keymap_with, with_indicator_maps}
 use Rattle.kx_builder.specs.Placed.{content_of_resolved}
 use Rattle.kx_codes.specs.Codes.{Codes, CodesShow}
 use Rattle.kx_group_names.specs.Names.{AreGroupNames}
@@ -39,9 +39,9 @@ module _ (library : Library) (bodies : Bodies) (are : AreBodies library bodies) 
         groups_are = subst (AreGroupNames lit.groups) are.symbols lit.groups_are;
         content_is =
             lit.holds
-            ∙ (λ j. with_lamps
+            ∙ (λ j. with_indicator_maps
             (content_of_resolved (resolved_same library bodies are m shows types types_show c codes_show names made.keys made.keys_show made.modmaps made.mapped i.interpretations i.interpreted i.found i.stand j))
-            (lit_same library bodies are m shows types types_show c codes_show names made.keys made.keys_show made.modmaps made.mapped i.interpretations i.interpreted i.found i.stand lit.lamps lit.lamps_are j)
+            (lit_same library bodies are m shows types types_show c codes_show names made.keys made.keys_show made.modmaps made.mapped i.interpretations i.interpreted i.found i.stand lit.indicator_maps lit.indicator_maps_are j)
             lit.groups);
       }
 
@@ -49,8 +49,8 @@ module _ (library : Library) (bodies : Bodies) (are : AreBodies library bodies) 
   made_keymap =
       let i = made.interpreted in
       let lit = i.lit in
-      one_keymap (keymap_of content) (keymap_with (keymap_meant (real_of (stands_for i.found)) (type_named types) (keyed_of (real_of (stands_for i.found)) c made.keys made.modmaps i.interpretations)) (indicators_of (real_of (stands_for i.found)) lit.lamps)) lit.agrees
-      ∙ keymap_same library bodies are m shows types types_show c codes_show names made.keys made.keys_show made.modmaps made.mapped i.interpretations i.interpreted i.found i.stand lit.lamps lit.lamps_are
+      one_keymap (keymap_of content) (keymap_with (keymap_meant (real_of (stands_for i.found)) (type_named types) (keyed_of (real_of (stands_for i.found)) c made.keys made.modmaps i.interpretations)) (indicators_of (real_of (stands_for i.found)) lit.indicator_maps)) lit.agrees
+      ∙ keymap_same library bodies are m shows types types_show c codes_show names made.keys made.keys_show made.modmaps made.mapped i.interpretations i.interpreted i.found i.stand lit.indicator_maps lit.indicator_maps_are
 
 -- what holds of tables that are answered is what their source means
 pub means_of : {N : Type 0} (source : List ℕ) (files : Handed) (names : List Entry) (library : Library) → IsRead source files library → (r : Result (Content × N) Fault)

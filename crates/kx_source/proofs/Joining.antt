@@ -6,10 +6,10 @@ use Rattle.std.proofs.Math.Path.{fun_ext}
 use Rattle.std.specs.List.{zip}
 use Rattle.std.specs.Option.{option_and_then, option_map, option_or}
 use Rattle.ks_core.specs.Entry.{Entry}
-use Rattle.kx_resolve.specs.Bearing.{ReadKeymap, brings, stands}
-use Rattle.kx_resolve.specs.Deeds.{deeds_of}
-use Rattle.kx_resolve.specs.ReadBearing.{read_keymap_of}
-use Rattle.kx_builder.specs.Lamps.{ResolvedIndicator, keymap_with, lamp_of_indicator}
+use Rattle.kx_resolve.specs.Vmodmap.{ReadKeymap, brings, stands}
+use Rattle.kx_resolve.specs.LevelActions.{level_actions_of}
+use Rattle.kx_resolve.specs.ReadVmodmap.{read_keymap_of}
+use Rattle.kx_builder.specs.IndicatorMaps.{ResolvedIndicator, keymap_with, indicator_map_of_indicator}
 use Rattle.kx_builder.specs.Resolved.{Resolved}
 use Rattle.kx_compat.specs.Interpretations.{Interpretation}
 use Rattle.kx_codes.proofs.Targets.{target_same as alias_same}
@@ -20,8 +20,8 @@ use Rattle.kx_include.specs.Expansion.{Body, body_of}
 use Rattle.kx_include.specs.Library.{Library}
 use Rattle.kx_include.specs.Shared.{expanded_body}
 use Rattle.kx_include.specs.declared.expansion.Bodies.{Bodies}
-use Rattle.kx_indicators.specs.Lamps.{Lamp}
-use Rattle.kx_indicators.specs.Meaning.{AreIndicators, Indicators, indicator_names, lamp_of}
+use Rattle.kx_indicators.specs.IndicatorMaps.{IndicatorMap}
+use Rattle.kx_indicators.specs.Meaning.{AreIndicators, Indicators, indicator_names, indicator_map_of}
 use Rattle.kx_resolve.specs.Selecting.{RealSet}
 use Rattle.kx_lex.specs.declared.name.Name.{Name}
 use Rattle.kx_resolve.specs.Mapping.{modmap_of}
@@ -46,7 +46,7 @@ use Rattle.kx_parse.specs.declared.tree.Mode.{Mode}
 use Rattle.kx_resolve.specs.Keys.{Keyed, keyed_of, resolved_of}
 use Rattle.kx_resolve.specs.Lit.{indicator_lit, indicators_of}
 use Rattle.kx_resolve.specs.Shown.{keymap_meant}
-use Rattle.kx_source.specs.Meaning.{codes_in, codes_of, declared_in, declared_masks_of, indicators_by, indicators_in, interpretations_in, key_given, key_in, keyed_in, keymap_by, keymap_in, lamps_from, lit_by, mapping_by, modifier_bodies_of, modifiers_of, modmap_in, read_keymap_in, real_in, resolved_in}
+use Rattle.kx_source.specs.Meaning.{codes_in, codes_of, declared_in, declared_masks_of, indicators_by, indicators_in, interpretations_in, key_given, key_in, keyed_in, keymap_by, keymap_in, indicator_maps_from, lit_by, mapping_by, modifier_bodies_of, modifiers_of, modmap_in, read_keymap_in, real_in, resolved_in}
 use Rattle.kx_source.specs.Source.{keys_faults, maps_faults}
 use Rattle.kx_symbols.specs.KeyFaults.{item_faults, key_in as key_said}
 use Rattle.kx_symbols.specs.Keys.{KeyContent, KeysShow, item_next, item_offers, key_at, key_moves, key_rules, known_under, offered, said_offers}
@@ -118,24 +118,24 @@ module _ (c : Codes) (body : Body) (shows : CodesShow c body) where
 
 -- ---- Indicators
 
-lamps_lit : (real : ℕ → RealSet) (lamp : ℕ → Lamp) (n : ℕ) (names : List (List ℕ)) → map lamp_of_indicator (map (λ (d : List ℕ × Lamp). indicator_lit real d.0 d.1) (zip names (lamps_from lamp n names))) ≡ lamps_from (λ k. lit_by real (lamp k)) n names
-lamps_lit real lamp n [] = refl
-lamps_lit real lamp n (name ∷ names) = ap (λ ls. lit_by real (lamp n) ∷ ls) (lamps_lit real lamp (suc n) names)
+indicator_maps_lit : (real : ℕ → RealSet) (indicator_map : ℕ → IndicatorMap) (n : ℕ) (names : List (List ℕ)) → map indicator_map_of_indicator (map (λ (d : List ℕ × IndicatorMap). indicator_lit real d.0 d.1) (zip names (indicator_maps_from indicator_map n names))) ≡ indicator_maps_from (λ k. lit_by real (indicator_map k)) n names
+indicator_maps_lit real indicator_map n [] = refl
+indicator_maps_lit real indicator_map n (name ∷ names) = ap (λ ls. lit_by real (indicator_map n) ∷ ls) (indicator_maps_lit real indicator_map (suc n) names)
 
 -- what tables show is what is meant
 keymap_meant-in : (names : List Entry) (library : Library) → keymap_with (keymap_meant (real_in names library) (declared_in library) (keyed_in names library)) (indicators_in names library) ≡ keymap_in names library
-keymap_meant-in names library = ap (keymap_by (real_in names library) (read_keymap_in names library)) (lamps_lit (real_in names library) (lamp_of (modifiers_of library) (body_of library Compat)) 0 (indicator_names (body_of library Compat)))
+keymap_meant-in names library = ap (keymap_by (real_in names library) (read_keymap_in names library)) (indicator_maps_lit (real_in names library) (indicator_map_of (modifiers_of library) (body_of library Compat)) 0 (indicator_names (body_of library Compat)))
 
-lamps_by : (lamp : ℕ → Lamp) (n : ℕ) (names : List (List ℕ)) (lamps : List Lamp) → length lamps ≡ length names → ((k : ℕ) → k < length names → slice_get lamps k ≡ Some (lamp (k + n))) → lamps ≡ lamps_from lamp n names
-lamps_by lamp n [] [] same are = refl
-lamps_by lamp n [] (l ∷ ls) same are = absurd (omega (arith, same))
-lamps_by lamp n (x ∷ xs) [] same are = absurd (omega (arith, same))
-lamps_by lamp n (x ∷ xs) (l ∷ ls) same are =
+indicator_maps_by : (indicator_map : ℕ → IndicatorMap) (n : ℕ) (names : List (List ℕ)) (indicator_maps : List IndicatorMap) → length indicator_maps ≡ length names → ((k : ℕ) → k < length names → slice_get indicator_maps k ≡ Some (indicator_map (k + n))) → indicator_maps ≡ indicator_maps_from indicator_map n names
+indicator_maps_by indicator_map n [] [] same are = refl
+indicator_maps_by indicator_map n [] (l ∷ ls) same are = absurd (omega (arith, same))
+indicator_maps_by indicator_map n (x ∷ xs) [] same are = absurd (omega (arith, same))
+indicator_maps_by indicator_map n (x ∷ xs) (l ∷ ls) same are =
     let first : 0 < length (x ∷ xs) = omega arith in
     let fewer : length ls ≡ length xs = omega (arith, same) in
     let none : 0 + n ≡ n = omega arith in
-    λ i. same_Some l (lamp n) (are 0 first ∙ ap (λ m. Some (lamp m)) none) i
-    ∷ lamps_by lamp (suc n) xs ls fewer (λ k less. let within : suc k < length (x ∷ xs) = omega (arith, less) in let one : suc k + n ≡ k + suc n = omega arith in are (suc k) within ∙ ap (λ m. Some (lamp m)) one) i
+    λ i. same_Some l (indicator_map n) (are 0 first ∙ ap (λ m. Some (indicator_map m)) none) i
+    ∷ indicator_maps_by indicator_map (suc n) xs ls fewer (λ k less. let within : suc k < length (x ∷ xs) = omega (arith, less) in let one : suc k + n ≡ k + suc n = omega arith in are (suc k) within ∙ ap (λ m. Some (indicator_map m)) one) i
 
 -- ---- What is read
 
@@ -156,13 +156,13 @@ module _ (library : Library) (bodies : Bodies) (are : AreBodies library bodies) 
         counted : length found.names ≡ length (indicator_names (expanded_body bodies.compat))
         counted = ap length same.names_are
 
-        lamps_are : found.lamps ≡ lamps_from (lamp_of m.names (expanded_body bodies.compat)) 0 (indicator_names (expanded_body bodies.compat))
-        lamps_are =
-            lamps_by (lamp_of m.names (expanded_body bodies.compat)) 0 (indicator_names (expanded_body bodies.compat)) found.lamps (same.as_many ∙ counted)
-            (λ k less. let within : k < length found.names = omega (arith, less, counted) in let none : k ≡ k + 0 = omega arith in same.lamps_are k within ∙ ap (λ j. Some (lamp_of m.names (expanded_body bodies.compat) j)) none)
+        indicator_maps_are : found.indicator_maps ≡ indicator_maps_from (indicator_map_of m.names (expanded_body bodies.compat)) 0 (indicator_names (expanded_body bodies.compat))
+        indicator_maps_are =
+            indicator_maps_by (indicator_map_of m.names (expanded_body bodies.compat)) 0 (indicator_names (expanded_body bodies.compat)) found.indicator_maps (same.as_many ∙ counted)
+            (λ k less. let within : k < length found.names = omega (arith, less, counted) in let none : k ≡ k + 0 = omega arith in same.indicator_maps_are k within ∙ ap (λ j. Some (indicator_map_of m.names (expanded_body bodies.compat) j)) none)
 
         by_body : found ≡ indicators_by m.names (expanded_body bodies.compat)
-        by_body = λ i. record { names = same.names_are i; lamps = lamps_are i }
+        by_body = λ i. record { names = same.names_are i; indicator_maps = indicator_maps_are i }
 
     module _ (types : NamedTypes) (types_show : TypesShow types m.names (expanded_body bodies.types)) where
       pub declared_same : type_named types ≡ declared_in library
@@ -241,17 +241,17 @@ module _ (library : Library) (bodies : Bodies) (are : AreBodies library bodies) 
                   name = names_same c (body_of library Keycodes) codes_show i;
                   key = keys_same i;
                   modmap = modmaps_same i;
-                  deeds = λ code. deeds_of (real_same i) (interpretations_same i) (modmaps_same i code) (keys_same i code);
+                  level_actions = λ code. level_actions_of (real_same i) (interpretations_same i) (modmaps_same i code) (keys_same i code);
                 }
 
                 pub resolved_same : resolved_of (real_of (stands_for found)) (type_named types) (keyed_of (real_of (stands_for found)) c keys modmaps interpretations) ≡ resolved_in names library
                 resolved_same = λ i. resolved_of (real_same i) (declared_same i) (keyed_same i)
 
-                module _ (lamps : Indicators) (lamps_are : AreIndicators lamps m.names (expanded_body bodies.compat)) where
-                  pub lit_same : indicators_of (real_of (stands_for found)) lamps ≡ indicators_in names library
-                  lit_same = λ i. indicators_of (real_same i) (indicators_same lamps lamps_are i)
+                module _ (indicator_maps : Indicators) (indicator_maps_are : AreIndicators indicator_maps m.names (expanded_body bodies.compat)) where
+                  pub lit_same : indicators_of (real_of (stands_for found)) indicator_maps ≡ indicators_in names library
+                  lit_same = λ i. indicators_of (real_same i) (indicators_same indicator_maps indicator_maps_are i)
 
-                  pub keymap_same : keymap_with (keymap_meant (real_of (stands_for found)) (type_named types) (keyed_of (real_of (stands_for found)) c keys modmaps interpretations)) (indicators_of (real_of (stands_for found)) lamps) ≡ keymap_in names library
+                  pub keymap_same : keymap_with (keymap_meant (real_of (stands_for found)) (type_named types) (keyed_of (real_of (stands_for found)) c keys modmaps interpretations)) (indicators_of (real_of (stands_for found)) indicator_maps) ≡ keymap_in names library
                   keymap_same =
-                      let joined : keymap_with (keymap_meant (real_of (stands_for found)) (type_named types) (keyed_of (real_of (stands_for found)) c keys modmaps interpretations)) (indicators_of (real_of (stands_for found)) lamps) ≡ keymap_with (keymap_meant (real_in names library) (declared_in library) (keyed_in names library)) (indicators_in names library) = λ i. keymap_with (keymap_meant (real_same i) (declared_same i) (keyed_same i)) (lit_same i) in
+                      let joined : keymap_with (keymap_meant (real_of (stands_for found)) (type_named types) (keyed_of (real_of (stands_for found)) c keys modmaps interpretations)) (indicators_of (real_of (stands_for found)) indicator_maps) ≡ keymap_with (keymap_meant (real_in names library) (declared_in library) (keyed_in names library)) (indicators_in names library) = λ i. keymap_with (keymap_meant (real_same i) (declared_same i) (keyed_same i)) (lit_same i) in
                       joined ∙ keymap_meant-in names library

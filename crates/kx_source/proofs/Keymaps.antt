@@ -8,5 +8,5 @@ one_keymap a b same = λ i. record {
   groups = same.groups i;
   known = λ code. same.known code i;
   shown = λ code group mods. same.shown code group mods i;
-  lamps = same.lamps i;
+  indicator_maps = same.indicator_maps i;
 }

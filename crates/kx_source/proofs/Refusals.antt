@@ -8,7 +8,7 @@ use Rattle.kx_compat.specs.Meaning.{compat_faults}
 use Rattle.kx_include.specs.Expansion.{body_of}
 use Rattle.kx_include.specs.IncludeFaults.{IsWhole}
 use Rattle.kx_include.specs.Library.{Library}
-use Rattle.kx_indicators.specs.Meaning.{lamps_faults}
+use Rattle.kx_indicators.specs.Meaning.{indicator_maps_faults}
 use Rattle.kx_lex.specs.declared.fault.Fault.{Fault}
 use Rattle.kx_lex.specs.declared.fault.Fault.TheVariants.{Memory}
 use Rattle.kx_virtual_mods.specs.Declarations.{modifier_faults}
@@ -52,12 +52,12 @@ module _ (names : List Entry) (library : Library) where
   abbrev pub of_names : List Fault
   of_names = names_faults (body_of library Symbols)
 
-  abbrev pub of_lamps : List Fault
-  of_lamps = lamps_faults (modifiers_of library) (body_of library Compat)
+  abbrev pub of_indicator_maps : List Fault
+  of_indicator_maps = indicator_maps_faults (modifiers_of library) (body_of library Compat)
 
   -- those of keys and of what stands behind them
   abbrev pub of_parts : List Fault
-  of_parts = (of_keys ++ of_maps) ++ (of_compat ++ (of_names ++ of_lamps))
+  of_parts = (of_keys ++ of_maps) ++ (of_compat ++ (of_names ++ of_indicator_maps))
 
   -- a fault of one part is one of the source
   has_fault : IsWhole library → (fs : List Fault) (e : Fault) → (Contains fs e → Contains (statement_faults names library) e) → Contains (Memory ∷ fs) e → (e ≡ Memory) ⊎ HasFaultIn names library e
@@ -85,5 +85,5 @@ module _ (names : List Entry) (library : Library) where
   pub parts_refused : IsWhole library → (e : Fault) → Contains (Memory ∷ of_parts) e → (e ≡ Memory) ⊎ HasFaultIn names library e
   parts_refused whole e has = has_fault whole of_parts e (λ fault. behind_keycodes (of_types ++ of_parts) e (Contains-append_right of_types of_parts e fault)) has
 
-  pub all_faultless : of_modifiers ≡ [] → of_keycodes ≡ [] → of_types ≡ [] → of_keys ≡ [] → of_maps ≡ [] → of_compat ≡ [] → of_names ≡ [] → of_lamps ≡ [] → statement_faults names library ≡ []
-  all_faultless modifiers keycodes types keys maps compat groups lamps = λ i. modifiers i ++ (keycodes i ++ (types i ++ ((keys i ++ maps i) ++ (compat i ++ (groups i ++ lamps i)))))
+  pub all_faultless : of_modifiers ≡ [] → of_keycodes ≡ [] → of_types ≡ [] → of_keys ≡ [] → of_maps ≡ [] → of_compat ≡ [] → of_names ≡ [] → of_indicator_maps ≡ [] → statement_faults names library ≡ []
+  all_faultless modifiers keycodes types keys maps compat groups indicator_maps = λ i. modifiers i ++ (keycodes i ++ (types i ++ ((keys i ++ maps i) ++ (compat i ++ (groups i ++ indicator_maps i)))))

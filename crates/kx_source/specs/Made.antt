@@ -1,10 +1,10 @@
 -- That tables are made of what is read of a source's bodies, step by step.
 use Rattle.std.specs.Prelude.{ℕ, ◌≡◌, ◌<◌, List}
 use Rattle.ks_core.specs.Entry.{Entry}
-use Rattle.kx_resolve.specs.Bearing.{stands}
-use Rattle.kx_resolve.specs.ReadBearing.{read_keymap_of}
+use Rattle.kx_resolve.specs.Vmodmap.{stands}
+use Rattle.kx_resolve.specs.ReadVmodmap.{read_keymap_of}
 use Rattle.kx_builder.specs.Agreement.{ShowsSame}
-use Rattle.kx_builder.specs.Lamps.{keymap_with, with_lamps}
+use Rattle.kx_builder.specs.IndicatorMaps.{keymap_with, with_indicator_maps}
 use Rattle.kx_builder.specs.Placed.{content_of_resolved}
 use Rattle.kx_compat.specs.Interpretations.{Interpretation}
 use Rattle.kx_codes.specs.Codes.{Codes, name_of}
@@ -34,10 +34,10 @@ use Rattle.kx_resolve.specs.Given.{given_in}
 pub record IsLit (modifiers : List (List ℕ)) (compat symbols : Body) (real : ℕ → RealSet) (types : NamedTypes) (keyed : Keyed) (content : Content) : Type 0 where
   pub groups : List (List ℕ)
   pub groups_are : AreGroupNames groups symbols
-  pub lamps : Indicators
-  pub lamps_are : AreIndicators lamps modifiers compat
-  pub holds : content ≡ with_lamps (content_of_resolved (resolved_of real (type_named types) keyed)) (indicators_of real lamps) groups
-  pub agrees : ShowsSame (keymap_of content) (keymap_with (keymap_meant real (type_named types) keyed) (indicators_of real lamps))
+  pub indicator_maps : Indicators
+  pub indicator_maps_are : AreIndicators indicator_maps modifiers compat
+  pub holds : content ≡ with_indicator_maps (content_of_resolved (resolved_of real (type_named types) keyed)) (indicators_of real indicator_maps) groups
+  pub agrees : ShowsSame (keymap_of content) (keymap_with (keymap_meant real (type_named types) keyed) (indicators_of real indicator_maps))
 
 -- of types and keys, which are mapped to these modifiers, with the interpretations that a compat body has
 pub record IsInterpreted (names : List Entry) (m : ModNames) (compat symbols : Body) (c : Codes) (types : NamedTypes) (keys : List (ℕ × KeyContent)) (modmaps : ℕ → Mods) (content : Content) : Type 0 where

@@ -3,9 +3,9 @@ use Rattle.std.specs.Prelude.{ℕ, max, suc, List, [], ◌∷◌, Option, is_som
 use Rattle.std.specs.Option.{option_map_or}
 use Rattle.ks_core.specs.Entry.{Entry}
 use Rattle.kx_basics.specs.declared.limits.TheConstants.{CODES}
-use Rattle.kx_resolve.specs.Bearing.{ReadKeymap, stands}
-use Rattle.kx_resolve.specs.Deeds.{deeds_of}
-use Rattle.kx_builder.specs.Lamps.{ResolvedIndicator}
+use Rattle.kx_resolve.specs.Vmodmap.{ReadKeymap, stands}
+use Rattle.kx_resolve.specs.LevelActions.{level_actions_of}
+use Rattle.kx_builder.specs.IndicatorMaps.{ResolvedIndicator}
 use Rattle.kx_builder.specs.Resolved.{Resolved}
 use Rattle.kx_compat.specs.Interpretations.{Interpretation}
 use Rattle.kx_codes.specs.Aliases.{aliases_of}
@@ -14,8 +14,8 @@ use Rattle.kx_codes.specs.Pairs.{pairs_of}
 use Rattle.kx_compat.specs.Meaning.{interpretations_of}
 use Rattle.kx_include.specs.Expansion.{Body, body_of}
 use Rattle.kx_include.specs.Library.{Library}
-use Rattle.kx_indicators.specs.Lamps.{Lamp}
-use Rattle.kx_indicators.specs.Meaning.{Indicators, indicator_names, lamp_of}
+use Rattle.kx_indicators.specs.IndicatorMaps.{IndicatorMap}
+use Rattle.kx_indicators.specs.Meaning.{Indicators, indicator_names, indicator_map_of}
 use Rattle.kx_resolve.specs.Rows.{set_mask}
 use Rattle.kx_resolve.specs.Selecting.{RealSet}
 use Rattle.kx_resolve.specs.Mapping.{Mapping, modmap_of}
@@ -37,7 +37,7 @@ use Rattle.kx_resolve.specs.Shown.{most_groups_below, name_within, shown_for}
 use Rattle.kx_symbols.specs.Keys.{key_moves, key_rules}
 use Rattle.kx_symbols.specs.declared.cells.Cell.{Cell}
 use Rattle.kx_symbols.specs.declared.cells.CellValue.{CellValue}
-use Rattle.kx_tables.specs.Keymap.{Keymap, Lamp as LitLamp, nothing_shown}
+use Rattle.kx_tables.specs.Keymap.{Keymap, IndicatorMap as LitIndicatorMap, nothing_shown}
 use Rattle.kx_types.specs.KeyTypes.{Definition}
 use Rattle.kx_types.specs.Types.{declared_type}
 use Rattle.kx_resolve.specs.Given.{KeyGiven, given_by}
@@ -107,25 +107,25 @@ module _ (names : List Entry) (library : Library) where
 -- ---- Indicators, and the keymap
 
 -- what each of some indicators has, of which the first has this number
-abbrev pub lamps_from : {X : Type 0} → (ℕ → X) → ℕ → List (List ℕ) → List X
-lamps_from lamp number [] = []
-lamps_from lamp number (name ∷ names) = lamp number ∷ lamps_from lamp (suc number) names
+abbrev pub indicator_maps_from : {X : Type 0} → (ℕ → X) → ℕ → List (List ℕ) → List X
+indicator_maps_from indicator_map number [] = []
+indicator_maps_from indicator_map number (name ∷ names) = indicator_map number ∷ indicator_maps_from indicator_map (suc number) names
 
 -- what lights an indicator, where each modifier stands for real ones
-abbrev pub lit_by : (ℕ → RealSet) → Lamp → LitLamp
-lit_by real lamp = record { mods = set_mask (real lamp.modifiers); mod_states = lamp.mod_states; group_states = lamp.group_states; groups = lamp.groups }
+abbrev pub lit_by : (ℕ → RealSet) → IndicatorMap → LitIndicatorMap
+lit_by real indicator_map = record { mods = set_mask (real indicator_map.modifiers); mod_states = indicator_map.mod_states; group_states = indicator_map.group_states; groups = indicator_map.groups }
 
 -- the keymap of what is read
-abbrev pub keymap_by : (ℕ → RealSet) → ReadKeymap → List LitLamp → Keymap
-keymap_by real r lamps = record {
+abbrev pub keymap_by : (ℕ → RealSet) → ReadKeymap → List LitIndicatorMap → Keymap
+keymap_by real r indicator_maps = record {
   groups = max 1 (most_groups_below r.name r.key CODES);
   known = λ code. is_some (name_within r.name code);
-  shown = λ code group mods. option_map_or (λ _. shown_for real r.declared (deeds_of real r.interpretations (r.modmap code) (r.key code)) (r.key code) group mods) (name_within r.name code) nothing_shown;
-  lamps = lamps;
+  shown = λ code group mods. option_map_or (λ _. shown_for real r.declared (level_actions_of real r.interpretations (r.modmap code) (r.key code)) (r.key code) group mods) (name_within r.name code) nothing_shown;
+  indicator_maps = indicator_maps;
 }
 
 abbrev pub keymap_in : List Entry → Library → Keymap
-keymap_in names library = keymap_by (real_in names library) (read_keymap_in names library) (lamps_from (λ number. lit_by (real_in names library) (lamp_of (modifiers_of library) (body_of library Compat) number)) 0 (indicator_names (body_of library Compat)))
+keymap_in names library = keymap_by (real_in names library) (read_keymap_in names library) (indicator_maps_from (λ number. lit_by (real_in names library) (indicator_map_of (modifiers_of library) (body_of library Compat) number)) 0 (indicator_names (body_of library Compat)))
 
 -- ---- What tables hold
 
@@ -134,11 +134,11 @@ keyed_in names library = record {
   name = name_of (codes_in library);
   key = key_in names library;
   modmap = modmap_in names library;
-  deeds = λ code. deeds_of (real_in names library) (interpretations_in names library) (modmap_in names library code) (key_in names library code);
+  level_actions = λ code. level_actions_of (real_in names library) (interpretations_in names library) (modmap_in names library code) (key_in names library code);
 }
 
 abbrev pub indicators_by : List (List ℕ) → Body → Indicators
-indicators_by modifiers body = record { names = indicator_names body; lamps = lamps_from (lamp_of modifiers body) 0 (indicator_names body) }
+indicators_by modifiers body = record { names = indicator_names body; indicator_maps = indicator_maps_from (indicator_map_of modifiers body) 0 (indicator_names body) }
 
 abbrev pub indicators_in : List Entry → Library → List ResolvedIndicator
 indicators_in names library = indicators_of (real_in names library) (indicators_by (modifiers_of library) (body_of library Compat))

@@ -1,7 +1,7 @@
 -- What a source means, and its faults.
 use Rattle.std.specs.Prelude.{ℕ, ◌≡◌, ◌⊎◌, List, [], ◌++◌, Contains, nat_eq}
 use Rattle.ks_core.specs.Entry.{Entry}
-use Rattle.kx_builder.specs.Lamps.{with_lamps}
+use Rattle.kx_builder.specs.IndicatorMaps.{with_indicator_maps}
 use Rattle.kx_builder.specs.Placed.{content_of_resolved}
 use Rattle.kx_codes.specs.CodeFaults.{faults_of as keycodes_faults}
 use Rattle.kx_codes.specs.Codes.{Codes}
@@ -11,7 +11,7 @@ use Rattle.kx_include.specs.Expansion.{Body, body_of}
 use Rattle.kx_include.specs.IncludeFaults.{IsWhole, HasIncludeFault}
 use Rattle.kx_include.specs.Library.{Library}
 use Rattle.kx_include.specs.Source.{Handed, HasNoTree, HasTooManyFiles, IsRead}
-use Rattle.kx_indicators.specs.Meaning.{lamps_faults}
+use Rattle.kx_indicators.specs.Meaning.{indicator_maps_faults}
 use Rattle.kx_lex.specs.declared.fault.Fault.{Fault}
 use Rattle.kx_virtual_mods.specs.Declarations.{modifier_faults}
 use Rattle.kx_merge.specs.Bodies.{faults_of, no_moves}
@@ -36,7 +36,7 @@ statement_faults names library =
     ++ faults_of same_target (map_rules (codes_in library) names (modifiers_of library)) no_moves (body_of library Symbols))
     ++ (compat_faults names (modifiers_of library) (body_of library Compat)
     ++ (faults_of nat_eq name_rules name_moves (body_of library Symbols)
-    ++ lamps_faults (modifiers_of library) (body_of library Compat))))))
+    ++ indicator_maps_faults (modifiers_of library) (body_of library Compat))))))
 
 -- of an include; or of a statement, where each include names a map, since only then the bodies have all that is included
 abbrev pub HasFaultIn : List Entry → Library → Fault → Type 0
@@ -57,7 +57,7 @@ HasFault source files names e = HasNoTree source e ⊎ (HasTooManyFiles source f
 pub record HoldsAll (names : List Entry) (library : Library) (content : Content) : Type 0 where
   pub groups : List (List ℕ)
   pub groups_are : AreGroupNames groups (body_of library Symbols)
-  pub content_is : content ≡ with_lamps (content_of_resolved (resolved_in names library)) (indicators_in names library) groups
+  pub content_is : content ≡ with_indicator_maps (content_of_resolved (resolved_in names library)) (indicators_in names library) groups
 
 -- a source without a fault means tables and their keymap
 pub record Means (source : List ℕ) (files : Handed) (names : List Entry) (content : Content) : Type 0 where

@@ -17,7 +17,7 @@ use kx_codes::Codes;
 use kx_include::Expansion;
 use kx_lex::Fault;
 use kx_modmaps::modifier_maps;
-use kx_resolve::KeyMods;
+use kx_resolve::KeyModmaps;
 use kx_symbols::{Keys, symbols};
 use kx_types::Types;
 use kx_virtual_mods::ModNames;
@@ -27,7 +27,7 @@ use std::alloc::Global;
 #[derive(Drop)]
 pub(crate) struct MappedKeys {
     pub keys: Keys,
-    pub modmaps: KeyMods,
+    pub modmaps: KeyModmaps,
     pub notes: Notes,
 }
 
@@ -48,7 +48,7 @@ pub(crate) fn read_keys(
 {
     let (keys, unknown) = symbols(alloc, expansion, codes, names, modifiers)?;
     let (maps, unmapped) = modifier_maps(alloc, expansion, codes, names, modifiers)?;
-    let modmaps = KeyMods::of(alloc, codes, types, &keys, maps)?;
+    let modmaps = KeyModmaps::of(alloc, codes, types, &keys, maps)?;
     Ok(MappedKeys {
         keys,
         modmaps,

@@ -4,7 +4,7 @@ ghost use Rattle.ks_core.specs.Entry.{Entry};
 ghost use Rattle.kx_codes.specs.Codes.{name_of};
 ghost use Rattle.kx_compat.specs.Meaning.{compat_faults, interpretations_of};
 ghost use Rattle.kx_include.specs.Shared.{expanded_body};
-ghost use Rattle.kx_indicators.specs.Meaning.{lamps_faults};
+ghost use Rattle.kx_indicators.specs.Meaning.{indicator_maps_faults};
 ghost use Rattle.kx_lex.specs.declared.fault.Fault.TheVariants.{Memory};
 ghost use Rattle.kx_resolve.specs.Modmaps.{modmap_at};
 ghost use Rattle.kx_virtual_mods.specs.Sets.{real_of};
@@ -25,7 +25,7 @@ use kx_include::Bodies;
 use kx_indicators::indicators;
 use kx_lex::Fault;
 use kx_mods::Mods;
-use kx_resolve::{Read, resolve, standings};
+use kx_resolve::{Read, resolve, virtual_modifier_masks};
 use kx_tables::RawTables;
 use kx_types::Types;
 use kx_virtual_mods::ModNames;
@@ -46,8 +46,8 @@ fn lit_parts(
     ensures lit { IfOk result (λ made. IsLit modifiers.now.names (expanded_body bodies.now.compat) (expanded_body bodies.now.symbols) (real_of (stands_for stands.now)) types.now (keyed_of (real_of (stands_for stands.now)) codes.now mapped.now.keys (modmap_at mapped.now.modmaps) interpretations.now) (content_of made.0)) }
     ensures sound { OneCode (name_of codes.now) → IfOk result (λ made. Sound (content_of made.0)) }
     ensures faultless_names { OnOk result (names_faults (expanded_body bodies.now.symbols) ≡ []) }
-    ensures faultless_lamps { OnOk result (lamps_faults modifiers.now.names (expanded_body bodies.now.compat) ≡ []) }
-    ensures fault { IfErr result (λ e. Contains (Memory ∷ (names_faults (expanded_body bodies.now.symbols) ++ lamps_faults modifiers.now.names (expanded_body bodies.now.compat))) e) }
+    ensures faultless_indicator_maps { OnOk result (indicator_maps_faults modifiers.now.names (expanded_body bodies.now.compat) ≡ []) }
+    ensures fault { IfErr result (λ e. Contains (Memory ∷ (names_faults (expanded_body bodies.now.symbols) ++ indicator_maps_faults modifiers.now.names (expanded_body bodies.now.compat))) e) }
 {
     let groups = group_names(alloc, &bodies.symbols)?;
     let indicators = indicators(alloc, &bodies.compat, modifiers)?;
@@ -80,12 +80,12 @@ fn standing_parts(
     ensures interpreted { (names : List Entry) → interpretations.now ≡ interpretations_of names modifiers.now.names (expanded_body bodies.now.compat) → IfOk result (λ made. IsInterpreted names modifiers.now (expanded_body bodies.now.compat) (expanded_body bodies.now.symbols) codes.now types.now mapped.now.keys (modmap_at mapped.now.modmaps) (content_of made.0)) }
     ensures sound { OneCode (name_of codes.now) → IfOk result (λ made. Sound (content_of made.0)) }
     ensures faultless_names { OnOk result (names_faults (expanded_body bodies.now.symbols) ≡ []) }
-    ensures faultless_lamps { OnOk result (lamps_faults modifiers.now.names (expanded_body bodies.now.compat) ≡ []) }
-    ensures fault { IfErr result (λ e. Contains (Memory ∷ (names_faults (expanded_body bodies.now.symbols) ++ lamps_faults modifiers.now.names (expanded_body bodies.now.compat))) e) }
+    ensures faultless_indicator_maps { OnOk result (indicator_maps_faults modifiers.now.names (expanded_body bodies.now.compat) ≡ []) }
+    ensures fault { IfErr result (λ e. Contains (Memory ∷ (names_faults (expanded_body bodies.now.symbols) ++ indicator_maps_faults modifiers.now.names (expanded_body bodies.now.compat))) e) }
 {
     let declared = modifiers.declared_masks();
     let (keys, modmaps) = (&mapped.keys, &mapped.modmaps);
-    let stands = standings(
+    let stands = virtual_modifier_masks(
         alloc,
         codes,
         types,
@@ -121,8 +121,8 @@ fn interpreted_parts(
     ensures sound { OneCode (name_of codes.now) → IfOk result (λ made. Sound (content_of made.0)) }
     ensures faultless_compat { OnOk result (compat_faults names.now modifiers.now.names (expanded_body bodies.now.compat) ≡ []) }
     ensures faultless_names { OnOk result (names_faults (expanded_body bodies.now.symbols) ≡ []) }
-    ensures faultless_lamps { OnOk result (lamps_faults modifiers.now.names (expanded_body bodies.now.compat) ≡ []) }
-    ensures fault { IfErr result (λ e. Contains (Memory ∷ (compat_faults names.now modifiers.now.names (expanded_body bodies.now.compat) ++ (names_faults (expanded_body bodies.now.symbols) ++ lamps_faults modifiers.now.names (expanded_body bodies.now.compat)))) e) }
+    ensures faultless_indicator_maps { OnOk result (indicator_maps_faults modifiers.now.names (expanded_body bodies.now.compat) ≡ []) }
+    ensures fault { IfErr result (λ e. Contains (Memory ∷ (compat_faults names.now modifiers.now.names (expanded_body bodies.now.compat) ++ (names_faults (expanded_body bodies.now.symbols) ++ indicator_maps_faults modifiers.now.names (expanded_body bodies.now.compat)))) e) }
 {
     let (interpretations, passed) = interpretations(alloc, &bodies.compat, modifiers, names)?;
     standing_parts(
@@ -152,8 +152,8 @@ pub(crate) fn parts_of(
     ensures faultless_maps { OnOk result (maps_faults codes.now names.now modifiers.now.names (expanded_body bodies.now.symbols) ≡ []) }
     ensures faultless_compat { OnOk result (compat_faults names.now modifiers.now.names (expanded_body bodies.now.compat) ≡ []) }
     ensures faultless_names { OnOk result (names_faults (expanded_body bodies.now.symbols) ≡ []) }
-    ensures faultless_lamps { OnOk result (lamps_faults modifiers.now.names (expanded_body bodies.now.compat) ≡ []) }
-    ensures fault { IfErr result (λ e. Contains (Memory ∷ ((keys_faults codes.now names.now modifiers.now.names (expanded_body bodies.now.symbols) ++ maps_faults codes.now names.now modifiers.now.names (expanded_body bodies.now.symbols)) ++ (compat_faults names.now modifiers.now.names (expanded_body bodies.now.compat) ++ (names_faults (expanded_body bodies.now.symbols) ++ lamps_faults modifiers.now.names (expanded_body bodies.now.compat))))) e) }
+    ensures faultless_indicator_maps { OnOk result (indicator_maps_faults modifiers.now.names (expanded_body bodies.now.compat) ≡ []) }
+    ensures fault { IfErr result (λ e. Contains (Memory ∷ ((keys_faults codes.now names.now modifiers.now.names (expanded_body bodies.now.symbols) ++ maps_faults codes.now names.now modifiers.now.names (expanded_body bodies.now.symbols)) ++ (compat_faults names.now modifiers.now.names (expanded_body bodies.now.compat) ++ (names_faults (expanded_body bodies.now.symbols) ++ indicator_maps_faults modifiers.now.names (expanded_body bodies.now.compat))))) e) }
 {
     let mapped = read_keys(alloc, &bodies.symbols, codes, names, modifiers, types)?;
     let (parts, lost) = interpreted_parts(alloc, bodies, names, modifiers, codes, types, &mapped)?;

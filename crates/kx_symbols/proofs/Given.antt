@@ -6,8 +6,8 @@ use Rattle.kx_key_fields.specs.Lists.{Lists, level_in, width_in}
 use Rattle.kx_key_fields.specs.Records.{value_in, width_in_key as list_width}
 use Rattle.kx_merge.specs.Offers.{Offer}
 use Rattle.kx_key_fields.specs.KeyFields.{effective}
-use Rattle.kx_key_fields.specs.Settings.{Settings, setting_in}
-use Rattle.kx_key_fields.specs.declared.cells.SettingCell.{SettingCell}
+use Rattle.kx_key_fields.specs.Attributes.{Settings, attribute_in}
+use Rattle.kx_key_fields.specs.declared.cells.AttributeCell.{AttributeCell}
 use Rattle.kx_parse.specs.declared.tree.KeyField.{KeyField}
 use Rattle.kx_symbols.specs.Known.{Known}
 use Rattle.kx_symbols.specs.Lists.{StatementLists, lists_of}
@@ -39,7 +39,7 @@ module _ {X : Type 0} (lists : Lists X) where
       let same : g - 0 ≡ g = omega arith in
       sym (ap (λ b. cond b 0 (width_in lists (g - 0))) low ∙ ap (width_in lists) same)
 
-module _ (known : Known) (fs : List KeyField) (s : StatementLists) (settings : Settings) (is : s ≡ lists_of known fs) (said : (cell : SettingCell) → setting_in settings cell ≡ effective known.modifiers known.defaults.keys fs cell) where
+module _ (known : Known) (fs : List KeyField) (s : StatementLists) (settings : Settings) (is : s ≡ lists_of known fs) (said : (cell : AttributeCell) → attribute_in settings cell ≡ effective known.modifiers known.defaults.keys fs cell) where
   cells_given : (c : Cell) → given_cell known fs c ≡ cell_in (content_of s settings) c
   cells_given (cells.Keysyms g l) = ap (λ (lists : StatementLists). option_map values.Keysyms (level_in (lists.symbols) g l)) (sym is) ∙ ap (option_map values.Keysyms) (value_first s.symbols g l)
   cells_given (cells.Action g l) = ap (λ (lists : StatementLists). option_map values.Action (level_in (lists.actions) g l)) (sym is) ∙ ap (option_map values.Action) (value_first s.actions g l)

@@ -7,24 +7,24 @@ use Rattle.kx_parse.specs.declared.tree.KeyField.{KeyField}
 use Rattle.kx_parse.specs.declared.tree.KeyField.TheVariants as fields
 use Rattle.kx_key_fields.specs.KeyFields.{cell_given, effective, setting_faults}
 use Rattle.kx_merge.specs.Last.{last_given}
-use Rattle.kx_key_fields.specs.Settings.{no_settings, setting_in}
-use Rattle.kx_key_fields.specs.declared.cells.SettingCell.{SettingCell}
-use Rattle.kx_key_fields.specs.declared.cells.SettingCell.TheVariants as cells
+use Rattle.kx_key_fields.specs.Attributes.{no_settings, attribute_in}
+use Rattle.kx_key_fields.specs.declared.cells.AttributeCell.{AttributeCell}
+use Rattle.kx_key_fields.specs.declared.cells.AttributeCell.TheVariants as cells
 use Rattle.kx_symbols.specs.Lists.{is_field}
 
-nothing_given : (names : List (List ℕ)) (cell : SettingCell) (fs : List KeyField) → list_any is_field fs ≡ false → last_given (cell_given names cell) fs ≡ None
+nothing_given : (names : List (List ℕ)) (cell : AttributeCell) (fs : List KeyField) → list_any is_field fs ≡ false → last_given (cell_given names cell) fs ≡ None
 nothing_given names cell [] h = refl
 nothing_given names cell (fields.List list ∷ fs) h = ap (λ o. option_or o None) (nothing_given names cell fs h)
 nothing_given names cell (fields.Field field ∷ fs) h = absurd (false≢true (sym h))
 
-unset : (cell : SettingCell) → setting_in no_settings cell ≡ None
+unset : (cell : AttributeCell) → attribute_in no_settings cell ≡ None
 unset (cells.GroupType group) = refl
 unset cells.KeyType = refl
 unset cells.VirtualMods = refl
 unset cells.Range = refl
 
-pub unsaid : (names : List (List ℕ)) (fs : List KeyField) → list_any is_field fs ≡ false → (cell : SettingCell) → effective names no_settings fs cell ≡ None
-unsaid names fs h cell = ap (λ o. option_or o (setting_in no_settings cell)) (nothing_given names cell fs h) ∙ unset cell
+pub unsaid : (names : List (List ℕ)) (fs : List KeyField) → list_any is_field fs ≡ false → (cell : AttributeCell) → effective names no_settings fs cell ≡ None
+unsaid names fs h cell = ap (λ o. option_or o (attribute_in no_settings cell)) (nothing_given names cell fs h) ∙ unset cell
 
 pub unblamed : (file : ℕ) (names : List (List ℕ)) (fs : List KeyField) → list_any is_field fs ≡ false → setting_faults file names fs ≡ []
 unblamed file names [] h = refl

@@ -21,7 +21,7 @@ use Rattle.kx_parse.specs.declared.tree.Mode.{Mode}
 use Rattle.kx_parse.specs.declared.tree.Statement.{Statement as Said}
 use Rattle.kx_parse.specs.declared.tree.Statement.TheVariants as said
 use Rattle.kx_key_fields.specs.KeyFields.{effective, next_defaults as next_key_defaults}
-use Rattle.kx_key_fields.specs.Settings.{Settings, setting_before, setting_in}
+use Rattle.kx_key_fields.specs.Attributes.{Settings, attribute_before, attribute_in}
 use Rattle.kx_symbols.specs.declared.cells.Cell.{Cell}
 use Rattle.kx_symbols.specs.declared.cells.Cell.TheVariants as cells
 use Rattle.kx_symbols.specs.declared.cells.CellValue.{CellValue}
@@ -39,7 +39,7 @@ pub record KeyContent : Type 0 where
 abbrev pub cell_in : KeyContent → Cell → Option CellValue
 cell_in key (cells.Keysyms group level) = option_map values.Keysyms (value_in key.symbols group level)
 cell_in key (cells.Action group level) = option_map values.Action (value_in key.actions group level)
-cell_in key (cells.Setting cell) = option_map values.Setting (setting_in key.settings cell)
+cell_in key (cells.Setting cell) = option_map values.Setting (attribute_in key.settings cell)
 
 -- a group is as wide as the longer of its lists
 abbrev pub width_in_key : KeyContent → ℕ → ℕ
@@ -109,7 +109,7 @@ key_at keys code = lookup (nat_eq code) keys
 abbrev pub cell_before : ℕ → Cell → Option Cell
 cell_before n (cells.Keysyms group level) = option_map (λ g. cells.Keysyms g level) (group_before n group)
 cell_before n (cells.Action group level) = option_map (λ g. cells.Action g level) (group_before n group)
-cell_before n (cells.Setting cell) = option_map cells.Setting (setting_before n cell)
+cell_before n (cells.Setting cell) = option_map cells.Setting (attribute_before n cell)
 
 abbrev pub key_moves : Moves ℕ Cell
 key_moves = record { key = λ n k. Some k; cell = cell_before; group = group_before }

@@ -3,7 +3,7 @@ use Rattle.std.specs.Prelude.{ℕ, List}
 use Rattle.ks_core.specs.Entry.{Entry}
 use Rattle.kx_actions.specs.Defaults.{no_defaults as no_action_defaults}
 use Rattle.kx_actions.specs.declared.defaults.ActionDefaults.{ActionDefaults}
-use Rattle.kx_key_fields.specs.Settings.{Settings, no_settings}
+use Rattle.kx_key_fields.specs.Attributes.{Settings, no_settings}
 
 -- what the default statements of a section give actions and keys
 pub record Defaults : Type 0 where

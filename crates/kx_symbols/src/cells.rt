@@ -1,7 +1,7 @@
 //! What can have a value in a key.
 use crate::keysyms::Keysyms;
 use kx_actions::KeyAction;
-use kx_key_fields::{SettingCell, SettingValue};
+use kx_key_fields::{AttributeCell, AttributeValue};
 
 /// What can have a value in a key; groups and levels are counted from 0.
 #[derive(Clone, Copy, Debug, PartialEq, Eq)]
@@ -11,7 +11,7 @@ pub enum Cell {
     /// The action of a group and a level.
     Action(usize, usize),
     /// What is said of the key besides.
-    Setting(SettingCell),
+    Setting(AttributeCell),
 }
 
 /// The value of a cell.
@@ -19,5 +19,5 @@ pub enum Cell {
 pub enum CellValue {
     Keysyms(Keysyms),
     Action(KeyAction),
-    Setting(SettingValue),
+    Setting(AttributeValue),
 }

@@ -2,7 +2,7 @@
 ghost use Rattle.std.specs.Prelude.{◌≡◌, IfErr, IfOk};
 ghost use Rattle.std.specs.Option.{option_map, option_map_or};
 ghost use Rattle.kx_lex.specs.declared.fault.Fault.TheVariants.{Memory};
-ghost use Rattle.kx_key_fields.specs.Settings.{no_settings};
+ghost use Rattle.kx_key_fields.specs.Attributes.{no_settings};
 ghost use Rattle.kx_symbols.specs.Known.{no_defaults};
 ghost use Rattle.kx_symbols.specs.Keys.{behind_field, field_in, item_next};
 

@@ -3,17 +3,17 @@ ghost use Rattle.std.specs.Prelude.{◌≡◌, ◌≤◌, ℕ, None, IsTrue, OnO
 ghost use Rattle.std.specs.Option.{option_map};
 ghost use Rattle.kx_merge.specs.Moved.{moved_value, moved_width};
 ghost use Rattle.kx_merge.specs.Offers.{taken, widened};
-ghost use Rattle.kx_key_fields.specs.Settings.{setting_in};
+ghost use Rattle.kx_key_fields.specs.Attributes.{attribute_in};
 ghost use Rattle.kx_symbols.specs.Keys.{HasAction, cell_in, content_of, key_moves, width_in_key};
-ghost use Rattle.kx_symbols.specs.declared.cells.Cell.TheVariants.{Keysyms as KeysymsOf, Action as ActionOf, Setting as SettingOf};
-ghost use Rattle.kx_symbols.specs.declared.cells.CellValue.TheVariants.{Keysyms as KeysymsValue, Action as ActionValue, Setting as SettingOfKey};
+ghost use Rattle.kx_symbols.specs.declared.cells.Cell.TheVariants.{Keysyms as KeysymsOf, Action as ActionOf, Setting as AttributeOf};
+ghost use Rattle.kx_symbols.specs.declared.cells.CellValue.TheVariants.{Keysyms as KeysymsValue, Action as ActionValue, Setting as AttributeOfKey};
 
 use crate::actions::LevelAction;
 use crate::cells::Cell;
 use crate::fields::StatementLists;
 use crate::keysyms::Keysyms;
 use kx_actions::KeyAction;
-use kx_key_fields::{GroupLists, KeySettings, SettingCell};
+use kx_key_fields::{GroupLists, KeyAttributes, AttributeCell};
 use kx_parse::Mode;
 use std::alloc::{AllocError, Global};
 use std::marker::Model;
@@ -24,7 +24,7 @@ use std::marker::Model;
 pub struct KeyRecord {
     symbols: GroupLists<Keysyms>,
     actions: GroupLists<LevelAction>,
-    settings: KeySettings,
+    settings: KeyAttributes,
 }
 
 impl Model for KeyRecord {
@@ -37,7 +37,7 @@ impl Model for KeyRecord {
 
 impl KeyRecord {
     /// The record of what one statement gives.
-    pub(crate) fn of(lists: StatementLists, settings: KeySettings) -> KeyRecord
+    pub(crate) fn of(lists: StatementLists, settings: KeyAttributes) -> KeyRecord
         ensures { result ≡ content_of lists settings }
     {
         KeyRecord {
@@ -87,9 +87,9 @@ impl KeyRecord {
     }
 
     /// What is said of the key besides its lists: the types of its groups, its own type, its virtual modifiers and its range.
-    pub fn settings(&self) -> &KeySettings
+    pub fn settings(&self) -> &KeyAttributes
         ensures value { result.now ≡ self.now.settings }
-        ensures cells { (cell : SettingCell) → option_map (λ value. SettingOfKey value) (setting_in result.now cell) ≡ cell_in self.now (SettingOf cell) }
+        ensures cells { (cell : AttributeCell) → option_map (λ value. AttributeOfKey value) (attribute_in result.now cell) ≡ cell_in self.now (AttributeOf cell) }
     {
         &self.settings
     }
@@ -102,7 +102,7 @@ impl KeyRecord {
         KeyRecord {
             symbols: GroupLists::none(alloc),
             actions: GroupLists::none(alloc),
-            settings: KeySettings::none(alloc),
+            settings: KeyAttributes::none(alloc),
         }
     }
 

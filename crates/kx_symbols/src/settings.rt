@@ -3,11 +3,11 @@ ghost use Rattle.std.specs.Prelude.{◌≡◌, ◌∷◌, [], Contains, IfErr, I
 ghost use Rattle.std.specs.List.{list_any};
 ghost use Rattle.kx_lex.specs.declared.fault.Fault.TheVariants.{Memory};
 ghost use Rattle.kx_key_fields.specs.KeyFields.{effective, setting_faults};
-ghost use Rattle.kx_key_fields.specs.Settings.{no_settings, setting_in};
+ghost use Rattle.kx_key_fields.specs.Attributes.{no_settings, attribute_in};
 ghost use Rattle.kx_symbols.specs.Lists.{is_field};
 
 use crate::known::Known;
-use kx_key_fields::{KeyDefaults, KeySettings, SettingCell, read_settings};
+use kx_key_fields::{KeyDefaults, KeyAttributes, AttributeCell, read_settings};
 use kx_lex::Fault;
 use kx_parse::KeyField;
 use kx_virtual_mods::ModNames;
@@ -30,8 +30,8 @@ fn read_alone(
     modifiers: &ModNames,
     file: u32,
     fields: &[KeyField],
-) -> Result<KeySettings, Fault>
-    ensures cells { IfOk result (λ settings. (cell : SettingCell) → setting_in settings cell ≡ effective modifiers.now.names no_settings fields.now cell) }
+) -> Result<KeyAttributes, Fault>
+    ensures cells { IfOk result (λ settings. (cell : AttributeCell) → attribute_in settings cell ≡ effective modifiers.now.names no_settings fields.now cell) }
     ensures faultless { OnOk result (setting_faults file modifiers.now.names fields.now ≡ []) }
     ensures fault { IfErr result (λ e. Contains (Memory ∷ setting_faults file modifiers.now.names fields.now) e) }
 {
@@ -39,7 +39,7 @@ fn read_alone(
         let none = KeyDefaults::none(alloc);
         read_settings(alloc, modifiers, file, fields, &none)
     } else {
-        Ok(KeySettings::none(alloc))
+        Ok(KeyAttributes::none(alloc))
     }
 }
 
@@ -49,8 +49,8 @@ pub(crate) fn read_besides(
     known: &Known,
     file: u32,
     fields: &[KeyField],
-) -> Result<KeySettings, Fault>
-    ensures cells { IfOk result (λ settings. (cell : SettingCell) → setting_in settings cell ≡ effective known.now.modifiers known.now.defaults.keys fields.now cell) }
+) -> Result<KeyAttributes, Fault>
+    ensures cells { IfOk result (λ settings. (cell : AttributeCell) → attribute_in settings cell ≡ effective known.now.modifiers known.now.defaults.keys fields.now cell) }
     ensures faultless { OnOk result (setting_faults file known.now.modifiers fields.now ≡ []) }
     ensures fault { IfErr result (λ e. Contains (Memory ∷ setting_faults file known.now.modifiers fields.now) e) }
 {

@@ -21,7 +21,7 @@ pub record Shown : Type 0 where
   pub action : Action
 
 -- what lights an indicator: modifiers of the states named, or groups of the states named
-pub record Lamp : Type 0 where
+pub record IndicatorMap : Type 0 where
   pub mods : ℕ
   pub mod_states : ℕ
   pub group_states : ℕ
@@ -34,7 +34,7 @@ pub record Keymap : Type 0 where
   pub known : ℕ → Bool
   -- by code, effective group (from 0) and effective modifiers
   pub shown : ℕ → ℕ → ℕ → Shown
-  pub lamps : List Lamp
+  pub indicator_maps : List IndicatorMap
 
 abbrev pub nothing_shown : Shown
 nothing_shown = record { syms = []; consumed = 0; action = actions.None }
@@ -77,13 +77,13 @@ key_shows c group mods (Some k) =
 abbrev pub key_with : Content → ℕ → Option KeyRow
 key_with c code = find (λ k. k.code == code) c.keys
 
-abbrev pub lamp_of : IndicatorRow → Lamp
-lamp_of d = record { mods = mask d.mods; mod_states = state_bits d.mod_states; group_states = state_bits d.group_states; groups = d.groups }
+abbrev pub indicator_map_of : IndicatorRow → IndicatorMap
+indicator_map_of d = record { mods = mask d.mods; mod_states = state_bits d.mod_states; group_states = state_bits d.group_states; groups = d.groups }
 
 abbrev pub keymap_of : Content → Keymap
 keymap_of c = record {
   groups = max 1 (greatest_groups c.keys);
   known = λ code. is_some (key_with c code);
   shown = λ code group mods. key_shows c group mods (key_with c code);
-  lamps = map lamp_of c.indicators;
+  indicator_maps = map indicator_map_of c.indicators;
 }

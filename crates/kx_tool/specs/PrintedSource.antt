@@ -2,7 +2,7 @@
 use Rattle.std.specs.Prelude.{◌≡◌, ℕ, List, []}
 use Rattle.ks_core.specs.Entry.{Entry}
 use Rattle.kx_image.specs.Image.{image}
-use Rattle.kx_image.specs.declared.header.Edition.TheVariants.{Two}
+use Rattle.kx_image.specs.declared.header.ImageVersion.TheVariants.{Two}
 use Rattle.kx_include.specs.Source.{Handed}
 use Rattle.kx_lex.specs.declared.fault.Fault.{Fault}
 use Rattle.kx_lex.specs.declared.fault.Fault.TheVariants.{Memory}

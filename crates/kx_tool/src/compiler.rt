@@ -1,6 +1,6 @@
 ghost use Rattle.std.specs.Prelude.{◌≡◌, ◌⊎◌, IfErr, IfOk};
 ghost use Rattle.kx_image.specs.Image.{IsImage, image};
-ghost use Rattle.kx_image.specs.declared.header.Edition.TheVariants.{Two};
+ghost use Rattle.kx_image.specs.declared.header.ImageVersion.TheVariants.{Two};
 ghost use Rattle.kx_source.specs.Source.{HasFault};
 ghost use Rattle.kx_lex.specs.declared.fault.Fault.TheVariants.{Memory};
 ghost use Rattle.kx_tables.specs.Content.{Content};

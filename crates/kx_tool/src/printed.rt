@@ -1,7 +1,7 @@
 //! Tables through their printed text.
 ghost use Rattle.std.specs.Prelude.{◌≡◌, ◌≤◌, length, IfErr, IfOk};
 ghost use Rattle.kx_image.specs.Image.{image};
-ghost use Rattle.kx_image.specs.declared.header.Edition.TheVariants.{Two};
+ghost use Rattle.kx_image.specs.declared.header.ImageVersion.TheVariants.{Two};
 ghost use Rattle.kx_lex.specs.declared.fault.Fault.TheVariants.{Memory};
 ghost use Rattle.kx_lex.specs.declared.scan.TheConstants.{MOST_TEXT_BYTES};
 ghost use Rattle.kx_print.specs.Printed.{printed};

@@ -160,7 +160,7 @@ fn refuses_what_does_not_fit(rt: HostRuntime) -> Result<(), Fail> {
 }
 
 /// The same with an indicator and two groups' names.
-fn with_lamps(alloc: Global) -> Result<Box<RawTables>, Fail> {
+fn with_indicator_maps(alloc: Global) -> Result<Box<RawTables>, Fail> {
     let caps = Indicator {
         name: b"Caps",
         mods: Mods::LOCK,
@@ -169,13 +169,13 @@ fn with_lamps(alloc: Global) -> Result<Box<RawTables>, Fail> {
         groups: 2,
     };
     let names: [&[u8]; 2] = [b"", b"ru"];
-    let parts = built(alloc)?.with_lamps([caps].as_slice(), names.as_slice());
+    let parts = built(alloc)?.with_indicator_maps([caps].as_slice(), names.as_slice());
     Ok(Box::new(alloc, parts.ok().ok_or("refused")?)?)
 }
 
 #[test]
 fn builds_indicators_and_group_names(rt: HostRuntime) -> Result<(), Fail> {
-    let parts = with_lamps(rt.alloc())?;
+    let parts = with_indicator_maps(rt.alloc())?;
     let lit = IndicatorRow {
         mods: Mods::LOCK,
         mod_states: States::from_mask(4),

@@ -1,7 +1,7 @@
 //! Single calls.
 use kx_actions::is_action_word;
 use kx_basics::{digits_value, is_key_byte, is_keysym};
-use kx_key_fields::{is_key_word, is_list_word, is_setting_word};
+use kx_key_fields::{is_key_word, is_list_word, is_attribute_word};
 use kx_lex::{At, Fault, Span};
 use kx_merge::{Counted, bad_value, truth_named};
 use kx_mods::Mods;
@@ -55,9 +55,9 @@ fn sets(rt: HostRuntime) -> Result<(), Fail> {
 fn words_are_known_in_capital_letters_or_small(rt: HostRuntime) {
     assert!(rt; is_action_word(b"latchGROUP"));
     assert!(rt; !is_action_word(b"interpret"));
-    assert!(rt; is_setting_word(b"VMODS"));
-    assert!(rt; is_setting_word(b"overlay1"));
-    assert!(rt; !is_setting_word(b"symbols"));
+    assert!(rt; is_attribute_word(b"VMODS"));
+    assert!(rt; is_attribute_word(b"overlay1"));
+    assert!(rt; !is_attribute_word(b"symbols"));
     assert!(rt; is_list_word(b"Actions"));
     assert!(rt; !is_list_word(b"type"));
     assert!(rt; is_key_word(b"Key"));

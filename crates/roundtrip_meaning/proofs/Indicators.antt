@@ -8,22 +8,22 @@ use Rattle.std.specs.Option.{option_and_then, option_map_or}
 use Rattle.std.specs.Str.{bytes_eq}
 use Rattle.ks_core.specs.Entry.{Entry}
 use Rattle.kx_basics.specs.declared.limits.TheConstants.{MOST_NAME_BYTES}
-use Rattle.kx_builder.specs.Lamps.{ResolvedIndicator}
+use Rattle.kx_builder.specs.IndicatorMaps.{ResolvedIndicator}
 use Rattle.kx_compat.specs.Meaning.{compat_faults}
 use Rattle.kx_include.specs.Expansion.{Body, Begin, End}
 use Rattle.kx_include.specs.IncludeFaults.{at}
 use Rattle.kx_include.specs.declared.place.Place.{Place}
-use Rattle.kx_indicators.specs.Blocks.{indicator_in, lamp_names, written_name, item_faults, own_faults, own_value, values_of, next_default}
-use Rattle.kx_indicators.specs.Given.{LampValues}
+use Rattle.kx_indicators.specs.Blocks.{indicator_in, indicator_map_names, written_name, item_faults, own_faults, own_value, values_of, next_default}
+use Rattle.kx_indicators.specs.Given.{IndicatorMapValues}
 use Rattle.kx_indicators.specs.Giving.{no_values, values_cell, last_values, only}
-use Rattle.kx_indicators.specs.LampFields.{expression_value, expression_faults}
-use Rattle.kx_indicators.specs.Lamps.{Lamp, lamp_with}
-use Rattle.kx_indicators.specs.Meaning.{LampOffer, values_offer, item_offers, said_offers, lamp_rules, indicator_names, lamp_offers, lamp_of, lamps_faults}
+use Rattle.kx_indicators.specs.IndicatorMapFields.{expression_value, expression_faults}
+use Rattle.kx_indicators.specs.IndicatorMaps.{IndicatorMap, indicator_map_with}
+use Rattle.kx_indicators.specs.Meaning.{IndicatorMapOffer, values_offer, item_offers, said_offers, indicator_map_rules, indicator_names, indicator_map_offers, indicator_map_of, indicator_maps_faults}
 use Rattle.kx_indicators.specs.declared.limits.TheConstants.{MOST_INDICATORS}
-use Rattle.kx_indicators.specs.declared.values.LampField.{LampField}
-use Rattle.kx_indicators.specs.declared.values.LampField.TheVariants as fields
-use Rattle.kx_indicators.specs.declared.values.LampValue.{LampValue}
-use Rattle.kx_indicators.specs.declared.values.LampValue.TheVariants as values
+use Rattle.kx_indicators.specs.declared.values.IndicatorMapField.{IndicatorMapField}
+use Rattle.kx_indicators.specs.declared.values.IndicatorMapField.TheVariants as fields
+use Rattle.kx_indicators.specs.declared.values.IndicatorMapValue.{IndicatorMapValue}
+use Rattle.kx_indicators.specs.declared.values.IndicatorMapValue.TheVariants as values
 use Rattle.kx_lex.specs.declared.fault.Fault.{Fault}
 use Rattle.kx_lex.specs.declared.fault.Fault.TheVariants.{TooMany}
 use Rattle.kx_lex.specs.declared.token.Span.{Span}
@@ -47,7 +47,7 @@ use Rattle.roundtrip_meaning.specs.Bodies.{own_body}
 use Rattle.roundtrip_meaning.proofs.Offered.{shown_with, each_from, each_at, offers_shown, faults_shown, flat_map-single, value_of_one}
 use Rattle.roundtrip_text.specs.Source.{EachOf, AreApart, IndicatorFits}
 use Rattle.roundtrip_text.specs.Spelled.{set_words}
-use Rattle.roundtrip_tree.specs.Indicators.{states_written, lamp_lines, IsIndicator}
+use Rattle.roundtrip_tree.specs.Indicators.{states_written, indicator_map_lines, IsIndicator}
 use Rattle.roundtrip_tree.specs.Shows.{AreShown, IsItem, name_at, none, more}
 use Rattle.roundtrip_tree.specs.ShowsLines.{Words, Digits, IsSetting, IsWritten, IsPlusWord, IsLine}
 use Rattle.roundtrip_tree.specs.Types.{mods_written}
@@ -144,19 +144,19 @@ modifiers_value mods f small is = placed (own_value []) f is.place_is is.setting
 groups_value : (groups : ℕ) (f : Field) → IsSetting (codes "groups") (Digits (hexadecimal groups) groups) f → own_value [] f ≡ Some (values.Groups groups)
 groups_value groups f is = placed (own_value []) f is.place_is is.setting_is ∙ ap (λ e. Some (expression_value [] fields.Groups e)) is.is.2
 
-abbrev lamp_values : ResolvedIndicator → LampValues
-lamp_values d = record { modifiers = Some (mask d.mods); mod_states = Some (state_bits d.mod_states); group_states = Some (state_bits d.group_states); groups = Some d.groups }
+abbrev indicator_map_values : ResolvedIndicator → IndicatorMapValues
+indicator_map_values d = record { modifiers = Some (mask d.mods); mod_states = Some (state_bits d.mod_states); group_states = Some (state_bits d.group_states); groups = Some d.groups }
 
-values_shown : (d : ResolvedIndicator) (fs : List Field) → IndicatorFits d → AreShown IsLine (lamp_lines d) fs → values_of [] no_values fs ≡ lamp_values d
+values_shown : (d : ResolvedIndicator) (fs : List Field) → IndicatorFits d → AreShown IsLine (indicator_map_lines d) fs → values_of [] no_values fs ≡ indicator_map_values d
 values_shown d [] fits are = elim are [ ]
 values_shown d (f1 ∷ []) fits (more a are) = elim are [ ]
 values_shown d (f1 ∷ f2 ∷ []) fits (more a (more b are)) = elim are [ ]
 values_shown d (f1 ∷ f2 ∷ f3 ∷ []) fits (more a (more b (more c are))) = elim are [ ]
 values_shown d (f1 ∷ f2 ∷ f3 ∷ f4 ∷ f5 ∷ fs) fits (more a (more b (more c (more e are)))) = elim are [ ]
 values_shown d (f1 ∷ f2 ∷ f3 ∷ f4 ∷ []) fits (more a (more b (more c (more e none)))) =
-    λ i. let gives : List (Option LampValue) = mod_states_value d.mod_states f1 fits.mod_states a i ∷ modifiers_value d.mods f2 fits.mods b i ∷ group_states_value d.group_states f3 fits.group_states c i ∷ groups_value d.groups f4 e i ∷ [] in last_values (λ v. v) no_values gives
+    λ i. let gives : List (Option IndicatorMapValue) = mod_states_value d.mod_states f1 fits.mod_states a i ∷ modifiers_value d.mods f2 fits.mods b i ∷ group_states_value d.group_states f3 fits.group_states c i ∷ groups_value d.groups f4 e i ∷ [] in last_values (λ v. v) no_values gives
 
-field_faultless : (file : ℕ) (d : ResolvedIndicator) (fs : List Field) → IndicatorFits d → AreShown IsLine (lamp_lines d) fs → flat_map (own_faults file []) fs ≡ []
+field_faultless : (file : ℕ) (d : ResolvedIndicator) (fs : List Field) → IndicatorFits d → AreShown IsLine (indicator_map_lines d) fs → flat_map (own_faults file []) fs ≡ []
 field_faultless file d [] fits are = elim are [ ]
 field_faultless file d (f1 ∷ []) fits (more a are) = elim are [ ]
 field_faultless file d (f1 ∷ f2 ∷ []) fits (more a (more b are)) = elim are [ ]
@@ -202,8 +202,8 @@ numbers_apart number n (x ∷ xs) each =
 
 -- ---- The statements
 
-abbrev IsLampItem : ResolvedIndicator → Item → Type 0
-IsLampItem d i = IndicatorFits d × IsItem (IsIndicator d) i
+abbrev IsIndicatorMapItem : ResolvedIndicator → Item → Type 0
+IsIndicatorMapItem d i = IndicatorFits d × IsItem (IsIndicator d) i
 
 module _ (ds : List ResolvedIndicator) where
   abbrev number_of : ResolvedIndicator → ℕ
@@ -214,10 +214,10 @@ module _ (ds : List ResolvedIndicator) where
   IsNumbered d = position (bytes_eq d.name) (names ds) ≡ Some (number_of d)
 
   abbrev IsNumberedItem : ResolvedIndicator → Item → Type 0
-  IsNumberedItem d i = IsNumbered d × IsLampItem d i
+  IsNumberedItem d i = IsNumbered d × IsIndicatorMapItem d i
 
-  abbrev offer_of : ResolvedIndicator → LampOffer
-  offer_of d = values_offer Override (lamp_values d) (number_of d)
+  abbrev offer_of : ResolvedIndicator → IndicatorMapOffer
+  offer_of d = values_offer Override (indicator_map_values d) (number_of d)
 
   offered : (d : ResolvedIndicator) (i : Item) → IsNumberedItem d i → item_offers (names ds) [] no_values i ≡ offer_of d ∷ []
   offered d i is =
@@ -225,15 +225,15 @@ module _ (ds : List ResolvedIndicator) where
       ap (item_offers (names ds) [] no_values) s.item_is ∙ ap (λ said. said_offers (names ds) [] no_values Override (indicator_in said)) s.shows.is
       ∙ ap₂ (λ v n. option_map_or (λ n. values_offer Override v n ∷ []) n []) (values_shown d s.shows.fields is.1.0 s.shows.are) is.0
 
-item_faultless : (file : ℕ) (d : ResolvedIndicator) (i : Item) → IsLampItem d i → item_faults file [] i ≡ []
+item_faultless : (file : ℕ) (d : ResolvedIndicator) (i : Item) → IsIndicatorMapItem d i → item_faults file [] i ≡ []
 item_faultless file d i is =
     let s = is.1 in
     ap (item_faults file []) s.item_is
     ∙ ap (λ said. item_faults file [] (Statement Override said s.first s.whole)) s.shows.is
     ∙ ap₂ (λ (a : Bool) (fs : List Fault). let all : List Fault = cond a (TooMany (at file s.whole) ∷ []) [] ++ fs in all) (le-ltb MOST_NAME_BYTES (length d.name) is.0.name_fits) (field_faultless file d s.shows.fields is.0 s.shows.are)
 
-named : (d : ResolvedIndicator) (i : Item) → IsLampItem d i → lamp_names i ≡ d.name ∷ []
-named d i is = ap lamp_names is.1.item_is ∙ ap (λ s. written_name (indicator_in s)) is.1.shows.is
+named : (d : ResolvedIndicator) (i : Item) → IsIndicatorMapItem d i → indicator_map_names i ≡ d.name ∷ []
+named d i is = ap indicator_map_names is.1.item_is ∙ ap (λ s. written_name (indicator_in s)) is.1.shows.is
 
 stays : (d : ResolvedIndicator) (i : Item) → IsItem (IsIndicator d) i → next_default [] no_values i ≡ no_values
 stays d i is = ap (next_default [] no_values) is.item_is ∙ ap (λ said. next_default [] no_values (Statement Override said is.first is.whole)) is.shows.is
@@ -245,41 +245,41 @@ module _ (place : Place) (ds : List ResolvedIndicator) (is : List Item) (shown :
   abbrev pub compat : Body
   compat = Begin (own_body place is End)
 
-  all_shown : AreShown IsLampItem ds is
+  all_shown : AreShown IsIndicatorMapItem ds is
   all_shown = shown_with IndicatorFits (λ d i. IsItem (IsIndicator d) i) ds is fit shown
 
   pub indicators_named : indicator_names compat ≡ names ds
-  indicators_named = names_are lamp_names (λ (d : ResolvedIndicator). d.name) IsLampItem named place ds is all_shown apart
+  indicators_named = names_are indicator_map_names (λ (d : ResolvedIndicator). d.name) IsIndicatorMapItem named place ds is all_shown apart
 
   numbered : EachOf (IsNumbered ds) ds
   numbered = each_from (IsNumbered ds) ds (λ i d at. position_is ds i d apart at ∙ ap (λ o. Some (unwrap_or o 0)) (sym (position_is ds i d apart at)))
 
-  offers_are : lamp_offers [] compat ≡ map (offer_of ds) ds
+  offers_are : indicator_map_offers [] compat ≡ map (offer_of ds) ds
   offers_are =
-      ap (λ lamps. offers_of nat_eq (lamp_rules lamps []) no_moves compat) indicators_named
-      ∙ offers_shown nat_eq (lamp_rules (names ds) []) no_moves (IsNumberedItem ds) (λ d. offer_of ds d ∷ []) no_values place (offered ds) (λ d i one. stays d i one.1.1) ds is End (shown_with (IsNumbered ds) IsLampItem ds is numbered all_shown)
+      ap (λ indicator_maps. offers_of nat_eq (indicator_map_rules indicator_maps []) no_moves compat) indicators_named
+      ∙ offers_shown nat_eq (indicator_map_rules (names ds) []) no_moves (IsNumberedItem ds) (λ d. offer_of ds d ∷ []) no_values place (offered ds) (λ d i one. stays d i one.1.1) ds is End (shown_with (IsNumbered ds) IsIndicatorMapItem ds is numbered all_shown)
       ∙ append-nil (flat_map (λ d. offer_of ds d ∷ []) ds) ∙ flat_map-single (offer_of ds) ds
 
   number_is : (i : ℕ) (d : ResolvedIndicator) → slice_get ds i ≡ Some d → number_of ds d ≡ i
   number_is i d at = ap (λ o. unwrap_or o 0) (position_is ds i d apart at)
 
-  value_is : (i : ℕ) (d : ResolvedIndicator) → slice_get ds i ≡ Some d → (field : LampField) → value_of nat_eq (lamp_offers [] compat) i field ≡ values_cell (lamp_values d) field
+  value_is : (i : ℕ) (d : ResolvedIndicator) → slice_get ds i ≡ Some d → (field : IndicatorMapField) → value_of nat_eq (indicator_map_offers [] compat) i field ≡ values_cell (indicator_map_values d) field
   value_is i d at field =
       ap₂ (λ os n. value_of nat_eq os n field) offers_are (sym (number_is i d at))
       ∙ value_of_one nat_eq eqb-true (λ a. eq-eqb a a refl) (offer_of ds) (λ d. refl) ds i d field (numbers_apart (number_of ds) 0 ds (λ j e there. number_is j e there ∙ (omega arith))) at
 
-  pub lamps_printed : (i : ℕ) (d : ResolvedIndicator) → slice_get ds i ≡ Some d → lamp_of [] compat i ≡ (let l : Lamp = record { modifiers = mask d.mods; mod_states = state_bits d.mod_states; group_states = state_bits d.group_states; groups = d.groups } in l)
-  lamps_printed i d at = λ j. lamp_with (record {
+  pub indicator_maps_printed : (i : ℕ) (d : ResolvedIndicator) → slice_get ds i ≡ Some d → indicator_map_of [] compat i ≡ (let l : IndicatorMap = record { modifiers = mask d.mods; mod_states = state_bits d.mod_states; group_states = state_bits d.group_states; groups = d.groups } in l)
+  indicator_maps_printed i d at = λ j. indicator_map_with (record {
     modifiers = option_and_then (λ v. (only v).modifiers) (value_is i d at fields.Modifiers j);
     mod_states = option_and_then (λ v. (only v).mod_states) (value_is i d at fields.ModStates j);
     group_states = option_and_then (λ v. (only v).group_states) (value_is i d at fields.GroupStates j);
     groups = option_and_then (λ v. (only v).groups) (value_is i d at fields.Groups j);
   })
 
-  pub lamps_faultless : lamps_faults [] compat ≡ []
-  lamps_faultless = ap₂ (λ (a b : List Fault). a ++ b)
-      (few_names lamp_names (λ (d : ResolvedIndicator). d.name) IsLampItem named place MOST_INDICATORS ds is all_shown few)
-      (faults_shown nat_eq (lamp_rules (indicator_names compat) []) no_moves IsLampItem no_values place (λ d i one. item_faultless place.file d i one) (λ d i one. stays d i one.1) ds is End all_shown)
+  pub indicator_maps_faultless : indicator_maps_faults [] compat ≡ []
+  indicator_maps_faultless = ap₂ (λ (a b : List Fault). a ++ b)
+      (few_names indicator_map_names (λ (d : ResolvedIndicator). d.name) IsIndicatorMapItem named place MOST_INDICATORS ds is all_shown few)
+      (faults_shown nat_eq (indicator_map_rules (indicator_names compat) []) no_moves IsIndicatorMapItem no_values place (λ d i one. item_faultless place.file d i one) (λ d i one. stays d i one.1) ds is End all_shown)
 
   pub interpretations_faultless : (table : List Entry) → compat_faults table [] compat ≡ []
   interpretations_faultless table = no_faults table place ds is shown
@@ -289,5 +289,5 @@ module _ (place : Place) (ds : List ResolvedIndicator) (is : List Item) (shown :
 pub none_named : indicator_names End ≡ []
 none_named = refl
 
-pub no_lamps_faultless : lamps_faults [] End ≡ []
-no_lamps_faultless = refl
+pub no_indicator_maps_faultless : indicator_maps_faults [] End ≡ []
+no_indicator_maps_faultless = refl

@@ -2,8 +2,8 @@
 use Rattle.std.proofs.Common.{◌≡◌, List, [], ◌∷◌, ◌++◌, map, refl, ap, ◌∙◌}
 use Rattle.std.specs.List.{flat_map}
 use Rattle.ks_core.specs.Entry.{Entry}
-use Rattle.kx_builder.specs.Lamps.{ResolvedIndicator}
-use Rattle.kx_compat.specs.SameMatch.{same_trigger}
+use Rattle.kx_builder.specs.IndicatorMaps.{ResolvedIndicator}
+use Rattle.kx_compat.specs.SameMatch.{same_match}
 use Rattle.kx_compat.specs.Meaning.{InterpretationOffer, compat_faults, compat_rules, interpretation_by, interpretation_offers, interpretations_of, item_offers, said_offers}
 use Rattle.kx_compat.specs.Sections.{interpretation_in, item_faults, next_default, no_defaults}
 use Rattle.kx_include.specs.Expansion.{Body, Begin, End}
@@ -34,16 +34,16 @@ module _ (table : List Entry) (place : Place) (ds : List ResolvedIndicator) (is 
 
   offers_none : interpretation_offers table [] compat ≡ []
   offers_none =
-      offers_shown same_trigger (compat_rules table []) no_moves IsIndicatorItem (λ d. []) no_defaults place
+      offers_shown same_match (compat_rules table []) no_moves IsIndicatorItem (λ d. []) no_defaults place
       (λ d i is. ap (item_offers table [] no_defaults) is.item_is ∙ ap (λ said. said_offers table [] no_defaults Override (interpretation_in said)) is.shows.is) stays ds is End shown
       ∙ ap (λ os. os ++ []) (none_given ds)
 
   pub no_interpretations : interpretations_of table [] compat ≡ []
-  no_interpretations = ap (λ os. map (interpretation_by os) (names_of same_trigger os)) offers_none
+  no_interpretations = ap (λ os. map (interpretation_by os) (names_of same_match os)) offers_none
 
   pub interpretations_faultless : compat_faults table [] compat ≡ []
   interpretations_faultless =
-      faults_shown same_trigger (compat_rules table []) no_moves IsIndicatorItem no_defaults place
+      faults_shown same_match (compat_rules table []) no_moves IsIndicatorItem no_defaults place
       (λ d i one. ap (item_faults place.file []) one.item_is ∙ ap (λ said. item_faults place.file [] (Statement Override said one.first one.whole)) one.shows.is) stays ds is End shown
 
 -- without indicators there is no section

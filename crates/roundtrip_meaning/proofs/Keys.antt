@@ -16,8 +16,8 @@ use Rattle.kx_merge.specs.Bodies.{offers_of, faults_of}
 use Rattle.kx_merge.specs.Offers.{Offer, value_of, width_of}
 use Rattle.kx_parse.specs.declared.tree.Item.{Item}
 use Rattle.kx_parse.specs.declared.tree.KeyField.{KeyField}
-use Rattle.kx_key_fields.specs.declared.cells.SettingCell.TheVariants as settings
-use Rattle.kx_key_fields.specs.declared.cells.SettingValue.{SettingValue}
+use Rattle.kx_key_fields.specs.declared.cells.AttributeCell.TheVariants as settings
+use Rattle.kx_key_fields.specs.declared.cells.AttributeValue.{AttributeValue}
 use Rattle.kx_symbols.specs.Actions.{defined}
 use Rattle.kx_symbols.specs.Keys.{key_rules, key_moves, given_cell, given_width}
 use Rattle.kx_symbols.specs.Keysyms.{Level, given}
@@ -44,7 +44,7 @@ use Rattle.roundtrip_meaning.proofs.Actions.{known_by}
 use Rattle.roundtrip_meaning.proofs.Groups.{lists_are}
 use Rattle.roundtrip_meaning.proofs.KeyLists.{level_lists, are_groups}
 use Rattle.roundtrip_meaning.proofs.KeyOffers.{IsOffered, HasOffer, each_offered}
-use Rattle.roundtrip_meaning.proofs.KeySettings.{type_is, range_is, range_said}
+use Rattle.roundtrip_meaning.proofs.KeyAttributes.{type_is, range_is, range_said}
 use Rattle.roundtrip_meaning.proofs.KeyStatements.{offers_shown, symbols_offer, symbols_faultless}
 use Rattle.roundtrip_meaning.proofs.Pushed.{level_of, width_of as width_listed}
 
@@ -113,8 +113,8 @@ module _ (names : List Entry) (modifiers : List (List ℕ)) (table : list_all is
         ∙ ap (λ o. unwrap_or (keysyms_of (option_map values.Keysyms o)) []) (rows_level keysyms_at k.groups group level d found) ∙ keysyms_kept d.syms;
     action_is = λ group level d found. ap (λ (s : StatementLists). action_of (option_map values.Action (level_in s.actions group level))) lists_given
         ∙ ap (λ o. action_of (option_map values.Action o)) (rows_level action_at k.groups group level d found) ∙ action_kept (action_at d);
-    type_is = λ group p found. ap (λ (o : Option SettingValue). name_of (option_map values.Setting o)) (type_is modifiers k fits fs are group p found);
-    range_is = ap (λ (o : Option SettingValue). unwrap_or (range_of (option_map values.Setting o)) Wrap) (range_is modifiers k fits fs are) ∙ range_kept k.range;
+    type_is = λ group p found. ap (λ (o : Option AttributeValue). name_of (option_map values.Setting o)) (type_is modifiers k fits fs are group p found);
+    range_is = ap (λ (o : Option AttributeValue). unwrap_or (range_of (option_map values.Setting o)) Wrap) (range_is modifiers k fits fs are) ∙ range_kept k.range;
   }
     where
       same_max : (n : ℕ) → max n n ≡ n

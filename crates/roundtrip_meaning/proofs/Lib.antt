@@ -23,7 +23,7 @@ pub mod ActionMasks
 pub mod Actions
 pub mod KeyShown
 pub mod KeyLists
-pub mod KeySettings
+pub mod KeyAttributes
 pub mod KeyFaults
 pub mod KeyOffers
 pub mod KeyStatements
@@ -35,5 +35,5 @@ pub mod ResolvingMasks
 pub mod ResolvingTypes
 pub mod ResolvingKeys
 pub mod ResolvingOrder
-pub mod ResolvingDeeds
+pub mod ResolvingLevelActions
 pub mod Resolving

@@ -2,7 +2,7 @@
 use Rattle.std.proofs.Common.{◌≡◌, ℕ, nat_eq, nat_lt, cond, List, [], ◌∷◌, ◌++◌, length, map, fold, refl, ap, ap₂, ◌∙◌}
 use Rattle.std.specs.List.{flat_map}
 use Rattle.std.specs.Str.{bytes_eq}
-use Rattle.kx_builder.specs.Lamps.{ResolvedIndicator}
+use Rattle.kx_builder.specs.IndicatorMaps.{ResolvedIndicator}
 use Rattle.kx_builder.specs.Resolved.{ResolvedType}
 use Rattle.kx_include.specs.Expansion.{Body, End}
 use Rattle.kx_include.specs.IncludeFaults.{at}

@@ -113,7 +113,7 @@ module _ (c : Content) (sound : Sound c) (real : ℕ → RealSet) (declared : Li
   key_row k = key_seen c k ∷ []
 
   abbrev key_for : ℕ → Option (List ℕ) → List ResolvedKey
-  key_for n o = key_if_named declared used (keyed.deeds n) (keyed.key n) n o (keyed.modmap n)
+  key_for n o = key_if_named declared used (keyed.level_actions n) (keyed.key n) n o (keyed.modmap n)
 
   keys_pushed : (n : ℕ) → keys_below declared used keyed n ≡ below code key_row (λ m. key_for m (keyed.name m)) n
   unfolding keys_below
@@ -130,8 +130,8 @@ module _ (c : Content) (sound : Sound c) (real : ℕ → RealSet) (declared : Li
       here : (i : ℕ) (k : KeyRow) → slice_get c.keys i ≡ Some k → key_for (code k) (Some (name k)) ≡ key_row k
       here i k is =
           ap (λ (key : ResolvedKey). key ∷ [])
-          (key_again c sound declared again.declared_are k (key_fits c sound i k is) (keyed.key k.code) (given_at i k is) (keyed.deeds k.code)
-          (each_at (λ (k : PrintedKey). (group level : ℕ) (d : ResolvedCell) → cell_at k group level ≡ Some d → keyed.deeds k.code group level ≡ d.action) (keys_printed c) again.deeds_are i (key_printed c k) (printed_at i k is))
+          (key_again c sound declared again.declared_are k (key_fits c sound i k is) (keyed.key k.code) (given_at i k is) (keyed.level_actions k.code)
+          (each_at (λ (k : PrintedKey). (group level : ℕ) (d : ResolvedCell) → cell_at k group level ≡ Some d → keyed.level_actions k.code group level ≡ d.action) (keys_printed c) again.level_actions_are i (key_printed c k) (printed_at i k is))
           (keyed.modmap k.code) (each_at (λ (k : PrintedKey). keyed.modmap k.code ≡ k.modmap) (keys_printed c) again.mapped_are i (key_printed c k) (printed_at i k is)))
 
   keys_are : keys_below declared (types_used declared keyed.name keyed.key) keyed CODES ≡ map (key_seen c) c.keys

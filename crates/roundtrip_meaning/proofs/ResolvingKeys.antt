@@ -8,7 +8,7 @@ use Rattle.std.specs.List.{take-map, drop-map}
 use Rattle.std.specs.Option.{option_and_then, option_map, option_map_or, option_or}
 use Rattle.std.specs.Str.{bytes_eq}
 use Rattle.kx_basics.specs.declared.limits.TheConstants.{MOST_GROUPS, MOST_NAME_BYTES}
-use Rattle.kx_resolve.specs.Deeds.{Deeds}
+use Rattle.kx_resolve.specs.LevelActions.{LevelActions}
 use Rattle.kx_builder.specs.Resolved.{ResolvedCell, ResolvedGroup, ResolvedType}
 use Rattle.kx_builder.specs.Seen.{cell_seen, groups_seen, key_seen, type_seen}
 use Rattle.kx_mods.specs.declared.mods.Mods.{Mods}
@@ -139,8 +139,8 @@ module _ (c : Content) (sound : Sound c) (declared : List ℕ → Option Definit
       apart_names [] apart = tt
       apart_names (t ∷ ts) apart = (each_name t ts apart.0, apart_names ts apart.1)
 
-  module _ (row : KeyRow) (fits : KeyFits (key_printed c row)) (key : KeyGiven) (given : IsGiven (key_printed c row) key) (deeds : Deeds)
-      (does : (group level : ℕ) (d : ResolvedCell) → cell_at (key_printed c row) group level ≡ Some d → deeds group level ≡ d.action) where
+  module _ (row : KeyRow) (fits : KeyFits (key_printed c row)) (key : KeyGiven) (given : IsGiven (key_printed c row) key) (level_actions : LevelActions)
+      (does : (group level : ℕ) (d : ResolvedCell) → cell_at (key_printed c row) group level ≡ Some d → level_actions group level ≡ d.action) where
     abbrev rows : List GroupRow
     rows = part c.groups row.first_group row.groups
 
@@ -150,12 +150,12 @@ module _ (c : Content) (sound : Sound c) (declared : List ℕ → Option Definit
     printed_at : (i : ℕ) (g : GroupRow) → slice_get rows i ≡ Some g → slice_get k.groups i ≡ Some (group_printed c g)
     printed_at i g is = slice_get-map (group_printed c) rows i ∙ ap (option_map (group_printed c)) is
 
-    cells_pushed : (group n : ℕ) → cells_of deeds key group n ≡ pushed (cell_of deeds key group) n
+    cells_pushed : (group n : ℕ) → cells_of level_actions key group n ≡ pushed (cell_of level_actions key group) n
     unfolding cells_of
     cells_pushed group zero = refl
-    cells_pushed group (suc n) = ap (λ ds. ds ++ cell_of deeds key group n ∷ []) (cells_pushed group n)
+    cells_pushed group (suc n) = ap (λ ds. ds ++ cell_of level_actions key group n ∷ []) (cells_pushed group n)
 
-    cell_again : (i : ℕ) (g : GroupRow) → slice_get rows i ≡ Some g → (level : ℕ) (d : ResolvedCell) → slice_get (group_printed c g).cells level ≡ Some d → cell_of deeds key i level ≡ d
+    cell_again : (i : ℕ) (g : GroupRow) → slice_get rows i ≡ Some g → (level : ℕ) (d : ResolvedCell) → slice_get (group_printed c g).cells level ≡ Some d → cell_of level_actions key i level ≡ d
     cell_again i g is level d there =
         let at : cell_at k i level ≡ Some d = ap (λ o. option_and_then (λ (p : PrintedGroup). slice_get p.cells level) o) (printed_at i g is) ∙ there in
         λ j. record { syms = given.keysyms_are i level d at j; action = does i level d at j }
@@ -167,39 +167,39 @@ module _ (c : Content) (sound : Sound c) (declared : List ℕ → Option Definit
     printed_size : (i : ℕ) (g : GroupRow) → slice_get rows i ≡ Some g → levels_of c g ≡ length (group_printed c g).cells
     printed_size i g is = sym (group_cells_length c sound (row.first_group + i) g (part_get c.groups row.first_group row.groups i g is)) ∙ ap length (cells_by_row g)
 
-    group_again : (i : ℕ) (g : GroupRow) → slice_get rows i ≡ Some g → resolved_group declared type_list deeds key i ≡ group_seen c g
+    group_again : (i : ℕ) (g : GroupRow) → slice_get rows i ≡ Some g → resolved_group declared type_list level_actions key i ≡ group_seen c g
     group_again i g is =
         let place = part_get c.groups row.first_group row.groups i g is in
         let d = declares_of (row.first_group + i) g place in
         let named : group_type_name declared key i ≡ (group_printed c g).type_name = type_name_is k fits key given declared i (group_printed c g) (printed_at i g is) (group_declared (row.first_group + i) g place) in
         let levels : (type_definition declared (group_type_name declared key i)).levels ≡ levels_of c g =
         ap (λ n. (type_definition declared n).levels) (named ∙ d.named) ∙ ap (λ o. (unwrap_or o (let one : Definition = record { modifiers = 0; levels = 1; entries = [] } in one)).levels) d.definition ∙ sym d.levels in
-        let cells : cells_of deeds key (content_group key i) (type_definition declared (group_type_name declared key i)).levels ≡ part (map (cell_seen c) c.cells) g.first_cell (levels_of c g) =
-        ap₂ (cells_of deeds key) (content_is k fits key given i (group_printed c g) (printed_at i g is)) levels
+        let cells : cells_of level_actions key (content_group key i) (type_definition declared (group_type_name declared key i)).levels ≡ part (map (cell_seen c) c.cells) g.first_cell (levels_of c g) =
+        ap₂ (cells_of level_actions key) (content_is k fits key given i (group_printed c g) (printed_at i g is)) levels
         ∙ cells_pushed i (levels_of c g)
-        ∙ pushed_are (cell_of deeds key i) (group_printed c g).cells (levels_of c g) (printed_size i g is) (cell_again i g is)
+        ∙ pushed_are (cell_of level_actions key i) (group_printed c g).cells (levels_of c g) (printed_size i g is) (cell_again i g is)
         ∙ sym (cells_by_row g) in
         λ j. record { key_type = (ap (type_place type_list) named ∙ place_is (row.first_group + i) g place) j; cells = cells j }
 
-    groups_pushed : (n : ℕ) → groups_of declared type_list deeds key n ≡ pushed (resolved_group declared type_list deeds key) n
+    groups_pushed : (n : ℕ) → groups_of declared type_list level_actions key n ≡ pushed (resolved_group declared type_list level_actions key) n
     unfolding groups_of
     groups_pushed zero = refl
-    groups_pushed (suc n) = ap (λ gs. gs ++ resolved_group declared type_list deeds key n ∷ []) (groups_pushed n)
+    groups_pushed (suc n) = ap (λ gs. gs ++ resolved_group declared type_list level_actions key n ∷ []) (groups_pushed n)
 
-    groups_again : groups_of declared type_list deeds key (group_count key) ≡ part (groups_seen c c.groups) row.first_group row.groups
+    groups_again : groups_of declared type_list level_actions key (group_count key) ≡ part (groups_seen c c.groups) row.first_group row.groups
     groups_again =
         groups_pushed (group_count key)
-        ∙ pushed_are (resolved_group declared type_list deeds key) (map (group_seen c) rows) (group_count key)
+        ∙ pushed_are (resolved_group declared type_list level_actions key) (map (group_seen c) rows) (group_count key)
         (count_is k fits key given ∙ length-map rows (group_printed c) ∙ sym (length-map rows (group_seen c)))
         (λ i h is. at i h (slice_get rows i) refl (sym (slice_get-map (group_seen c) rows i) ∙ is))
         ∙ sym (ap (λ gs. part gs row.first_group row.groups) (groups_by_row c sound) ∙ ap (take row.groups) (drop-map (group_seen c) row.first_group c.groups) ∙ take-map (group_seen c) row.groups (drop row.first_group c.groups))
       where
-        at : (i : ℕ) (h : ResolvedGroup) (o : Option GroupRow) → slice_get rows i ≡ o → option_map (group_seen c) (slice_get rows i) ≡ Some h → resolved_group declared type_list deeds key i ≡ h
+        at : (i : ℕ) (h : ResolvedGroup) (o : Option GroupRow) → slice_get rows i ≡ o → option_map (group_seen c) (slice_get rows i) ≡ Some h → resolved_group declared type_list level_actions key i ≡ h
         at i h None none is = let never : None ≡ Some h = ap (option_map (group_seen c)) (sym none) ∙ is in cc
         at i h (Some g) there is =
             let same : group_seen c g ≡ h = (let both : Some (group_seen c g) ≡ Some h = ap (option_map (group_seen c)) (sym there) ∙ is in cc) in
             group_again i g there ∙ same
 
     -- a key is again what was seen of it
-    pub key_again : (modmap : Mods) → modmap ≡ row.modmap → key_of declared type_list deeds key row.code (key_name c row) modmap ≡ key_seen c row
+    pub key_again : (modmap : Mods) → modmap ≡ row.modmap → key_of declared type_list level_actions key row.code (key_name c row) modmap ≡ key_seen c row
     key_again modmap mapped = λ j. record { code = row.code; name = key_name c row; modmap = mapped j; range = given.range_is j; groups = groups_again j }

@@ -22,4 +22,4 @@ pub record ReadAgain (c : Content) (real : ℕ → RealSet) (declared : List ℕ
   pub names_are : (code : ℕ) → keyed.name code ≡ name_in (map pair_of (keys_printed c)) code
   pub given_are : EachOf (λ (k : PrintedKey). IsGiven k (keyed.key k.code)) (keys_printed c)
   pub mapped_are : EachOf (λ (k : PrintedKey). keyed.modmap k.code ≡ k.modmap) (keys_printed c)
-  pub deeds_are : EachOf (λ (k : PrintedKey). (group level : ℕ) (d : ResolvedCell) → cell_at k group level ≡ Some d → keyed.deeds k.code group level ≡ d.action) (keys_printed c)
+  pub level_actions_are : EachOf (λ (k : PrintedKey). (group level : ℕ) (d : ResolvedCell) → cell_at k group level ≡ Some d → keyed.level_actions k.code group level ≡ d.action) (keys_printed c)

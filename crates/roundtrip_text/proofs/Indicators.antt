@@ -11,7 +11,7 @@ use Rattle.kx_lex.specs.Kinds.{number_value}
 use Rattle.kx_lex.specs.declared.token.TokenKind.TheVariants.{Number}
 use Rattle.kx_print.specs.Masks.{state_names, states_text}
 use Rattle.kx_print.specs.Phrases.{hexadecimal}
-use Rattle.kx_print.specs.Printed.{lamp_lines, indicator_block}
+use Rattle.kx_print.specs.Printed.{indicator_map_lines, indicator_block}
 use Rattle.kx_tables.specs.Content.{Content, indicator_name}
 use Rattle.kx_tables.specs.States.{state_bits}
 use Rattle.kx_tables.specs.declared.rows.IndicatorRow.{IndicatorRow}
@@ -70,7 +70,7 @@ unfolding state_names
 states_lex states small = set_lexes state_names (state_bits states) refl (omega (arith, small))
 
 pub indicator_lexes : (c : Content) (d : IndicatorRow) → IndicatorFits (indicator_seen c d) → Lexes (indicator_block c d) (indicator_statement_slices (indicator_seen c d))
-unfolding indicator_block lamp_lines
+unfolding indicator_block indicator_map_lines
 indicator_lexes c d fits =
     block_lexes (then_before (before_lexes (one_word (codes "indicator") refl) refl (marks_lex (codes " ") refl)) (weaker (printed_name_lexes (indicator_name c d) fits.bytes)))
     (then_lexes (setting_lexes (codes "whichModState") _ (states_terms d.mod_states) refl (states_lex d.mod_states fits.mod_states))

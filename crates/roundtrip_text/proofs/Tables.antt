@@ -3,7 +3,7 @@ use Rattle.std.proofs.Common.{◌≡◌, ℕ, zero, suc, ◌+◌, List, [], ◌�
 use Rattle.std.proofs.lemmas.List.{length-map}
 use Rattle.std.proofs.lemmas.List.Sums.{sum_by-cons}
 use Rattle.std.specs.List.{flat_map, sum_by}
-use Rattle.kx_builder.specs.Lamps.{ResolvedIndicator, group_name_row, indicator_row, names_of_groups, names_of_indicators, with_lamps}
+use Rattle.kx_builder.specs.IndicatorMaps.{ResolvedIndicator, group_name_row, indicator_row, names_of_groups, names_of_indicators, with_indicator_maps}
 use Rattle.kx_builder.specs.Placed.{all_cells, all_groups, all_keysyms, cell_row, content_of_resolved, group_row, key_row, names_of_keys, names_of_types, rows_behind, rows_of}
 use Rattle.kx_builder.specs.Resolved.{ResolvedCell, ResolvedGroup, ResolvedKey, ResolvedType}
 use Rattle.kx_builder.specs.Seen.{cell_seen, cells_end, groups_seen, key_seen, seen, type_seen}
@@ -239,7 +239,7 @@ module _ (c : Content) (sound : Sound c) where
 
 -- ---- All together
 
-pub sound_placed : (c : Content) → Sound c → with_lamps (content_of_resolved (seen c)) (indicators_printed c) (names_printed c) ≡ c
+pub sound_placed : (c : Content) → Sound c → with_indicator_maps (content_of_resolved (seen c)) (indicators_printed c) (names_printed c) ≡ c
 sound_placed c sound = λ i. record {
   types = types_placed c sound i;
   entries = entries_placed c sound i;

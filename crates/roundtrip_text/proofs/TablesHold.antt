@@ -7,7 +7,7 @@ use Rattle.std.specs.List.{list_all}
 use Rattle.std.specs.Option.{option_map, option_map_or}
 use Rattle.kx_basics.specs.KeyNames.{is_key_byte}
 use Rattle.kx_basics.specs.Keysyms.{IsKeysym}
-use Rattle.kx_builder.specs.Lamps.{ResolvedIndicator}
+use Rattle.kx_builder.specs.IndicatorMaps.{ResolvedIndicator}
 use Rattle.kx_builder.specs.Resolved.{ResolvedType}
 use Rattle.kx_builder.specs.Seen.{cell_seen, type_seen}
 use Rattle.kx_mods.specs.Mods.{mask}

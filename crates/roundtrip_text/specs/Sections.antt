@@ -1,7 +1,7 @@
 -- The tokens of the sections of a printed text, and of all of it.
 use Rattle.std.specs.Prelude.{ℕ, List, [], ◌∷◌, ◌++◌, ◌==◌, codes, length, map, if◌then◌else◌}
 use Rattle.std.specs.List.{flat_map}
-use Rattle.kx_builder.specs.Lamps.{ResolvedIndicator}
+use Rattle.kx_builder.specs.IndicatorMaps.{ResolvedIndicator}
 use Rattle.kx_builder.specs.Resolved.{ResolvedType}
 use Rattle.kx_tables.specs.Content.{Content}
 use Rattle.roundtrip_text.specs.Slices.{Slice}

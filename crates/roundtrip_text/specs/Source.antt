@@ -6,7 +6,7 @@ use Rattle.std.specs.Option.{option_and_then, option_map_or}
 use Rattle.kx_basics.specs.KeyNames.{is_key_byte}
 use Rattle.kx_basics.specs.Keysyms.{IsKeysym}
 use Rattle.kx_basics.specs.declared.limits.TheConstants.{GREATEST_CODE, MOST_GROUPS, MOST_KEYSYMS, MOST_LEVELS, MOST_NAME_BYTES}
-use Rattle.kx_builder.specs.Lamps.{ResolvedIndicator}
+use Rattle.kx_builder.specs.IndicatorMaps.{ResolvedIndicator}
 use Rattle.kx_builder.specs.Resolved.{ResolvedCell, ResolvedType}
 use Rattle.kx_builder.specs.Seen.{cell_seen, type_seen}
 use Rattle.kx_mods.specs.Mods.{mask}

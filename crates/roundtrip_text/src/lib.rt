@@ -1,7 +1,7 @@
 //! How a printed text is read: texts that are put together of phrases, what sound tables hold, and the tokens of their text.
 #![tactic(auto)]
 
-ghost use Rattle.kx_builder.specs.Lamps.{with_lamps};
+ghost use Rattle.kx_builder.specs.IndicatorMaps.{with_indicator_maps};
 ghost use Rattle.kx_builder.specs.Placed.{content_of_resolved};
 ghost use Rattle.kx_builder.specs.Seen.{seen};
 ghost use Rattle.kx_lex.specs.Reading.{IsReading, mark_len};
@@ -21,7 +21,7 @@ pub fn phrases_are_read()
 
 /// The types, keys, indicators and names of groups that are seen in sound tables make these tables.
 pub fn seen_tables_are_themselves()
-    ensures { (c : Content) → Sound c → with_lamps (content_of_resolved (seen c)) (indicators_printed c) (names_printed c) ≡ c }
+    ensures { (c : Content) → Sound c → with_indicator_maps (content_of_resolved (seen c)) (indicators_printed c) (names_printed c) ≡ c }
 {}
 
 /// The text of sound tables is read as its tokens.

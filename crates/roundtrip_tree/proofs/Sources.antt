@@ -2,7 +2,7 @@
 use Rattle.std.proofs.Common.{◌≡◌, ℕ, ◌+◌, ◌≤◌, ◌==◌, Bool, true, false, cond, List, [], ◌∷◌, ◌++◌, Option, Some, codes, length, map, refl, ap, ◌∙◌, subst, arith, is_some}
 use Rattle.std.proofs.lemmas.Bool.{ne_eqb}
 use Rattle.std.specs.Fmt.{decimal}
-use Rattle.kx_builder.specs.Lamps.{ResolvedIndicator}
+use Rattle.kx_builder.specs.IndicatorMaps.{ResolvedIndicator}
 use Rattle.kx_builder.specs.Resolved.{ResolvedType}
 use Rattle.kx_lex.specs.Keywords.{spellings}
 use Rattle.kx_lex.specs.Kinds.{before_mark, front, is_keyword, is_text}
@@ -137,8 +137,8 @@ module _ (text : List ℕ) where
   abbrev IsKeyType : ResolvedType → Item → Type 0
   IsKeyType t i = IsItem (IsType t) i
 
-  abbrev IsLamp : ResolvedIndicator → Item → Type 0
-  IsLamp d i = IsItem (IsIndicator d) i
+  abbrev IsIndicatorMap : ResolvedIndicator → Item → Type 0
+  IsIndicatorMap d i = IsItem (IsIndicator d) i
 
   line_reads : (x : SymbolsLine) → LineFits x → (ts rest : List Token) → Begins text (symbols_line_slices x) ts rest → (before_mark close_brace ts ≡ true) × ReadsAs (item text) (IsLine x) ts rest
   line_reads (OfName g) fits ts rest begins = (word_starts _ (codes "name") begins, name_reads text g fits.name fits.some_group fits.few ts rest begins)
@@ -160,10 +160,10 @@ module _ (text : List ℕ) where
   types_read us fit ts rest begins =
       each_section_reads TypeFits text keywords.XkbTypes kinds.Types types_begun type_statement_slices IsKeyType (λ t fits ts rest b. (word_starts _ (codes "type") b, type_reads text t fits ts rest b)) (codes "xkb_types") us fit ts rest begins
 
-  indicators_read : (ds : List ResolvedIndicator) → EachOf IndicatorFits ds → (ts rest : List Token) → Begins text (section_slices (codes "xkb_compat") indicator_statement_slices ds) ts rest → ReadsAs (section text) (IsSection kinds.Compat IsLamp ds) ts rest
+  indicators_read : (ds : List ResolvedIndicator) → EachOf IndicatorFits ds → (ts rest : List Token) → Begins text (section_slices (codes "xkb_compat") indicator_statement_slices ds) ts rest → ReadsAs (section text) (IsSection kinds.Compat IsIndicatorMap ds) ts rest
   unfolding spellings
   indicators_read ds fit ts rest begins =
-      each_section_reads IndicatorFits text keywords.XkbCompat kinds.Compat compat_begun indicator_statement_slices IsLamp (λ d fits ts rest b. (word_starts _ (codes "indicator") b, indicator_reads text d fits ts rest b)) (codes "xkb_compat") ds fit ts rest begins
+      each_section_reads IndicatorFits text keywords.XkbCompat kinds.Compat compat_begun indicator_statement_slices IsIndicatorMap (λ d fits ts rest b. (word_starts _ (codes "indicator") b, indicator_reads text d fits ts rest b)) (codes "xkb_compat") ds fit ts rest begins
 
   symbols_read : (xs : List SymbolsLine) → EachOf LineFits xs → (ts rest : List Token) → Begins text (section_slices (codes "xkb_symbols") symbols_line_slices xs) ts rest → ReadsAs (section text) (IsSection kinds.Symbols IsLine xs) ts rest
   unfolding spellings
@@ -173,7 +173,7 @@ module _ (text : List ℕ) where
 
   record CompatReads (ds : List ResolvedIndicator) (ts mid : List Token) : Type 0 where
     items : List Item
-    are : AreShown IsLamp ds items
+    are : AreShown IsIndicatorMap ds items
     front : (ss : List Section) (rest : List Token) → Front text ss mid rest → Front text (compat_sections items ++ ss) ts rest
 
   compat_reads : (ds : List ResolvedIndicator) → EachOf IndicatorFits ds → (ts mid : List Token) → Begins text (compat_slices ds) ts mid → CompatReads ds ts mid
@@ -183,10 +183,10 @@ module _ (text : List ℕ) where
       some : Begins text (section_slices (codes "xkb_compat") indicator_statement_slices (d ∷ ds)) ts mid
       some = subst (λ t. Begins text (cond t [] (section_slices (codes "xkb_compat") indicator_statement_slices (d ∷ ds))) ts mid) (ne_eqb (length (d ∷ ds)) 0 (λ e. omega (arith, e))) begins
 
-      r : ReadsAs (section text) (IsSection kinds.Compat IsLamp (d ∷ ds)) ts mid
+      r : ReadsAs (section text) (IsSection kinds.Compat IsIndicatorMap (d ∷ ds)) ts mid
       r = indicators_read (d ∷ ds) fit ts mid some
 
-      by : (items : List Item) → AreShown IsLamp (d ∷ ds) items → ((ss : List Section) (rest : List Token) → Front text ss mid rest → Front text (plain kinds.Compat items ∷ ss) ts rest) → CompatReads (d ∷ ds) ts mid
+      by : (items : List Item) → AreShown IsIndicatorMap (d ∷ ds) items → ((ss : List Section) (rest : List Token) → Front text ss mid rest → Front text (plain kinds.Compat items ∷ ss) ts rest) → CompatReads (d ∷ ds) ts mid
       by [] are more_of = elim are [ ]
       by (i ∷ is) are more_of = record { items = i ∷ is; are = are; front = more_of }
 
@@ -234,26 +234,26 @@ module _ (text : List ℕ) where
         let c = parted (compat_slices ds) (section_slices (codes "xkb_symbols") symbols_line_slices lines) b.second in
         let codes_read = keycodes_read ks keys_fit ts a.mid a.first in
         let types_here = types_read us types_fit a.mid b.mid b.first in
-        let lamps = compat_reads ds indicators_fit b.mid c.mid c.first in
+        let indicator_maps = compat_reads ds indicators_fit b.mid c.mid c.first in
         let symbols = symbols_read lines all_fit c.mid stop c.second in
         let nothing_more : Front text [] stop stop = record { spelled = refl } in
-        let front : Front text (sections_of codes_read.is.items types_here.is.items lamps.items symbols.is.items) ts stop =
-        one_more text (word_starts _ (codes "xkb_keycodes") a.first) codes_read _ stop (one_more text (word_starts _ (codes "xkb_types") b.first) types_here _ stop (lamps.front _ stop (one_more text (word_starts _ (codes "xkb_symbols") c.second) symbols [] stop nothing_more))) in
+        let front : Front text (sections_of codes_read.is.items types_here.is.items indicator_maps.items symbols.is.items) ts stop =
+        one_more text (word_starts _ (codes "xkb_keycodes") a.first) codes_read _ stop (one_more text (word_starts _ (codes "xkb_types") b.first) types_here _ stop (indicator_maps.front _ stop (one_more text (word_starts _ (codes "xkb_symbols") c.second) symbols [] stop nothing_more))) in
         let named = parts_shown IsLine (map OfName (named_from 1 gs)) (map OfKey ks ++ map OfMap (map_lines_printed ks)) symbols.is.items symbols.is.are in
         let keyed = parts_shown IsLine (map OfKey ks) (map OfMap (map_lines_printed ks)) named.second named.seconds in
         record {
-          tree = record { sections = sections_of codes_read.is.items types_here.is.items lamps.items symbols.is.items };
-          spelled = source_spelled (sections_of codes_read.is.items types_here.is.items lamps.items symbols.is.items) s1 s2 s3 s4 ts front;
+          tree = record { sections = sections_of codes_read.is.items types_here.is.items indicator_maps.items symbols.is.items };
+          spelled = source_spelled (sections_of codes_read.is.items types_here.is.items indicator_maps.items symbols.is.items) s1 s2 s3 s4 ts front;
           shows = record {
             keycodes = codes_read.is.items;
             types = types_here.is.items;
-            indicators = lamps.items;
+            indicators = indicator_maps.items;
             names = named.first;
             keys = keyed.first;
             maps = keyed.second;
             keycodes_are = codes_read.is.are;
             types_are = types_here.is.are;
-            indicators_are = lamps.are;
+            indicators_are = indicator_maps.are;
             names_are = mapped_shown IsLine OfName (named_from 1 gs) named.first named.firsts;
             keys_are = mapped_shown IsLine OfKey ks keyed.first keyed.firsts;
             maps_are = mapped_shown IsLine OfMap (map_lines_printed ks) keyed.second keyed.seconds;

@@ -1,6 +1,6 @@
 -- What a tree shows of a printed indicator.
 use Rattle.std.specs.Prelude.{List, [], ◌∷◌, ◌≡◌, codes}
-use Rattle.kx_builder.specs.Lamps.{ResolvedIndicator}
+use Rattle.kx_builder.specs.IndicatorMaps.{ResolvedIndicator}
 use Rattle.kx_lex.specs.declared.token.Span.{Span}
 use Rattle.kx_parse.specs.declared.tree.Field.{Field}
 use Rattle.kx_parse.specs.declared.tree.Statement.{Statement}
@@ -17,8 +17,8 @@ use Rattle.roundtrip_tree.specs.Types.{mods_written}
 abbrev pub states_written : States → Written
 states_written states = Words (set_words state_names (state_bits states))
 
-abbrev pub lamp_lines : ResolvedIndicator → List Line
-lamp_lines d =
+abbrev pub indicator_map_lines : ResolvedIndicator → List Line
+indicator_map_lines d =
     Set (codes "whichModState") (states_written d.mod_states) ∷ Set (codes "modifiers") (mods_written d.mods)
     ∷ Set (codes "whichGroupState") (states_written d.group_states) ∷ Set (codes "groups") (Digits (hexadecimal d.groups) d.groups) ∷ []
 
@@ -26,4 +26,4 @@ pub record IsIndicator (d : ResolvedIndicator) (statement : Statement) : Type 0 
   pub span : Span
   pub fields : List Field
   pub is : statement ≡ statements.Indicator (name_at d.name span) fields
-  pub are : AreShown IsLine (lamp_lines d) fields
+  pub are : AreShown IsLine (indicator_map_lines d) fields

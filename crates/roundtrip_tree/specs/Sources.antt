@@ -1,6 +1,6 @@
 -- What a tree shows of a printed text.
 use Rattle.std.specs.Prelude.{ℕ, List, [], ◌∷◌, ◌++◌, ◌≡◌, None}
-use Rattle.kx_builder.specs.Lamps.{ResolvedIndicator}
+use Rattle.kx_builder.specs.IndicatorMaps.{ResolvedIndicator}
 use Rattle.kx_builder.specs.Resolved.{ResolvedType}
 use Rattle.kx_parse.specs.declared.tree.Item.{Item}
 use Rattle.kx_parse.specs.declared.tree.Kind.{Kind}

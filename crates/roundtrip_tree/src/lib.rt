@@ -2,7 +2,7 @@
 #![tactic(auto)]
 
 ghost use Rattle.std.specs.Prelude.{ℕ, List, []};
-ghost use Rattle.kx_builder.specs.Lamps.{ResolvedIndicator};
+ghost use Rattle.kx_builder.specs.IndicatorMaps.{ResolvedIndicator};
 ghost use Rattle.kx_builder.specs.Resolved.{ResolvedType};
 ghost use Rattle.kx_lex.specs.declared.token.Token.{Token};
 ghost use Rattle.kx_parse.specs.Sections.{Spells};

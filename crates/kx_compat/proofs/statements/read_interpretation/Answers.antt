@@ -3,17 +3,17 @@ use Rattle.std.specs.List.{flat_map}
 use Rattle.kx_lex.specs.declared.fault.Fault.TheVariants.{Memory}
 use Rattle.kx_symbols.specs.KeyFaults.{symbol_faults}
 use Rattle.kx_compat.specs.Sections.{own_faults, values_of}
-use Rattle.kx_compat.specs.Triggers.{predicate_faults, trigger_of}
+use Rattle.kx_compat.specs.Matches.{predicate_faults, match_of}
 use Rattle.kx_compat.proofs.Going.{blamed_behind, blamed_front, passed}
 use Rattle.kx_compat.proofs.Offering.{same_offered}
 use Rattle.kx_compat.proofs.statements.read_interpretation.Goals as goal
 
-pub returns-in_err-trigger-clause-fault : goal.returns-in_err-trigger-clause-fault
-returns-in_err-trigger-clause-fault c =
+pub returns-in_err-interpretation_match-clause-fault : goal.returns-in_err-interpretation_match-clause-fault
+returns-in_err-interpretation_match-clause-fault c =
     let names = c.args.names.now.names in
     let front = symbol_faults c.args.file c.args.symbol.now ++ predicate_faults c.args.file names c.args.predicate.now in
     let fields = flat_map (own_faults c.args.file names) c.args.fields.now in
-    passed c.from_residual.result (Memory ∷ (front ++ fields)) c.in_err-trigger.field-0.0 c.from_residual.ensures.1 (blamed_front Memory front fields c.in_err-trigger.field-0.0 c.in_err-trigger.ensures.fault)
+    passed c.from_residual.result (Memory ∷ (front ++ fields)) c.in_err-interpretation_match.field-0.0 c.from_residual.ensures.1 (blamed_front Memory front fields c.in_err-interpretation_match.field-0.0 c.in_err-interpretation_match.ensures.fault)
 
 pub returns-in_err-values-clause-fault : goal.returns-in_err-values-clause-fault
 returns-in_err-values-clause-fault c =
@@ -24,5 +24,5 @@ returns-in_err-values-clause-fault c =
 
 pub returns-clause-records : goal.returns-clause-records
 returns-clause-records c = λ mode.
-    same_offered (λ v. v.items) c.records_for.result mode c.in_ok-values.values (values_of c.args.names.now.names c.args.defaults.now c.args.fields.now) c.in_ok-trigger.trigger (trigger_of c.args.table.now c.args.symbol.now c.args.predicate.now)
-    c.in_ok-values.ensures.value c.in_ok-trigger.ensures.value (c.records_for.ensures.records mode)
+    same_offered (λ v. v.items) c.records_for.result mode c.in_ok-values.values (values_of c.args.names.now.names c.args.defaults.now c.args.fields.now) c.in_ok-interpretation_match.interpretation_match (match_of c.args.table.now c.args.symbol.now c.args.predicate.now)
+    c.in_ok-values.ensures.value c.in_ok-interpretation_match.ensures.value (c.records_for.ensures.records mode)

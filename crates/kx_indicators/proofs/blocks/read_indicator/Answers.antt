@@ -17,5 +17,5 @@ returns-in_err-values-clause-fault c =
 
 pub returns-clause-records : goal.returns-clause-records
 returns-clause-records c = λ mode.
-    same_offered (λ v. v.items) c.records_for.result mode c.in_ok-values.values (values_of c.args.names.now.names c.args.defaults c.args.fields.now) c.number_of.result (position (bytes_eq c.args.name.now.bytes) c.args.lamps.now)
-    c.in_ok-values.ensures.value (c.number_of.ensures.value ∙ ap (λ bytes. position (bytes_eq bytes) c.args.lamps.now) c.as_slice-bytes.ensures) (c.records_for.ensures.records mode)
+    same_offered (λ v. v.items) c.records_for.result mode c.in_ok-values.values (values_of c.args.names.now.names c.args.defaults c.args.fields.now) c.number_of.result (position (bytes_eq c.args.name.now.bytes) c.args.indicator_maps.now)
+    c.in_ok-values.ensures.value (c.number_of.ensures.value ∙ ap (λ bytes. position (bytes_eq bytes) c.args.indicator_maps.now) c.as_slice-bytes.ensures) (c.records_for.ensures.records mode)

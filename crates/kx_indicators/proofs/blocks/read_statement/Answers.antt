@@ -8,7 +8,7 @@ use Rattle.kx_indicators.proofs.blocks.read_statement.Goals as goal
 
 pub returns-in-Some-clause-records : goal.returns-in-Some-clause-records
 returns-in-Some-clause-records c = λ mode.
-    said_offered (λ v. v.items) c.read_indicator.result mode c.args.lamps.now c.args.names.now.names c.args.defaults c.in-Some.name.now c.in-Some.fields.now c.as_slice.result.now (indicator_in c.args.statement.now)
+    said_offered (λ v. v.items) c.read_indicator.result mode c.args.indicator_maps.now c.args.names.now.names c.args.defaults c.in-Some.name.now c.in-Some.fields.now c.as_slice.result.now (indicator_in c.args.statement.now)
     (sym (ap (option_map (λ i. (i.0.now, i.1.now))) c.in-Some.is) ∙ c.indicator_in.ensures) c.as_slice.ensures (c.read_indicator.ensures.records mode)
 
 pub returns-in_err-check_default-in-None-clause-fault : goal.returns-in_err-check_default-in-None-clause-fault

@@ -1,7 +1,7 @@
 use Rattle.std.proofs.Common.{◌<◌, ◌^◌, ap, subst, sym, unwrap_or, ◌∙◌}
 use Rattle.std.specs.List.{flat_map}
 use Rattle.kx_virtual_mods.specs.Masks.{joined}
-use Rattle.kx_indicators.specs.LampMasks.{operated, operation_faults, width}
+use Rattle.kx_indicators.specs.IndicatorMapMasks.{operated, operation_faults, width}
 use Rattle.kx_indicators.proofs.Bits.{joined_within}
 use Rattle.kx_indicators.proofs.Going.{fold_goes, none_blames, none_goes, passed}
 use Rattle.kx_indicators.proofs.masks.read_operations.Goals as goal

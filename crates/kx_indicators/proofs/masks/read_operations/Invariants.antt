@@ -1,6 +1,6 @@
 use Rattle.std.proofs.Common.{◌≡◌, ◌<◌, ◌^◌, drop, fold}
 use Rattle.std.specs.List.{flat_map}
-use Rattle.kx_indicators.specs.LampMasks.{operated, operation_faults, width}
+use Rattle.kx_indicators.specs.IndicatorMapMasks.{operated, operation_faults, width}
 use Rattle.kx_indicators.proofs.masks.read_operations.Given as goal
 
 abbrev pub invariant-operations : goal.invariant-operations

@@ -1,5 +1,5 @@
 use Rattle.std.proofs.Common.{None, ap, ◌∙◌, arith}
-use Rattle.kx_key_fields.specs.Settings.{widened_to}
+use Rattle.kx_key_fields.specs.Attributes.{widened_to}
 use Rattle.kx_key_fields.proofs.Moving.{widen_goes}
 use Rattle.kx_key_fields.proofs.group_types.widen.Goals as goal
 

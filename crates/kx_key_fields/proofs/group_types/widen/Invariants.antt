@@ -1,5 +1,5 @@
 use Rattle.std.proofs.Common.{◌≡◌, ◌-◌, length}
-use Rattle.kx_key_fields.specs.Settings.{widened_to}
+use Rattle.kx_key_fields.specs.Attributes.{widened_to}
 use Rattle.kx_key_fields.proofs.group_types.widen.Given as goal
 
 abbrev pub invariant-groups : goal.invariant-groups

@@ -1,6 +1,6 @@
 use Rattle.std.proofs.Common.{None, Some, [], arith, sym, subst}
 use Rattle.std.proofs.lemmas.List.Elements.{All-nil}
-use Rattle.kx_resolve.specs.Deeds.{deeds_of}
+use Rattle.kx_resolve.specs.LevelActions.{level_actions_of}
 use Rattle.kx_builder.specs.WithinLimits.{GroupIsWithinLimits, IsWithinLimits}
 use Rattle.kx_codes.specs.Codes.{name_of}
 use Rattle.kx_resolve.specs.Modmaps.{modmap_at}
@@ -33,12 +33,12 @@ returns-in_ok-push_bare_key-in-Some-None-clause-pushed c =
 
 pub returns-in_ok-push_key-in-Some-Some-clause-bounds : goal.returns-in_ok-push_key-in-Some-Some-clause-bounds
 returns-in_ok-push_key-in-Some-Some-clause-bounds c = λ name is.
-    subst (λ (modmap : Mods). KeepsBounds (type_named c.args.read.types.now) name modmap (deeds_of (real_of (stands_for c.args.read.stands.now)) c.args.read.interpretations.now modmap (given_in (key_at c.args.read.keys.now c.args.code))) (given_in (key_at c.args.read.keys.now c.args.code))) c.key_mods-modmap.ensures.value
+    subst (λ (modmap : Mods). KeepsBounds (type_named c.args.read.types.now) name modmap (level_actions_of (real_of (stands_for c.args.read.stands.now)) c.args.read.interpretations.now modmap (given_in (key_at c.args.read.keys.now c.args.code))) (given_in (key_at c.args.read.keys.now c.args.code))) c.key_mods-modmap.ensures.value
     (bounds_of (type_named c.args.read.types.now) (real_of (stands_for c.args.read.stands.now)) c.args.read.interpretations.now c.key_mods-modmap.result c.key_mods-modmap.ensures.fits (name_of c.args.read.codes.now c.args.code) (key_at c.args.read.keys.now c.args.code) (Some c.in-Some-Some.key.now) c.in-Some-Some.name.now c.in-Some-Some.ensures.value c.in-Some-Some.ensures' c.in-Some-Some.ensures.valid c.in_ok-push_key-in-Some-Some.ensures.range c.in_ok-push_key-in-Some-Some.ensures.valid name is)
 
 pub returns-in_ok-push_bare_key-in-Some-None-clause-bounds : goal.returns-in_ok-push_bare_key-in-Some-None-clause-bounds
 returns-in_ok-push_bare_key-in-Some-None-clause-bounds c = λ name is.
-    subst (λ (modmap : Mods). KeepsBounds (type_named c.args.read.types.now) name modmap (deeds_of (real_of (stands_for c.args.read.stands.now)) c.args.read.interpretations.now modmap (given_in (key_at c.args.read.keys.now c.args.code))) (given_in (key_at c.args.read.keys.now c.args.code))) c.key_mods-modmap.ensures.value
+    subst (λ (modmap : Mods). KeepsBounds (type_named c.args.read.types.now) name modmap (level_actions_of (real_of (stands_for c.args.read.stands.now)) c.args.read.interpretations.now modmap (given_in (key_at c.args.read.keys.now c.args.code))) (given_in (key_at c.args.read.keys.now c.args.code))) c.key_mods-modmap.ensures.value
     (bounds_of (type_named c.args.read.types.now) (real_of (stands_for c.args.read.stands.now)) c.args.read.interpretations.now c.key_mods-modmap.result c.key_mods-modmap.ensures.fits (name_of c.args.read.codes.now c.args.code) (key_at c.args.read.keys.now c.args.code) None c.in-Some-None.name.now c.in-Some-None.ensures.value c.in-Some-None.ensures' c.in-Some-None.ensures.valid tt (λ group less. absurd (omega (arith, less, none_count))) name is)
 
 pub returns-in_ok-push_bare_key-in-Some-None-clause-small : goal.returns-in_ok-push_bare_key-in-Some-None-clause-small

@@ -9,7 +9,7 @@ use Rattle.kx_virtual_mods.specs.Standing.{stands_for}
 use Rattle.kx_resolve.proofs.Growing.{group_then_cells, groups_grow, new_cells, small_with_group}
 use Rattle.kx_resolve.specs.Bounds.{last_cells}
 use Rattle.kx_resolve.specs.Given.{given}
-use Rattle.kx_resolve.specs.Deeds.{deeds_of}
+use Rattle.kx_resolve.specs.LevelActions.{level_actions_of}
 use Rattle.kx_resolve.specs.Keys.{cells_of, type_place}
 use Rattle.kx_types.specs.Types.{type_named}
 use Rattle.kx_resolve.specs.GroupTypes.{type_definition}
@@ -37,11 +37,11 @@ push_levels-requires-clause-bare c =
 pub returns-clause-pushed : goal.returns-clause-pushed
 returns-clause-pushed c =
     let key = given c.args.key.key.now in
-    let deeds = deeds_of (real_of (stands_for c.args.key.stands.now)) c.args.key.interpretations.now c.args.key.modmap (given c.args.key.key.now) in
+    let level_actions = level_actions_of (real_of (stands_for c.args.key.stands.now)) c.args.key.interpretations.now c.args.key.modmap (given c.args.key.key.now) in
     let declared = type_named c.args.types.now in
     let used = c.args.used.now in
     let place = c.type_place.ensures ∙ ap (type_place used) c.group_type-group_type.ensures.name in
     c.in_ok-push_levels.ensures.pushed
-    ∙ ap (λ r. fold with_cell r (cells_of deeds key c.content_group-content.result c.group_type-group_type.result.levels)) c.in_ok-push_bare_group.ensures.pushed
-    ∙ group_then_cells c.args.builder.now (bare c.type_place.result) (cells_of deeds key c.content_group-content.result c.group_type-group_type.result.levels)
-    ∙ (λ i. with_group c.args.builder.now (record { key_type = place i; cells = cells_of deeds key (c.content_group-content.ensures i) (c.group_type-group_type.ensures.levels i) }))
+    ∙ ap (λ r. fold with_cell r (cells_of level_actions key c.content_group-content.result c.group_type-group_type.result.levels)) c.in_ok-push_bare_group.ensures.pushed
+    ∙ group_then_cells c.args.builder.now (bare c.type_place.result) (cells_of level_actions key c.content_group-content.result c.group_type-group_type.result.levels)
+    ∙ (λ i. with_group c.args.builder.now (record { key_type = place i; cells = cells_of level_actions key (c.content_group-content.ensures i) (c.group_type-group_type.ensures.levels i) }))

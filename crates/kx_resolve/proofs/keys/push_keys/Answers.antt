@@ -26,7 +26,7 @@ codes-preserved c =
     let used = c.args.used.now in
     let n = c.codes.code in (
       c.in_ok-push_code.ensures.pushed
-          ∙ (λ i. record (c.codes.invariant.0 i) { keys = (c.codes.invariant.0 i).keys ++ key_if_named declared used (keyed.deeds n) (keyed.key n) n (keyed.name n) (keyed.modmap n) })
+          ∙ (λ i. record (c.codes.invariant.0 i) { keys = (c.codes.invariant.0 i).keys ++ key_if_named declared used (keyed.level_actions n) (keyed.key n) n (keyed.name n) (keyed.modmap n) })
           ∙ (λ i. record c.args.builder.now { keys = sym (below_next declared used keyed n) i }),
       c.in_ok-push_code.ensures.small,
       bounds_next declared keyed n c.codes.invariant.2 c.in_ok-push_code.ensures.bounds,

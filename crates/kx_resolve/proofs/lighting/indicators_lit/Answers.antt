@@ -1,8 +1,8 @@
 use Rattle.std.proofs.Common.{arith, map}
-use Rattle.kx_builder.specs.Lamps.{indicator_of}
+use Rattle.kx_builder.specs.IndicatorMaps.{indicator_of}
 use Rattle.kx_virtual_mods.specs.Sets.{real_of}
 use Rattle.kx_virtual_mods.specs.Standing.{stands_for}
-use Rattle.kx_resolve.proofs.Lamps.{lit_all, lit_next}
+use Rattle.kx_resolve.proofs.IndicatorMaps.{lit_all, lit_next}
 use Rattle.kx_resolve.proofs.lighting.indicators_lit.Goals as goal
 
 pub indicators-preserved : goal.indicators-preserved

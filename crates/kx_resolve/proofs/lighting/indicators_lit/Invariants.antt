@@ -1,5 +1,5 @@
 use Rattle.std.proofs.Common.{◌≡◌, All, map, take}
-use Rattle.kx_builder.specs.Lamps.{IndicatorIsValid, indicator_of}
+use Rattle.kx_builder.specs.IndicatorMaps.{IndicatorIsValid, indicator_of}
 use Rattle.kx_virtual_mods.specs.Sets.{real_of}
 use Rattle.kx_virtual_mods.specs.Standing.{stands_for}
 use Rattle.kx_resolve.specs.Lit.{indicators_of}

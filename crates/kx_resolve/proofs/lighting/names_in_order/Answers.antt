@@ -1,7 +1,7 @@
 use Rattle.std.proofs.Common.{◌++◌, ◌∷◌, [], All, ap, arith, subst, sym, take, ◌∙◌}
 use Rattle.std.proofs.lemmas.List.Elements.{All-push}
-use Rattle.kx_builder.specs.Lamps.{GroupNameIsValid}
-use Rattle.kx_resolve.proofs.Lamps.{name_is, taken_next}
+use Rattle.kx_builder.specs.IndicatorMaps.{GroupNameIsValid}
+use Rattle.kx_resolve.proofs.IndicatorMaps.{name_is, taken_next}
 use Rattle.kx_resolve.proofs.lighting.names_in_order.Goals as goal
 
 pub groups-preserved : goal.groups-preserved

@@ -1,5 +1,5 @@
 use Rattle.std.proofs.Common.{◌≡◌, ℕ, All, Bor, List, map, take}
-use Rattle.kx_builder.specs.Lamps.{GroupNameIsValid}
+use Rattle.kx_builder.specs.IndicatorMaps.{GroupNameIsValid}
 use Rattle.kx_resolve.proofs.lighting.names_in_order.Given as goal
 
 abbrev pub invariant-groups : goal.invariant-groups

@@ -1,6 +1,6 @@
 use Rattle.std.proofs.Common.{ℕ, ◌≤◌, All, List, Option, length, sym, subst, ap, ◌∙◌, arith}
 use Rattle.std.proofs.lemmas.List.Elements.{All-weaker}
-use Rattle.kx_builder.specs.Lamps.{with_lamps}
+use Rattle.kx_builder.specs.IndicatorMaps.{with_indicator_maps}
 use Rattle.kx_builder.specs.Placed.{content_of_resolved}
 use Rattle.kx_builder.specs.Resolved.{Resolved}
 use Rattle.kx_codes.specs.Codes.{name_of}
@@ -45,7 +45,7 @@ returns-clause-content c =
     let declared : List ℕ → Option Definition = type_named c.args.read.types.now in
     let keyed : Keyed = keyed_of (real_of (stands_for c.args.read.stands.now)) c.args.read.codes.now c.args.read.keys.now (modmap_at c.args.read.modmaps.now) c.args.read.interpretations.now in
     let built = tree_whole real declared c.in_ok-used.used keyed c.in_ok-used.ensures.used c.in_ok-builder.builder c.push_keys.new.builder c.in_ok-builder.ensures.types c.in_ok-push_keys.ensures.pushed in
-    c.in_ok-parts.ensures.content ∙ ap (λ r. with_lamps (content_of_resolved r) (indicators_of real c.args.read.indicators.now) c.args.read.group_names.now) built
+    c.in_ok-parts.ensures.content ∙ ap (λ r. with_indicator_maps (content_of_resolved r) (indicators_of real c.args.read.indicators.now) c.args.read.group_names.now) built
 
 pub returns-clause-agrees : goal.returns-clause-agrees
 returns-clause-agrees c =

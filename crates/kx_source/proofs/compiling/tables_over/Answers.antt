@@ -2,7 +2,7 @@ use Rattle.std.proofs.Common.{◌≡◌, ◌⊎◌, ◌∷◌, ◌++◌, [], Con
 use Rattle.kx_codes.specs.CodeFaults.{faults_of as keycodes_faults}
 use Rattle.kx_codes.specs.Codes.{CodesShow}
 use Rattle.kx_compat.specs.Meaning.{compat_faults}
-use Rattle.kx_indicators.specs.Meaning.{lamps_faults}
+use Rattle.kx_indicators.specs.Meaning.{indicator_maps_faults}
 use Rattle.kx_lex.specs.declared.fault.Fault.{Fault}
 use Rattle.kx_lex.specs.declared.fault.Fault.TheVariants.{Memory}
 use Rattle.kx_virtual_mods.specs.Declarations.{modifier_faults}
@@ -46,7 +46,7 @@ returns-in_err-parts-clause-fault c =
     (subst (λ fs. Contains (Memory ∷ fs) c.in_err-parts.field-0.0)
     (λ i.
     (keys_faults_same library bodies are m shows types types_show c.in_ok-codes.codes codes_show names i ++ maps_faults_same library bodies are m shows types types_show c.in_ok-codes.codes codes_show names i)
-    ++ (compat_faults names (same i) (are.compat i) ++ (names_faults (are.symbols i) ++ lamps_faults (same i) (are.compat i))))
+    ++ (compat_faults names (same i) (are.compat i) ++ (names_faults (are.symbols i) ++ indicator_maps_faults (same i) (are.compat i))))
     c.in_err-parts.ensures.fault))
 
 pub from_sound-requires : goal.from_sound-requires
@@ -85,4 +85,4 @@ returns-clause-faultless c =
     (sym (maps_faults_same library bodies are m shows types types_show c.in_ok-codes.codes codes_show names) ∙ c.in_ok-parts.ensures.faultless_maps)
     (sym (λ i. compat_faults names (same i) (are.compat i)) ∙ c.in_ok-parts.ensures.faultless_compat)
     (sym (ap names_faults are.symbols) ∙ c.in_ok-parts.ensures.faultless_names)
-    (sym (λ i. lamps_faults (same i) (are.compat i)) ∙ c.in_ok-parts.ensures.faultless_lamps)
+    (sym (λ i. indicator_maps_faults (same i) (are.compat i)) ∙ c.in_ok-parts.ensures.faultless_indicator_maps)

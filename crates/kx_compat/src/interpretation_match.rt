@@ -1,0 +1,58 @@
+//! What interpretations are told apart by.
+ghost use Rattle.std.specs.Prelude.{◌≡◌};
+ghost use Rattle.kx_mods.specs.Mods.{mask};
+
+use kx_mods::Mods;
+use kx_ordered::Again;
+use std::alloc::AllocError;
+
+/// The keysyms that an interpretation is for.
+#[derive(Clone, Copy, Debug, PartialEq, Eq, PartialOrd, Ord, Hash)]
+pub enum WantedKeysym {
+    /// Each keysym.
+    Any,
+    /// One, by its number.
+    Named(u32),
+}
+
+/// How the modifiers of an interpretation go together with those of a key's modifier map.
+#[derive(Clone, Copy, Debug, PartialEq, Eq, PartialOrd, Ord, Hash)]
+pub enum Condition {
+    /// The key has these and no others.
+    Exactly,
+    /// The key has all of these.
+    AllOf,
+    /// The key has none of these.
+    NoneOf,
+    /// The key has one of these.
+    AnyOf,
+    /// The key has one of these, or no modifiers at all.
+    AnyOfOrNone,
+}
+
+/// For which keys an interpretation is: two interpretations for the same are one.
+#[derive(Clone, Copy, Debug, PartialEq, Eq, PartialOrd, Ord, Hash)]
+pub struct InterpretationMatch {
+    pub keysym: WantedKeysym,
+    pub condition: Condition,
+    /// The interpretation's modifiers, as a mask of real ones.
+    pub mask: u8,
+}
+
+impl InterpretationMatch {
+    ghost use Rattle.std.specs.Prelude.{◌≡◌};
+    ghost use Rattle.kx_mods.specs.Mods.{mask};
+
+    /// The interpretation's modifiers.
+    pub fn mods(self) -> Mods
+        ensures { mask result ≡ self.mask }
+    {
+        Mods::from_mask(self.mask)
+    }
+}
+
+impl Again for InterpretationMatch {
+    fn again(&self) -> Result<InterpretationMatch, AllocError> {
+        Ok(*self)
+    }
+}

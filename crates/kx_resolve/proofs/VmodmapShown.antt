@@ -1,0 +1,54 @@
+-- What keys bear.
+use Rattle.std.proofs.Common.{◌≡◌, ◌&&◌, ◌||◌, ◌+◌, ℕ, zero, suc, Bool, true, false, List, Option, None, is_some, refl, ap, ◌∙◌}
+use Rattle.std.specs.Option.{option_map_or}
+use Rattle.kx_resolve.specs.Vmodmap.{ReadKeymap, is_in_vmodmap, brings, gives, interpretation_at, is_given}
+use Rattle.kx_compat.specs.Interpretations.{Interpretation}
+use Rattle.kx_virtual_mods.specs.Sets.{any_below, has, has_virtual}
+use Rattle.kx_mods.specs.Mods.{mask}
+use Rattle.kx_mods.specs.declared.mods.Mods.{Mods}
+use Rattle.kx_types.specs.KeyTypes.{Definition}
+use Rattle.kx_resolve.proofs.Acting.{any_next, any_none}
+use Rattle.kx_resolve.specs.Given.{KeyGiven, given_in}
+use Rattle.kx_resolve.specs.GroupTypes.{content_group, group_count, group_levels, groups_within}
+
+none_within : (n : ℕ) → groups_within (given_in None) n ≡ 0
+unfolding groups_within
+none_within zero = refl
+none_within (suc n) = none_within n
+
+none_count : group_count (given_in None) ≡ 0
+unfolding group_count
+none_count = none_within 32
+
+module _ (interpretations : List Interpretation) (modmap : Mods) where
+  pub is_in_vmodmap_is : (key : KeyGiven) (declared : List ℕ → Option Definition) (number : ℕ) → option_map_or (λ set. has_virtual set number) key.virtual_mods (is_given interpretations modmap key declared number) ≡ is_in_vmodmap interpretations modmap key declared number
+  unfolding is_in_vmodmap
+  is_in_vmodmap_is key declared number = refl
+
+  -- a key that no statement names bears none
+  pub none_in_vmodmap : (declared : List ℕ → Option Definition) (number : ℕ) → is_in_vmodmap interpretations modmap (given_in None) declared number ≡ false
+  unfolding is_in_vmodmap
+  none_in_vmodmap declared number =
+      let test : ℕ → Bool = λ group. any_below (group_levels declared (given_in None) group) (λ level. gives number group level (interpretation_at interpretations modmap (given_in None) (content_group (given_in None) group) level)) in
+      ap (λ n. any_below n test) none_count ∙ any_none test
+
+and_false : (b : Bool) → (b && false) ≡ false
+and_false true = refl
+and_false false = refl
+
+or_false : (b : Bool) → (b || false) ≡ b
+or_false true = refl
+or_false false = refl
+
+pub absent_brings : (r : ReadKeymap) (number real code : ℕ) → r.key code ≡ given_in None → brings r number real code ≡ false
+absent_brings r number real code absent =
+    ap (λ key. is_some (r.name code) && (is_in_vmodmap r.interpretations (r.modmap code) key r.declared number && has (mask (r.modmap code)) real)) absent
+    ∙ ap (λ b. is_some (r.name code) && (b && has (mask (r.modmap code)) real)) (none_in_vmodmap r.interpretations (r.modmap code) r.declared number)
+    ∙ and_false (is_some (r.name code))
+
+-- a code without a name brings nothing
+pub unnamed_brings : (r : ReadKeymap) (number real code : ℕ) → r.name code ≡ None → any_below (code + 1) (brings r number real) ≡ any_below code (brings r number real)
+unnamed_brings r number real code none =
+    any_next (brings r number real) code
+    ∙ ap (λ o. any_below code (brings r number real) || (is_some o && (is_in_vmodmap r.interpretations (r.modmap code) (r.key code) r.declared number && has (mask (r.modmap code)) real))) none
+    ∙ or_false (any_below code (brings r number real))
