@@ -52,7 +52,7 @@ const USUAL: [&str; 5] = [
     "group=1",
 ];
 
-/// The words of an answer behind its code and direction, without the usual ones.
+/// The words of an answer after its code and direction, without the usual ones.
 fn shortened(alloc: Global, answer: &str) -> Result<String, AllocError> {
     let mut short = String::new(alloc);
     for word in answer.split(' ').skip(2) {
@@ -117,7 +117,7 @@ fn image_of(alloc: Global, case: &Case) -> Result<Vec<u8>, Fault> {
     Ok(image)
 }
 
-/// The bytes of the image from a place on, as many as stand behind the colon.
+/// The bytes of the image from a place on, as many as stand after the colon.
 fn bytes_from(alloc: Global, case: &Case, wanted: &str) -> Result<String, Trouble> {
     let (place, bytes) = wanted.split_once(":").unwrap_or(("0", wanted));
     let place = place.parse::<usize>().unwrap_or(0);
@@ -130,7 +130,7 @@ fn bytes_from(alloc: Global, case: &Case, wanted: &str) -> Result<String, Troubl
     Ok([place.as_str(), ":", digits.as_str()].concat(alloc)?)
 }
 
-/// How the image is opened once the bytes from a place on are these, which stand behind the place and a colon: the fault, or
+/// How the image is opened once the bytes from a place on are these, which stand after the place and a colon: the fault, or
 /// `taken`.
 fn opened_changed(alloc: Global, case: &Case, wanted: &str) -> Result<String, Trouble> {
     let (change, _) = wanted.split_once(" ").unwrap_or((wanted, ""));

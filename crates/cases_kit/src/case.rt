@@ -95,7 +95,7 @@ fn byte_of(high: u8, low: u8) -> u8 {
     (digits_value(&[high, low], 16) & 0xff) as u8
 }
 
-/// The byte that a text begins with, and what is behind it: `\x` and two digits are a byte, `\n` and `\r` the ends of lines.
+/// The byte that a text begins with, and what is after it: `\x` and two digits are a byte, `\n` and `\r` the ends of lines.
 fn first_byte(text: &[u8]) -> Option<(u8, &[u8])> {
     match text {
         [] => None,

@@ -1,6 +1,6 @@
 //! Actions as calls.
-use cases_kit::{Case, Trouble};
 use crate::sources::{bodies_of, library_of, modifiers_of};
+use cases_kit::{Case, Trouble};
 use kx_actions::{ActionDefaults, KeyAction, read, real_action};
 use kx_include::Place;
 use kx_lex::Fault;
@@ -22,7 +22,7 @@ fn call_in(field: &Field) -> Option<&Call> {
     }
 }
 
-/// The defaults and the action behind a field: one without a call is a default.
+/// The defaults and the action after a field: one without a call is a default.
 fn behind(
     names: &ModNames,
     field: &Field,

@@ -1,7 +1,7 @@
 //! Indicators.
-use cases_kit::{Case, Trouble};
 use crate::sources::{bodies_of, library_of, modifiers_of, text_of};
-use kx_indicators::{Indicators, IndicatorMap, indicators};
+use cases_kit::{Case, Trouble};
+use kx_indicators::{IndicatorMap, Indicators, indicators};
 use kx_lex::Fault;
 use std::alloc::Global;
 use std::fmt::Write;
@@ -29,7 +29,10 @@ pub fn shown(alloc: Global, case: &Case) -> Result<String, Trouble> {
     let found = indicators_in(alloc, case)?;
     let mut all = String::new(alloc);
     for number in 0..found.len() {
-        if let (Some(name), Some(indicator_map)) = (found.name(number), found.indicator_map(number)) {
+        if let (Some(name), Some(indicator_map)) = (
+            found.name(number),
+            found.indicator_map(number),
+        ) {
             push_shown(&mut all, name, indicator_map)?;
         }
     }

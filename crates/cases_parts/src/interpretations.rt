@@ -1,6 +1,6 @@
 //! Interpretations, and which one is chosen.
-use cases_kit::{Case, Trouble};
 use crate::sources::{bodies_of, library_of, modifiers_of};
+use cases_kit::{Case, Trouble};
 use ks_core::Notes;
 use kx_actions::KeyAction;
 use kx_compat::{Interpretation, Interpretations, WantedKeysym, interpretations};
@@ -62,7 +62,7 @@ fn push_shown(all: &mut String, one: &Interpretation) -> Result<(), Trouble> {
     Ok(())
 }
 
-/// Each interpretation, with a semicolon behind it.
+/// Each interpretation, with a semicolon after it.
 pub fn shown(alloc: Global, case: &Case) -> Result<String, Trouble> {
     let (found, _notes) = interpretations_in(alloc, case)?;
     let mut all = String::new(alloc);

@@ -1,6 +1,6 @@
 //! Key types, and their rows.
-use cases_kit::{Case, Trouble};
 use crate::sources::{bodies_of, library_of, modifiers_of, text_of};
+use cases_kit::{Case, Trouble};
 use kx_lex::Fault;
 use kx_mods::Mods;
 use kx_resolve::TypeRows;
@@ -15,7 +15,7 @@ fn types_in(alloc: Global, case: &Case) -> Result<Box<Types>, Fault> {
     Ok(Box::new(alloc, types(alloc, &bodies.types, &modifiers)?)?)
 }
 
-/// The names of the types in order, each with a blank behind it.
+/// The names of the types in order, each with a blank after it.
 pub fn names(alloc: Global, case: &Case) -> Result<String, Trouble> {
     let found = types_in(alloc, case)?;
     let mut all = String::new(alloc);

@@ -1,7 +1,7 @@
 //! What statements of symbols say of the key of the code 38.
-use cases_kit::{Case, Trouble};
 use crate::settings;
 use crate::sources::{bodies_of, codes_of, library_of, modifiers_of};
+use cases_kit::{Case, Trouble};
 use ks_core::{NameTable, Notes};
 use kx_actions::KeyAction;
 use kx_codes::Codes;
@@ -66,7 +66,7 @@ fn push_action(all: &mut String, action: KeyAction) -> Result<(), Trouble> {
     Ok(())
 }
 
-/// Puts the first keysym of a level, and its action behind a colon; `-` where there is neither.
+/// Puts the first keysym of a level, and its action after a colon; `-` where there is neither.
 fn push_level(
     all: &mut String,
     key: &KeyRecord,

@@ -1,6 +1,6 @@
 //! Virtual modifiers, and sets that masks name.
-use cases_kit::{Case, Trouble};
 use crate::sources::{bodies_of, library_of, modifiers_of, text_of, tree_of};
+use cases_kit::{Case, Trouble};
 use kx_lex::Fault;
 use kx_parse::{Expression, Item, Setting, Statement, Value};
 use kx_virtual_mods::{MOST_VIRTUAL_MODIFIERS, ModNames};
@@ -13,7 +13,7 @@ fn names_in(alloc: Global, case: &Case) -> Result<Box<ModNames>, Fault> {
     modifiers_of(alloc, &bodies)
 }
 
-/// The virtual modifiers with their declared masks, as `A=1`, each with a blank behind it.
+/// The virtual modifiers with their declared masks, as `A=1`, each with a blank after it.
 pub fn declared(alloc: Global, case: &Case) -> Result<String, Trouble> {
     let names = names_in(alloc, case)?;
     let mut all = String::new(alloc);

@@ -9,8 +9,8 @@ ghost use Rattle.kx_merge.specs.Offers.{taken};
 ghost use Rattle.kx_merge.specs.Records.{AreOffered};
 ghost use Rattle.cases_parts.specs.Sheet.{keycode_in, sheet_cell, sheet_moves, sheet_offer, sheet_rules};
 
-use cases_kit::{Case, Trouble};
 use crate::sources::{bodies_of, library_of, text_of};
+use cases_kit::{Case, Trouble};
 use kx_include::{Expansion, Place};
 use kx_lex::Fault;
 use kx_merge::{Fields, Merged, merge};

@@ -1,8 +1,8 @@
 //! What fields say of a key besides its lists.
-use cases_kit::{Case, Trouble};
 use crate::sources::{bodies_of, library_of, modifiers_of, text_of};
+use cases_kit::{Case, Trouble};
 use kx_include::Place;
-use kx_key_fields::{KeyDefaults, KeyAttributes, check_default, read_settings};
+use kx_key_fields::{KeyAttributes, KeyDefaults, check_default, read_settings};
 use kx_lex::Fault;
 use kx_parse::{Item, Statement};
 use kx_virtual_mods::ModNames;
@@ -64,7 +64,7 @@ fn join_said(
     Ok(())
 }
 
-/// The defaults behind an item.
+/// The defaults after an item.
 fn defaults_behind(
     alloc: Global,
     names: &ModNames,

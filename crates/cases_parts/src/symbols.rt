@@ -1,6 +1,6 @@
 //! Names of groups, and modifier maps.
-use cases_kit::{Case, Trouble};
 use crate::sources::{bodies_of, codes_of, library_of, modifiers_of, text_of};
+use cases_kit::{Case, Trouble};
 use ks_core::{NameTable, Notes};
 use kx_codes::Codes;
 use kx_group_names::{GroupNames, group_names};

@@ -19,7 +19,7 @@ fn letter_of(kind: TokenKind) -> &'static str {
     }
 }
 
-/// Puts tokens behind a text, each as its kind's first letter and its span, with a blank behind it.
+/// Puts tokens after a text, each as its kind's first letter and its span, with a blank after it.
 fn push_tokens(all: &mut String, tokens: &[Token]) -> Result<(), Trouble> {
     for token in tokens {
         let letter = letter_of(token.kind);
@@ -78,7 +78,7 @@ fn mode_word(mode: Mode) -> &'static str {
     }
 }
 
-/// Puts a part's mode, file, map and group behind a text; `-` stands for a map or a group that isn't named.
+/// Puts a part's mode, file, map and group after a text; `-` stands for a map or a group that isn't named.
 fn push_part(all: &mut String, part: &Part) -> Result<(), Trouble> {
     let mode = mode_word(part.mode());
     let file = str::from_utf8(part.file()).unwrap_or("?");

@@ -53,7 +53,7 @@ fn print_keysyms(rt: &impl Print, names: &NameTable, keysyms: &[u32]) -> io::Res
     Ok(())
 }
 
-/// Presses and releases the key of a code, prints what the press gives, and answers the state behind it.
+/// Presses and releases the key of a code, prints what the press gives, and answers the state after it.
 fn tap(rt: &(impl Print + AllocGlobal), image: &[u8], code: u16) -> Result<Components, Trouble> {
     let names = NameTable::builtin();
     let mut player = Player::start(rt.alloc(), View::open(image).map_err(Trouble::Image)?)?;

@@ -36,7 +36,7 @@ pub Begins-longer : (a b : Option (List ℕ)) (s t : List ℕ) → Begins a b s 
 Begins-longer a b s t h =
     record { part = h.part; rest = h.rest ++ t; parted = ap (λ l. l ++ t) h.parted ∙ append_assoc h.part h.rest t; put = h.put }
 
--- a beginning that is put behind another text
+-- a beginning that is put after another text
 pub Begins-after : (a b c : Option (List ℕ)) (s t : List ℕ) → Appends a b s → Begins b c t → Begins a c (s ++ t)
 Begins-after a b c s t h k =
     record {

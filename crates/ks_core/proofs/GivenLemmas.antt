@@ -84,7 +84,7 @@ module _ (pairs : Pairs) (name : String Global) (keysym other : ℕ) where
       by true is = full (first_place pairs other) (Some (length pairs)) (there ∙ ap (λ k. is_some (first_place pairs k)) (eqb-true keysym other is))
       by false is = or_none (first_place pairs other)
 
-  -- the first name of a keysym has its place behind the others
+  -- the first name of a keysym has its place after the others
   pub noted_place : false ≡ is_some (first_place pairs keysym) → cond (is_eq (nat_cmp keysym other)) (Some (length pairs)) (first_place pairs other) ≡ first_place (pairs ++ (name, keysym) ∷ []) other
   noted_place none =
       ap (λ b. cond b (Some (length pairs)) (first_place pairs other)) (same_number keysym other) ∙ by (keysym == other) refl

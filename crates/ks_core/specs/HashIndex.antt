@@ -4,7 +4,7 @@ use Rattle.ks_core.specs.Entry.{keysym_in}
 use Rattle.ks_core.specs.BuiltIn.{built_in}
 use Rattle.ks_core.specs.Index.{Row}
 
--- the byte of a name that stands so many sixteenths behind its start
+-- the byte of a name that stands so many sixteenths after its start
 abbrev pub byte_at : List ℕ → ℕ → ℕ
 byte_at name sixteenths = slice_index name (length name * sixteenths / 16)
 

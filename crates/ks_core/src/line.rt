@@ -17,7 +17,7 @@ use std::str;
 /// The most bytes of a name that a line gives.
 const MOST_NAME: usize = 63;
 
-/// The first line of the text, and what is left behind its line feed.
+/// The first line of the text, and what is left after its line feed.
 pub(crate) fn first_line(text: &[u8]) -> (&[u8], Option<&[u8]>)
     ensures lines { lines_of text.now ≡ result.0.now ∷ lines_left (option_map (λ rest. rest.now) result.1) }
     ensures shorter { IfSome result.1 (λ rest. length rest.now < length text.now) }

@@ -69,7 +69,7 @@ module _ {X : Type 0} (gives : X → Option Given) where
       let l : Option Bool = last_given (λ y. option_and_then given_latch_to_lock (gives y)) xs in
       inner s m g a c l (gives x) ∙ taken s m g a c l (gives x)
 
-  -- what is left is given behind what the next gives
+  -- what is left is given after what the next gives
   pub last_goes : (before s : Settings) (xs : List X) (i : ℕ) (x : X) (g : Given) → i < length xs → x ≡ get_or xs i x → Some g ≡ gives x → last_settings gives before xs ≡ last_settings gives s (drop i xs) → last_settings gives before xs ≡ last_settings gives (with_given s g) (drop (i + 1) xs)
   last_goes before s xs i x g within is gave left =
       left ∙ ap (last_settings gives s) (drop_next xs i x within is) ∙ last_next s x (drop (i + 1) xs)

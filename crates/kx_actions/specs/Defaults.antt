@@ -68,11 +68,11 @@ module _ (names : List (List ℕ)) where
   abbrev pub defaulted : List Field → ActionKind → Settings
   defaulted statements kind = last_settings (default_given kind) no_settings statements
 
-  -- the defaults behind one more statement
+  -- the defaults after one more statement
   abbrev pub next_defaults : ActionDefaults → Field → ActionDefaults
   next_defaults d field = option_map_or (λ kind. option_map_or (λ g. with_settings d kind (with_given (settings_for d kind) g)) (default_for kind field) d) (kind_of field) d
 
-  -- those behind statements, from the start of a section
+  -- those after statements, from the start of a section
   abbrev pub defaults_behind : List Field → ActionDefaults
   defaults_behind statements = fold next_defaults no_defaults statements
 

@@ -45,7 +45,7 @@ fn read_argument(
     }
 }
 
-/// What arguments give, behind defaults.
+/// What arguments give, after defaults.
 fn read_arguments(
     names: &ModNames,
     file: u32,

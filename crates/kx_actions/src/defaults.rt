@@ -102,11 +102,11 @@ impl ActionDefaults {
         defaults
     }
 
-    /// The defaults behind one more statement of a section, a field as `setMods.clearLocks = yes;`.
+    /// The defaults after one more statement of a section, a field as `setMods.clearLocks = yes;`.
     ///
     /// # Errors
     /// `UnknownField` at the word before the point where it is no word of an action's, or where there is no point; at the
-    /// word behind it where the action has no such argument, or where it has an index; else the faults of the argument:
+    /// word after it where the action has no such argument, or where it has an index; else the faults of the argument:
     /// `BadValue` or `GroupRange` at the value, or at the field where a value is needed and none is written, and
     /// `UnknownModifier` in a mask.
     pub fn behind(self, names: &ModNames, file: u32, field: &Field) -> Result<ActionDefaults, Fault>
@@ -130,7 +130,7 @@ impl ActionDefaults {
         Ok(self.with_settings(kind, self.settings(kind).with(given)))
     }
 
-    /// The defaults behind one more statement, of which a field with a fault changes nothing.
+    /// The defaults after one more statement, of which a field with a fault changes nothing.
     pub fn next(self, names: &ModNames, field: &Field) -> ActionDefaults
         ensures { result ≡ next_defaults names.now.names self field.now }
     {

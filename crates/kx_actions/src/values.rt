@@ -154,7 +154,7 @@ pub(crate) fn flag_given(
     }
 }
 
-/// The field of an action that a word names, behind which no index may stand.
+/// The field of an action that a word names, after which no index may stand.
 pub(crate) fn known_field(
     file: u32,
     kind: ActionKind,

@@ -10,3 +10,4 @@ pub mod Counting
 pub mod Sounding
 pub mod Lighting
 pub mod Lit
+pub mod Refusing

@@ -50,7 +50,7 @@ cause_from Memory fits had placed give cause = tt
 cause_from TooMany fits had placed give cause = λ h. cause (give h)
 cause_from Misplaced fits had placed give cause = cause
 
--- where all names fit, so does each behind those before it
+-- where all names fit, so does each after those before it
 pub name_fits : {X : Type 0} (name : X → List ℕ) (c now : Content) (xs : List X) (i : ℕ) (d : X) → i < length xs → length now.names ≡ length c.names + length (flat_map name (take i xs)) → NamesFit c name xs → NameFits now (name (get_or xs i d))
 name_fits name c now xs i d within e fit = record {
   length_fits = All-get_or (λ x. length (name x) < 2 ^ 16) xs i d within fit.lengths;

@@ -118,7 +118,7 @@ module _ (c : Content) (s : Sound c) (no_indicators : c.indicators ≡ []) (no_g
         is_new = holds.is_new;
       }
 
-  -- ---- The rows behind
+  -- ---- The rows after
 
   indicator_sum : (i : ℕ) → sum_by (λ (d : IndicatorRow). d.name_length) (take i (rows_of (indicator_row (length c.names)) ds)) ≡ length (names_of_indicators (take i ds))
   indicator_sum i = sum_before (indicator_row (length c.names)) (λ (d : ResolvedIndicator). d.name) (λ (d : IndicatorRow). d.name_length) any (λ before d h. refl) ds i (all_any ds)

@@ -56,7 +56,7 @@ module _ {X R : Type 0} (row : List X → X → R) where
 
 -- ---- What things own
 
--- a list is what stands before a place, the thing there, and what stands behind
+-- a list is what stands before a place, the thing there, and what stands after
 pub split_at : {X : Type 0} (xs : List X) (i : ℕ) (x : X) → slice_get xs i ≡ Some x → xs ≡ take i xs ++ x ∷ drop (suc i) xs
 split_at [] i x e = absurd (none-some x e)
 split_at (y ∷ ys) zero x e = ap (λ z. z ∷ ys) (same_Some y x e)
@@ -75,8 +75,8 @@ module _ {X A : Type 0} (f : X → List A) where
   flat_split : (before : List X) (x : X) (after : List X) → flat_map f (before ++ x ∷ after) ≡ flat_map f before ++ (f x ++ flat_map f after)
   flat_split before x after = flat_map-append f before (x ∷ after)
 
-  -- the part that begins behind what the things before one own, and is as long as what that one owns, is what it owns;
-  -- other lists may stand in front and behind
+  -- the part that begins after what the things before one own, and is as long as what that one owns, is what it owns;
+  -- other lists may stand in front and after
   pub part_between : (front back : List A) (before : List X) (x : X) (after : List X) (all : List A) → all ≡ front ++ (flat_map f (before ++ x ∷ after) ++ back) → part all (length front + length (flat_map f before)) (length (f x)) ≡ f x
   part_between front back before x after all e =
       let rest : List A = f x ++ (flat_map f after ++ back) in
@@ -93,7 +93,7 @@ module _ {X A : Type 0} (f : X → List A) where
       let e : 0 + length (flat_map f before) ≡ length (flat_map f before) = omega arith in
       rw (← e) (part_between [] [] before x after (flat_map f (before ++ x ∷ after)) (sym (append-nil (flat_map f (before ++ x ∷ after)))))
 
-  -- the part that begins behind what the things before place i own, and is as long as what the thing there owns, is that
+  -- the part that begins after what the things before place i own, and is as long as what the thing there owns, is that
   pub part_at : (xs : List X) (i : ℕ) (x : X) → slice_get xs i ≡ Some x → part (flat_map f xs) (length (flat_map f (take i xs))) (length (f x)) ≡ f x
   part_at xs i x e =
       ap (λ ys. part (flat_map f ys) (length (flat_map f (take i xs))) (length (f x))) (split_at xs i x e)

@@ -1,4 +1,4 @@
--- Tables with one more type, key, group or cell behind all others.
+-- Tables with one more type, key, group or cell after all others.
 use Rattle.std.specs.Prelude.{ℕ, ◌<◌, ◌+◌, ◌^◌, List, [], ◌∷◌, ◌++◌, length}
 use Rattle.kx_builder.specs.Pushes.{change_last}
 use Rattle.kx_builder.specs.Resolved.{ResolvedType, ResolvedKey, ResolvedGroup, ResolvedCell}

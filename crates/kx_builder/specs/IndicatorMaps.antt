@@ -1,4 +1,4 @@
--- The indicators of a keymap and the names of its groups, and the tables that hold them behind types and keys.
+-- The indicators of a keymap and the names of its groups, and the tables that hold them after types and keys.
 use Rattle.std.specs.Prelude.{ℕ, ◌≡◌, ◌+◌, ◌<◌, ◌≤◌, ◌^◌, All, List, ◌++◌, Some, length, map, slice_get}
 use Rattle.std.specs.List.{flat_map}
 use Rattle.kx_basics.specs.declared.limits.TheConstants.{MOST_GROUPS, MOST_NAME_BYTES}
@@ -40,7 +40,7 @@ names_of_indicators ds = flat_map (λ d. d.name) ds
 abbrev pub names_of_groups : List (List ℕ) → List ℕ
 names_of_groups gs = flat_map (λ g. g) gs
 
--- a name stands behind so many bytes of others, and the names of the rows before it
+-- a name stands after so many bytes of others, and the names of the rows before it
 abbrev pub indicator_row : ℕ → List ResolvedIndicator → ResolvedIndicator → IndicatorRow
 indicator_row first before d = record {
   mods = d.mods;
@@ -63,7 +63,7 @@ with_group_names c gs = record c { group_names = rows_of (group_name_row (length
 abbrev pub with_indicator_maps : Content → List ResolvedIndicator → List (List ℕ) → Content
 with_indicator_maps c ds gs = with_group_names (with_indicators c ds) gs
 
--- the numbers of rows for what is named fit, where the names stand behind those of the tables
+-- the numbers of rows for what is named fit, where the names stand after those of the tables
 pub record NamesFit {X : Type 0} (c : Content) (name : X → List ℕ) (xs : List X) : Type 0 where
   pub lengths : All (λ x. length (name x) < 2 ^ 16) xs
   pub all : length c.names + length (flat_map name xs) < 2 ^ 32

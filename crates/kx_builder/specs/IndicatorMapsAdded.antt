@@ -1,4 +1,4 @@
--- Tables with one more indicator, or one more name of a group, behind all others.
+-- Tables with one more indicator, or one more name of a group, after all others.
 use Rattle.std.specs.Prelude.{ℕ, ◌<◌, ◌^◌, List, [], ◌∷◌, ◌++◌, length}
 use Rattle.kx_builder.specs.IndicatorMaps.{ResolvedIndicator}
 use Rattle.kx_tables.specs.Content.{Content}
@@ -24,7 +24,7 @@ next_group_name c g = record { name_length = length g; first_name = length c.nam
 abbrev pub group_name_added : Content → List ℕ → Content
 group_name_added c g = record c { group_names = c.group_names ++ next_group_name c g ∷ []; names = c.names ++ g }
 
--- the numbers of a row fit, where its name stands behind all others
+-- the numbers of a row fit, where its name stands after all others
 pub record NameFits (c : Content) (name : List ℕ) : Type 0 where
   pub length_fits : length name < 2 ^ 16
   pub first : length c.names < 2 ^ 32

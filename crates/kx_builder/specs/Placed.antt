@@ -1,5 +1,5 @@
 -- The tables that hold what is resolved: a row for each type, key, group and cell, which says where what it owns
--- stands, behind what those before it own.
+-- stands, after what those before it own.
 use Rattle.std.specs.Prelude.{ℕ, List, [], ◌∷◌, ◌++◌, ◌+◌, length}
 use Rattle.std.specs.List.{flat_map}
 use Rattle.kx_builder.specs.Resolved.{Resolved, ResolvedType, ResolvedKey, ResolvedGroup, ResolvedCell}
@@ -50,7 +50,7 @@ type_row before t = record {
   first_name = length (names_of_types before);
 }
 
--- the keys' names stand behind those of all types
+-- the keys' names stand after those of all types
 abbrev pub key_row : List ResolvedType → List ResolvedKey → ResolvedKey → KeyRow
 key_row types before k = record {
   code = k.code;

@@ -54,7 +54,7 @@ impl Builder {
         }
     }
 
-    /// Appends a type. It is misplaced behind a key.
+    /// Appends a type. It is misplaced after a key.
     pub fn push_type(
         &mut self,
         name: &[u8],

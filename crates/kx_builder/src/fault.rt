@@ -10,7 +10,7 @@ pub enum BuildFault {
     Memory,
     /// A count or a place doesn't fit its number.
     TooMany,
-    /// A type stands behind a key, a group has no key, or a cell no group.
+    /// A type stands after a key, a group has no key, or a cell no group.
     Misplaced,
 }
 

@@ -50,7 +50,7 @@ pub(crate) fn no_tables(alloc: Global) -> RawTables
     }
 }
 
-/// The row of a type behind all others.
+/// The row of a type after all others.
 pub(crate) fn next_type(
     parts: &RawTables,
     name: &[u8],
@@ -72,7 +72,7 @@ pub(crate) fn next_type(
     Ok(row)
 }
 
-/// The row of a key behind all others, without groups.
+/// The row of a key after all others, without groups.
 pub(crate) fn next_key(
     parts: &RawTables,
     code: u16,
@@ -95,7 +95,7 @@ pub(crate) fn next_key(
     Ok(row)
 }
 
-/// The row of a cell behind all others.
+/// The row of a cell after all others.
 pub(crate) fn next_cell(
     parts: &RawTables,
     keysyms: &[u32],

@@ -1,4 +1,4 @@
--- Going over a body: what is behind and what is left of it.
+-- Going over a body: what is after and what is left of it.
 use Rattle.std.proofs.Common.{IfErr, OnOk, ◌≡◌, true, Some, ℕ, ◌+◌, ◌<◌, ◌≤◌, zero, suc, List, [], ◌∷◌, ◌++◌, length, drop, get_or, Contains, Option, None, Result, Ok, Err, refl, sym, ap, ◌∙◌, subst, arith}
 use Rattle.std.proofs.lemmas.List.{drop_all, drop_more}
 use Rattle.std.proofs.lemmas.List.Elements.{Contains-append_left}
@@ -23,7 +23,7 @@ use Rattle.kx_codes.specs.Gathering.{AreGathered, Blames, IsFound, IsGathered, L
 use Rattle.kx_codes.specs.Indexed.{Indexed, Stands, distinct}
 use Rattle.kx_codes.specs.Pairs.{Pair, all_taken, pairs_from, pairs_of}
 
--- from pairs and a body, some of the body is behind in what is gathered now, by the numbers of names, without a fault
+-- from pairs and a body, some of the body is after in what is gathered now, by the numbers of names, without a fault
 pub record Going (Old : List Pair → Type 0) (names : List (List ℕ)) (now : Indexed) (whole left : Body) : Type 0 where
   pub pairs_go : (ps : List Pair) → Old ps → (qs : List Pair) × StandsIn names now qs × (pairs_from qs left ≡ pairs_from ps whole)
   pub faults_go : faults_of whole ≡ faults_of left
@@ -118,7 +118,7 @@ took_nothing names g mode group body is = subst (λ b. Took names names g g (Inc
 pub blamed_included : (mode : Mode) (group : Option ℕ) (body : Body) (e : Fault) → Blames body e → Blames (Inc mode group body End) e
 blamed_included mode group body e has = Contains-append_left (Memory ∷ faults_of body) [] e has
 
--- want of memory, and faults that `?` passes on
+-- lack of memory, and faults that `?` passes on
 pub memory_blamed : (body : Body) (e : Fault) → e ≡ Memory → Blames body e
 memory_blamed body e is = (0, omega arith, sym is)
 

@@ -49,6 +49,6 @@ aliases_faultless (Begin rest) none = aliases_faultless rest none
 aliases_faultless (Own place item rest) none = none-both (item_name_faults place.file item) (faults bytes_eq alias_rules alias_moves tt rest) (own-faultless place.file item (none-left (own_faults place.file item) (faults_of rest) none)) (aliases_faultless rest (none-right (own_faults place.file item) (faults_of rest) none))
 aliases_faultless (Inc mode group body rest) none = none-both (faults bytes_eq alias_rules alias_moves tt body) (faults bytes_eq alias_rules alias_moves tt rest) (aliases_faultless body (none-left (faults_of body) (faults_of rest) none)) (aliases_faultless rest (none-right (faults_of body) (faults_of rest) none))
 
--- what aliases are refused for is want of memory there
+-- what aliases are refused for is lack of memory there
 pub refused : {X : Type 0} (r : Result X Fault) (body : Body) (e : Fault) → IsErrAnd r (λ y. y ≡ e) → faults_of body ≡ [] → Contains (Memory ∷ faults bytes_eq alias_rules alias_moves tt body) e → IfErr r (λ y. Contains (Memory ∷ faults_of body) y)
 refused r body e is none has = err_passed r (λ y. Contains (Memory ∷ faults_of body) y) e is (subst (λ fs. Contains (Memory ∷ fs) e) (aliases_faultless body none ∙ sym none) has)

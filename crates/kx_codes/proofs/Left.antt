@@ -68,7 +68,7 @@ not-true : (b : Bool) → not b ≡ true → b ≡ false
 not-true true h = absurd (false≢true h)
 not-true false h = refl
 
--- the pairs of a list are those that are left behind offers
+-- the pairs of a list are those that are left after offers
 abbrev Holds : List PairOffer → List Pair → Type 0
 Holds before ps = (p : Pair) → Has ps p ↔ IsLeft before p
 

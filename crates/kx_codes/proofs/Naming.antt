@@ -56,7 +56,7 @@ module _ (names : List (List ℕ)) (once : IsOnce names) (x old new : Indexed) (
         puts back.0 v.code back.1 before.0 (is ∙ ap Some same) back.3 before.2 none,
       )
 
--- ---- Names behind others
+-- ---- Names after others
 
 absent : (name : List ℕ) (ps : List Pair) → list_any (λ q. bytes_eq name q.name) ps ≡ false → code_in ps name ≡ None
 absent name [] h = refl
@@ -70,7 +70,7 @@ absent name (p ∷ ps) h = by (bytes_eq name p.name) (list_any (λ q. bytes_eq n
 pub absent_named : (x : Indexed) (ps : List Pair) (name : List ℕ) (code : ℕ) → Stands x ps → list_any (shares (record { name = name; code = code })) ps ≡ false → code_in x.by_name name ≡ None
 absent_named x ps name code s none = s.codes_are name ∙ absent name ps (first_of (list_any (λ q. bytes_eq name q.name) ps) (list_any (λ q. nat_eq code q.code) ps) (sym (shares-split (record { name = name; code = code }) ps) ∙ none))
 
--- what entries show with one more behind them
+-- what entries show with one more after them
 pub named_pushed : (key name : List ℕ) → key ≡ name → (code : ℕ) (es new : List (List ℕ × ℕ)) → new ≡ es ++ (key, code) ∷ [] → code_in (named (λ k. k) es) name ≡ None → (n : List ℕ) → code_in (named (λ k. k) new) n ≡ cond (bytes_eq name n) (Some code) (code_in (named (λ k. k) es) n)
 named_pushed key name same code es new is none n =
     code_named (λ k. k) new n ∙ ap (lookup (bytes_eq n)) (is ∙ ap (λ k. es ++ (k, code) ∷ []) same)

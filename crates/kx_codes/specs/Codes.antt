@@ -30,7 +30,7 @@ code_of c name = option_or (paired c name) (option_and_then (paired c) (target_i
 abbrev pub name_of : Codes → ℕ → Option (List ℕ)
 name_of c code = name_in c.by_code code
 
--- where the codes with names end: behind the greatest, or at 0 where no code has a name
+-- where the codes with names end: after the greatest, or at 0 where no code has a name
 pub record IsEnd (end : ℕ) (name : ℕ → Option (List ℕ)) : Type 0 where
   pub within : end ≤ CODES
   pub unnamed : (code : ℕ) → end ≤ code → code < CODES → name code ≡ None

@@ -19,7 +19,7 @@ pub record Leaves (names : List (List ℕ)) (body : Body) (ps : Indexed) : Type 
   pub pairs_are : StandsIn names ps (pairs_of body)
   pub faultless : faults_of body ≡ []
 
--- want of memory or a fault of a body
+-- lack of memory or a fault of a body
 abbrev pub Blames : Body → Fault → Type 0
 Blames body e = Contains (Memory ∷ faults_of body) e
 

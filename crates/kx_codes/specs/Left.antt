@@ -32,7 +32,7 @@ offers_of (Inc mode group body rest) = map {A = Pair} {B = PairOffer} (λ p. rec
 abbrev pub IsTaken : PairOffer → (Pair → Type 0) → Type 0
 IsTaken offer left = offer.mode ≡ Augment → (p : Pair) → left p → shares offer.pair p ≡ false
 
--- a pair is left behind offers, of which the last stands first: the last is taken and is its own, or it was left before, and
+-- a pair is left after offers, of which the last stands first: the last is taken and is its own, or it was left before, and
 -- the last is not taken or shares neither its name nor its code
 abbrev pub IsLeft : List PairOffer → Pair → Type 0
 IsLeft [] p = ⊥

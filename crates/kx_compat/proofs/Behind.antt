@@ -1,4 +1,4 @@
--- Defaults behind statements are what the last gives.
+-- Defaults after statements are what the last gives.
 use Rattle.std.proofs.Common.{◌≡◌, ℕ, List, [], ◌∷◌, ◌++◌, fold, option_to_list, Option, None, Some, refl, sym, ◌∙◌}
 use Rattle.std.specs.List.{flat_map}
 use Rattle.kx_actions.specs.Defaults.{next_defaults}

@@ -39,7 +39,7 @@ module _ {X : Type 0} (gives : X → Option FieldValue) where
       (or_inner l (option_and_then value_first_level_only (gives x)) v.first_level_only)
       ∙ taken v a m l (gives x)
 
-  -- what is left is given behind what the next gives
+  -- what is left is given after what the next gives
   pub last_goes : (before v : FieldValues) (xs : List X) (i : ℕ) (x : X) (o : Option FieldValue) → i < length xs → x ≡ get_or xs i x → o ≡ gives x → last_values gives before xs ≡ last_values gives v (drop i xs) → last_values gives before xs ≡ last_values gives (with_value v o) (drop (i + 1) xs)
   last_goes before v xs i x o within is gave left =
       left ∙ ap (last_values gives v) (drop_next xs i x within is) ∙ last_next v x (drop (i + 1) xs)

@@ -49,7 +49,7 @@ least is = fold earlier None is
 abbrev pub chosen : List Interpretation → ℕ → Bool → ℕ → Option Interpretation
 chosen is keysym first modmap = least (filter (matches first modmap keysym) is)
 
--- that one is for the key and comes first: those that are for it have a greater rank in front of it, and no lesser one behind
+-- that one is for the key and comes first: those that are for it have a greater rank in front of it, and no lesser one after
 pub record IsFirst (test : Interpretation → Bool) (is : List Interpretation) (i : Interpretation) : Type 0 where
   pub front : List Interpretation
   pub behind : List Interpretation

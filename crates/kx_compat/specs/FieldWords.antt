@@ -62,7 +62,7 @@ module _ (names : List (List ℕ)) where
   setting_value d setting fields.Levels = option_map FirstLevelOnly (option_and_then (meaning_among level_words) (expression_in setting))
   setting_value d setting fields.Unused = None
 
-  -- `word` names the field: that of its place, or as a default the one behind the point
+  -- `word` names the field: that of its place, or as a default the one after the point
   abbrev pub field_value : ActionDefaults → Name → Field → Option FieldValue
   field_value d word field = option_and_then (setting_value d field.setting) (field_named word.bytes field.place.index)
 

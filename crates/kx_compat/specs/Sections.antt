@@ -1,4 +1,4 @@
--- What the statements of a compat section say of interpretations, the defaults behind them, for interpretations and for actions, and
+-- What the statements of a compat section say of interpretations, the defaults after them, for interpretations and for actions, and
 -- their faults. Virtual modifiers and indicators are judged elsewhere; a group statement is read and not used.
 use Rattle.std.specs.Prelude.{◌≡◌, ℕ, fold, option_to_list, Bool, true, false, List, [], ◌∷◌, ◌++◌, Option, None, Some, is_some, if◌then◌else◌, codes}
 use Rattle.std.specs.List.{flat_map}
@@ -67,7 +67,7 @@ module _ (names : List (List ℕ)) where
   abbrev pub given_value : ActionDefaults → Option Field → Option FieldValue
   given_value actions field = option_and_then (λ f. if is_interpret f.place.word.bytes then member_value actions f f.place.member else None) field
 
-  -- the defaults behind one more statement
+  -- the defaults after one more statement
   abbrev pub next_default : CompatDefaults → Item → CompatDefaults
   next_default d item = record { actions = option_map_or (next_defaults names d.actions) (item_field item) d.actions; values = with_value d.values (given_value d.actions (item_field item)) }
 
@@ -76,7 +76,7 @@ module _ (names : List (List ℕ)) where
   standing actions [] = []
   standing actions (item ∷ items) = (actions, item) ∷ standing (option_map_or (next_defaults names actions) (item_field item) actions) items
 
-  -- a law, a clause of `interpretations`: the defaults behind the statements of a section are what the last of them gives that gives a
+  -- a law, a clause of `interpretations`: the defaults after the statements of a section are what the last of them gives that gives a
   -- field anything
   pub record DefaultsAreLast : Type 0 where
     pub actions_are : (statements : List Item) → (fold next_default no_defaults statements).actions ≡ defaults_behind names (flat_map (λ item. option_to_list (item_field item)) statements)

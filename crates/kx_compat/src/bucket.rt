@@ -94,7 +94,7 @@ impl Bucket {
         }
     }
 
-    /// One more behind the others.
+    /// One more after the others.
     pub(crate) fn push(&mut self, interpretation: Interpretation) -> Result<(), Fault>
         ensures pushed { OnOk result (self.new ≡ self.old ++ interpretation ∷ []) }
         ensures err { IfErr result (λ e. e ≡ Memory) }

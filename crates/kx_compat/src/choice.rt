@@ -70,7 +70,8 @@ fn rank(interpretation: &Interpretation) -> u16
     ensures { result ≡ rank interpretation.now }
 {
     let interpretation_match = interpretation.interpretation_match();
-    u16::from(keysym_rank(interpretation_match.keysym)) + u16::from(condition_rank(interpretation_match.condition))
+    u16::from(keysym_rank(interpretation_match.keysym))
+        + u16::from(condition_rank(interpretation_match.condition))
 }
 
 /// The one that comes first of an interpretation and one that stands before it, if any.

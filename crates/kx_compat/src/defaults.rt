@@ -109,7 +109,7 @@ impl CompatDefaults {
         }
     }
 
-    /// Those behind one more statement.
+    /// Those after one more statement.
     pub(crate) fn next(self, names: &ModNames, item: &Item) -> CompatDefaults
         ensures { result ≡ next_default names.now.names self item.now }
     {

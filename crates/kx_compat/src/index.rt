@@ -116,7 +116,7 @@ fn keep_choices(alloc: Global, named: &mut Ordered<u32, Bucket>) -> Result<(), F
     Ok(())
 }
 
-/// Adds an interpretation behind others of its keysym.
+/// Adds an interpretation after others of its keysym.
 fn add_named(
     alloc: Global,
     named: &mut Ordered<u32, Bucket>,
@@ -136,7 +136,7 @@ fn add_named(
     Ok(())
 }
 
-/// Adds an interpretation behind others.
+/// Adds an interpretation after others.
 fn add_indexed(
     alloc: Global,
     named: &mut Ordered<u32, Bucket>,

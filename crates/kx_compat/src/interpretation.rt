@@ -1,7 +1,7 @@
 //! Interpretations.
 use crate::action::GivenAction;
-use crate::modifier::GivenModifier;
 use crate::interpretation_match::InterpretationMatch;
+use crate::modifier::GivenModifier;
 use kx_actions::KeyAction;
 use kx_virtual_mods::MOST_VIRTUAL_MODIFIERS;
 use std::marker::Model;

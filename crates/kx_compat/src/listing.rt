@@ -12,8 +12,8 @@ ghost use Rattle.kx_compat.specs.Shown.{interpretation_recorded};
 
 use crate::index::Interpretations;
 use crate::interpretation::Interpretation;
-use crate::record::Context;
 use crate::interpretation_match::InterpretationMatch;
+use crate::record::Context;
 use crate::values::FieldValues;
 use ks_core::{NameTable, Notes};
 use kx_include::Expansion;
@@ -24,7 +24,10 @@ use kx_virtual_mods::ModNames;
 use std::alloc::Global;
 
 /// What these values say of keys.
-fn interpretation_with(interpretation_match: InterpretationMatch, values: FieldValues) -> Interpretation
+fn interpretation_with(
+    interpretation_match: InterpretationMatch,
+    values: FieldValues,
+) -> Interpretation
     ensures { result ≡ interpretation_with interpretation_match values }
 {
     Interpretation::of(

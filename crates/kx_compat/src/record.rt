@@ -8,8 +8,8 @@ ghost use Rattle.kx_compat.specs.Meaning.{compat_moves, compat_rules};
 ghost use Rattle.kx_compat.specs.Giving.{values_cell, values_width};
 
 use crate::defaults::CompatDefaults;
-use crate::statements::read_item;
 use crate::interpretation_match::InterpretationMatch;
+use crate::statements::read_item;
 use crate::values::{Cell, FieldValue, FieldValues};
 use ks_core::{NameTable, Notes};
 use kx_include::Place;

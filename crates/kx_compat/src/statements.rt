@@ -15,8 +15,8 @@ ghost use Rattle.kx_mods.specs.Mods.{mask};
 
 use crate::defaults::{CompatDefaults, field_in, is_interpret};
 use crate::fields::read_field;
-use crate::predicates::{read_keysym, read_predicate};
 use crate::interpretation_match::{Condition, InterpretationMatch, WantedKeysym};
+use crate::predicates::{read_keysym, read_predicate};
 use crate::values::{FieldValue, FieldValues};
 use ks_core::{NameTable, Notes};
 use kx_actions::ActionDefaults;
@@ -71,7 +71,11 @@ fn is_other(statement: &Statement) -> bool
     }
 }
 
-fn match_with(keysym: Option<WantedKeysym>, condition: Condition, mods: Mods) -> Option<InterpretationMatch>
+fn match_with(
+    keysym: Option<WantedKeysym>,
+    condition: Condition,
+    mods: Mods,
+) -> Option<InterpretationMatch>
     ensures { result ≡ match_with keysym (Some (condition, mask mods)) }
 {
     match keysym {
@@ -121,7 +125,7 @@ fn read_own(
     read_field(names, file, &defaults.actions, word, field, notes)
 }
 
-/// What the fields of an interpretation give it, behind the defaults.
+/// What the fields of an interpretation give it, after the defaults.
 fn read_values(
     names: &ModNames,
     file: u32,

@@ -24,7 +24,7 @@ impl<'t> Cursor<'t> {
         self.rest
     }
 
-    /// The tokens behind the first.
+    /// The tokens after the first.
     pub(crate) fn behind(&self) -> &'t [Token] {
         behind_front(self.rest)
     }

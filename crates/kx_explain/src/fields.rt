@@ -124,7 +124,7 @@ fn write_in_call(out: &mut String, call: &Call, word: &[u8], span: Span) -> Resu
     }
 }
 
-/// Says that a default is of no field: `word` is the word behind the point.
+/// Says that a default is of no field: `word` is the word after the point.
 fn write_default(out: &mut String, field: &Field, word: &[u8]) -> Result<(), AllocError> {
     let owner = field.place.word.bytes.as_slice();
     if action_named(owner).is_some() {

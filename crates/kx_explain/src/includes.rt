@@ -86,7 +86,7 @@ fn write_map_name(out: &mut String, section: &Section) -> Result<(), AllocError>
     }
 }
 
-/// Lists the names of the sections of a kind, where there are some, behind `before`; answers whether there are.
+/// Lists the names of the sections of a kind, where there are some, after `before`; answers whether there are.
 fn write_maps_of(
     out: &mut String,
     sections: &[Section],

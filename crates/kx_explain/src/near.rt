@@ -2,7 +2,7 @@
 ghost use Rattle.std.specs.Prelude.{◌≡◌, Some, true};
 ghost use Rattle.std.specs.Str.{str_eq_ignore_ascii_case};
 
-/// What stands behind the bytes that two words have in common, in capital letters or small.
+/// What stands after the bytes that two words have in common, in capital letters or small.
 fn behind_common<'a>(word: &'a [u8], other: &'a [u8]) -> (&'a [u8], &'a [u8]) {
     let pairs = word.iter().zip(other.iter());
     let count = pairs

@@ -1,7 +1,7 @@
 //! What is said of a fault without its text.
 use kx_lex::{At, Fault};
 
-/// Where a fault stands; want of memory stands nowhere.
+/// Where a fault stands; lack of memory stands nowhere.
 pub fn place_of(fault: Fault) -> Option<At> {
     match fault {
         Fault::Memory => None,

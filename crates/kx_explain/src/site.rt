@@ -108,7 +108,7 @@ pub(crate) fn site_at(statement: &Statement, span: Span) -> Site<'_> {
     }
 }
 
-/// The word that says what a field sets: behind its point, where it has one.
+/// The word that says what a field sets: after its point, where it has one.
 pub(crate) fn word_of(field: &Field) -> &Name {
     match &field.place.member {
         Some(member) => member.get(),

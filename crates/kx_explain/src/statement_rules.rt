@@ -12,7 +12,7 @@ const BEHIND_FIELD: &str = "'=' or ';' after a field";
 
 const BEHIND_VALUE: &str = "';' after a value";
 
-/// Takes a field, and answers what could stand behind it.
+/// Takes a field, and answers what could stand after it.
 fn take_field(cursor: &mut Cursor, wanted: &'static str) -> Result<&'static str, &'static str> {
     if cursor.takes_mark(b'!') {
         take_place(cursor, "a field after '!'")?;
@@ -39,7 +39,7 @@ fn take_block(cursor: &mut Cursor, wanted: &'static str) -> Step {
     cursor.mark(b'}', "a field or '}'")
 }
 
-/// Takes fields between braces, and the `;` behind them.
+/// Takes fields between braces, and the `;` after them.
 fn take_last_block(cursor: &mut Cursor, wanted: &'static str) -> Step {
     take_block(cursor, wanted)?;
     cursor.mark(b';', "';' after '}'")
@@ -143,7 +143,7 @@ fn take_modifier_map(cursor: &mut Cursor) -> Step {
     cursor.mark(b';', "';' after '}'")
 }
 
-/// What could stand behind a first word where nothing that a field has there does.
+/// What could stand after a first word where nothing that a field has there does.
 fn wanted_behind(token: Option<&Token>) -> &'static str {
     let Some(token) = token else {
         return BEHIND_FIELD;

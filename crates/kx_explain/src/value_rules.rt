@@ -10,7 +10,7 @@ pub(crate) trait Rule {
     fn take(cursor: &mut Cursor) -> Step;
 }
 
-/// Takes one, and more behind commas, with the mark that closes them.
+/// Takes one, and more after commas, with the mark that closes them.
 pub(crate) fn take_sequence<R: Rule>(cursor: &mut Cursor, close: u8, wanted: &'static str) -> Step {
     for _ in 0..cursor.rest().len() {
         R::take(cursor)?;
@@ -131,7 +131,7 @@ impl Rule for LevelRule {
     }
 }
 
-/// Takes a list behind its bracket.
+/// Takes a list after its bracket.
 pub(crate) fn take_list(cursor: &mut Cursor) -> Step {
     take_listed::<LevelRule>(cursor, b']', "',' or ']' after a level")
 }

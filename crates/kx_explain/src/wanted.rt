@@ -63,7 +63,7 @@ pub(crate) fn wanted_value(word: &[u8]) -> Option<&'static str> {
     None
 }
 
-/// What stands in the brackets behind a word.
+/// What stands in the brackets after a word.
 pub(crate) fn wanted_index(word: &[u8]) -> &'static str {
     if word.eq_ignore_ascii_case(b"map") || word.eq_ignore_ascii_case(b"preserve") {
         MASK

@@ -104,7 +104,7 @@ impl Maps {
         self.all.get(place)
     }
 
-    /// Adds a map behind the others.
+    /// Adds a map after the others.
     pub(crate) fn add(
         &mut self,
         kind: Kind,

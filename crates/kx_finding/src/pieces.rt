@@ -36,14 +36,14 @@ fn is_plain(byte: u8) -> bool {
     matches!(ENDS[usize::from(byte)], No)
 }
 
-/// The bytes behind so many.
+/// The bytes after so many.
 fn behind(bytes: &[u8], count: usize) -> &[u8]
     ensures { length result.now ≤ length bytes.now }
 {
     bytes.get(count..).unwrap_or(&[])
 }
 
-/// What stands behind the plain bytes at the front, which are passed over four a turn.
+/// What stands after the plain bytes at the front, which are passed over four a turn.
 pub(crate) fn behind_plain(bytes: &[u8]) -> &[u8]
     ensures { length result.now ≤ length bytes.now }
 {
@@ -74,7 +74,7 @@ pub(crate) fn is_comment(first: u8, left: &[u8]) -> bool {
     first == b'#' || first == b'/' && left.first() == Some(&b'/')
 }
 
-/// What stands behind the first such byte, which is looked for four bytes a turn; nothing where there is none.
+/// What stands after the first such byte, which is looked for four bytes a turn; nothing where there is none.
 fn behind_byte(wanted: u8, bytes: &[u8]) -> &[u8]
     ensures { length result.now ≤ length bytes.now }
 {
@@ -100,7 +100,7 @@ fn behind_byte(wanted: u8, bytes: &[u8]) -> &[u8]
     }
 }
 
-/// What stands behind text, of which the opening quote was passed; nothing where it isn't closed.
+/// What stands after text, of which the opening quote was passed; nothing where it isn't closed.
 fn behind_text(bytes: &[u8]) -> &[u8]
     ensures { length result.now ≤ length bytes.now }
 {
@@ -117,7 +117,7 @@ fn behind_text(bytes: &[u8]) -> &[u8]
     &[]
 }
 
-/// What stands behind a piece that begins with this byte: text, a comment, a key's name, or the byte alone.
+/// What stands after a piece that begins with this byte: text, a comment, a key's name, or the byte alone.
 pub(crate) fn behind_piece(first: u8, left: &[u8]) -> &[u8]
     ensures { length result.now ≤ length left.now }
 {
@@ -135,7 +135,7 @@ pub(crate) fn before<'t>(bytes: &'t [u8], last: &[u8]) -> &'t [u8] {
     bytes.get(..len).unwrap_or(bytes)
 }
 
-/// What stands between the quotes of text, by what stands behind the opening one and behind the closing one.
+/// What stands between the quotes of text, by what stands after the opening one and after the closing one.
 pub(crate) fn between_quotes<'t>(bytes: &'t [u8], behind: &[u8]) -> &'t [u8] {
     let closed = before(bytes, behind);
     match closed.split_last() {

@@ -48,7 +48,7 @@ impl<'t> Header<'t> {
     }
 }
 
-/// Whether text is that of an include, by the plain bytes right before it and those before the comments there. Text behind a
+/// Whether text is that of an include, by the plain bytes right before it and those before the comments there. Text after a
 /// word that joins is one wherever it stands: no statement has such a word before text.
 fn is_included(plain: &[u8], before_comment: &[u8]) -> bool {
     let front = trimmed(plain);
@@ -59,7 +59,7 @@ fn is_included(plain: &[u8], before_comment: &[u8]) -> bool {
     }
 }
 
-/// Adds the texts of the includes in a body; answers what stands behind its closing brace.
+/// Adds the texts of the includes in a body; answers what stands after its closing brace.
 fn read_body<'t>(
     alloc: Global,
     body: &'t [u8],
@@ -103,7 +103,7 @@ fn name_of(alloc: Global, name: Option<&[u8]>) -> Result<Option<Vec<u8>>, AllocE
     }
 }
 
-/// Passes over the body of a section and adds its map; answers what stands behind it. Of what isn't a section, as a keymap,
+/// Passes over the body of a section and adds its map; answers what stands after it. Of what isn't a section, as a keymap,
 /// the brace alone is passed.
 fn read_section<'t>(
     alloc: Global,
@@ -125,7 +125,7 @@ fn read_section<'t>(
     Ok(rest)
 }
 
-/// Passes over a piece outside of sections, or over a whole section; answers what stands behind it.
+/// Passes over a piece outside of sections, or over a whole section; answers what stands after it.
 fn read_piece<'t>(
     alloc: Global,
     first: u8,

@@ -49,7 +49,7 @@ struct Place {
     map: usize,
 }
 
-/// What is known of files: those handed in by name, and behind them those that were found.
+/// What is known of files: those handed in by name, and after them those that were found.
 #[derive(Drop)]
 struct Search {
     /// How many were handed in.

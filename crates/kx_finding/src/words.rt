@@ -52,7 +52,7 @@ fn is_blank(byte: u8) -> bool {
     matches!(byte, b' ' | b'\t'..=b'\r')
 }
 
-/// Bytes without the blanks behind them.
+/// Bytes without the blanks after them.
 pub(crate) fn trimmed(bytes: &[u8]) -> &[u8] {
     match bytes.iter().rposition(|byte| !is_blank(*byte)) {
         Some(place) => bytes.get(..place.saturating_add(1)).unwrap_or(bytes),
@@ -60,7 +60,7 @@ pub(crate) fn trimmed(bytes: &[u8]) -> &[u8] {
     }
 }
 
-/// The word behind which bytes end.
+/// The word after which bytes end.
 fn last_word(bytes: &[u8]) -> &[u8] {
     match bytes.iter().rposition(|byte| !is_word_byte(*byte)) {
         Some(place) => bytes.get(place.saturating_add(1)..).unwrap_or(&[]),
@@ -68,7 +68,7 @@ fn last_word(bytes: &[u8]) -> &[u8] {
     }
 }
 
-/// Whether bytes without blanks behind them end with a word that joins an include's text to them.
+/// Whether bytes without blanks after them end with a word that joins an include's text to them.
 pub(crate) fn end_with_join(bytes: &[u8]) -> bool {
     let word = last_word(bytes);
     JOINS.iter().any(|join| is_word(word, join))

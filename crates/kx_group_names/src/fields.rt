@@ -38,7 +38,7 @@ pub(crate) fn name_in(statement: &Statement) -> Option<&Field>
     }
 }
 
-/// The group, counted from 1, that an index behind a word names.
+/// The group, counted from 1, that an index after a word names.
 fn read_group(file: u32, word: &Name, index: &Option<Boxed<Index>>) -> Result<u8, Fault>
     ensures value { IfOk result (λ group. Some group ≡ indexed_group index.now) }
     ensures faultless { OnOk result (index_faults file word.now index.now ≡ []) }

@@ -12,7 +12,7 @@ use Rattle.kx_tables.specs.Fit.{CountsFit}
 use Rattle.kx_tables.proofs.Fits.{sound_fits, groups_fit}
 use Rattle.kx_basics.specs.Keysyms.{IsKeysym}
 use Rattle.kx_tables.specs.Sound.{Sound, TypeHolds, KeyHolds, GroupHolds, CellHolds, IndicatorHolds, GroupNameHolds}
-use Rattle.kx_tables.specs.Unsound.{breaks_unsound}
+use Rattle.kx_tables.proofs.Unsound.{breaks_unsound}
 use Rattle.kx_tables.specs.declared.check.RecordKind.{RecordKind}
 use Rattle.kx_tables.specs.declared.check.RecordKind.TheVariants as parts
 use Rattle.kx_tables.specs.declared.rows.CellRow.{CellRow}
@@ -140,7 +140,7 @@ length-image c e =
       length-table group_name_bytes 8 (λ x. refl) c.group_names,
     )
 
--- the tables of an image, one behind another
+-- the tables of an image, one after another
 whole_of : (c : Content) (e : ImageVersion) (s : List ℕ) → Sound c → s ≡ image e c → Whole c (header_for e c) s
 whole_of c e s sound is =
     let h = header_for e c in

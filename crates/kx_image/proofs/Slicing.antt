@@ -19,7 +19,7 @@ module _ {X : Type 0} (of : List ℕ → X) (size : ℕ) where
       let e : start + size + size * i ≡ start + size * suc i = omega arith in
       rows_at-get n (start + size) s i (omega arith) ∙ ap (λ (p : ℕ). Some (of (part s p size))) e
 
-  -- the first record and what is behind it
+  -- the first record and what is after it
   cut_first : (start : ℕ) (s : List ℕ) → part s start size ++ drop (start + size) s ≡ drop start s
   cut_first start s = ap (λ t. part s start size ++ t) (sym (drop-drop size start s)) ∙ take-append-drop size (drop start s)
 

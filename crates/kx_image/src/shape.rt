@@ -4,7 +4,7 @@ ghost use Rattle.kx_image.specs.Shape as spec;
 ghost use Rattle.kx_image.specs.Starts.{starts_of, IsShape};
 
 use crate::fault::ImageFault;
-use crate::header::{ImageVersion, Header};
+use crate::header::{Header, ImageVersion};
 use crate::records::{
     CELL_SIZE, ENTRY_SIZE, GROUP_NAME_SIZE, GROUP_SIZE, INDICATOR_SIZE, KEY_SIZE, KEYSYM_SIZE,
     TYPE_SIZE,

@@ -7,7 +7,7 @@ ghost use Rattle.kx_image.specs.Records as spec;
 ghost use Rattle.kx_image.specs.Shape.{header_bytes};
 ghost use Rattle.kx_image.specs.declared.header.ImageVersion.TheVariants.{Two};
 
-use crate::header::{ImageVersion, Header};
+use crate::header::{Header, ImageVersion};
 use crate::records::{
     cell_bytes, entry_bytes, group_bytes, group_name_bytes, indicator_bytes, key_bytes,
     keysym_bytes, type_bytes,
@@ -99,7 +99,7 @@ fn write_group_names<T: Tables, O: Out>(tables: &T, buffered: &mut BufferedOut, 
     }
 }
 
-/// Writes the tables behind the header, one after another, and the names.
+/// Writes the tables after the header, one after another, and the names.
 fn write_body<T: Tables, O: Out>(tables: &T, buffered: &mut BufferedOut, out: &mut O)
     ensures { Writes O.written O.failures out.old buffered.old out.new buffered.new (body (T.content tables.now)) }
 {

@@ -29,7 +29,7 @@ split_front (b ∷ bs) = by (split_front bs) (is_inner b) refl
         rw (front_len b bs h) (ap (λ o. split_by o b (split bs)) none ∙ ap (λ (r : List ℕ × List (Mode × List ℕ)). (b ∷ r.0, r.1)) inside)
     by inside false h = rw (no_front_len b bs h) (ap (λ (r : List ℕ). (r, (split (b ∷ bs)).1)) (split-no_front b bs (join_of b) refl h))
 
--- what is left behind the front begins with a join
+-- what is left after the front begins with a join
 left-join : (bs : List ℕ) (c : ℕ) (cs : List ℕ) → drop (prefix_len is_inner bs) bs ≡ c ∷ cs → is_inner c ≡ false
 left-join [] c cs e = cc
 left-join (b ∷ bs) c cs e = by (left-join bs c cs) (is_inner b) refl

@@ -22,7 +22,7 @@ or_none : (o : Option ℕ) → o ≡ option_or o None
 or_none None = refl
 or_none (Some n) = refl
 
--- ---- The first place at which a test passes, where one more stands behind
+-- ---- The first place at which a test passes, where one more stands after
 
 from_more : {X : Type 0} (test : X → Bool) (i : ℕ) (xs : List X) (x : X) → position_from test i (xs ++ x ∷ []) ≡ or_here (position_from test i xs) (test x) (i + length xs)
 from_more test i [] x = ap (λ n. cond (test x) (Some n) None) (omega arith)

@@ -33,7 +33,7 @@ grows_on a b c g h = (g.0 ++ h.0, h.1 ∙ ap (λ bs. bs ++ h.0) g.1 ∙ append_a
 pub grows_push : (ms : List Map) (m : Map) → Grows ms (ms ++ m ∷ [])
 grows_push ms m = (shared_body (bodies_of ms) m End ∷ [], bodies_behind-append [] ms (m ∷ []))
 
--- what holds whatever stands behind maps holds behind more of them
+-- what holds whatever stands after maps holds after more of them
 pub regrow : (P : List Body → Type 0) (old new : List Map) → Grows old new → ((more : List Body) → P (bodies_of old ++ more)) → (more : List Body) → P (bodies_of new ++ more)
 regrow P old new g holds more = subst P (sym (ap (λ bs. bs ++ more) g.1 ∙ append_assoc (bodies_of old) g.0 more)) (holds (g.0 ++ more))
 

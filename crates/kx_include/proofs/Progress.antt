@@ -8,7 +8,7 @@ use Rattle.kx_lex.specs.declared.fault.Fault.{Fault}
 use Rattle.kx_include.specs.IncludeFaults.{Findings, nothing, both, after, HasFaultFrom}
 use Rattle.kx_include.specs.Limits.{most_parts}
 
--- from a count and findings, some without a fault are behind, and these are left
+-- from a count and findings, some without a fault are after, and these are left
 pub record Left (n : ℕ) (a : Findings) (m : ℕ) (b : Findings) : Type 0 where
   pub behind : List At
   pub visits : a.visits ≡ behind ++ b.visits

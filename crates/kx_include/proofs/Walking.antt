@@ -1,4 +1,4 @@
--- Going over a list of items, or of parts, one by one: those behind are expanded.
+-- Going over a list of items, or of parts, one by one: those after are expanded.
 use Rattle.std.proofs.Common.{◌≡◌, ℕ, ◌≤◌, List, [], ◌∷◌, ◌++◌, length, sym, subst, arith, inl, inr}
 use Rattle.std.proofs.lemmas.List.{append_assoc, append-nil}
 use Rattle.kx_lex.specs.declared.fault.Fault.{Fault}

@@ -23,7 +23,7 @@ abbrev pub parts_body : (Part → Body) → List Part → Body
 parts_body inner [] = End
 parts_body inner (p ∷ ps) = Inc p.mode p.group (inner p) (parts_body inner ps)
 
--- a section's items, and the rest behind them
+-- a section's items, and the rest after them
 abbrev pub items_body : (Part → Body) → Place → List Item → Body → Body
 items_body inner place [] rest = rest
 items_body inner place (Include mode text span ∷ is) rest = Inc mode None (option_map_or (parts_body inner) (parts_of text.bytes) End) (items_body inner place is rest)

@@ -31,17 +31,17 @@ is_number bs = nat_le 1 (length bs) && list_all is_ascii_digit bs
 unfoldable pub group_number : List ℕ → Option ℕ
 group_number bs = if is_number bs then (if nat_le 1 (digits_value 10 bs) && nat_le (digits_value 10 bs) MOST_GROUPS then Some (digits_value 10 bs) else None) else None
 
--- what may stand behind the names of a file and a map: nothing, or a colon and a group
+-- what may stand after the names of a file and a map: nothing, or a colon and a group
 unfoldable pub ending : Mode → List ℕ → Option (List ℕ) → List ℕ → Option Part
 ending mode file map [] = Some (record { mode = mode; file = file; map = map; group = None })
 ending mode file map (b ∷ bs) = if b == 58 then option_map (λ n. record { mode = mode; file = file; map = map; group = Some n }) (group_number bs) else None
 
--- a map's name and its closing parenthesis, and what stands behind
+-- a map's name and its closing parenthesis, and what stands after
 unfoldable pub closing : Mode → List ℕ → List ℕ → List ℕ → Option Part
 closing mode file map [] = None
 closing mode file map (b ∷ bs) = if (b == 41) && nat_le 1 (length map) then ending mode file (Some map) bs else None
 
--- what stands behind the name of a file
+-- what stands after the name of a file
 unfoldable pub behind_file : Mode → List ℕ → List ℕ → Option Part
 behind_file mode file [] = ending mode file None []
 behind_file mode file (b ∷ bs) = if b == 40 then closing mode file (take (name_len bs) bs) (drop (name_len bs) bs) else ending mode file None (b ∷ bs)
@@ -57,7 +57,7 @@ abbrev pub split_by : Option Mode → ℕ → List ℕ × List (Mode × List ℕ
 split_by None b rest = (b ∷ rest.0, rest.1)
 split_by (Some mode) b rest = ([], (mode, rest.0) ∷ rest.1)
 
--- the text of the first part, and those behind it, each with its join
+-- the text of the first part, and those after it, each with its join
 abbrev pub split : List ℕ → List ℕ × List (Mode × List ℕ)
 split [] = ([], [])
 split (b ∷ bs) = split_by (join_of b) b (split bs)

@@ -21,7 +21,7 @@ abbrev pub links_body : List Body → List Link → Body
 links_body bodies [] = End
 links_body bodies (l ∷ ls) = Inc l.mode l.group (body_at bodies l.map) (links_body bodies ls)
 
--- a section's items, and the rest behind them
+-- a section's items, and the rest after them
 abbrev pub entries_body : List Body → Place → List Entry → Body → Body
 entries_body bodies place [] rest = rest
 entries_body bodies place (entry.Own item ∷ es) rest = Own place item.now (entries_body bodies place es rest)

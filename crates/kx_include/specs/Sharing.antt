@@ -62,7 +62,7 @@ AreEntriesOf library kind place items entries d bodies = (rest : Body) → entri
 abbrev pub AreKnown : Library → Kind → List Map → Type 0
 AreKnown library kind ms = (n : ℕ) (m : Map) → slice_get ms n ≡ Some m → Known (bodies_of ms) m.depth 0 m.parts (λ d. in_map d library kind m.place) (IsNumberOf library kind m.place n)
 
--- maps with more behind them
+-- maps with more after them
 abbrev pub Grows : List Map → List Map → Type 0
 Grows old new = (more : List Body) × (bodies_of new ≡ bodies_of old ++ more)
 
@@ -90,6 +90,6 @@ pub record AddsSection (library : Library) (kind : Kind) (place : Place) (seen :
   pub sections : new.sections.items ≡ old.sections.items ++ map ∷ []
   pub expands : Expands library kind most_depth seen old.maps.items new.maps.items (λ d. in_map d library kind place) (IsMapOf library kind place map) map.depth count
 
--- want of memory, or a fault of these
+-- lack of memory, or a fault of these
 abbrev pub Blames : ℕ → Findings → Fault → Type 0
 Blames seen found e = (e ≡ Memory) ⊎ HasFaultFrom seen found e

@@ -8,7 +8,7 @@ use Rattle.kx_include.specs.IncludeText.{join_of, joined, split}
 abbrev pub is_inner : ℕ → Bool
 is_inner b = not (is_some (join_of b))
 
--- the texts, where one stands in front and others behind a join
+-- the texts, where one stands in front and others after a join
 abbrev pub cut_at : List ℕ → Option (Mode × Bor (List ℕ)) → List ℕ × List (Mode × List ℕ)
 cut_at front None = (front, [])
 cut_at front (Some (mode, rest)) = (front, joined mode (split rest.now))

@@ -41,7 +41,7 @@ pub struct Map<'l> {
 /// The expanded body of a section kind.
 #[derive(Drop)]
 pub struct Expansion<'l> {
-    /// The maps that includes name, in an order in which each stands behind those that it includes.
+    /// The maps that includes name, in an order in which each stands after those that it includes.
     pub maps: Vec<Map<'l>>,
     /// The source's own sections of the kind, in order.
     pub sections: Vec<Map<'l>>,

@@ -92,7 +92,7 @@ impl MapIndex {
         Ok(())
     }
 
-    /// Adds the section behind those that were added; its number is how many those are.
+    /// Adds the section after those that were added; its number is how many those are.
     fn add(&mut self, alloc: Global, section: &Section, number: usize) -> Result<(), AllocError>
         ensures { OnOk result ((seen : List Section) → length seen ≡ number → IsIndex self.old seen → IsIndex self.new (seen ++ section.now ∷ [])) }
     {

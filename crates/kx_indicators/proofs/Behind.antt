@@ -1,4 +1,4 @@
--- Defaults behind statements are what the last gives.
+-- Defaults after statements are what the last gives.
 use Rattle.std.proofs.Common.{◌≡◌, ℕ, List, [], ◌∷◌, fold, refl, sym, ◌∙◌}
 use Rattle.kx_parse.specs.declared.tree.Item.{Item}
 use Rattle.kx_indicators.specs.Blocks.{DefaultsAreLast, given_value, item_default, next_default}

@@ -1,4 +1,4 @@
--- The statements of indicators in a compat section: the names that they write, the defaults behind them, and their faults.
+-- The statements of indicators in a compat section: the names that they write, the defaults after them, and their faults.
 use Rattle.std.specs.Prelude.{◌≡◌, ℕ, fold, Bool, List, [], ◌∷◌, ◌++◌, Option, None, Some, is_some, if◌then◌else◌, codes}
 use Rattle.std.specs.List.{flat_map}
 use Rattle.std.specs.Str.{str_eq_ignore_ascii_case}
@@ -45,11 +45,11 @@ module _ (names : List (List ℕ)) where
   abbrev pub default_value : Name → Field → Option IndicatorMapValue
   default_value member field = if is_faultless (field_faults 0 names member field) then field_value names member field else None
 
-  -- the defaults behind one more statement
+  -- the defaults after one more statement
   abbrev pub next_default : IndicatorMapValues → Item → IndicatorMapValues
   next_default d item = with_value d (option_and_then (λ given. default_value given.0 given.1) (item_default item))
 
-  -- a law, the clause `defaults` of `indicators`: the defaults behind the statements of a section are what the last of them gives that gives a field
+  -- a law, the clause `defaults` of `indicators`: the defaults after the statements of a section are what the last of them gives that gives a field
   -- anything
   abbrev pub DefaultsAreLast : Type 0
   DefaultsAreLast = (statements : List Item) → fold next_default no_values statements ≡ last_values (λ item. option_and_then (λ given. default_value given.0 given.1) (item_default item)) no_values statements

@@ -31,7 +31,7 @@ module _ (names : List (List ℕ)) where
   expression_value fields.GroupStates e = values.GroupStates (mask_of States e)
   expression_value fields.Groups e = values.Groups (mask_of Groups e)
 
-  -- `word` names the field: that of its place, or as a default the one behind the point
+  -- `word` names the field: that of its place, or as a default the one after the point
   abbrev pub field_value : Name → Field → Option IndicatorMapValue
   field_value word field = option_and_then (λ known. option_map (expression_value known) (expression_in field.setting)) (among field_words word.bytes)
 

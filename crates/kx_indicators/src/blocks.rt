@@ -31,7 +31,7 @@ fn read_own(names: &ModNames, file: u32, field: &Field) -> Result<Option<Indicat
     read_field(names, file, &field.place.word, field)
 }
 
-/// What the fields of an indicator give it, behind the defaults.
+/// What the fields of an indicator give it, after the defaults.
 fn read_values(
     names: &ModNames,
     file: u32,
@@ -171,6 +171,14 @@ pub(crate) fn read_item(
             statement,
             span,
             ..
-        } => read_statement(alloc, indicator_maps, names, file, defaults, *span, statement),
+        } => read_statement(
+            alloc,
+            indicator_maps,
+            names,
+            file,
+            defaults,
+            *span,
+            statement,
+        ),
     }
 }

@@ -15,7 +15,7 @@ fn is_indicator(word: &[u8]) -> bool
     word.eq_ignore_ascii_case(b"indicator")
 }
 
-/// The word behind the point of a default for indicators.
+/// The word after the point of a default for indicators.
 fn member_of(field: &Field) -> Option<&Name>
     ensures { option_map (λ n. n.now) result ≡ member_of field.now }
 {
@@ -75,8 +75,12 @@ fn item_default(item: &Item) -> Option<(&Name, &Field)>
     }
 }
 
-/// The defaults behind one more statement.
-pub(crate) fn next_default(names: &ModNames, defaults: IndicatorMapValues, item: &Item) -> IndicatorMapValues
+/// The defaults after one more statement.
+pub(crate) fn next_default(
+    names: &ModNames,
+    defaults: IndicatorMapValues,
+    item: &Item,
+) -> IndicatorMapValues
     ensures { result ≡ next_default names.now.names defaults item.now }
 {
     match item_default(item) {

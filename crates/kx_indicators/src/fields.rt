@@ -42,7 +42,9 @@ fn read_expression(
     ensures fault { IfErr result (λ e. Contains (expression_faults file names.now.names known expression.now) e) }
 {
     match known {
-        IndicatorMapField::Modifiers => Ok(IndicatorMapValue::Modifiers(names.mask_of(file, expression)?)),
+        IndicatorMapField::Modifiers => Ok(IndicatorMapValue::Modifiers(names.mask_of(
+            file, expression,
+        )?)),
         IndicatorMapField::ModStates => {
             let mask = read_mask(MaskKind::States, file, expression)?;
             Ok(IndicatorMapValue::ModStates(GivenStates::of(mask)))
@@ -51,7 +53,11 @@ fn read_expression(
             let mask = read_mask(MaskKind::States, file, expression)?;
             Ok(IndicatorMapValue::GroupStates(GivenStates::of(mask)))
         }
-        IndicatorMapField::Groups => Ok(IndicatorMapValue::Groups(read_mask(MaskKind::Groups, file, expression)?)),
+        IndicatorMapField::Groups => Ok(IndicatorMapValue::Groups(read_mask(
+            MaskKind::Groups,
+            file,
+            expression,
+        )?)),
     }
 }
 

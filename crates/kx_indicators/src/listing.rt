@@ -81,7 +81,12 @@ fn list_indicators(
     ensures faultless { OnOk result (indicator_maps_faults names.now.names (expanded_body expansion.now) ≡ []) }
     ensures fault { IfErr result (λ e. Contains (Memory ∷ indicator_maps_faults names.now.names (expanded_body expansion.now)) e) }
 {
-    let indicator_maps = count_names::<IndicatorMapNaming>(alloc, MOST_INDICATORS, Names::new(alloc), expansion)?;
+    let indicator_maps = count_names::<IndicatorMapNaming>(
+        alloc,
+        MOST_INDICATORS,
+        Names::new(alloc),
+        expansion,
+    )?;
     let context = Context {
         indicator_maps: &indicator_maps,
         names,

@@ -190,7 +190,7 @@ fn joined(sign: Sign, mask: u32, other: u32) -> u32
     }
 }
 
-/// The mask that terms leave behind another.
+/// The mask that terms leave after another.
 fn read_operations(
     kind: MaskKind,
     file: u32,

@@ -35,7 +35,10 @@ impl Indicators {
         requires as_many { length indicator_maps.items ≡ length names }
         ensures { result ≡ record { names = names; indicator_maps = indicator_maps.items } }
     {
-        Indicators { names, indicator_maps }
+        Indicators {
+            names,
+            indicator_maps,
+        }
     }
 
     /// How many there are.

@@ -8,11 +8,11 @@ use Rattle.std.proofs.lemmas.List.Elements.{Contains-append_left, Contains-appen
 pub drop_next : {X : Type 0} (xs : List X) (i : ℕ) (x : X) → i < length xs → x ≡ get_or xs i x → drop i xs ≡ x ∷ drop (i + 1) xs
 drop_next xs i x within h = drop_more xs i x within ∙ ap (λ y. y ∷ drop (i + 1) xs) (sym h)
 
--- nothing came of what is behind
+-- nothing came of what is after
 pub none_goes : {X Y : Type 0} (f : X → List Y) (xs : List X) (i : ℕ) (x : X) → i < length xs → x ≡ get_or xs i x → f x ≡ [] → flat_map f xs ≡ flat_map f (drop i xs) → flat_map f xs ≡ flat_map f (drop (i + 1) xs)
 none_goes f xs i x within is none left = left ∙ ap (flat_map f) (drop_next xs i x within is) ∙ ap (λ ys. ys ++ flat_map f (drop (i + 1) xs)) none
 
--- nothing came of what is behind, and this comes of the next
+-- nothing came of what is after, and this comes of the next
 pub none_blames : {X Y : Type 0} (f : X → List Y) (xs : List X) (i : ℕ) (x : X) (e : Y) → i < length xs → x ≡ get_or xs i x → flat_map f xs ≡ flat_map f (drop i xs) → Contains (f x) e → Contains (flat_map f xs) e
 none_blames f xs i x e within is left has = subst (λ ys. Contains ys e) (sym (left ∙ ap (flat_map f) (drop_next xs i x within is))) (Contains-append_left (f x) (flat_map f (drop (i + 1) xs)) e has)
 

@@ -89,7 +89,7 @@ module _ (mode : Mode) (old other : GroupTypes) where
       by true f = refl
       by false f = sym (ap (taken mode (type_at old k)) (type-past other k (let past = ltb-false k place f in omega (arith, past, all))) ∙ nothing_taken mode (type_at old k) strong)
 
--- an element that is taken out, and those behind it
+-- an element that is taken out, and those after it
 pub taken_at : {X : Type 0} (xs : List (Option X)) (i : ℕ) (x d : Option X) → i < length xs → x ≡ get_or xs i d → x ≡ option_and_then (λ p. p) (slice_get xs i)
 taken_at xs i x d within is = is ∙ sym (ap (λ o. option_and_then (λ p. p) o) (slice_get-get_or xs i d within))
 

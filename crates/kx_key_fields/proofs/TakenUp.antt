@@ -130,7 +130,7 @@ module _ {V : Type 0} (take : V → V → V) (nothing : V) (old other : ℕ → 
       by false true f = refl
       by false false f = sym (ap (take (old g)) (past (g - from) (ltb-false (g - from) count f)) ∙ stays (old g))
 
--- an element that is taken out, and those behind it
+-- an element that is taken out, and those after it
 pub taken_at : {X : Type 0} (xs : List (Option X)) (i : ℕ) (x d : Option X) → i < length xs → x ≡ get_or xs i d → x ≡ option_and_then (λ p. p) (slice_get xs i)
 taken_at xs i x d within is = is ∙ sym (ap (λ o. option_and_then (λ p. p) o) (slice_get-get_or xs i d within))
 

@@ -71,7 +71,7 @@ module _ (names : List (List ℕ)) where
   field_given (Some fields.Unused) index s = None
   field_given None index s = None
 
-  -- what a field gives whose word is this one: its own, or the one behind the point of a default
+  -- what a field gives whose word is this one: its own, or the one after the point of a default
   abbrev pub named_given : Name → Field → Option Given
   named_given word field = field_given (field_named word.bytes) field.place.index field.setting
 

@@ -29,7 +29,7 @@ module _ (names : List (List ℕ)) where
   abbrev pub cell_default : AttributeCell → Field → Option AttributeValue
   cell_default cell field = option_and_then (given_to cell) (default_given field)
 
-  -- the defaults behind one more statement of a section, and behind all of them
+  -- the defaults after one more statement of a section, and after all of them
   abbrev pub next_defaults : Settings → Field → Settings
   next_defaults d field = with_given d (default_given field)
 

@@ -4,10 +4,10 @@ ghost use Rattle.std.specs.Result.{result_ok};
 ghost use Rattle.kx_key_fields.specs.KeyFields.{default_faults, default_given};
 ghost use Rattle.kx_key_fields.specs.AttributeFields.{given_any};
 
+use crate::attributes::KeyAttributes;
 use crate::cells::AttributeCell;
 use crate::given::Given;
 use crate::reading::read_named;
-use crate::attributes::KeyAttributes;
 use crate::words::is_key_word;
 use kx_lex::Fault;
 use kx_merge::unknown_field;
@@ -35,7 +35,7 @@ fn read_default(names: &ModNames, file: u32, field: &Field) -> Result<Option<Giv
 /// Looks for faults in a field of a section as a default for keys, as `key.type = "TWO_LEVEL";`.
 ///
 /// # Errors
-/// `UnknownField` at the word before the point where it isn't `key`, or where there is no point; at the word behind it where
+/// `UnknownField` at the word before the point where it isn't `key`, or where there is no point; at the word after it where
 /// it is no field of keys, `symbols` or `actions`, or where it has an index and takes none; else the faults of the value, as
 /// [`read_settings`](crate::read_settings) has them.
 pub fn check_default(names: &ModNames, file: u32, field: &Field) -> Result<(), Fault>
@@ -94,7 +94,7 @@ impl KeyDefaults {
         self.settings.copied(alloc)
     }
 
-    /// The defaults behind one more statement of the section, of which one with a fault changes nothing: behind statements
+    /// The defaults after one more statement of the section, of which one with a fault changes nothing: after statements
     /// each cell has what the last of those gives that give it anything.
     ///
     /// # Errors

@@ -13,7 +13,7 @@ pub(crate) const MOST_KEPT_BYTES: usize = MOST_NAME_BYTES + 1;
 #[derive(Debug, Drop)]
 pub(crate) struct KeptName {
     len: u16,
-    /// The first `len` are the name; those behind them mean nothing.
+    /// The first `len` are the name; those after them mean nothing.
     bytes: [u8; MOST_KEPT_BYTES],
 }
 

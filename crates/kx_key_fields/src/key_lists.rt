@@ -46,7 +46,7 @@ impl<X: LevelValue> GroupLists<X> {
         GroupLists { from: 0, lists }
     }
 
-    /// How many groups there are to look for: behind the last list there is none.
+    /// How many groups there are to look for: after the last list there is none.
     pub fn group_count(&self) -> usize
         ensures { (group : ℕ) → result ≤ group → width_in_key self.now group ≡ 0 }
     {

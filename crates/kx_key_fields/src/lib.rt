@@ -4,6 +4,7 @@
 #![tactic(auto)]
 
 mod absorbing;
+mod attributes;
 mod cells;
 mod defaults;
 mod given;
@@ -15,17 +16,16 @@ mod levels;
 mod masks;
 mod placing;
 mod reading;
-mod attributes;
 mod statement;
 mod truths;
 mod words;
 
+pub use attributes::KeyAttributes;
 pub use cells::{AttributeCell, AttributeValue};
 pub use defaults::{KeyDefaults, check_default};
 pub use groups::read_group;
 pub use key_lists::GroupLists;
 pub use levels::{LevelValue, Levels};
 pub use placing::{group_for, put_list};
-pub use attributes::KeyAttributes;
 pub use statement::read_settings;
-pub use words::{is_group_name, is_key_word, is_list_word, is_attribute_word};
+pub use words::{is_attribute_word, is_group_name, is_key_word, is_list_word};

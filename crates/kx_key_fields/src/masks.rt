@@ -59,7 +59,7 @@ fn joined(sign: Sign, set: NameSet, other: NameSet) -> NameSet
     }
 }
 
-/// The modifiers that terms leave behind others.
+/// The modifiers that terms leave after others.
 fn operations_set(
     names: &ModNames,
     file: u32,

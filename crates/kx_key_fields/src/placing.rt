@@ -55,7 +55,7 @@ pub(crate) fn widen<X: LevelValue>(
 /// Gives a group, counted from 0, a list.
 ///
 /// # Errors
-/// None but want of memory.
+/// None but lack of memory.
 pub fn put_list<X: LevelValue>(
     lists: &mut Vec<Option<Levels<X>>>,
     group: usize,

@@ -10,7 +10,7 @@ use crate::groups::read_group;
 use crate::key_range::KeyRange;
 use crate::masks::virtual_mask;
 use crate::truths::read_flag;
-use crate::words::{RangeField, AttributeField, field_named};
+use crate::words::{AttributeField, RangeField, field_named};
 use kx_lex::{Fault, Name};
 use kx_merge::{bad_value, expression_of, unknown_field};
 use kx_parse::{Expression, Field, Term};
@@ -136,7 +136,7 @@ fn read_field(
     }
 }
 
-/// What a field gives whose word is this one: its own, or the one behind the point of a default.
+/// What a field gives whose word is this one: its own, or the one after the point of a default.
 pub(crate) fn read_named(
     names: &ModNames,
     file: u32,

@@ -6,11 +6,11 @@ ghost use Rattle.kx_key_fields.specs.KeyFields.{effective, key_field_faults, key
 ghost use Rattle.kx_key_fields.specs.Attributes.{attribute_in};
 ghost use Rattle.kx_key_fields.specs.AttributeFields.{given_any};
 
+use crate::attributes::KeyAttributes;
 use crate::cells::AttributeCell;
 use crate::defaults::KeyDefaults;
 use crate::given::Given;
 use crate::reading::read_named;
-use crate::attributes::KeyAttributes;
 use crate::words::is_list_word;
 use kx_lex::Fault;
 use kx_merge::unknown_field;

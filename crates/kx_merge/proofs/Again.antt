@@ -1,4 +1,4 @@
--- Offers of which no two are about one record, once more behind themselves, change nothing.
+-- Offers of which no two are about one record, once more after themselves, change nothing.
 use Rattle.std.proofs.Common.{◌≡◌, ℕ, Bool, true, false, ◌||◌, cond, List, [], ◌∷◌, ◌++◌, Option, None, Some, refl, sym, ap, ◌∙◌, arith}
 use Rattle.std.proofs.lemmas.Bool.{false≢true}
 use Rattle.std.specs.Cmp.{IsEquivalence}

@@ -1,4 +1,4 @@
--- Going over a body: what is behind is in the records, and has no fault.
+-- Going over a body: what is after is in the records, and has no fault.
 use Rattle.std.proofs.Common.{◌≡◌, ℕ, ◌+◌, ◌<◌, ◌≤◌, zero, suc, Bool, List, [], ◌∷◌, ◌++◌, length, drop, get_or, Option, None, Contains, Result, Ok, Err, IfErr, OnOk, refl, sym, ap, ◌∙◌, subst, arith}
 use Rattle.std.proofs.lemmas.List.{drop_all}
 use Rattle.std.proofs.lemmas.List.Elements.{Contains-append_left}
@@ -24,7 +24,7 @@ use Rattle.kx_merge.specs.declared.gathering.Merged.{Merged}
 use Rattle.kx_merge.proofs.Movings.{append-none, append-inner}
 
 module _ {K C V D R : Type 0} (cell : R → C → Option V) (width : R → ℕ → ℕ) (eq : K → K → Bool) (rules : Rules K C V D) (moves : Moves K C) where
-  -- from records and a body, some of the body is behind in the records of now
+  -- from records and a body, some of the body is after in the records of now
   pub record Left (names : List K) (at : K → Option R) (d : D) (whole : Body) (now_names : List K) (now_at : K → Option R) (now_d : D) (left : Body) : Type 0 where
     pub behind : List (Offer K C V)
     pub shown : (os : List (Offer K C V)) → Shows cell width eq names at os → Shows cell width eq now_names now_at (os ++ behind)
@@ -79,7 +79,7 @@ module _ {K C V D : Type 0} (eq : K → K → Bool) (rules : Rules K C V D) (mov
   pub link_blamed_at : (xs : List Link) (i : ℕ) (x : Link) → i < length xs → x ≡ get_or xs i x → faults eq rules moves rules.start (links_body bodies (drop i xs)) ≡ faults_of eq rules moves (body_at bodies x.map) ++ faults eq rules moves rules.start (links_body bodies (drop (i + 1) xs))
   link_blamed_at xs i x within is = ap (λ ys. faults eq rules moves rules.start (links_body bodies ys)) (drop-next xs i x within is)
 
-  -- a map's items, and what stands behind them
+  -- a map's items, and what stands after them
   ended : D → List Entry → D
   ended d [] = d
   ended d (x ∷ xs) = ended (entry_next rules d x) xs
@@ -109,7 +109,7 @@ module _ {K C V D : Type 0} (eq : K → K → Bool) (rules : Rules K C V D) (mov
   restart-blamed d [] = refl
   restart-blamed d (s ∷ ss) = refl
 
-  -- a section, and those behind it
+  -- a section, and those after it
   pub section_at : (xs : List Map) (i : ℕ) (x : Map) → i < length xs → x ≡ get_or xs i x → offers eq rules moves rules.start (shared_sections bodies (drop i xs)) ≡ offers_of eq rules moves (shared_body bodies x End) ++ offers eq rules moves rules.start (shared_sections bodies (drop (i + 1) xs))
   section_at xs i x within is =
       ap (λ ys. offers eq rules moves rules.start (shared_sections bodies ys)) (drop-next xs i x within is)
@@ -209,7 +209,7 @@ shows_none cell width eq m os empty nothing = subst (Shows cell width eq (keys m
   widths_are = λ k g. ap (λ es. width_in width (lookup (eq k) es) g) empty;
 })
 
--- want of memory, and a fault that `?` passes on
+-- lack of memory, and a fault that `?` passes on
 pub memory_passed : {X : Type 0} (r : Result X Fault) (fs : List Fault) → IsErrAnd r (λ y. y ≡ Memory) → IfErr r (λ e. Contains (Memory ∷ fs) e)
 memory_passed (Ok x) fs is = absurd is
 memory_passed (Err e) fs is = (0, omega arith, sym is)

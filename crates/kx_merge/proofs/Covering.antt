@@ -177,7 +177,7 @@ module _ {K C V : Type 0} (eq : K → K → Bool) (k : K) where
       by false = e
 
 module _ {K C V : Type 0} (eq : K → K → Bool) (laws : IsEquivalence eq) where
-  -- whatever stands before, behind `kept` others that are under augment give nothing
+  -- whatever stands before, after `kept` others that are under augment give nothing
   pub record Covers (kept xs : List (Offer K C V)) : Type 0 where
     pub values : (k : K) (c : C) (w : Option V) → option_or (behind eq k (take eq k c) w kept) (behind eq k (take eq k c) None xs) ≡ behind eq k (take eq k c) w kept
     pub widths : (k : K) (g w : ℕ) → max (behind eq k (widen eq k g) w kept) (behind eq k (widen eq k g) 0 xs) ≡ behind eq k (widen eq k g) w kept

@@ -1,4 +1,4 @@
--- Going over the entries of a map, where an include may be passed over that stands before and behind, too.
+-- Going over the entries of a map, where an include may be passed over that stands before and after, too.
 use Rattle.std.proofs.Common.{◌≡◌, ℕ, ◌+◌, ◌<◌, ◌≤◌, zero, suc, Bool, true, false, cond, List, [], ◌∷◌, ◌++◌, length, drop, get_or, Option, Some, is_some, Contains, Ok, Err, refl, sym, ap, ◌∙◌, subst, arith}
 use Rattle.std.proofs.lemmas.Bool.{false≢true}
 use Rattle.std.proofs.lemmas.List.{drop_all}
@@ -191,7 +191,7 @@ module _ {K C V D R : Type 0} (cell : R → C → Option V) (width : R → ℕ �
         shown : (os : List (Offer K C V)) → Shows cell width eq names at os → Shows cell width eq n2 a2 (os ++ (l.kept ++ added))
         shown os before = subst (Shows cell width eq n2 a2) (ap (λ b. b ++ added) (sym (kept-is os)) ∙ append-inner os l.kept added) (adds.shows (os ++ l.front) (subst (Shows cell width eq n1 a1) (kept-is os) (l.shown os before)))
 
-    -- an include is passed over that stands before and behind, too
+    -- an include is passed over that stands before and after, too
     pub going_past : (laws : IsEquivalence eq) (same : (j k : K) → eq j k ≡ true → j ≡ k) (e : Entry) → Going names at last i d n1 a1 → i < length xs → e ≡ get_or xs i e → StandsBetween xs i (included_by e) → Going names at last (i + 1) d n1 a1
     going_past laws same (Own item) l within is stands = absurd (false≢true stands.strong)
     going_past laws same (Include mode links) l within is stands = record {
@@ -312,7 +312,7 @@ module _ {K C V D R : Type 0} (cell : R → C → Option V) (width : R → ℕ �
       covers = covered-next l.going.kept since i d e within is l.covers (is_replace (entry_mode e)) refl gentle;
     }
 
-    -- an include is passed over that stands before and behind, too
+    -- an include is passed over that stands before and after, too
     pub covering_past : (same : (j k : K) → eq j k ≡ true → j ≡ k) (e : Entry) → Covering names at last since i d n1 a1 → i < length xs → e ≡ get_or xs i e → StandsBetween xs i (included_by e)
         → Covering names at last (cond (is_replace (entry_mode e)) (i + 1) since) (i + 1) d n1 a1
     covering_past same e l within is stands = record {

@@ -40,7 +40,7 @@ module _ {K C V : Type 0} (c : C) (o : Offer K C V) where
   first_weak-more [] = option_or-none (cond (is_strong o.mode) None (o.value c))
   first_weak-more (p ∷ os) = ap (option_or (cond (is_strong p.mode) None (p.value c))) (first_weak-more os) ∙ sym (option_or-assoc (cond (is_strong p.mode) None (p.value c)) (first_weak c os) (cond (is_strong o.mode) None (o.value c)))
 
-  -- the value of offers with one more behind them
+  -- the value of offers with one more after them
   value-step : (m : Mode) → o.mode ≡ m → is_replace m ≡ false → (os : List (Offer K C V)) → option_or (last_strong c (os ++ o ∷ [])) (first_weak c (os ++ o ∷ [])) ≡ taken m (option_or (last_strong c os) (first_weak c os)) (o.value c)
   value-step Augment e r os =
       let strong : cond (is_strong o.mode) (o.value c) None ≡ None = ap (λ n. cond (is_strong n) (o.value c) None) e in

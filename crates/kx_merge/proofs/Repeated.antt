@@ -1,5 +1,5 @@
 -- Offers under override or replace, of which no two are about one record, may be left out where the same stand before them and
--- behind.
+-- after.
 use Rattle.std.proofs.Common.{◌≡◌, ℕ, Bool, true, false, cond, List, [], ◌∷◌, ◌++◌, map, Option, None, Some, refl, sym, ap, ◌∙◌, subst, arith}
 use Rattle.std.proofs.lemmas.Bool.{false≢true}
 use Rattle.std.specs.Cmp.{IsEquivalence}

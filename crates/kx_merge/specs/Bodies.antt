@@ -9,7 +9,7 @@ use Rattle.kx_include.specs.Expansion.{Body, End, Begin, Own, Inc}
 use Rattle.kx_include.specs.declared.place.Place.{Place}
 use Rattle.kx_merge.specs.Offers.{Offer, value_of, width_of, names_of}
 
--- what statements of a kind say: the defaults at a section's start and behind a statement, its offers and its faults under those before it
+-- what statements of a kind say: the defaults at a section's start and after a statement, its offers and its faults under those before it
 pub record Rules (K C V D : Type 0) : Type 0 where
   pub start : D
   pub next : D → Item → D

@@ -24,7 +24,7 @@ module _ {K C V R : Type 0} (cell : R → C → Option V) (width : R → ℕ →
     pub faultless : OnOk answer (blamed ≡ [])
     pub fault : IfErr answer (λ e. Contains (Memory ∷ blamed) e)
 
-  -- the same behind some offers that were taken up last
+  -- the same after some offers that were taken up last
   pub record AddsBehind {X : Type 0} (last : List (Offer K C V)) (names : List K) (at : K → Option R) (answer : Result X Fault) (new_names : List K) (new_at : K → Option R) (added : List (Offer K C V)) (blamed : List Fault) : Type 0 where
     pub shows : (os : List (Offer K C V)) → Shows cell width eq names at (os ++ last) → OnOk answer (Shows cell width eq new_names new_at ((os ++ last) ++ added))
     pub faultless : OnOk answer (blamed ≡ [])
@@ -65,7 +65,7 @@ included_by (Include mode links) = (mode, links.items)
 abbrev pub included_at : List Entry → ℕ → Option (Mode × List Link)
 included_at es place = option_map included_by (slice_get es place)
 
--- an include under override or replace stands before a place and behind it
+-- an include under override or replace stands before a place and after it
 pub record StandsBetween (es : List Entry) (place : ℕ) (included : Mode × List Link) : Type 0 where
   pub strong : is_strong included.0 ≡ true
   pub first : ℕ

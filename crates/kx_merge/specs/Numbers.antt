@@ -1,4 +1,4 @@
--- Values that are the number of a group or a level, as it is written or behind the word Group or Level.
+-- Values that are the number of a group or a level, as it is written or after the word Group or Level.
 use Rattle.std.specs.Prelude.{ℕ, Bool, ◌&&◌, List, [], ◌∷◌, Option, Some, None, codes, drop, if◌then◌else◌, nat_le, nat_lt, take}
 use Rattle.std.specs.Str.{str_eq_ignore_ascii_case}
 use Rattle.std.specs.Str.Parse.{digits_value}
@@ -21,7 +21,7 @@ abbrev pub counted_word : Counted → List ℕ
 counted_word Group = codes "group"
 counted_word Level = codes "level"
 
--- the number behind the word in any case; leading zeros don't count
+-- the number after the word in any case; leading zeros don't count
 abbrev pub word_number : Counted → List ℕ → Option ℕ
 word_number what word = if str_eq_ignore_ascii_case (take 5 word) (counted_word what) && is_number (drop 5 word) then Some (digits_value 10 (drop 5 word)) else None
 

@@ -91,7 +91,7 @@ fn gather_map<C, R: Fields<C>>(
 }
 
 /// What the items of a map make of records. An include that isn't under augment is passed over where the same stands before
-/// it and behind it: the one behind it gives the values, and the one before it the order. One under augment is passed over
+/// it and after it: the one after it gives the values, and the one before it the order. One under augment is passed over
 /// where the same stands before it, and nothing between takes a value back.
 fn merge_map<C, R: Fields<C>>(
     alloc: Global,
@@ -252,7 +252,7 @@ fn note_links<C, R: Fields<C>>(
     }
 }
 
-/// What an include makes of records right behind another, which changes nothing where both are the same.
+/// What an include makes of records right after another, which changes nothing where both are the same.
 fn merge_after<C, R: Fields<C>>(
     alloc: Global,
     done: &[Result<Merged<R::Key, R, R::Notes>, Fault>],

@@ -1,5 +1,5 @@
 //! Records by precedence: what the items of a body, includes among them, make of each record; and what the values of fields
-//! say: words with a meaning, numbers behind a word, and the faults of a value of another kind.
+//! say: words with a meaning, numbers after a word, and the faults of a value of another kind.
 #![tactic(auto)]
 
 mod faults;

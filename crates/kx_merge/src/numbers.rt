@@ -20,7 +20,7 @@ fn is_number(digits: &[u8]) -> bool
     !digits.is_empty() && are_digits(digits)
 }
 
-/// What has a number from 1 on, behind its word or without it.
+/// What has a number from 1 on, after its word or without it.
 #[derive(Clone, Copy, Debug, PartialEq, Eq)]
 pub enum Counted {
     Group,
@@ -34,7 +34,7 @@ impl Counted {
     ghost use Rattle.std.specs.Str.{str_eq_ignore_ascii_case};
     ghost use Rattle.kx_merge.specs.Numbers.{counted_word, is_within, most_of, number_at, number_faults, number_named, range_fault, term_number, word_number};
 
-    /// The number behind the word, in capital letters or small, or 2^32 where it is greater.
+    /// The number after the word, in capital letters or small, or 2^32 where it is greater.
     pub fn in_word(self, word: &[u8]) -> Option<u64>
         ensures { result ≡ option_map (min (2 ^ 32)) (word_number self word.now) }
     {

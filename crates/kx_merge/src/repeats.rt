@@ -115,7 +115,7 @@ impl Repeats {
         Ok(Repeats { places })
     }
 
-    /// Whether an include that isn't under augment also stands before a place and behind it.
+    /// Whether an include that isn't under augment also stands before a place and after it.
     pub(crate) fn stands_between(&self, entries: &[Entry], place: usize, included: Included) -> bool
         ensures { IsTrue result → StandsBetween entries.now place (included.entry.mode, included.entry.links.now) }
     {

@@ -20,11 +20,11 @@ blamed m fs e has = Contains-append_right (m ∷ []) fs e has
 pub blamed_front : {F : Type 0} (m : F) (fs gs : List F) (e : F) → Contains fs e → Contains (m ∷ (fs ++ gs)) e
 blamed_front m fs gs e has = blamed m (fs ++ gs) e (Contains-append_left fs gs e has)
 
--- of what each element gives, so much is behind
+-- of what each element gives, so much is after
 pub flat_blames : {X Y : Type 0} (f : X → List Y) (xs : List X) (i : ℕ) (x : X) (m e : Y) → i < length xs → x ≡ get_or xs i x → flat_map f xs ≡ flat_map f (drop i xs) → Contains (m ∷ f x) e → Contains (m ∷ flat_map f xs) e
 flat_blames f xs i x m e within is left has = subst (λ ys. Contains (m ∷ ys) e) (sym (left ∙ ap (flat_map f) (drop_next xs i x within is))) (Contains-append_left (m ∷ f x) (flat_map f (drop (i + 1) xs)) e has)
 
--- want of memory is blamed beside other faults
+-- lack of memory is blamed beside other faults
 pub memory_blamed : {X F : Type 0} (r : Result X F) (m : F) (fs : List F) → IfErr r (λ e. e ≡ m) → IfErr r (λ e. Contains (m ∷ fs) e)
 memory_blamed (Ok x) m fs h = tt
 memory_blamed (Err e) m fs h = (0, omega arith, sym h)

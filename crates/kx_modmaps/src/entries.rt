@@ -144,7 +144,7 @@ fn read_entry(
     }
 }
 
-/// Adds a target behind others, where it isn't among them.
+/// Adds a target after others, where it isn't among them.
 fn add_target(targets: &mut OrderedSet<Target>, target: Option<Target>) -> Result<(), Fault>
     ensures added { OnOk result (targets.new ≡ with_target targets.old target) }
     ensures err { IfErr result (λ e. e ≡ Memory) }

@@ -75,7 +75,7 @@ fn only_among(records: &Ordered<Target, Assigned>, target: Target) -> Mods
     }
 }
 
-/// Adds the target of a record behind others, where it is a keysym.
+/// Adds the target of a record after others, where it is a keysym.
 fn add_keysym(
     records: &Ordered<Target, Assigned>,
     named: &(Target, Assigned),

@@ -76,7 +76,7 @@ impl Assigned {
     }
 }
 
-/// Adds what is given to a target, behind others.
+/// Adds what is given to a target, after others.
 fn add_record(
     records: &mut Vec<(Target, Assigned)>,
     target: &Target,

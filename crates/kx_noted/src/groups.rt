@@ -47,7 +47,7 @@ fn other_type(
     }
 }
 
-/// Whether a group has keysyms or an action behind the levels of its type.
+/// Whether a group has keysyms or an action after the levels of its type.
 fn loses_levels(key: &KeyRecord, content: usize, levels: usize) -> bool {
     (levels..key.width(content)).any(|level| {
         key.keysyms(content, level).is_some() || key.action(content, level).is_some()

@@ -78,7 +78,7 @@ module _ {K V : Type 0} (test : K → Bool) where
       by false None i rest p = absurd (no_some p)
       by false (Some j) i rest p = rest j refl ∙ ap (λ n. option_map (λ e. e.1) (slice_get (x ∷ xs) n)) (inside p)
 
-  -- one more behind the others
+  -- one more after the others
   pub place_more : (es : List (K × V)) (e : K × V) → place_in test (es ++ e ∷ []) ≡ option_or (place_in test es) (cond (test e.0) (Some (length es)) None)
   place_more [] e = refl
   place_more (x ∷ xs) e = by (test x.0) (test e.0) (place_in test xs) (place_more xs e)
@@ -115,7 +115,7 @@ both_ways false true f g = g refl
 both_ways false false f g = refl
 
 module _ {K : Type 0} (cmp : K → K → Ordering) (order : IsTotalOrder cmp) (compare : K → Ordering) (respects : Respects cmp compare) where
-  -- what is put behind the others, whose key is not among them
+  -- what is put after the others, whose key is not among them
   pub place_pushed : {V : Type 0} (es : List (K × V)) (e : K × V) → place_in (is_at (cmp e.0)) es ≡ None → cond (is_at compare e.0) (Some (length es)) (place_in (is_at compare) es) ≡ place_in (is_at compare) (es ++ e ∷ [])
   place_pushed es e none = by (is_at compare e.0) refl ∙ sym (place_more (is_at compare) es e)
     where
@@ -171,7 +171,7 @@ module _ {K : Type 0} (cmp : K → K → Ordering) (order : IsTotalOrder cmp) (c
       (λ one. ap is_eq (respects again k (is_equal (compare again) one) ∙ same))
       (λ other. ap is_eq (respects k again (is_equal (compare k) other) ∙ tied_back order again k same)))
 
--- what is looked up, where one more stands behind whose key is not among the others
+-- what is looked up, where one more stands after whose key is not among the others
 module _ {K V : Type 0} (eq : K → K → Bool) (laws : IsEquivalence eq) where
   looked_more : (test : K → Bool) (es : List (K × V)) (e : K × V) → lookup test (es ++ e ∷ []) ≡ option_or (lookup test es) (cond (test e.0) (Some e.1) None)
   looked_more test [] e = refl
@@ -219,7 +219,7 @@ module _ {K V : Type 0} (eq : K → K → Bool) (laws : IsEquivalence eq) where
       split false None e = (refl, refl)
       split false (Some i) e = absurd (no_some (sym e))
 
--- what is put in its key's place, or behind the others
+-- what is put in its key's place, or after the others
 module _ {K V : Type 0} (eq : K → K → Bool) (k : K) (v : V) where
   pub insert_there : (es : List (K × V)) (i : ℕ) → place_in (eq k) es ≡ Some i → with_value es i v ≡ insert_entry eq es k v
   insert_there [] i p = absurd (no_some p)

@@ -91,12 +91,12 @@ parted {V} name es sorted = subst {A = Ordering → Bool} (λ p. IsPartitionedBy
     below Equal = refl
     below Greater = refl
 
--- what stands behind the names below one
+-- what stands after the names below one
 abbrev pub named_at : {V : Type 0} → List ℕ → Option (List ℕ × V) → Option V
 named_at name None = None
 named_at name (Some e) = cond (bytes_eq name e.0) (Some e.1) None
 
--- what stands behind the names below one is what is looked up
+-- what stands after the names below one is what is looked up
 pub found : {V : Type 0} (name : List ℕ) (es : List (List ℕ × V)) (i : ℕ) → IsSortedByKey (λ (e : List ℕ × V). e.0) name_cmp es → IsPartitionPoint (λ (e : List ℕ × V). is_lt (name_cmp e.0 name) ≡ true) (λ (e : List ℕ × V). is_lt (name_cmp e.0 name) ≡ false) es i → (o : Option (List ℕ × V)) → o ≡ slice_get es i → lookup (bytes_eq name) es ≡ named_at name o
 found {V} name es i sorted point o at =
     ap (λ test. lookup test es) (λ j k. sym (name_test name k) j)

@@ -136,7 +136,7 @@ impl<K: Again + Drop, V> Ordered<K, V> {
         self.entries
     }
 
-    /// Puts a value behind the others, whose key has none.
+    /// Puts a value after the others, whose key has none.
     pub fn push(&mut self, key: K, value: V) -> Result<(), AllocError>
     where
         V: Drop,
@@ -167,7 +167,7 @@ impl<K: Again + Drop, V> Ordered<K, V> {
         Ok(())
     }
 
-    /// Puts a value: where its key has one, in its place, else behind the others.
+    /// Puts a value: where its key has one, in its place, else after the others.
     pub fn insert(&mut self, key: K, value: V) -> Result<(), AllocError>
     where
         V: Drop,

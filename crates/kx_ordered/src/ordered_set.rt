@@ -42,7 +42,7 @@ impl<T: Ord + Copy + Drop> OrderedSet<T> {
         self.items.as_slice()
     }
 
-    /// Adds an item behind the others, where it isn't among them.
+    /// Adds an item after the others, where it isn't among them.
     pub fn add(&mut self, item: T) -> Result<(), AllocError>
         ensures added { OnOk result (self.new ≡ insert_key T.eq self.old item) }
         ensures err { OnErr result (self.new ≡ self.old) }

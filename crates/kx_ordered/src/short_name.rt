@@ -25,7 +25,7 @@ use std::marker::Model;
 #[derive(Debug, Drop)]
 pub struct ShortName {
     len: u8,
-    /// The first `len` are the name; those behind them mean nothing.
+    /// The first `len` are the name; those after them mean nothing.
     bytes: [u8; MOST_NAME_BYTES],
 }
 

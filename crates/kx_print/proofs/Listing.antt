@@ -25,7 +25,7 @@ lead-append : (mark : List ℕ) (xs : List (List ℕ)) (y : List ℕ) (ys : List
 lead-append mark [] y ys = refl
 lead-append mark (x ∷ xs) y ys = refl
 
--- pieces of a list were written, and the next one stands behind `before`
+-- pieces of a list were written, and the next one stands after `before`
 module _ {D : Type 0} (written : D → Option (List ℕ)) (failures : D → ℕ) where
   pub record Listed (mark : List ℕ) (d e : D) (p q : Gathered) (before : List ℕ) (pieces : List (List ℕ)) : Type 0 where
     pub told : Writes written failures d p e q (joined mark pieces)

@@ -18,7 +18,7 @@ levels_within c i g sound at =
     let holds : GroupHolds c i g = sound.groups i g at in
     omega (arith, sum_up_to (levels_of c) c.groups i g at, holds.first_cell, sound.counts.cells)
 
--- one field more behind others
+-- one field more after others
 one_behind : (fields : List (List ℕ)) (field : List ℕ) → joined (codes ",") (map on_new_line fields) ++ ((lead (codes ",") fields ++ on_new_line field) ++ []) ≡ joined (codes ",") (map on_new_line (fields ++ field ∷ []))
 one_behind fields field =
     ap (λ t. joined (codes ",") (map on_new_line fields) ++ t) (append-nil (lead (codes ",") fields ++ on_new_line field) ∙ ap (λ t. lead (codes ",") fields ++ t) (sym (append-nil (on_new_line field))) ∙ ap (λ b. b ++ (on_new_line field ++ [])) (lead-map fields))
@@ -28,7 +28,7 @@ one_behind fields field =
     lead-map [] = refl
     lead-map (piece ∷ pieces) = refl
 
--- the field of a range behind those of the groups
+-- the field of a range after those of the groups
 pub range_behind : (fields : List (List ℕ)) (before : List ℕ) (range : Range) → before ≡ lead (codes ",") fields → joined (codes ",") (map on_new_line fields) ++ flat_map (λ field. before ++ on_new_line field) (range_fields range) ≡ joined (codes ",") (map on_new_line (fields ++ range_fields range))
 range_behind fields before Wrap is = append-nil (joined (codes ",") (map on_new_line fields)) ∙ ap (λ l. joined (codes ",") (map on_new_line l)) (sym (append-nil fields))
 range_behind fields before Clamp is =

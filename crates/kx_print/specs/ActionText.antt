@@ -19,7 +19,7 @@ mods_argument mods = codes "modifiers=" ++ mods_text mods
 abbrev pub group_argument : GroupChange → List ℕ
 group_argument change = codes "group=" ++ change_text change
 
--- a word behind other arguments, where it is set
+-- a word after other arguments, where it is set
 abbrev pub flag : List ℕ → Bool → List ℕ
 flag word is_set = if is_set then codes "," ++ word else []
 

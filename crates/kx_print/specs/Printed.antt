@@ -117,7 +117,7 @@ fields_of c k = numbered (group_fields c) 1 (groups_of c k) ++ range_fields k.ra
 abbrev pub on_new_line : List ℕ → List ℕ
 on_new_line field = codes "\n" ++ field
 
--- each field stands on a line, with a comma behind all but the last
+-- each field stands on a line, with a comma after all but the last
 unfoldable pub key_block : Content → KeyRow → List ℕ
 key_block c k =
     codes "key " ++ (bracketed (key_name c k) ++ (codes " {" ++ (joined (codes ",") (map on_new_line (fields_of c k)) ++ codes "\n};\n")))

@@ -116,7 +116,7 @@ fn write_actions_field<T: Tables, O: Out>(
     write_actions(tables, buffered, out, cells);
 }
 
-/// Writes the field of a range, behind what stands before it; a key that wraps has none.
+/// Writes the field of a range, after what stands before it; a key that wraps has none.
 fn write_range<O: Out>(buffered: &mut BufferedOut, out: &mut O, before: &[u8], range: Range)
     ensures { Writes O.written O.failures out.old buffered.old out.new buffered.new (flat_map (λ field. before.now ++ on_new_line field) (range_fields range)) }
 {

@@ -25,7 +25,7 @@ pub fn write_quoted<O: Out>(buffered: &mut BufferedOut, out: &mut O, name: &[u8]
     buffered.write(out, b"\"");
 }
 
-/// Writes a number in hexadecimal, behind `0x`.
+/// Writes a number in hexadecimal, after `0x`.
 pub fn write_hexadecimal<O: Out>(buffered: &mut BufferedOut, out: &mut O, number: u32)
     ensures { Writes O.written O.failures out.old buffered.old out.new buffered.new (hexadecimal number) }
 {

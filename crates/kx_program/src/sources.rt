@@ -50,7 +50,7 @@ pub(crate) fn read_included<'a>(
     Ok(bytes)
 }
 
-/// The files that a source may include, as texts: those that are handed in, and behind them those that were found.
+/// The files that a source may include, as texts: those that are handed in, and after them those that were found.
 pub(crate) fn texts_of<'t, 'a: 't>(
     alloc: Global,
     included: &[Included<'a>],

@@ -141,7 +141,7 @@ fn put_file<'a>(
     }
 }
 
-/// Answers a source and the events behind it.
+/// Answers a source and the events after it.
 fn answer_feed<'a, F: Feed + Drop>(
     rt: &(impl Print + Eprint + AllocGlobal),
     feed: F,
@@ -169,7 +169,7 @@ fn answer_feed<'a, F: Feed + Drop>(
     }
 }
 
-/// Answers a source and the events behind it, with the files that it includes from folders. The source is read first.
+/// Answers a source and the events after it, with the files that it includes from folders. The source is read first.
 fn answer_found<'a>(
     rt: &(impl FileSystem + Input + Print + Eprint + AllocGlobal),
     names: &NameTable,

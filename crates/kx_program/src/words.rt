@@ -36,7 +36,7 @@ pub struct Includes<'a> {
 /// What the words ask for.
 #[derive(Debug, Drop, PartialEq)]
 pub enum Task<'a> {
-    /// Compile a source from standard input, and answer the events behind it.
+    /// Compile a source from standard input, and answer the events after it.
     Try {
         names: Option<&'a str>,
         includes: Includes<'a>,

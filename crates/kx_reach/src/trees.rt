@@ -18,7 +18,7 @@ pub struct Trees {
     numbers: BTreeMap<Vec<u8>, u32>,
 }
 
-/// What was read, where nothing but want of memory is told of a fault.
+/// What was read, where nothing but lack of memory is told of a fault.
 fn read_or_none<T: Drop>(outcome: Result<T, Fault>) -> Result<Option<T>, AllocError> {
     match outcome {
         Ok(value) => Ok(Some(value)),
@@ -68,7 +68,7 @@ impl Trees {
         Ok(trees)
     }
 
-    /// Adds a file behind the others. Of several of a name the first is found.
+    /// Adds a file after the others. Of several of a name the first is found.
     fn add(&mut self, alloc: Global, file: Text) -> Result<(), AllocError> {
         let tree = file_tree(alloc, file.bytes)?;
         self.maps.push(MapIndex::of(alloc, sections_of(&tree))?)?;

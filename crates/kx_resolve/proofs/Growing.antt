@@ -16,12 +16,12 @@ module _ {X : Type 0} (change : X → X) where
   change_length (x ∷ []) = refl
   change_length (x ∷ y ∷ ys) = ap suc (change_length (y ∷ ys))
 
-  -- one behind another
+  -- one after another
   change_behind : (other : X → X) (x y : X) (ys : List X) → change_last other (x ∷ change_last change (y ∷ ys)) ≡ x ∷ change_last other (change_last change (y ∷ ys))
   change_behind other x y [] = refl
   change_behind other x y (z ∷ zs) = refl
 
--- ---- Cells behind a group
+-- ---- Cells after a group
 
 module _ (g : ResolvedGroup) (d : ResolvedCell) where
   cell_in_last : (ks : List ResolvedKey) → change_last (key_with_cell d) (change_last (key_with_group g) ks) ≡ change_last (key_with_group (group_with_cell d g)) ks

@@ -12,7 +12,8 @@ use Rattle.std.proofs.lemmas.Map.Keys.{apart_from_distinct}
 use Rattle.std.proofs.lemmas.Option.{none-some, same_Some, slice_get-get_or, slice_get-map, slice_get_within}
 use Rattle.std.proofs.lemmas.Slice.Zip.{length-zip}
 use Rattle.kx_builder.specs.Agreement.{ShowsSame}
-use Rattle.kx_builder.specs.Faults.{IsCause, only_memory}
+use Rattle.kx_builder.proofs.Refusing.{only_memory}
+use Rattle.kx_builder.specs.Faults.{IsCause}
 use Rattle.kx_builder.specs.Valid.{Apart}
 use Rattle.kx_builder.specs.IndicatorMaps.{GroupNameIsValid, IndicatorIsValid, IndicatorMapsAreValid, IndicatorMapsFit, ResolvedIndicator, indicator_of, keymap_with, names_of_groups, names_of_indicators}
 use Rattle.kx_builder.specs.Placed.{content_of_resolved}

@@ -1,8 +1,9 @@
--- What is pushed is small, so that a push is refused only for want of memory.
+-- What is pushed is small, so that a push is refused only for lack of memory.
 use Rattle.std.proofs.Common.{◌≡◌, ◌<◌, ◌≤◌, [], length}
 use Rattle.std.specs.Bool.{⊤}
 use Rattle.kx_builder.specs.Added.{CellFits, GroupFits, KeyFits, TypeFits}
-use Rattle.kx_builder.specs.Faults.{IsCause, only_memory}
+use Rattle.kx_builder.proofs.Refusing.{only_memory}
+use Rattle.kx_builder.specs.Faults.{IsCause}
 use Rattle.kx_builder.specs.Placed.{content_of_resolved}
 use Rattle.kx_builder.specs.Pushes.{last_groups}
 use Rattle.kx_builder.specs.Resolved.{Resolved, ResolvedCell, ResolvedKey, ResolvedType}

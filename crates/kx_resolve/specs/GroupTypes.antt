@@ -19,7 +19,7 @@ unfoldable pub groups_within : KeyGiven → ℕ → ℕ
 groups_within key zero = 0
 groups_within key (suc n) = if has_level key n then suc n else groups_within key n
 
--- behind the most that a key may have there are none
+-- after the most that a key may have there are none
 unfoldable pub group_count : KeyGiven → ℕ
 group_count key = groups_within key MOST_GROUPS
 
@@ -31,7 +31,7 @@ content_group key group = if has_level key group then group else 0
 abbrev pub level_keysyms : KeyGiven → ℕ → ℕ → List ℕ
 level_keysyms key group level = unwrap_or (key.keysyms group level) []
 
--- whether a level of a group has an action, however far behind the levels of the group's type
+-- whether a level of a group has an action, however far after the levels of the group's type
 unfoldable pub has_action : KeyGiven → Bool
 has_action key = any_below (group_count key) (λ group. any_below (key.width group) (λ level. is_some (key.action group level)))
 
@@ -40,7 +40,7 @@ one_level_name = codes "ONE_LEVEL"
 
 -- `first` is the first keysym of a level
 module _ (first : ℕ → ℕ) where
-  -- a letter in lower case and behind it one in upper case
+  -- a letter in lower case and after it one in upper case
   abbrev pub has_letters : ℕ → Bool
   has_letters level = is_lower (first level) && is_upper (first (level + 1))
 
@@ -85,7 +85,7 @@ module _ (declared : List ℕ → Option Definition) where
   abbrev pub group_type_name : KeyGiven → ℕ → List ℕ
   group_type_name key group = type_name (wanted_type key (content_group key group))
 
-  -- how many levels a group has: what is behind them is lost
+  -- how many levels a group has: what is after them is lost
   abbrev pub group_levels : KeyGiven → ℕ → ℕ
   group_levels key group = (type_definition (group_type_name key group)).levels
 

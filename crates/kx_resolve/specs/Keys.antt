@@ -52,7 +52,7 @@ module _ (level_actions : LevelActions) (key : KeyGiven) where
   abbrev pub cell_of : ℕ → ℕ → ResolvedCell
   cell_of group level = record { syms = unwrap_or (key.keysyms group level) []; action = level_actions group level }
 
-  -- the cells of a group's levels below a number: what is behind the levels of its type is lost
+  -- the cells of a group's levels below a number: what is after the levels of its type is lost
   unfoldable pub cells_of : ℕ → ℕ → List ResolvedCell
   cells_of group zero = []
   cells_of group (suc level) = cells_of group level ++ cell_of group level ∷ []

@@ -49,7 +49,7 @@ module _ (keysym : ℕ) where
   level_places key code group (suc level) = level_places key code group level ++ place_at key code group level
 
   module _ (declared : List ℕ → Option Definition) where
-    -- on the groups of a key below a number: keysyms behind the levels of a group aren't kept
+    -- on the groups of a key below a number: keysyms after the levels of a group aren't kept
     unfoldable pub group_places : KeyGiven → ℕ → ℕ → List LevelPlace
     group_places key code zero = []
     group_places key code (suc group) = group_places key code group ++ level_places key code group (group_levels declared key group)

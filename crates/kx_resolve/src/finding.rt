@@ -16,8 +16,8 @@ ghost use Rattle.kx_resolve.specs.Mapping.{first_place, group_places, key_places
 ghost use Rattle.kx_resolve.specs.ReadMapping.{mapping_of};
 
 use crate::given::keysyms_at;
-use crate::places::LevelPlace;
 use crate::group_types::{content_group, group_count, group_type};
+use crate::places::LevelPlace;
 use kx_codes::Codes;
 use kx_lex::Fault;
 use kx_modmaps::ModifierMaps;

@@ -129,7 +129,7 @@ fn group_has_action(key: &KeyRecord, group: usize) -> bool
     found
 }
 
-/// Whether a level of a group of a key has an action, however far behind the levels of the group's type.
+/// Whether a level of a group of a key has an action, however far after the levels of the group's type.
 #[tactic(auto, using(crate::proofs::Acting::any_none, crate::proofs::Acting::any_next, crate::proofs::Acting::acts_is))]
 pub fn has_action(key: &KeyRecord) -> bool
     ensures { result ≡ has_action (given key.now) }
@@ -149,7 +149,7 @@ pub fn has_action(key: &KeyRecord) -> bool
 pub struct GroupType<'a> {
     /// Its name.
     pub name: &'a [u8],
-    /// How many levels it has, 1 to 64: what a group has behind them is lost.
+    /// How many levels it has, 1 to 64: what a group has after them is lost.
     pub levels: usize,
     /// Whether it stands in place of another that is wanted; ONE_LEVEL, which is built in, stands for itself.
     pub falls_back: bool,

@@ -20,11 +20,11 @@ ghost use Rattle.kx_resolve.specs.Given.{given, given_in};
 ghost use Rattle.kx_resolve.specs.GroupTypes.{content_group, group_count, has_action};
 ghost use Rattle.kx_types.specs.Types.{type_named};
 
-use crate::level_actions::level_action;
 use crate::given::{keysyms_at, range};
-use crate::key_modmaps::KeyModmaps;
-use crate::read::Read;
 use crate::group_types::{GroupType, content_group, group_count, group_type, has_action};
+use crate::key_modmaps::KeyModmaps;
+use crate::level_actions::level_action;
+use crate::read::Read;
 use ks_core::{Note, Notes};
 use kx_builder::{BuildFault, Builder};
 use kx_compat::Interpretations;
@@ -145,7 +145,7 @@ fn type_place(used: &Names, name: &[u8]) -> u16
     }
 }
 
-/// Notes a type that stands in place of another, and keysyms or an action behind its levels.
+/// Notes a type that stands in place of another, and keysyms or an action after its levels.
 fn note_group(key: &KeyRecord, content: usize, group_type: GroupType, notes: &mut Notes) {
     if group_type.falls_back {
         notes.count(Note::OtherType);

@@ -3,27 +3,27 @@
 //! that show what each gives, its indicators, and the names of its groups.
 #![tactic(auto)]
 
-mod vmodmap;
-mod level_actions;
 mod finding;
 mod given;
+mod group_types;
 mod key_modmaps;
 mod keys;
+mod level_actions;
 mod lighting;
 mod places;
 mod read;
 mod resolving;
 mod rows;
-mod virtual_modifiers;
-mod group_types;
 mod using;
+mod virtual_modifiers;
+mod vmodmap;
 
-pub use level_actions::level_action;
 pub use given::{action_at, keysyms_at, range, virtual_mods};
+pub use group_types::{GroupType, content_group, group_count, group_type, has_action};
 pub use key_modmaps::KeyModmaps;
 pub use kx_tables::{Owned, Tables, wrap_group};
+pub use level_actions::level_action;
 pub use read::Read;
 pub use resolving::resolve;
 pub use rows::TypeRows;
 pub use virtual_modifiers::virtual_modifier_masks;
-pub use group_types::{GroupType, content_group, group_count, group_type, has_action};

@@ -24,7 +24,7 @@ ghost use Rattle.kx_tables.specs.Sound.{Sound};
 use crate::keys::refused;
 use kx_builder::{Builder, Indicator};
 use kx_group_names::GroupNames;
-use kx_indicators::{Indicators, IndicatorMap};
+use kx_indicators::{IndicatorMap, Indicators};
 use kx_lex::Fault;
 use kx_mods::Mods;
 use kx_tables::RawTables;
@@ -54,7 +54,7 @@ fn indicator<'n>(name: &'n [u8], indicator_map: &IndicatorMap, stands: &[Mods]) 
     }
 }
 
-/// Takes up the indicator of a number behind others.
+/// Takes up the indicator of a number after others.
 fn push_indicator<'a>(
     lit: &mut Vec<Indicator<'a>>,
     indicators: &'a Indicators,
@@ -94,7 +94,7 @@ fn indicators_lit<'a>(
     Ok(lit)
 }
 
-/// Takes up the name of a group behind others.
+/// Takes up the name of a group after others.
 fn push_name<'a>(names: &mut Vec<&'a [u8]>, name: &'a [u8]) -> Result<(), Fault>
     requires { length name.now ≤ MOST_NAME_BYTES }
     ensures pushed { OnOk result (map (λ g. g.now) names.new.items ≡ map (λ g. g.now) names.old.items ++ name.now ∷ []) }

@@ -18,9 +18,9 @@ ghost use Rattle.kx_symbols.specs.Keys.{key_at};
 ghost use Rattle.kx_types.specs.Types.{type_named};
 ghost use Rattle.kx_types.specs.declared.limits.TheConstants.{MOST_TYPES};
 
+use crate::group_types::{group_count, group_type};
 use crate::keys::refused;
 use crate::rows::TypeRows;
-use crate::group_types::{group_count, group_type};
 use kx_builder::Builder;
 use kx_codes::Codes;
 use kx_lex::Fault;

@@ -14,9 +14,9 @@ ghost use Rattle.kx_resolve.specs.GroupTypes.{has_action};
 ghost use Rattle.kx_types.specs.Types.{type_named};
 ghost use Rattle.kx_basics.specs.declared.limits.TheConstants.{CODES};
 
-use crate::level_actions::InterpretedKey;
-use crate::key_modmaps::KeyModmaps;
 use crate::group_types::has_action;
+use crate::key_modmaps::KeyModmaps;
+use crate::level_actions::InterpretedKey;
 use kx_codes::Codes;
 use kx_compat::Interpretations;
 use kx_lex::Fault;
@@ -38,7 +38,11 @@ struct MappedKey {
 // ---- The bearers
 
 /// Adds a key.
-fn push_mapped_key(mapped_keys: &mut Vec<MappedKey>, types: &Types, key: InterpretedKey) -> Result<(), Fault>
+fn push_mapped_key(
+    mapped_keys: &mut Vec<MappedKey>,
+    types: &Types,
+    key: InterpretedKey,
+) -> Result<(), Fault>
     requires { key.own ≡ has_action (given key.key.now) }
     ensures added { OnOk result ((number real : ℕ) → is_brought mapped_keys.new.items number real ≡ (is_brought mapped_keys.old.items number real || (is_in_vmodmap key.entry.interpretations.now key.entry.modmap (given key.entry.key.now) (type_named types.now) number && has (mask key.entry.modmap) real))) }
     ensures err { IfErr result (λ e. e ≡ Memory) }
@@ -161,7 +165,11 @@ fn declared_at(declared: &[Mods], number: u8) -> Mods
 }
 
 /// What virtual modifiers stand for that are declared with these masks.
-fn stands_of(alloc: Global, mapped_keys: &[MappedKey], declared: &[Mods]) -> Result<Vec<Mods>, Fault>
+fn stands_of(
+    alloc: Global,
+    mapped_keys: &[MappedKey],
+    declared: &[Mods],
+) -> Result<Vec<Mods>, Fault>
     ensures made { IfOk result (λ made. (number real : ℕ) → number < MOST_VIRTUAL_MODIFIERS → stands_for made.items number real ≡ (stands_for declared.now number real || is_brought mapped_keys.now number real)) }
     ensures err { IfErr result (λ e. e ≡ Memory) }
 {

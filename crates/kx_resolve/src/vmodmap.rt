@@ -4,9 +4,9 @@ ghost use Rattle.std.specs.Option.{option_map, option_map_or};
 ghost use Rattle.kx_resolve.specs.Vmodmap.{gives};
 ghost use Rattle.kx_virtual_mods.specs.Sets.{has_virtual};
 
-use crate::level_actions::InterpretedKey;
 use crate::given::virtual_mods;
 use crate::group_types::{content_group, group_count, group_type};
+use crate::level_actions::InterpretedKey;
 use kx_compat::Interpretation;
 use kx_types::Types;
 use kx_virtual_mods::{MOST_VIRTUAL_MODIFIERS, NameSet};

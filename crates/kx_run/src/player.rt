@@ -9,8 +9,8 @@ ghost use Rattle.kx_basics.specs.declared.limits.TheConstants.{CODES, MOST_GROUP
 use crate::choices::Choices;
 use crate::direction::{Direction, Event};
 use crate::index::KeyIndex;
-use crate::keyboard::Keyboard;
 use crate::indicator_maps::lit;
+use crate::keyboard::Keyboard;
 use crate::lookup::{look_up_chosen, read_keysyms};
 use crate::reply::{Components, Reply};
 use arrayvec::ArrayVec;

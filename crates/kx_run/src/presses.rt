@@ -15,7 +15,7 @@ pub const CODES: usize = kx_basics::CODES as usize;
 /// How many entries of keys that were let go may stand beside one for each held key before they are dropped.
 const SPARE: usize = 64;
 
-/// The keys that are down, in the order of their presses. A key that is let go leaves an empty entry behind, so that
+/// The keys that are down, in the order of their presses. A key that is let go leaves an empty entry after, so that
 /// no other key moves; where the empty entries outnumber the keys by far, the next press drops them all.
 #[derive(Debug, Drop)]
 pub struct Presses {

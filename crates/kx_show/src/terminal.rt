@@ -15,7 +15,7 @@ fn column(quarters: u8) -> usize {
     usize::from(quarters) * 5 / 4
 }
 
-/// The line above each row, and behind them that below the last. Rows share a line, but where a gap stands between them.
+/// The line above each row, and after them that below the last. Rows share a line, but where a gap stands between them.
 fn lines_above(heights: [usize; ROWS]) -> [usize; 13] {
     let mut lines = [0; 13];
     let mut line: usize = 0;

@@ -22,7 +22,7 @@ pub passed : {X : Type 0} (r : Result X Fault) (P : Fault → Type 0) (e : Fault
 passed (Ok x) P e is has = absurd is
 passed (Err y) P e is has = subst P (sym is) has
 
--- want of memory, or one of some faults
+-- lack of memory, or one of some faults
 among : (fs : List Fault) (e : Fault) → Contains (Memory ∷ fs) e → (e ≡ Memory) ⊎ Contains fs e
 among fs e has =
     elim (Contains-append_cases (Memory ∷ []) fs e has) [
@@ -55,7 +55,7 @@ module _ (names : List Entry) (library : Library) where
   abbrev pub of_indicator_maps : List Fault
   of_indicator_maps = indicator_maps_faults (modifiers_of library) (body_of library Compat)
 
-  -- those of keys and of what stands behind them
+  -- those of keys and of what stands after them
   abbrev pub of_parts : List Fault
   of_parts = (of_keys ++ of_maps) ++ (of_compat ++ (of_names ++ of_indicator_maps))
 

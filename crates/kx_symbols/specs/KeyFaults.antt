@@ -92,7 +92,7 @@ module _ (file : ℕ) where
     abbrev pub actions_faults : Listed → List Fault
     actions_faults list = flat_map action_element_faults list.elements
 
-    -- of a list of a kind, behind others of the statement
+    -- of a list of a kind, after others of the statement
     abbrev pub list_faults : Span → StatementLists → Option Index → Listed → ListKind → List Fault
     list_faults whole s index list Symbols = place_faults file s.symbols index list ++ elements_faults whole list
     list_faults whole s index list Actions = place_faults file s.actions index list ++ actions_faults list
@@ -113,7 +113,7 @@ module _ (file : ℕ) where
     field_faults whole s (fields.Field field) = named_faults whole s field (field_kind field.place)
 
 module _ (file : ℕ) where
-  -- of the lists among the fields of a key statement, behind some that gave these lists
+  -- of the lists among the fields of a key statement, after some that gave these lists
   abbrev pub fields_faults : Known → Span → StatementLists → List KeyField → List Fault
   fields_faults known whole s [] = []
   fields_faults known whole s (f ∷ fs) = field_faults file known.modifiers whole s f ++ fields_faults known whole (field_lists known s f) fs

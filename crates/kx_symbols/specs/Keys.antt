@@ -76,7 +76,7 @@ field_in (said.Field field) = Some field
 field_in _ = None
 
 module _ (modifiers : List (List ℕ)) where
-  -- the defaults behind a statement
+  -- the defaults after a statement
   abbrev pub item_next : Defaults → Item → Defaults
   item_next d (Statement mode statement first span) = option_map_or (λ field. record { actions = next_action_defaults modifiers d.actions field; keys = next_key_defaults modifiers d.keys field }) (field_in statement) d
   item_next d (Include mode text span) = d

@@ -85,7 +85,7 @@ impl Gathered {
         &self.keys
     }
 
-    /// The defaults behind a field of the section.
+    /// The defaults after a field of the section.
     fn behind(self, alloc: Global, modifiers: &ModNames, field: &Field) -> Result<Gathered, Fault>
         ensures next { IfOk result (λ d. d ≡ behind_field modifiers.now.names self field.now) }
         ensures err { IfErr result (λ e. e ≡ Memory) }
@@ -140,7 +140,7 @@ impl SectionDefaults {
         }
     }
 
-    /// The defaults behind a field of the section.
+    /// The defaults after a field of the section.
     fn behind(
         self,
         alloc: Global,
@@ -154,7 +154,7 @@ impl SectionDefaults {
         Ok(SectionDefaults::boxed(alloc, gathered)?)
     }
 
-    /// The defaults behind an item of the section.
+    /// The defaults after an item of the section.
     pub(crate) fn next(
         self,
         alloc: Global,

@@ -8,8 +8,8 @@ ghost use Rattle.kx_symbols.specs.KeyFaults.{count_faults, element_faults, eleme
 ghost use Rattle.kx_basics.specs.Keysyms.{IsKeysym};
 ghost use Rattle.kx_symbols.specs.Keysyms.{element_level, given, keysym_of_text, levels_of, number_keysym, part_keysyms, symbol_keysym, word_keysym};
 
-use arrayvec::ArrayVec;
 use crate::known::StatementSite;
+use arrayvec::ArrayVec;
 use ks_core::{NameTable, Note, Notes};
 use kx_basics::{GREATEST_KEYSYM, MOST_KEYSYMS};
 use kx_key_fields::{LevelValue, Levels};

@@ -13,7 +13,7 @@ use crate::cells::Cell;
 use crate::fields::StatementLists;
 use crate::keysyms::Keysyms;
 use kx_actions::KeyAction;
-use kx_key_fields::{GroupLists, KeyAttributes, AttributeCell};
+use kx_key_fields::{AttributeCell, GroupLists, KeyAttributes};
 use kx_parse::Mode;
 use std::alloc::{AllocError, Global};
 use std::marker::Model;
@@ -47,7 +47,7 @@ impl KeyRecord {
         }
     }
 
-    /// How many groups there are to look for: behind the last list there is none.
+    /// How many groups there are to look for: after the last list there is none.
     pub fn group_count(&self) -> usize
         ensures { (group : ℕ) → result ≤ group → width_in_key self.now group ≡ 0 }
     {

@@ -7,7 +7,7 @@ ghost use Rattle.kx_key_fields.specs.Attributes.{no_settings, attribute_in};
 ghost use Rattle.kx_symbols.specs.Lists.{is_field};
 
 use crate::known::Known;
-use kx_key_fields::{KeyDefaults, KeyAttributes, AttributeCell, read_settings};
+use kx_key_fields::{AttributeCell, KeyAttributes, KeyDefaults, read_settings};
 use kx_lex::Fault;
 use kx_parse::KeyField;
 use kx_virtual_mods::ModNames;

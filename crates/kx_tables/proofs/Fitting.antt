@@ -6,7 +6,7 @@ use Rattle.kx_tables.specs.Content.{Content}
 use Rattle.kx_tables.specs.Fit.{CountsFit}
 use Rattle.kx_tables.proofs.Fits.{few_fit}
 use Rattle.kx_tables.specs.SoFar.{EachBelow}
-use Rattle.kx_tables.specs.Unsound.{breaks_unsound}
+use Rattle.kx_tables.proofs.Unsound.{breaks_unsound}
 use Rattle.kx_tables.specs.Sound.{CountsHold, Sound}
 use Rattle.kx_tables.specs.declared.check.Broken.{Broken}
 

@@ -7,3 +7,4 @@ pub mod Naming
 pub mod Sorting
 pub mod Fitting
 pub mod Whole
+pub mod Unsound

@@ -5,7 +5,7 @@ use Rattle.std.proofs.lemmas.Option.{slice_get_within}
 use Rattle.kx_tables.proofs.Bounds.{sum_up_to}
 use Rattle.kx_tables.specs.Content.{Content, levels_of, types_used, type_names, key_names, indicator_names, type_name, key_name, indicator_name}
 use Rattle.kx_tables.specs.Fit.{CountsFit}
-use Rattle.kx_tables.specs.SoFar.{EachBelow, TypesAre, TypeNumbers, KeysAre, GroupsAre, CellsAre, IndicatorsAre, GroupNamesAre, NamesAreNew, EntriesLie}
+use Rattle.kx_tables.specs.SoFar.{EachBelow, TypesAre, TypeNumbers, KeysAre, GroupsAre, CellsAre, IndicatorsAre, GroupNamesAre, NamesAreNew, EntriesBegin, EntriesLie}
 use Rattle.kx_basics.specs.Keysyms.{IsKeysym}
 use Rattle.kx_tables.specs.Sound.{Sound, EachRow, EntriesHold, NameByteHolds}
 
@@ -19,6 +19,11 @@ pub entries_lie : (c : Content) (names : ℕ) → TypesAre c (length c.types) (l
 entries_lie c names are i t at =
     let numbers : TypeNumbers t (sum_by (λ u. u.entries) (take i c.types)) (sum_by (λ u. u.name_length) (take i c.types)) = are.each i t (slice_get_within c.types i t at) at in
     omega (arith, numbers.first_entry, are.entries_sum, sum_all (λ u. u.entries) c.types, sum_up_to (λ u. u.entries) c.types i t at)
+
+pub entries_begin : (c : Content) (names : ℕ) → TypesAre c (length c.types) (length c.entries) names → EachRow c.types (EntriesBegin c)
+entries_begin c names are i t at =
+    let numbers : TypeNumbers t (sum_by (λ u. u.entries) (take i c.types)) (sum_by (λ u. u.name_length) (take i c.types)) = are.each i t (slice_get_within c.types i t at) at in
+    numbers.first_entry
 
 pub whole_is_sound : (c : Content) (type_end key_end next indicator_end : ℕ) → CountsFit c
     → GroupsAre c (length c.groups) (length c.types) (length c.cells)

@@ -1,5 +1,5 @@
 -- Which row of tables that aren't sound breaks a rule.
-use Rattle.std.specs.Prelude.{ℕ, List, ◌≡◌, ◌+◌, ◌<◌, ◌≤◌, Some, slice_get}
+use Rattle.std.specs.Prelude.{ℕ, List, ◌≡◌, ◌+◌, ◌<◌, ◌≤◌, Some, slice_get, sum_by, take}
 use Rattle.kx_tables.specs.Content.{Content}
 use Rattle.kx_basics.specs.Keysyms.{IsKeysym}
 use Rattle.kx_tables.specs.Sound.{CountsHold, TypeHolds, EntryHolds, KeyHolds, GroupHolds, CellHolds, IndicatorHolds, GroupNameHolds, NameByteHolds}
@@ -12,12 +12,13 @@ use Rattle.kx_tables.specs.declared.rows.TypeRow.{TypeRow}
 abbrev pub RowBreaks : {X : Type 0} → List X → (ℕ → X → Type 0) → ℕ → Type 0
 RowBreaks {X} xs P i = (x : X) × (slice_get xs i ≡ Some x) × (P i x → ⊥)
 
--- the entry at an index breaks the rules of the type that it belongs to
+-- the entry at an index breaks the rules of the type that it belongs to; that type's entries begin where those before them end
 pub record EntryBreaks (c : Content) (i : ℕ) : Type 0 where
   pub owner : ℕ
   pub key_type : TypeRow
   pub entry : EntryRow
   pub owner_is : slice_get c.types owner ≡ Some key_type
+  pub placed : key_type.first_entry ≡ sum_by (λ (u : TypeRow). u.entries) (take owner c.types)
   pub from : key_type.first_entry ≤ i
   pub below : i < key_type.first_entry + key_type.entries
   pub entry_is : slice_get c.entries i ≡ Some entry

@@ -8,4 +8,3 @@ pub mod Range
 pub mod Sound
 pub mod SoFar
 pub mod States
-pub mod Unsound

@@ -139,6 +139,10 @@ pub record EntriesAre (c : Content) (t : TypeRow) (n : ℕ) (seen : List Bool) :
 abbrev pub EntriesLie : Content → ℕ → TypeRow → Type 0
 EntriesLie c i t = t.first_entry + t.entries ≤ length c.entries
 
+-- a type's entries begin where those of the types before it end
+abbrev pub EntriesBegin : Content → ℕ → TypeRow → Type 0
+EntriesBegin c i t = t.first_entry ≡ sum_by (λ (u : TypeRow). u.entries) (take i c.types)
+
 -- no row has the name of an earlier one
 abbrev pub NamesAreNew : {X : Type 0} → List X → (X → List ℕ) → Type 0
 NamesAreNew {X} xs name_of = EachRow xs (λ i x. IsNewName xs name_of i (name_of x))

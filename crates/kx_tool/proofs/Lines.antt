@@ -10,7 +10,7 @@ use Rattle.ks_core.specs.Lines.{lines_of}
 use Rattle.kx_tool.specs.EventLines.{well_formed_lines, is_well_formed}
 use Rattle.kx_tool.specs.Sources.{is_mark, source_of, lines_behind}
 
--- the lines with a line feed behind each
+-- the lines with a line feed after each
 abbrev pub ended : List ℕ → List ℕ
 ended line = line ++ 10 ∷ []
 
@@ -72,7 +72,7 @@ lines_of-joined (line ∷ lines) text free =
 pub lines_of-part : (line : List ℕ) → Free line → lines_of line ≡ line ∷ []
 lines_of-part line free = slice_split_none (λ c. c == 10) line free.none
 
--- a text that ends with a line, and one that goes on behind it
+-- a text that ends with a line, and one that goes on after it
 pub lines_of-whole : (lines : List (List ℕ)) (line : List ℕ) → EachFree lines → Free line → lines_of (joined lines ++ line) ≡ lines ++ line ∷ []
 lines_of-whole lines line free here = lines_of-joined lines line free ∙ ap (λ ls. lines ++ ls) (lines_of-part line here)
 

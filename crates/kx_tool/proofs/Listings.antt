@@ -23,7 +23,7 @@ pub lead-more : (label mark : List ℕ) (pieces : List (List ℕ)) (piece : List
 lead-more label mark [] piece = refl
 lead-more label mark (first ∷ rest) piece = refl
 
--- pieces of a list were written, and the next one stands behind `before`
+-- pieces of a list were written, and the next one stands after `before`
 module _ {D : Type 0} (written : D → Option (List ℕ)) (failures : D → ℕ) where
   pub record Listed (label mark : List ℕ) (d e : D) (p q : Gathered) (before : List ℕ) (pieces : List (List ℕ)) : Type 0 where
     pub told : Writes written failures d p e q (listed label mark pieces)

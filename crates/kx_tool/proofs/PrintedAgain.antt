@@ -1,4 +1,4 @@
--- The image of a printed text is the image of the tables that were printed, and nothing but want of memory refuses it.
+-- The image of a printed text is the image of the tables that were printed, and nothing but lack of memory refuses it.
 use Rattle.std.proofs.Common.{◌≡◌, ℕ, List, [], ◌⊎◌, inl, inr, ap, ◌∙◌, subst}
 use Rattle.ks_core.specs.Entry.{Entry}
 use Rattle.kx_image.specs.Image.{image}

@@ -54,7 +54,7 @@ source_line old mid new k m n text line_start h came unmarked =
       unmarked = each_is_more is_mark false h.done h.part h.unmarked unmarked;
     }
 
--- at the end of what is read there is no line behind the source
+-- at the end of what is read there is no line after the source
 pub source_ends : (old new later : Option (List ℕ)) (k n m : ℕ) (text : List ℕ) (line_start : ℕ) (h : SourceSoFar old k new n text line_start) → IsAtEnd new → is_mark h.part ≡ false
     → ReadsSource old k later m text false
 source_ends old new later k n m text line_start h end unmarked =
@@ -115,7 +115,7 @@ source_ends_marked old new later k n m text line_start h end marked =
     nothing (Some s) (Some rest) consumed over =
         ap (λ t. lines_behind (lines_of t)) (at_end s rest consumed over) ∙ ap lines_behind all_lines ∙ lines_behind-marked h.done h.part [] h.unmarked marked
 
--- a mark with a line feed behind it: lines of events follow
+-- a mark with a line feed after it: lines of events follow
 pub source_marked : (old mid new : Option (List ℕ)) (k m n : ℕ) (text : List ℕ) (line_start : ℕ) (h : SourceSoFar old k mid m text line_start) → Came mid m new n (10 ∷ []) → is_mark h.part ≡ true
     → ReadsSource old k new n (joined h.done) true
 source_marked old mid new k m n text line_start h came marked =

@@ -1,4 +1,4 @@
--- What a session answers, by what was read of its source and by the answers to the lines behind it.
+-- What a session answers, by what was read of its source and by the answers to the lines after it.
 use Rattle.std.proofs.Common.{◌≡◌, ◌⊎◌, ℕ, Bool, true, false, List, [], Option, None, Some, Result, Ok, Err, IfSome, inl, inr, refl, sym, subst}
 use Rattle.std.proofs.lemmas.List.{append-nil}
 use Rattle.std.specs.Io.KnownBytes.{Appends}

@@ -18,7 +18,7 @@ unfoldable pub mod_names : List (List ℕ)
 mod_names =
     codes "Shift" ∷ codes "Lock" ∷ codes "Control" ∷ codes "Mod1" ∷ codes "Mod2" ∷ codes "Mod3" ∷ codes "Mod4" ∷ codes "Mod5" ∷ []
 
--- modifiers behind a label, joined by `+`
+-- modifiers after a label, joined by `+`
 abbrev pub mods_text : List ℕ → ℕ → List ℕ
 mods_text label mask = if mask == 0 then label ++ codes "none" else listed label (codes "+") (chosen mask mod_names)
 

@@ -21,7 +21,7 @@ pub record IsPrintedSource (c : Content) (source : List ℕ) (files : Handed) : 
 pub record IsImageAgain (source : List ℕ) (files : Handed) (bytes : List ℕ) : Type 0 where
   pub image_is : (c : Content) → IsPrintedSource c source files → bytes ≡ image Two c
 
--- where the source is such a text, it is refused for want of memory alone
+-- where the source is such a text, it is refused for lack of memory alone
 pub record IsMemoryAlone (source : List ℕ) (files : Handed) (fault : Fault) : Type 0 where
   pub memory_is : (c : Content) → IsPrintedSource c source files → fault ≡ Memory
 

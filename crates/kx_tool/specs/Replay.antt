@@ -61,7 +61,7 @@ module _ {D : Type 0} (written : D → Option (List ℕ)) (failures : D → ℕ)
     pub image : IsImage content bytes
     pub answers : Replays content names lines d e r
 
-  -- the text's source is compiled to tables, from which the lines behind it are answered
+  -- the text's source is compiled to tables, from which the lines after it are answered
   pub record Answers {A : Type 0} (text : List ℕ) (files : Handed) (names : List Entry) (d e : D) (r : Result A ReplayFault) : Type 0 where
     pub content : Content
     pub bytes : List ℕ

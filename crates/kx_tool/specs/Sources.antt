@@ -1,4 +1,4 @@
--- The two parts of what a session reads: the source, up to the first line `%%`, and the lines behind that line.
+-- The two parts of what a session reads: the source, up to the first line `%%`, and the lines after that line.
 use Rattle.std.specs.Prelude.{◌≡◌, ℕ, Bool, true, false, List, [], ◌∷◌, ◌++◌, Option, Some, IfSome, codes, if◌then◌else◌}
 use Rattle.std.specs.Option.{option_map}
 use Rattle.kx_tool.specs.Input.{Came, IsWithin}
@@ -14,7 +14,7 @@ source_of [] = []
 source_of (line ∷ []) = if is_mark line then [] else line
 source_of (line ∷ (next ∷ lines)) = if is_mark line then [] else (line ++ 10 ∷ []) ++ source_of (next ∷ lines)
 
--- the lines behind the mark
+-- the lines after the mark
 abbrev pub lines_behind : List (List ℕ) → List (List ℕ)
 lines_behind [] = []
 lines_behind (line ∷ lines) = if is_mark line then lines else lines_behind lines
@@ -25,7 +25,7 @@ source_in text = source_of (lines_of text)
 abbrev pub lines_in : List ℕ → List (List ℕ)
 lines_in text = lines_behind (lines_of text)
 
--- A source was read from bytes that came, and the lines behind it, where there are any, are still to come.
+-- A source was read from bytes that came, and the lines after it, where there are any, are still to come.
 pub record ReadsSource (old : Option (List ℕ)) (old_budget : ℕ) (new : Option (List ℕ)) (new_budget : ℕ) (source : List ℕ) (has_lines : Bool) : Type 0 where
   pub came : has_lines ≡ true → (bytes : List ℕ) × Came old old_budget new new_budget bytes
   pub is : IfSome old (λ text. source ≡ source_in text)

@@ -56,7 +56,7 @@ pub fn compile(
     ensures image { IfOk result (λ made. (content : Content) × IsWritten source.now files.now names.now content made.0.items) }
     ensures fault { IfErr result (λ e. (e ≡ Memory) ⊎ HasFault source.now files.now names.now e) }
 
-    // The printed text of tables gives their own image, and nothing but want of memory refuses it.
+    // The printed text of tables gives their own image, and nothing but lack of memory refuses it.
     ensures printed { IfOk result (λ made. IsImageAgain source.now files.now made.0.items) }
     ensures printed_memory { IfErr result (IsMemoryAlone source.now files.now) }
 {

@@ -28,7 +28,7 @@ fn line_feeds(bytes: &[u8]) -> usize
     bytes.iter().filter(|byte| **byte == b'\n').count()
 }
 
-/// How many bytes stand behind the last line feed.
+/// How many bytes stand after the last line feed.
 fn since_line_feed(bytes: &[u8]) -> usize
     ensures value { result ≡ since_line_feed bytes.now }
     ensures within { result ≤ length bytes.now }

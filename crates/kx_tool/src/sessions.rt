@@ -16,7 +16,7 @@ use kx_image::View;
 use kx_include::Files;
 use std::alloc::Global;
 
-/// Reads a source up to a line `%%`, compiles it, and answers the event lines behind that line, one line for each
+/// Reads a source up to a line `%%`, compiles it, and answers the event lines after that line, one line for each
 /// event. Without such a line the source is all that the reader gives.
 ///
 /// # Errors

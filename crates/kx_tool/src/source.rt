@@ -10,7 +10,7 @@ use ks_core::Feed;
 use kx_lex::Fault;
 use std::alloc::Global;
 
-/// The line behind which a session's events stand.
+/// The line after which a session's events stand.
 const END_OF_SOURCE: &[u8] = b"%%";
 
 /// A source, and whether lines of events may follow it.
@@ -20,7 +20,7 @@ pub struct Source {
     pub has_lines: bool,
 }
 
-/// Whether the last line, which begins there, is the one behind which events stand.
+/// Whether the last line, which begins there, is the one after which events stand.
 fn ends_in_mark(text: &Vec<u8>, line_start: usize) -> bool
     requires { line_start ≤ vec_len text.now }
     ensures { result ≡ is_mark (drop line_start text.now.items) }

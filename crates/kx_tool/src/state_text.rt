@@ -19,7 +19,7 @@ pub fn write_number<O: Out>(buffered: &mut BufferedOut, out: &mut O, number: u16
     buffered.write(out, buffer.format(number).as_bytes());
 }
 
-/// The modifiers' names behind a label, or `none`.
+/// The modifiers' names after a label, or `none`.
 fn write_mods<O: Out>(buffered: &mut BufferedOut, out: &mut O, label: &[u8], mods: Mods)
     ensures { Writes O.written O.failures out.old buffered.old out.new buffered.new (mods_text label.now (mask mods)) }
 {

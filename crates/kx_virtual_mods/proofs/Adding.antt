@@ -1,4 +1,4 @@
--- Going over statements: those that are behind have added their names.
+-- Going over statements: those that are after have added their names.
 use Rattle.std.proofs.Common.{◌≡◌, ℕ, ◌+◌, ◌≤◌, ◌<◌, Bool, true, false, cond, List, [], ◌∷◌, ◌++◌, Contains, IfErr, OnOk, Result, Ok, Err, ◌⊎◌, ⊎_elim, inl, inr, zero, suc, set, drop, get_or, unwrap_or, Option, None, fold, length, nat_lt, refl, sym, ap, ◌∙◌, subst, arith, Some}
 use Rattle.std.specs.List.{flat_map, slice_get}
 use Rattle.std.specs.Result.{IsErrAnd}
@@ -17,7 +17,7 @@ use Rattle.kx_virtual_mods.specs.declared.counted.Tally.{Tally}
 use Rattle.kx_virtual_mods.proofs.Going.{append_none, drop_next}
 use Rattle.kx_virtual_mods.proofs.There.{all_adds, all_behind, all_cross, all_now, few_cross}
 
--- faults behind others count only where there are none of these
+-- faults after others count only where there are none of these
 abbrev behind : List Fault → List Fault → List Fault
 behind [] later = later
 behind (f ∷ fs) later = []
@@ -148,7 +148,7 @@ module _ (names : Item → List Text) (limit : ℕ) where
     abbrev three : List Said
     three = a ++ (b ++ (c ++ []))
 
-    -- names and no fault come of a body behind others
+    -- names and no fault come of a body after others
     pub record Passed (before new : List Text) (saids : List Said) : Type 0 where
       pub added : new ≡ names_behind names before saids
       pub faultless : crossing names limit before saids ≡ []

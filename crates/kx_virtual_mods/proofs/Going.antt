@@ -21,7 +21,7 @@ read_again [] i d h = absurd (omega (arith, h))
 read_again (x ∷ xs) zero d h = refl
 read_again (x ∷ xs) (suc i) d h = read_again xs i d (omega (arith, h))
 
--- nothing came of what is behind, and this comes of the next
+-- nothing came of what is after, and this comes of the next
 pub none_blames : {X Y : Type 0} (f : X → List Y) (xs : List X) (i : ℕ) (x : X) (e : Y) → i < length xs → x ≡ get_or xs i x → flat_map f xs ≡ flat_map f (drop i xs) → Contains (f x) e → Contains (flat_map f xs) e
 none_blames f xs i x e within is left has = subst (λ ys. Contains ys e) (sym (left ∙ ap (flat_map f) (drop_next xs i x within is))) (Contains-append_left (f x) (flat_map f (drop (i + 1) xs)) e has)
 
@@ -40,7 +40,7 @@ blamed_front m fs gs e has = blamed m (fs ++ gs) e (Contains-append_left fs gs e
 pub blamed_back : {F : Type 0} (m : F) (fs gs : List F) (e : F) → fs ≡ [] → Contains gs e → Contains (m ∷ (fs ++ gs)) e
 blamed_back m fs gs e none has = subst (λ hs. Contains (m ∷ (hs ++ gs)) e) (sym none) (blamed m gs e has)
 
--- of what each element gives, so much is behind
+-- of what each element gives, so much is after
 pub flat_blames : {X Y : Type 0} (f : X → List Y) (xs : List X) (i : ℕ) (x : X) (m e : Y) → i < length xs → x ≡ get_or xs i x → flat_map f xs ≡ flat_map f (drop i xs) → Contains (m ∷ f x) e → Contains (m ∷ flat_map f xs) e
 flat_blames f xs i x m e within is left has = subst (λ ys. Contains (m ∷ ys) e) (sym (left ∙ ap (flat_map f) (drop_next xs i x within is))) (Contains-append_left (m ∷ f x) (flat_map f (drop (i + 1) xs)) e has)
 

@@ -38,7 +38,7 @@ whole_span (Include mode text span) = span
 whole_span (Statement mode statement first span) = span
 
 module _ (names : Item → List Text) where
-  -- those before a statement, and behind them those that it writes for the first time
+  -- those before a statement, and after them those that it writes for the first time
   abbrev pub names_with : List Text → Said → List Text
   names_with before said = fold (with_name bytes_eq) before (names said.1)
 
@@ -56,7 +56,7 @@ module _ (names : Item → List Text) where
   abbrev pub count_faults : ℕ → List Said → List Fault
   count_faults limit saids = crossing limit [] saids
 
--- names, and behind them those of others that aren't there yet
+-- names, and after them those of others that aren't there yet
 abbrev pub with_names : List Text → List Text → List Text
 with_names before more = fold (with_name bytes_eq) before more
 

@@ -200,7 +200,7 @@ fn add_included<N: Naming>(
     Ok(())
 }
 
-/// Names, and behind them those that the statements of a body write for the first time, in the order in which they first
+/// Names, and after them those that the statements of a body write for the first time, in the order in which they first
 /// appear. A map is gone over once, however often it is included.
 ///
 /// # Errors

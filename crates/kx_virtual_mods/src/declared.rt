@@ -102,7 +102,7 @@ fn read_mask(names: &Names, file: u32, mask: &Option<Expression>) -> Result<Opti
     }
 }
 
-/// What a declaration gives, behind others.
+/// What a declaration gives, after others.
 fn read_declaration(
     names: &Names,
     file: u32,
@@ -148,7 +148,7 @@ fn has_number(numbers: &[usize], number: usize) -> bool
     numbers.iter().any(|other| number == *other)
 }
 
-/// Adds a number behind others, where it isn't among them.
+/// Adds a number after others, where it isn't among them.
 fn add_number(numbers: &mut Vec<usize>, number: usize) -> Result<(), Fault>
     ensures added { OnOk result (numbers.new.items ≡ with_name nat_eq numbers.old.items number) }
     ensures err { IfErr result (λ e. e ≡ Memory) }

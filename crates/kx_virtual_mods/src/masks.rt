@@ -120,7 +120,7 @@ fn joined(sign: Sign, set: NameSet, other: NameSet) -> NameSet
     }
 }
 
-/// The real modifiers that terms leave behind others.
+/// The real modifiers that terms leave after others.
 fn real_operations(
     names: &Names,
     file: u32,
@@ -139,7 +139,7 @@ fn real_operations(
     Ok(mods)
 }
 
-/// The modifiers that terms leave behind others.
+/// The modifiers that terms leave after others.
 fn set_operations(
     names: &Names,
     file: u32,

@@ -67,7 +67,7 @@ impl Names {
         self.numbers.place_of_name(name).is_some()
     }
 
-    /// Adds a name behind the others, where it isn't among them.
+    /// Adds a name after the others, where it isn't among them.
     ///
     /// # Errors
     /// `Memory`.

@@ -1,7 +1,7 @@
 //! Single calls.
 use kx_actions::is_action_word;
 use kx_basics::{digits_value, is_key_byte, is_keysym};
-use kx_key_fields::{is_key_word, is_list_word, is_attribute_word};
+use kx_key_fields::{is_attribute_word, is_key_word, is_list_word};
 use kx_lex::{At, Fault, Span};
 use kx_merge::{Counted, bad_value, truth_named};
 use kx_mods::Mods;

@@ -36,7 +36,7 @@ fn symbols_of(rt: &(impl Abort + AllocGlobal), items: &[u8]) -> Result<Vec<u8>, 
     Ok([before, items, b" }; };".as_slice()].concat(rt.alloc())?)
 }
 
-/// A text so many times, one behind another.
+/// A text so many times, one after another.
 fn repeated(rt: &(impl Abort + AllocGlobal), times: usize, text: &[u8]) -> Result<Vec<u8>, Fail> {
     let mut all = Vec::new(rt.alloc());
     for _ in 0..times {

@@ -52,7 +52,7 @@ fn prints_slowly(tables: &Owned) -> bool {
     print(tables, &mut slow).is_ok() && slow.written() == SAMPLE.as_bytes()
 }
 
-/// Whether printing fails with a writer that fails behind `n` bytes, and puts a beginning of the sample's text.
+/// Whether printing fails with a writer that fails after `n` bytes, and puts a beginning of the sample's text.
 fn prints_a_beginning(tables: &Owned, n: usize) -> bool {
     let mut room = [0; 2048];
     let mut broken = MemOut::new(&mut room).failing_after(n);

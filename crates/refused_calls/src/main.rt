@@ -104,7 +104,7 @@ fn session_once(rt: &(impl Print + AllocGlobal), text: &[u8]) -> io::Result<()> 
     }
 }
 
-/// Makes a call twice, behind a line with its word, which says that all before it is done.
+/// Makes a call twice, after a line with its word, which says that all before it is done.
 fn make_twice(rt: &(impl Print + AllocGlobal), keymap: &[u8], call: &str) -> io::Result<()> {
     let Some(made) = made(rt.alloc(), keymap, call) else {
         return println!(rt; "before");

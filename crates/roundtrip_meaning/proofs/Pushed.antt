@@ -1,4 +1,4 @@
--- A list for the group behind those that have one.
+-- A list for the group after those that have one.
 use Rattle.std.proofs.Common.{◌≡◌, ℕ, zero, suc, ◌+◌, ◌-◌, false, cond, List, [], ◌∷◌, ◌++◌, length, map, replicate, slice_get, set, Option, None, Some, is_some, refl, ap, ap₂, ◌∙◌, arith}
 use Rattle.std.specs.Option.{option_and_then, option_map_or}
 use Rattle.kx_key_fields.specs.Lists.{Lists, has_list, level_in, width_in}

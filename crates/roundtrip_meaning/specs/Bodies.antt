@@ -10,7 +10,7 @@ use Rattle.kx_parse.specs.declared.tree.Kind.{Kind}
 use Rattle.kx_parse.specs.declared.tree.Section.{Section}
 use Rattle.roundtrip_tree.specs.Shows.{IsItem, IsKeycode}
 
--- a section's statements, and the rest behind them
+-- a section's statements, and the rest after them
 abbrev pub own_body : Place → List Item → Body → Body
 own_body place [] rest = rest
 own_body place (i ∷ is) rest = Own place i (own_body place is rest)

@@ -37,7 +37,7 @@ pub record GroupLists : Type 0 where
   pub symbols : List Level
   pub actions : List (Option KeyAction)
 
--- the fields of the groups of a key from a number on, and others behind them
+-- the fields of the groups of a key from a number on, and others after them
 pub data AreGroups (known : Known) : ℕ → List GroupLists → List KeyField → Type 0 where
   end : {n : ℕ} → AreGroups known n [] []
   other : {n : ℕ} {f : KeyField} {fs : List KeyField} {gs : List GroupLists} → IsOther f → AreGroups known n gs fs → AreGroups known n gs (f ∷ fs)

@@ -17,7 +17,7 @@ use Rattle.roundtrip_text.proofs.Phrases.{marks_lex}
 use Rattle.roundtrip_text.specs.Keys.{mods_phrase, change_phrase, flag_phrases, two_flags, affect_phrases, call_phrase, action_phrase}
 use Rattle.roundtrip_text.proofs.Lines.{is_text_word, one_word, before_before, mods_lex}
 
--- what stands behind something is nothing
+-- what stands after something is nothing
 pub before_nothing : {a : List ℕ} {x : List Slice} → LexesBefore a x → LexesBefore (a ++ []) (x ++ [])
 before_nothing {a} {x} h = subst (λ bs. LexesBefore bs (x ++ [])) (sym (append-nil a)) (subst (λ ss. LexesBefore a ss) (sym (append-nil x)) h)
 
@@ -40,7 +40,7 @@ change_lexes (Relative (pos n)) h =
 change_lexes (Relative (negsuc n)) h =
     let most = fall_bound n h in before_before (one_word (codes "group") refl) refl (then_before (marks_lex (codes "=-") refl) (decimal_lexes (n + 1) (omega (arith, most))))
 
--- a word behind a comma
+-- a word after a comma
 comma_word : (w : List ℕ) → is_text_word w ≡ true → LexesBefore (44 ∷ w) (behind_comma argument_slices (Flag w))
 comma_word w h = then_before (marks_lex (codes ",") refl) (one_word w h)
 

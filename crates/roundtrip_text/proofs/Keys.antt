@@ -142,7 +142,7 @@ fields_texts c k fits =
     texts_append (numbered (group_fields c) 1 (groups_of c k)) (range_fields k.range) (group_phrases 1 (map group_phrase (map (group_printed c) (groups_of c k)))) (range_phrases k.range)
     (groups_texts c 1 (groups_of c k) (omega (arith, few, length-map (groups_of c k) (group_printed c))) fits.groups) (range_texts k.range fits.range)
 
--- each on a new line, with a comma behind all but the last
+-- each on a new line, with a comma after all but the last
 abbrev other_lines : List (List ℕ) → List ℕ
 other_lines ts = flat_map (λ o. codes "," ++ o) (map on_new_line ts)
 

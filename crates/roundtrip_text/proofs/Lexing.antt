@@ -230,7 +230,7 @@ digit_in_word b h = by (is_ascii_digit b) (nat_le 65 b && nat_le b 90) (nat_le 9
     by true capital small bar h = cc
     by false capital small bar h = refl
 
--- behind the first digit no x stands
+-- after the first digit no x stands
 no_hex : (x : ℕ) (ds : List ℕ) (b : ℕ) (rest : List ℕ) → list_all is_ascii_digit ds ≡ true → is_word_byte b ≡ false → begins_hex (x ∷ ds ++ b ∷ rest) ≡ false
 no_hex x ds b rest all stop = by (x == 48) (other ds all)
   where

@@ -42,7 +42,7 @@ module _ {X R : Type 0} (see : R → X) where
   all_lengths f count (r ∷ rs) each =
       (let rest = all_lengths f count rs (λ j s is. each (suc j) s is) in omega (arith, rest, each 0 r refl, length-append (f (see r)) (flat_map f (map see rs)), sum_by-cons count r rs))
 
--- parts that stand one behind the other, and the rest of the list
+-- parts that stand one after the other, and the rest of the list
 pub parts_behind : {R X : Type 0} (first count : R → ℕ) (xs : List X) (rows : List R) (at : ℕ) → AreJoined first count at rows → flat_map (λ r. part xs (first r) (count r)) rows ++ drop (at + sum_by count rows) xs ≡ drop at xs
 parts_behind first count xs [] at are = ap (λ n. drop n xs) (let same : at + 0 ≡ at = omega arith in same)
 parts_behind first count xs (r ∷ rs) at are =

@@ -1,4 +1,4 @@
--- Rows whose parts stand one behind the other.
+-- Rows whose parts stand one after the other.
 use Rattle.std.specs.Prelude.{ℕ, List, [], ◌∷◌, ◌+◌, ◌≡◌}
 
 -- from a place on, each part begins where the one before it ends

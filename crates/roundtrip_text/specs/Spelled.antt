@@ -71,7 +71,7 @@ type_slices c t =
     block_slices (word (codes "type") ∷ text (type_name c t) ∷ [])
     (setting_slices (codes "modifiers") (mods_terms t.mods) ++ (flat_map entry_slices (entries_of c t) ++ levels_slices t.levels))
 
--- behind the first, each with a comma
+-- after the first, each with a comma
 abbrev pub comma_slices : List (List Slice) → List Slice
 comma_slices [] = []
 comma_slices (s ∷ ss) = s ++ flat_map (λ o. mark 44 ∷ o) ss

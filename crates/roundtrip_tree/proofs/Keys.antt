@@ -46,7 +46,7 @@ use Rattle.roundtrip_tree.proofs.Tokens.{token, key_name_spelled}
 -- ---- A statement
 
 module _ (text : List ℕ) (phrase : KeyPhrase) (bytes : list_all is_key_byte phrase.name ≡ true) (given : EachOf IsGiven (field_phrases phrase)) where
-  -- from behind the brace that opens
+  -- from after the brace that opens
   key_closes : (s1 s2 s3 : Span) (us mid rest : List Token) → IsAt text (60 ∷ phrase.name ++ 62 ∷ []) s2 → Begins text (listed_slices field_slices (field_phrases phrase)) us mid → Begins text (a_mark 125 ∷ a_mark 59 ∷ []) mid rest
       → ReadsAs (item text) (IsItem (IsKeyOf phrase)) (token (Word (keyword_of (codes "key"))) s1 ∷ token KeyName s2 ∷ token (Mark 123) s3 ∷ us) rest
   unfolding statement key keycodes_statement types_statement symbols_statement mode_of join_of is_keyword spellings

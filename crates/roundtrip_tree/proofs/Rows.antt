@@ -38,7 +38,7 @@ module _ {A X : Type 0} (p : Production A) (test : List Token → Bool) (Is : X 
     pub are : AreShown Is xs values
 
 module _ {A X : Type 0} (text : List ℕ) (p : Production A) (test : List Token → Bool) (slices : X → List Slice) (Is : X → A → Type 0) where
-  -- each stands where the test holds, and is read whatever stands behind it
+  -- each stands where the test holds, and is read whatever stands after it
   abbrev pub ReadsEach : Type 0
   ReadsEach = (x : X) (ts rest : List Token) → Begins text (slices x) ts rest → (test ts ≡ true) × ReadsAs p (Is x) ts rest
 
@@ -53,7 +53,7 @@ module _ {A X : Type 0} (text : List ℕ) (p : Production A) (test : List Token 
   pub many_reads : ReadsEach → (xs : List X) (ts rest : List Token) → Begins text (flat_map slices xs) ts rest → test rest ≡ false → ReadsAs (many test p) (AreShown Is xs) ts rest
   many_reads each xs ts rest begins stops = let r = rows each xs ts rest begins in record { value = r.values; spelled = record { spelled = (r.spelled, stops) }; is = r.are }
 
--- ---- Behind commas
+-- ---- After commas
 
 -- a mark that ends a value: , ; ] } )
 abbrev pub is_stop : ℕ → Bool
@@ -70,7 +70,7 @@ module _ {X : Type 0} (slices : X → List Slice) where
   list_slices [] = []
   list_slices (x ∷ xs) = slices x ++ flat_map with_comma xs
 
-  -- behind one of them a comma stands, or what ends all
+  -- after one of them a comma stands, or what ends all
   others_stop : {text : List ℕ} (xs : List X) {ts rest : List Token} → Begins text (flat_map with_comma xs) ts rest → Stops rest → Stops ts
   others_stop [] none h = h
   others_stop (x ∷ xs) begins h = first_stops begins
@@ -79,7 +79,7 @@ module _ {X : Type 0} (slices : X → List Slice) where
       first_stops (more span at begins) = stop refl
 
 module _ {A X : Type 0} (text : List ℕ) (p : Production A) (slices : X → List Slice) (Is : X → A → Type 0) where
-  -- each is read where what stands behind it ends a value
+  -- each is read where what stands after it ends a value
   abbrev pub ReadsEnded : Type 0
   ReadsEnded = (x : X) (ts rest : List Token) → Begins text (slices x) ts rest → Stops rest → ReadsAs p (Is x) ts rest
 

@@ -60,7 +60,7 @@ unfolding mark
 headed_spelled text left right f {mid = mid} {rest = rest} {x = x} {y = y} start close s h t k =
     record { spelled = (x, start ∷ mid, s.spelled, (start, mid, (refl, h), (y, close ∷ rest, t.spelled, (close, rest, (refl, k), (refl, refl))))) }
 
--- one with no other behind it
+-- one with no other after it
 pub single_spelled : {A : Type 0} (text : List ℕ) {p : Production A} {ts rest : List Token} {x : A} → IsSpelled p ts x rest → front (is_mark comma) rest ≡ false → IsSpelled (sequence text p) ts (x ∷ []) rest
 single_spelled text {rest = rest} {x = x} s h = record { spelled = (x, rest, s.spelled, ([], rest, (refl, h), (refl, refl))) }
 

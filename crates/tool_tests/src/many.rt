@@ -16,7 +16,7 @@ fn numbered(alloc: Global, piece: &str, number: u32) -> Result<String, AllocErro
     piece.replace(alloc, "#", digits.as_str())
 }
 
-/// A text, a piece that is numbered and repeated, and a text behind it.
+/// A text, a piece that is numbered and repeated, and a text after it.
 fn repeated(
     alloc: Global,
     front: &str,

@@ -52,7 +52,7 @@ direction false = Up
 abbrev pub told_direction : ℕ → Direction
 told_direction down = direction (not (down == 0))
 
--- a keyboard behind an event
+-- a keyboard after an event
 abbrev pub behind : Played → ℕ → ℕ → Played
 behind p code down = record p { world = step (keymap_of p.content) p.world code (told_direction down) }
 

@@ -6,7 +6,7 @@ ghost use Rattle.xkc_c.specs.FaultInC.{fault_in_c};
 use kx_lex::{At, Fault};
 
 /// Why a source is refused: the number n of its fault Fn, the text in which it stands (0 is the source, n the n-th
-/// file handed in), and its first byte and the one behind its last.
+/// file handed in), and its first byte and the one after its last.
 #[repr(C)]
 #[derive(Clone, Copy)]
 pub struct XkcFault {
@@ -29,7 +29,7 @@ const fn at(number: u32, place: At) -> XkcFault
 }
 
 impl XkcFault {
-    /// What a fault of a source says; want of memory is none.
+    /// What a fault of a source says; lack of memory is none.
     pub fn of(fault: Fault) -> Option<XkcFault>
         ensures { MatchOption result (fault ≡ Memory) (λ told. (told ≡ fault_in_c fault) × (fault ≢ Memory)) }
     {

@@ -9,9 +9,9 @@ ghost use Rattle.xkc_c.specs.NamesInC.{names_fault_in_c, names_in};
 ghost use Rattle.xkc_c.specs.Out.{Copies};
 ghost use Rattle.xkc_c.specs.declared.status.TheConstants.{MEMORY, MISSING, NAMES, OK};
 
-use arrayvec::ArrayString;
 use crate::out::copy;
 use crate::status::{MEMORY, MISSING, NAMES, OK};
+use arrayvec::ArrayString;
 use ks_core::{Keysym, NameFault, NameTable};
 use kx_handles::NamesHandle;
 use std::alloc::Global;
@@ -151,7 +151,7 @@ fn write_name(alloc: Global, names: &mut NamesHandle, keysym: Keysym, name: &mut
 }
 
 impl XkcNamesFault {
-    /// What a fault of lines says; want of memory is none.
+    /// What a fault of lines says; lack of memory is none.
     pub fn of(fault: NameFault) -> Option<XkcNamesFault>
         ensures { MatchOption result (fault ≡ Memory) (λ told. (told ≡ names_fault_in_c fault) × (fault ≢ Memory)) }
     {

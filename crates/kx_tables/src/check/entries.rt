@@ -1,6 +1,6 @@
 ghost use Rattle.std.specs.Prelude.{◌≡◌, ◌≤◌, ◌<◌, ◌+◌, ◌^◌, ◌↔◌, ℕ, IsTrue, OnOk, IfErr, Some, length, slice_get};
 ghost use Rattle.kx_tables.specs.Broken.{Breaks};
-ghost use Rattle.kx_tables.specs.SoFar.{EntryNumbers, EntriesLie};
+ghost use Rattle.kx_tables.specs.SoFar.{EntryNumbers, EntriesBegin, EntriesLie};
 ghost use Rattle.kx_tables.specs.Sound.{EachRow, EntriesHold};
 
 use super::{Broken, RecordKind};
@@ -21,6 +21,7 @@ fn is_numbered(row: EntryRow, key_type: TypeRow) -> bool
 fn check_entries_of<R: Rows>(rows: &R, index: u16, key_type: TypeRow) -> Result<(), Broken>
     requires row { slice_get (R.content rows.now).types index ≡ Some key_type }
     requires within { EntriesLie (R.content rows.now) index key_type }
+    requires begin { EntriesBegin (R.content rows.now) index key_type }
     ensures ok { OnOk result (EntriesHold (R.content rows.now) index key_type) }
     ensures broken { IfErr result (λ b. Breaks (R.content rows.now) b.part b.index) }
 {
@@ -43,7 +44,8 @@ fn check_entries_of<R: Rows>(rows: &R, index: u16, key_type: TypeRow) -> Result<
 
 /// Checks the entries of all types.
 pub fn check_entries<R: Rows>(rows: &R) -> Result<(), Broken>
-    requires { EachRow (R.content rows.now).types (EntriesLie (R.content rows.now)) }
+    requires within { EachRow (R.content rows.now).types (EntriesLie (R.content rows.now)) }
+    requires begin { EachRow (R.content rows.now).types (EntriesBegin (R.content rows.now)) }
     ensures ok { OnOk result (EachRow (R.content rows.now).types (EntriesHold (R.content rows.now))) }
     ensures broken { IfErr result (λ b. Breaks (R.content rows.now) b.part b.index) }
 {

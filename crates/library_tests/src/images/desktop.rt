@@ -31,7 +31,7 @@ const DESKTOP: [u8; LENGTH] = [
 /// How many changes are tried of the 138,465 that there are.
 const SAMPLE: usize = 2000;
 
-/// A number by chance behind another (Knuth's generator of 64 bits).
+/// A number by chance after another (Knuth's generator of 64 bits).
 fn next(number: u64) -> u64 {
     number
         .wrapping_mul(6_364_136_223_846_793_005)

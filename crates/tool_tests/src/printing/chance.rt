@@ -4,7 +4,7 @@ use std::alloc::{AllocError, Global};
 /// How many steps are taken for a source at most.
 const MOST_STEPS: usize = 1_000_000;
 
-/// A source, in which each letter behind a `$` stands for one of its choices.
+/// A source, in which each letter after a `$` stands for one of its choices.
 const KEYMAP: &str = "xkb_keymap { xkb_keycodes { <A>=38; <AE01>=10; <>=64; <#<\"\\>=0; $c};
 xkb_types { virtual_modifiers Far, Near=Mod3; $t};
 xkb_compat { $i$l};

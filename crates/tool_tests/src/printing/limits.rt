@@ -53,7 +53,7 @@ fn source_of(alloc: Global, pieces: &[Piece]) -> Result<String, Fail> {
     Ok(source)
 }
 
-/// Puts a text behind a source, with a number in place of each @.
+/// Puts a text after a source, with a number in place of each @.
 fn add(source: &mut String, text: &str, number: u32) -> Result<(), Fail> {
     for (place, part) in text.split('@').enumerate() {
         if place > 0 {

@@ -88,7 +88,7 @@ fn replay_refuses_what_is_no_image(rt: HostRuntime) -> Result<(), Fail> {
     Ok(())
 }
 
-/// Readers fail at each byte, and behind the last in place of the end.
+/// Readers fail at each byte, and after the last in place of the end.
 #[test]
 fn readers_that_fail_at_each_byte(rt: HostRuntime) -> Result<(), Fail> {
     let names = builtin(rt.alloc())?;

@@ -1,10 +1,13 @@
 use Rattle.std.proofs.Common.{arith, ap}
 use Rattle.kx_tables.specs.Fit.{CountsFit}
-use Rattle.kx_tables.proofs.Whole.{whole_is_sound, entries_lie}
+use Rattle.kx_tables.proofs.Whole.{whole_is_sound, entries_begin, entries_lie}
 use Rattle.kx_tables.proofs.check.check_rules.Goals as goal
 
-pub check_entries-requires : goal.check_entries-requires
-check_entries-requires g c = entries_lie (g.R.Rows.content c.args.rows.now) _ c.in_ok-type_names.ensures.ok
+pub check_entries-requires-clause-within : goal.check_entries-requires-clause-within
+check_entries-requires-clause-within g c = entries_lie (g.R.Rows.content c.args.rows.now) _ c.in_ok-type_names.ensures.ok
+
+pub check_entries-requires-clause-begin : goal.check_entries-requires-clause-begin
+check_entries-requires-clause-begin g c = entries_begin (g.R.Rows.content c.args.rows.now) _ c.in_ok-type_names.ensures.ok
 
 pub returns-clause-ok : goal.returns-clause-ok
 returns-clause-ok g c =
