@@ -88,6 +88,29 @@ run 'the same, four at a time' a="$work/keys"
 including symbols 'a b' 4000
 run 'that file and another, in turn' a="$work/keys" b="$work/other"
 
+# A map that is moved to a group, under augment: in one text, in statements, in turn with itself in another group, and with a key
+# between that takes its values back.
+awk 'BEGIN { print "default xkb_symbols {"; for (i = 0; i < 50000; i++) printf "key<K%d>{[a]};\n", i % 4096; print "};" }' > "$work/moved"
+# augmenting COUNT TEXT BETWEEN..: a source with so many augment statements of TEXT, where @ is a group, 2 and 3 in turn
+augmenting() {
+    awk -v count="$1" -v text="$2" -v between="${3-}" 'BEGIN {
+        print "xkb_keymap {\nxkb_keycodes {"
+        for (code = 0; code <= 4095; code++) printf "<K%d>=%d;\n", code, code
+        print "};\nxkb_symbols {"
+        for (i = 0; i < count; i++) { word = text; gsub(/@/, 2 + i % 2, word); printf "augment \"%s\"\n%s\n", word, between }
+        print "};\n};"
+    }' > "$work/source"
+}
+parts=$(awk 'BEGIN { printf "a:2"; for (i = 1; i < 4000; i++) printf "|a:2" }')
+including symbols "$parts" 1
+run 'a file of 50,000 statements for 4,096 keys, 4,000 times to group 2 by |' a="$work/moved"
+augmenting 4000 a:2
+run 'the same by 4,000 statements' a="$work/moved"
+augmenting 4000 a:@
+run 'to groups 2 and 3 in turn' a="$work/moved"
+augmenting 4000 a:@ 'replace key <K1> { [b] };'
+run 'the same, with a key between that takes its values back' a="$work/moved"
+
 files=
 for depth in 1 2 3 4 5 6 7 8 9 10; do
     echo "default xkb_symbols { include \"f$((depth + 1))\" include \"f$((depth + 1))\" };" > "$work/f$depth"

@@ -7,13 +7,13 @@ top=$(cd "$(dirname "$0")/.." && pwd)
 work=$(mktemp -d)
 trap 'rm -rf "$work"' EXIT
 mkdir -p "$work/crates"
-for name in kx_mods kx_tables ks_core kx_image; do
+for name in kx_basics kx_ordered kx_mods kx_tables ks_core kx_image; do
     # with what earlier checks kept in out/, so that only the program is proved afresh
     cp -r "$top/crates/$name" "$work/crates/$name"
 done
 mkdir -p "$work/crates/open/src"
 cp "$top/bench/open/main.rt.in" "$work/crates/open/src/main.rt"
-{ grep -E '^(kx_mods|kx_tables|ks_core|kx_image):' "$top/crates.txt"; echo 'open: kx_image kx_tables kx_mods ks_core'; } > "$work/crates.txt"
+{ grep -E '^(kx_basics|kx_ordered|kx_mods|kx_tables|ks_core|kx_image):' "$top/crates.txt"; echo 'open: kx_image kx_tables kx_mods ks_core'; } > "$work/crates.txt"
 cp "$top/HANDLES" "$work/HANDLES"
 cd "$work/crates/open"
 rt run
