@@ -1,6 +1,7 @@
 //! What interpretations are told apart by.
-ghost use Rattle.std.specs.Prelude.{◌≡◌};
+ghost use Rattle.std.specs.Prelude.{None, ◌≡◌};
 ghost use Rattle.kx_mods.specs.Mods.{mask};
+ghost use Rattle.kx_ordered.specs.Numbers.{untold};
 
 use kx_mods::Mods;
 use kx_ordered::Again;
@@ -52,6 +53,14 @@ impl InterpretationMatch {
 }
 
 impl Again for InterpretationMatch {
+    ghost number = { λ k. None };
+
+    ghost told = { untold };
+
+    fn number(&self) -> Option<u16> {
+        None
+    }
+
     fn again(&self) -> Result<InterpretationMatch, AllocError> {
         Ok(*self)
     }

@@ -1,4 +1,7 @@
 //! What a modifier map gives modifiers.
+ghost use Rattle.std.specs.Prelude.{None};
+ghost use Rattle.kx_ordered.specs.Numbers.{untold};
+
 use kx_ordered::Again;
 use std::alloc::AllocError;
 
@@ -12,6 +15,14 @@ pub enum Target {
 }
 
 impl Again for Target {
+    ghost number = { λ k. None };
+
+    ghost told = { untold };
+
+    fn number(&self) -> Option<u16> {
+        None
+    }
+
     fn again(&self) -> Result<Target, AllocError> {
         Ok(*self)
     }

@@ -17,7 +17,7 @@ use Rattle.kx_ordered.specs.KeyPlaces.{Respects, place_in, with_value}
 inside : {X : Type 0} {x y : X} → Some x ≡ Some y → x ≡ y
 inside {X} {x} e = ap (λ o. unwrap_or o x) e
 
-no_some : {X : Type 0} {x : X} → None ≡ Some x → ⊥
+pub no_some : {X : Type 0} {x : X} → None ≡ Some x → ⊥
 no_some e = true≢false (sym (ap is_some e))
 
 pub on_ok : {A E P Q : Type 0} (r : Result A E) → (P → Q) → OnOk r P → OnOk r Q
@@ -104,7 +104,7 @@ looked_by_place test es (Some i) at = found test es i (sym (place_is test es) �
 pub by_order : {K V : Type 0} (eq : K → K → Bool) (cmp : K → K → Ordering) → ((x y : K) → eq x y ≡ is_eq (cmp x y)) → (k : K) (es : List (K × V)) → place_in (is_at (cmp k)) es ≡ place_in (eq k) es
 by_order eq cmp matches k es = ap (λ test. place_in test es) (λ i x. sym (matches k x) i)
 
-is_equal : (r : Ordering) → is_eq r ≡ true → r ≡ Equal
+pub is_equal : (r : Ordering) → is_eq r ≡ true → r ≡ Equal
 is_equal Less h = absurd (true≢false (sym h))
 is_equal Equal h = refl
 is_equal Greater h = absurd (true≢false (sym h))
@@ -115,19 +115,20 @@ both_ways false true f g = g refl
 both_ways false false f g = refl
 
 module _ {K : Type 0} (cmp : K → K → Ordering) (order : IsTotalOrder cmp) (compare : K → Ordering) (respects : Respects cmp compare) where
+  -- a key that is not among the others has no place among them by what it is equal to
+  pub absent : {V : Type 0} (es : List (K × V)) (k : K) → place_in (is_at (cmp k)) es ≡ None → is_at compare k ≡ true → place_in (is_at compare) es ≡ None
+  absent es k none h = ap (λ test. place_in test es) (λ i x. is_eq (respects k x (is_equal (compare k) h) i)) ∙ none
+
   -- what is put after the others, whose key is not among them
   pub place_pushed : {V : Type 0} (es : List (K × V)) (e : K × V) → place_in (is_at (cmp e.0)) es ≡ None → cond (is_at compare e.0) (Some (length es)) (place_in (is_at compare) es) ≡ place_in (is_at compare) (es ++ e ∷ [])
   place_pushed es e none = by (is_at compare e.0) refl ∙ sym (place_more (is_at compare) es e)
     where
-      absent : is_at compare e.0 ≡ true → place_in (is_at compare) es ≡ None
-      absent h = ap (λ test. place_in test es) (λ i x. is_eq (respects e.0 x (is_equal (compare e.0) h) i)) ∙ none
-
       kept : (o : Option ℕ) → o ≡ option_or o None
       kept None = refl
       kept (Some i) = refl
 
       by : (b : Bool) → is_at compare e.0 ≡ b → cond b (Some (length es)) (place_in (is_at compare) es) ≡ option_or (place_in (is_at compare) es) (cond b (Some (length es)) None)
-      by true h = sym (ap (λ o. option_or o (Some (length es))) (absent h))
+      by true h = sym (ap (λ o. option_or o (Some (length es))) (absent es e.0 none h))
       by false h = kept (place_in (is_at compare) es)
 
   match-look : {V : Type 0} (r : Ordering) (xs ys zs : List (K × V)) → lookup (is_at compare) (match_ordering r xs ys zs) ≡ match_ordering r (lookup (is_at compare) xs) (lookup (is_at compare) ys) (lookup (is_at compare) zs)

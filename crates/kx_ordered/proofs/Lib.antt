@@ -1,3 +1,4 @@
 pub mod KeyPlaces
 pub mod ByBytes
 pub mod Sorted
+pub mod Numbers

@@ -10,12 +10,12 @@ use Rattle.kx_ordered.specs.contracts.ordered.Ordered.{the_row}
 abbrev pub Writes : {K V S : Type 0} → (K → K → Bool) → IndexMap K V S → K → V → IndexMap K V S → Type 0
 Writes {K} eq old key w new = (keys new ≡ keys old) × (IsSome (get eq old key) → (q : K) → get eq new q ≡ (if eq key q then Some w else get eq old q))
 
--- what `==` and the order of keys are
+-- what `==`, the order and the numbers of keys are
 abbrev pub OrderOf : Type 0 → Type 0
-OrderOf K = record { cmp : K → K → Ordering; eq : K → K → Bool; partial_cmp : K → K → Option Ordering }
+OrderOf K = record { cmp : K → K → Ordering; eq : K → K → Bool; number : K → Option ℕ; partial_cmp : K → K → Option Ordering }
 
 abbrev pub row_of : (K V : RattleType) → OrderOf K.Denot → RattleType
-row_of K V order = the_row K V (record { cmp = order.cmp }) (record { eq = order.eq }) (record { partial_cmp = order.partial_cmp })
+row_of K V order = the_row K V (record { number = order.number }) (record { cmp = order.cmp }) (record { eq = order.eq }) (record { partial_cmp = order.partial_cmp })
 
 -- the value at a place is what is written
 abbrev pub lends_at : (K V : RattleType) → OrderOf K.Denot → MutBor (IndexMap K.Denot V.Denot ℕ) → ℕ → MutBor V.Denot → Fml

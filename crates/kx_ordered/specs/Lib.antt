@@ -2,3 +2,4 @@ pub mod KeyPlaces
 pub mod Lending
 pub mod Members
 pub mod Names
+pub mod Numbers

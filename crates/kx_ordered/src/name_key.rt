@@ -1,11 +1,12 @@
 //! Names in an order that is quick to tell.
-ghost use Rattle.std.specs.Prelude.{◌≡◌, ◌≤◌, length, drop, take, refl};
+ghost use Rattle.std.specs.Prelude.{◌≡◌, None, ◌≤◌, length, drop, take, refl};
 ghost use Rattle.std.specs.Cmp.{partial_equiv_from_equiv, partial_order_from_own_ties, partial_order_from_total};
 ghost use Rattle.std.specs.Cmp.Lexicographic.{nat_list_eq_equiv};
 ghost use Rattle.std.specs.Cmp.Rules.{comparing};
 ghost use Rattle.std.specs.Ordering.{as_partial_cmp, is_lt};
 ghost use Rattle.std.specs.Str.{bytes_eq};
 ghost use Rattle.std.proofs.Common.{rules};
+ghost use Rattle.kx_ordered.specs.Numbers.{untold};
 ghost use Rattle.kx_ordered.specs.Names.{head_of, folded, name_cmp, name_cmp_total, name_cmp_ties};
 
 use crate::again::Again;
@@ -39,7 +40,7 @@ fn front_of(bytes: &[u8]) -> &[u8]
 }
 
 /// The first eight bytes of a name as one number.
-fn head_of(bytes: &[u8]) -> u64
+pub(crate) fn head_of(bytes: &[u8]) -> u64
     ensures { result ≡ head_of bytes.now }
 {
     let mut head = 0u64;
@@ -47,6 +48,18 @@ fn head_of(bytes: &[u8]) -> u64
         head = head.wrapping_mul(256).wrapping_add(u64::from(*byte));
     }
     head
+}
+
+/// The order of two names, which have these numbers.
+pub(crate) fn cmp_by_head(head: u64, other_head: u64, bytes: &[u8], other: &[u8]) -> Ordering
+    requires head { head ≡ head_of bytes.now }
+    requires other { other_head ≡ head_of other.now }
+    ensures { result ≡ name_cmp bytes.now other.now }
+{
+    match head.cmp(&other_head) {
+        Ordering::Equal => bytes.cmp(other),
+        unequal => unequal,
+    }
 }
 
 impl<'l> NameKey<'l> {
@@ -65,6 +78,13 @@ impl<'l> NameKey<'l> {
         ensures { result.now ≡ self.now }
     {
         self.bytes
+    }
+
+    /// The number of the first eight bytes.
+    pub(crate) fn head(&self) -> u64
+        ensures { result ≡ head_of self.now }
+    {
+        self.head
     }
 
     /// The same key.
@@ -126,14 +146,19 @@ impl<'l> Ord for NameKey<'l> {
     ghost matches_eq = { name_cmp_ties };
 
     fn cmp(&self, other: &NameKey<'l>) -> Ordering {
-        match self.head.cmp(&other.head) {
-            Ordering::Equal => self.bytes.cmp(other.bytes),
-            unequal => unequal,
-        }
+        cmp_by_head(self.head, other.head, self.bytes, other.bytes)
     }
 }
 
 impl<'l> Again for NameKey<'l> {
+    ghost number = { λ k. None };
+
+    ghost told = { untold };
+
+    fn number(&self) -> Option<u16> {
+        None
+    }
+
     fn again(&self) -> Result<NameKey<'l>, AllocError> {
         Ok(self.copied())
     }

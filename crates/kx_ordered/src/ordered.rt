@@ -1,8 +1,9 @@
-ghost use Rattle.std.specs.Prelude.{◌≡◌, ◌++◌, ◌∷◌, [], length, position, slice_get, IfOk, OnOk, IfErr, OnErr, None, Some, ◌<◌, if◌then◌else◌};
+ghost use Rattle.std.specs.Prelude.{◌≡◌, ℕ, Option, IfSome, ◌++◌, ◌∷◌, [], length, position, slice_get, IfOk, OnOk, IfErr, OnErr, None, Some, ◌<◌, if◌then◌else◌};
 ghost use Rattle.std.specs.Option.{option_map, option_copied, option_copied_mut};
 ghost use Rattle.std.specs.Borrow.{sem};
 ghost use Rattle.indexmap.specs.IndexMap.{get, keys, values, index_map_len, insert_entry, IsUnique};
 ghost use Rattle.kx_ordered.specs.KeyPlaces.{ArePlaced};
+ghost use Rattle.kx_ordered.specs.Numbers.{numbered};
 ghost use Rattle.kx_ordered.specs.Lending.{lends_at, lends_value};
 
 use crate::again::Again;
@@ -10,11 +11,20 @@ use std::alloc::{AllocError, Global};
 use std::collections::BTreeMap;
 use std::marker::Model;
 
+/// A key is found by its number where that is below so many times the count of keys before it and [`SPARE`], so that the
+/// table of numbers takes no more room than entries do, whatever the numbers are.
+const SPREAD: usize = 4;
+
+const SPARE: usize = 16;
+
 /// Values by key, in the order in which the keys were first put. A key is found in the logarithm of how many there are,
-/// whatever the keys are.
+/// whatever the keys are, and one that is told by a small number at once.
 #[derive(Drop)]
 pub struct Ordered<K: Again + Drop, V> {
     entries: Vec<(K, V)>,
+    /// The places of keys by their numbers, for those that are found by them.
+    numbers: Vec<Option<usize>>,
+    /// The places of the other keys.
     places: BTreeMap<K, usize>,
 }
 
@@ -25,7 +35,7 @@ impl<K: Again + Drop, V> Model for Ordered<K, V> {
     ghost use Rattle.std.specs.Map.{keys_of};
     ghost use Rattle.indexmap.specs.IndexMap.{IndexMap};
     ghost use Rattle.indexmap.specs.Layout.{hash_map, hash_map_code};
-    ghost use Rattle.kx_ordered.specs.KeyPlaces.{ArePlaced};
+    ghost use Rattle.kx_ordered.specs.KeyPlaces.{ArePlaced, IsEachPlaced};
 
     ghost Value = { IndexMap K V ℕ };
 
@@ -33,7 +43,41 @@ impl<K: Again + Drop, V> Model for Ordered<K, V> {
 
     ghost view = { λ m. hash_map m.entries.items 0 0 };
 
-    ghost invariant = { λ m. ArePlaced K.cmp m.places m.entries.items × IsDistinct K.eq (keys_of m.entries.items) };
+    ghost invariant = { λ m. IsEachPlaced K.cmp K.number m.numbers.items m.places m.entries.items × ArePlaced K.cmp K.number m.places m.entries.items × IsDistinct K.eq (keys_of m.entries.items) };
+}
+
+/// What a table of numbers tells of one.
+fn place_of(numbers: &[Option<usize>], number: Option<u16>) -> Option<usize>
+    ensures { result ≡ numbered numbers.now number }
+{
+    match number {
+        None => None,
+        Some(number) => *numbers.get(usize::from(number)).unwrap_or(&None),
+    }
+}
+
+/// Makes room for the number of a key after so many others, unless it is far above their count; answers it where there is
+/// room.
+fn room_for(
+    numbers: &mut Vec<Option<usize>>,
+    number: Option<u16>,
+    count: usize,
+) -> Result<Option<usize>, AllocError>
+    ensures same { (n : Option ℕ) → numbered numbers.new.items n ≡ numbered numbers.old.items n }
+    ensures room { IfOk result (λ room. IfSome room (λ n. (number ≡ Some n) × (n < length numbers.new.items))) }
+{
+    let Some(number) = number else {
+        return Ok(None);
+    };
+    let number = usize::from(number);
+    if number < numbers.len() {
+        return Ok(Some(number));
+    }
+    if number / SPREAD > count.saturating_add(SPARE) {
+        return Ok(None);
+    }
+    numbers.resize(number + 1, None)?;
+    Ok(Some(number))
 }
 
 impl<K: Again + Drop, V> Ordered<K, V> {
@@ -43,6 +87,7 @@ impl<K: Again + Drop, V> Ordered<K, V> {
     {
         Ordered {
             entries: Vec::new(alloc),
+            numbers: Vec::new(alloc),
             places: BTreeMap::new(alloc),
         }
     }
@@ -59,12 +104,15 @@ impl<K: Again + Drop, V> Ordered<K, V> {
         ensures value { result ≡ position (K.eq key.now) (keys self.now) }
         ensures unique { IsUnique K.eq self.now }
     {
-        self.places.get(key).copied()
+        match place_of(&self.numbers, key.number()) {
+            Some(place) => Some(place),
+            None => self.places.get(key).copied(),
+        }
     }
 
     /// The places of keys, among which a name is found by its bytes.
-    pub fn places(&self) -> &BTreeMap<K, usize>
-        ensures { ArePlaced K.cmp result.now self.now.entries }
+    pub(crate) fn places(&self) -> &BTreeMap<K, usize>
+        ensures { ArePlaced K.cmp K.number result.now self.now.entries }
     {
         &self.places
     }
@@ -101,7 +149,7 @@ impl<K: Again + Drop, V> Ordered<K, V> {
 
     /// The value of a key, which can be written.
     pub fn get_mut(&mut self, key: &K) -> Option<&mut V>
-        ensures* writes_back { sem 𝓛 (lends_value K.row V.row (record { cmp = K.cmp; eq = K.eq; partial_cmp = K.partial_cmp }) self.entry key.now result) }
+        ensures* writes_back { sem 𝓛 (lends_value K.row V.row (record { cmp = K.cmp; eq = K.eq; number = K.number; partial_cmp = K.partial_cmp }) self.entry key.now result) }
         ensures value { option_copied_mut result ≡ get K.eq self.old key.now }
     {
         match self.place(key) {
@@ -113,7 +161,7 @@ impl<K: Again + Drop, V> Ordered<K, V> {
     /// The value at a place, counted from 0, which can be written.
     pub fn value_mut(&mut self, place: usize) -> &mut V
         requires { place < index_map_len self.old }
-        ensures* writes_back { sem 𝓛 (lends_at K.row V.row (record { cmp = K.cmp; eq = K.eq; partial_cmp = K.partial_cmp }) self.entry place result) }
+        ensures* writes_back { sem 𝓛 (lends_at K.row V.row (record { cmp = K.cmp; eq = K.eq; number = K.number; partial_cmp = K.partial_cmp }) self.entry place result) }
         ensures value { slice_get (values self.old) place ≡ Some result.now }
     {
         let entry = &mut self.entries[place];
@@ -150,6 +198,26 @@ impl<K: Again + Drop, V> Ordered<K, V> {
     }
 
     fn put(&mut self, key: K, value: V) -> Result<(), AllocError>
+    where
+        V: Drop,
+        requires { get K.eq self.old key ≡ None }
+        ensures entries { OnOk result (self.new.entries ≡ self.old.entries ++ (key, value) ∷ []) }
+        ensures unique { OnOk result (IsUnique K.eq self.new) }
+        ensures err { OnErr result (self.new ≡ self.old) }
+    {
+        let place = self.len();
+        match room_for(&mut self.numbers, key.number(), place)? {
+            None => self.put_by_order(key, value),
+            Some(number) => {
+                self.entries.push((key, value))?;
+                self.numbers[number] = Some(place);
+                Ok(())
+            }
+        }
+    }
+
+    /// Puts a value whose key is found by its order.
+    fn put_by_order(&mut self, key: K, value: V) -> Result<(), AllocError>
     where
         V: Drop,
         requires { get K.eq self.old key ≡ None }

@@ -1,18 +1,19 @@
 //! Names of at most 255 bytes.
-ghost use Rattle.std.specs.Prelude.{◌≡◌, ◌≤◌, ◌<◌, IfSome, length, position, take, refl};
-ghost use Rattle.std.specs.Cmp.{partial_equiv_from_equiv, partial_order_from_own_ties};
-ghost use Rattle.std.specs.Cmp.Lexicographic.{nat_list_cmp_total, nat_list_eq_equiv, slice_cmp};
-ghost use Rattle.std.specs.Cmp.Rules.{comparing};
+ghost use Rattle.std.specs.Prelude.{◌≡◌, None, ◌≤◌, ◌<◌, IfSome, length, position, take, refl};
+ghost use Rattle.std.specs.Cmp.{partial_equiv_from_equiv, partial_order_from_own_ties, partial_order_from_total};
+ghost use Rattle.std.specs.Cmp.Lexicographic.{nat_list_eq_equiv};
 ghost use Rattle.std.specs.Map.{lookup};
 ghost use Rattle.std.specs.Option.{option_copied};
-ghost use Rattle.std.specs.Ordering.{as_partial_cmp, nat_cmp};
+ghost use Rattle.std.specs.Ordering.{as_partial_cmp};
 ghost use Rattle.std.specs.Str.{bytes_eq};
 ghost use Rattle.std.specs.BTreeMap.Comparable.{le_lt_trans};
-ghost use Rattle.std.proofs.Common.{rules};
 ghost use Rattle.indexmap.specs.IndexMap.{index_map_len, keys};
+ghost use Rattle.kx_ordered.specs.Names.{name_cmp, name_cmp_ties, name_cmp_total};
+ghost use Rattle.kx_ordered.specs.Numbers.{untold};
 ghost use Rattle.kx_basics.specs.declared.limits.TheConstants.{MOST_NAME_BYTES};
 
 use crate::again::Again;
+use crate::name_key::{NameKey, cmp_by_head, head_of};
 use crate::ordered::Ordered;
 use kx_basics::MOST_NAME_BYTES;
 use std::alloc::AllocError;
@@ -20,21 +21,26 @@ use std::cmp::Ordering;
 use std::collections::btree_map::Comparable;
 use std::marker::Model;
 
-/// A name of at most 255 bytes, which is read exactly; seen as its bytes. They stand in place, so that it is taken again
-/// without an allocation.
+/// A name of at most 255 bytes, which is read exactly, with a number of its first eight bytes: names are told apart by these
+/// numbers, and their bytes are compared only where the numbers are the same. Seen as its bytes, which stand in place, so
+/// that it is taken again without an allocation.
 #[derive(Debug, Drop)]
 pub struct ShortName {
+    head: u64,
     len: u8,
     /// The first `len` are the name; those after them mean nothing.
     bytes: [u8; MOST_NAME_BYTES],
 }
 
 impl Model for ShortName {
-    ghost use Rattle.std.specs.Prelude.{ℕ, List, take};
+    ghost use Rattle.std.specs.Prelude.{◌≡◌, ℕ, List, take};
+    ghost use Rattle.kx_ordered.specs.Names.{head_of};
 
     ghost Value = { List ℕ };
 
     ghost view = { λ name. take name.len name.bytes };
+
+    ghost invariant = { λ name. name.head ≡ head_of (take name.len name.bytes) };
 }
 
 fn start_of(bytes: &[u8], len: usize) -> &[u8]
@@ -52,6 +58,7 @@ impl ShortName {
         let mut bytes = [0; MOST_NAME_BYTES];
         bytes[..name.len()].copy_from_slice(name);
         ShortName {
+            head: head_of(name),
             len: name.len() as u8,
             bytes,
         }
@@ -62,6 +69,7 @@ impl ShortName {
         ensures { result ≡ self.now }
     {
         ShortName {
+            head: self.head,
             len: self.len,
             bytes: self.bytes,
         }
@@ -90,9 +98,9 @@ impl Eq for ShortName {
 }
 
 impl PartialOrd for ShortName {
-    ghost partial_cmp = { as_partial_cmp (slice_cmp nat_cmp) };
+    ghost partial_cmp = { as_partial_cmp name_cmp };
 
-    ghost laws = { partial_order_from_own_ties (Prim.search (comparing, rules)) (Prim.search (comparing, rules)) };
+    ghost laws = { partial_order_from_own_ties (partial_order_from_total name_cmp_total) name_cmp_ties };
 
     fn partial_cmp(&self, other: &ShortName) -> Option<Ordering> {
         Some(self.cmp(other))
@@ -100,34 +108,42 @@ impl PartialOrd for ShortName {
 }
 
 impl Ord for ShortName {
-    ghost cmp = { slice_cmp nat_cmp };
+    ghost cmp = { name_cmp };
 
-    ghost total = { nat_list_cmp_total };
+    ghost total = { name_cmp_total };
 
     ghost matches_partial_cmp = { λ x y. refl };
 
-    ghost matches_eq = { Prim.search (comparing, rules) };
+    ghost matches_eq = { name_cmp_ties };
 
     fn cmp(&self, other: &ShortName) -> Ordering {
-        self.as_slice().cmp(other.as_slice())
+        cmp_by_head(self.head, other.head, self.as_slice(), other.as_slice())
     }
 }
 
 impl Again for ShortName {
+    ghost number = { λ k. None };
+
+    ghost told = { untold };
+
+    fn number(&self) -> Option<u16> {
+        None
+    }
+
     fn again(&self) -> Result<ShortName, AllocError> {
         Ok(self.copied())
     }
 }
 
-impl Comparable<ShortName> for &[u8] {
-    ghost compare = { λ q k. slice_cmp nat_cmp q.now k };
+impl<'l> Comparable<ShortName> for &NameKey<'l> {
+    ghost compare = { λ q k. name_cmp q.now k };
 
-    ghost respects_cmp = { λ q x y. nat_list_cmp_total.congr q.now x y };
+    ghost respects_cmp = { λ q x y. name_cmp_total.congr q.now x y };
 
-    ghost below_greater = { λ q x y. le_lt_trans nat_list_cmp_total q.now x y };
+    ghost below_greater = { λ q x y. le_lt_trans name_cmp_total q.now x y };
 
     fn compare(&self, key: &ShortName) -> Ordering {
-        (*self).cmp(key.as_slice())
+        cmp_by_head(self.head(), key.head, self.as_slice(), key.as_slice())
     }
 }
 
@@ -137,7 +153,7 @@ impl<V> Ordered<ShortName, V> {
         ensures value { result ≡ position (bytes_eq name.now) (keys self.now) }
         ensures within { IfSome result (λ place. place < index_map_len self.now) }
     {
-        self.places().get(name).copied()
+        self.places().get(&NameKey::of(name)).copied()
     }
 
     /// The value of a name.

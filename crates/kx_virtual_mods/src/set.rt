@@ -1,5 +1,6 @@
 //! Sets of names of modifiers.
-ghost use Rattle.std.specs.Prelude.{◌≡◌, ◌<◌, ◌^◌, ◌==◌};
+ghost use Rattle.std.specs.Prelude.{None, ◌≡◌, ◌<◌, ◌^◌, ◌==◌};
+ghost use Rattle.kx_ordered.specs.Numbers.{untold};
 
 use crate::limits::MOST_VIRTUAL_MODIFIERS;
 use kx_mods::Mods;
@@ -114,6 +115,14 @@ impl NameSet {
 }
 
 impl Again for NameSet {
+    ghost number = { λ k. None };
+
+    ghost told = { untold };
+
+    fn number(&self) -> Option<u16> {
+        None
+    }
+
     fn again(&self) -> Result<NameSet, AllocError> {
         Ok(*self)
     }

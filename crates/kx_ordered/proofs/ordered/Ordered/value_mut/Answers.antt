@@ -17,8 +17,9 @@ invariant_of-self-lent g c = λ w.
     let entry = c.index_mut-entry.result.now in
     let at = slice_get_read es (length es) place entry refl (subst (λ m. place < length m.entries) (sym c.self.view_is) c.requires) c.index_mut-entry.ensures.value in
     let set = set_is es place entry.0 entry.1 w at in (
-      λ compare respects. let test = is_at compare in c.self.invariant.0 compare respects ∙ sym (ap (place_in test) set ∙ place_kept test es place w),
-      subst (IsDistinct g.K.PartialEq.eq) (sym (ap keys_of set ∙ keys-with_value es place w)) c.self.invariant.1,
+      λ k. let test = is_at (g.K.Ord.cmp k) in c.self.invariant.0 k ∙ sym (ap (place_in test) set ∙ place_kept test es place w),
+      λ compare respects unnumbered. let test = is_at compare in c.self.invariant.1 compare respects unnumbered ∙ sym (ap (place_in test) set ∙ place_kept test es place w),
+      subst (IsDistinct g.K.PartialEq.eq) (sym (ap keys_of set ∙ keys-with_value es place w)) c.self.invariant.2,
     )
 
 pub returns : goal.returns
