@@ -1,8 +1,8 @@
 -- How interpretations are found by keysym.
 use Rattle.std.specs.Prelude.{◌≡◌, ℕ, nat_eq, Bool, true, false, List, [], filter, map, Option}
 use Rattle.std.specs.List.{range_with_len}
+use Rattle.std.specs.Map.{lookup}
 use Rattle.std.specs.Option.{option_map_or}
-use Rattle.indexmap.specs.IndexMap.{IndexMap, get}
 use Rattle.kx_compat.specs.Choosing.{allows, least}
 use Rattle.kx_compat.specs.Interpretations.{Interpretation}
 use Rattle.kx_compat.specs.declared.interpretation_match.WantedKeysym.{WantedKeysym}
@@ -22,9 +22,9 @@ is_named keysym i = names_keysym keysym i.interpretation_match.keysym
 abbrev pub is_for_any : Interpretation → Bool
 is_for_any i = wants_any i.interpretation_match.keysym
 
-module _ {V S : Type 0} (items : V → List Interpretation) (named : IndexMap ℕ V S) where
+module _ {V : Type 0} (items : V → List Interpretation) (named : List (ℕ × V)) where
   abbrev pub bucket_in : ℕ → List Interpretation
-  bucket_in keysym = option_map_or items (get nat_eq named keysym) []
+  bucket_in keysym = option_map_or items (lookup (nat_eq keysym) named) []
 
   -- those of a keysym, and those of any, each in their order
   pub record IsIndexed (any all : List Interpretation) : Type 0 where

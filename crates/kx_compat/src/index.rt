@@ -1,6 +1,6 @@
 //! The interpretations of a keymap, and which one is chosen.
-ghost use Rattle.std.specs.Prelude.{◌≡◌, ◌<◌, ◌++◌, ◌∷◌, [], ℕ, IfErr, List, OnOk, nat_eq, if◌then◌else◌};
-ghost use Rattle.indexmap.specs.IndexMap.{get, index_map_len};
+ghost use Rattle.std.specs.Prelude.{◌≡◌, ◌<◌, ◌++◌, ◌∷◌, [], ℕ, IfErr, IfOk, List, OnOk, nat_eq, if◌then◌else◌};
+ghost use Rattle.indexmap.specs.IndexMap.{index_map_len};
 ghost use Rattle.kx_lex.specs.declared.fault.Fault.TheVariants.{Memory};
 ghost use Rattle.kx_mods.specs.Mods.{mask};
 ghost use Rattle.kx_compat.specs.Choosing.{chosen};
@@ -12,7 +12,7 @@ use crate::interpretation::Interpretation;
 use crate::interpretation_match::WantedKeysym;
 use kx_lex::Fault;
 use kx_mods::Mods;
-use kx_ordered::Ordered;
+use kx_ordered::{Ordered, SortedNumbers};
 use std::alloc::Global;
 use std::marker::Model;
 
@@ -21,7 +21,7 @@ use std::marker::Model;
 pub struct Interpretations {
     all: Vec<Interpretation>,
     /// Those of a keysym, by its number.
-    named: Ordered<u32, Bucket>,
+    named: SortedNumbers<Bucket>,
     /// Those of any keysym.
     any: Bucket,
 }
@@ -58,6 +58,7 @@ impl Interpretations {
         }
         any.keep_choices(alloc)?;
         keep_choices(alloc, &mut named)?;
+        let named = sorted(named)?;
         Ok(Interpretations { all, named, any })
     }
 
@@ -85,7 +86,7 @@ impl Interpretations {
     fn choose_named(&self, keysym: u32, first_level: bool, modmap: Mods) -> Option<&Interpretation>
         ensures { option_map (λ i. i.now) result ≡ least (filter (allows first_level (mask modmap)) (filter (is_named keysym) self.now)) }
     {
-        match self.named.get(&keysym) {
+        match self.named.get(keysym) {
             Some(bucket) => bucket.choose(first_level, modmap),
             None => None,
         }
@@ -116,6 +117,14 @@ fn keep_choices(alloc: Global, named: &mut Ordered<u32, Bucket>) -> Result<(), F
     Ok(())
 }
 
+/// The same, sorted by keysym.
+fn sorted(named: Ordered<u32, Bucket>) -> Result<SortedNumbers<Bucket>, Fault>
+    ensures indexed { IfOk result (λ sorted. (any all : List InterpretationValue) → IsIndexed (λ b. b) named.entries any all → IsIndexed (λ b. b) sorted any all) }
+    ensures err { IfErr result (λ e. e ≡ Memory) }
+{
+    Ok(SortedNumbers::of(named.into_entries())?)
+}
+
 /// Adds an interpretation after others of its keysym.
 fn add_named(
     alloc: Global,
@@ -123,7 +132,7 @@ fn add_named(
     keysym: u32,
     interpretation: Interpretation,
 ) -> Result<(), Fault>
-    ensures added { OnOk result ((k : ℕ) → bucket_in (λ b. b) named.new k ≡ bucket_in (λ b. b) named.old k ++ (if nat_eq keysym k then interpretation ∷ [] else [])) }
+    ensures added { OnOk result ((k : ℕ) → bucket_in (λ b. b) named.new.entries k ≡ bucket_in (λ b. b) named.old.entries k ++ (if nat_eq keysym k then interpretation ∷ [] else [])) }
     ensures err { IfErr result (λ e. e ≡ Memory) }
 {
     if let Some(bucket) = named.get_mut(&keysym) {
@@ -143,7 +152,7 @@ fn add_indexed(
     any: &mut Bucket,
     interpretation: Interpretation,
 ) -> Result<(), Fault>
-    ensures added { (all : List InterpretationValue) → IsIndexed (λ b. b) named.old any.old all → OnOk result (IsIndexed (λ b. b) named.new any.new (all ++ interpretation ∷ [])) }
+    ensures added { (all : List InterpretationValue) → IsIndexed (λ b. b) named.old.entries any.old all → OnOk result (IsIndexed (λ b. b) named.new.entries any.new (all ++ interpretation ∷ [])) }
     ensures err { IfErr result (λ e. e ≡ Memory) }
 {
     match interpretation.interpretation_match().keysym {

@@ -1,6 +1,6 @@
 -- What is looked up in sorted entries.
 use Rattle.std.proofs.Common.{◌≡◌, ℕ, zero, suc, ◌<◌, ◌≤◌, Bool, true, false, cond, not, ◌&&◌, List, [], ◌∷◌, length, Option, None, Some, filter, slice_get, refl, sym, ap, ◌∙◌, true≢false, ltb, subst, arith}
-use Rattle.std.specs.Cmp.Lexicographic.{nat_list_eq_equiv}
+use Rattle.std.specs.Cmp.{IsTotalOrder}
 use Rattle.std.specs.List.{AllWithin, slice_index_or}
 use Rattle.std.proofs.lemmas.List.Sorted.{IsPartitionedBy-ltb, searchable_from_sorted}
 use Rattle.std.specs.List.Sorted.{IsNonDecreasingBy, IsPartitionedBy, IsPartitionPoint, IsSortedByKey, IsStableByKey}
@@ -26,22 +26,23 @@ module _ {K V : Type 0} where
       by true rest = refl
       by false rest = rest
 
-tie_is : (a b : List ℕ) → (not (is_lt (name_cmp a b)) && not (is_lt (name_cmp b a))) ≡ bytes_eq a b
-tie_is a b = ap (λ r. not (is_lt (name_cmp a b)) && not (is_lt r)) (name_cmp_total.antisymm b a) ∙ by (name_cmp a b) ∙ sym (name_cmp_ties a b)
-  where
-    by : (r : Ordering) → (not (is_lt r) && not (is_lt (ordering_reverse r))) ≡ is_eq r
-    by Less = refl
-    by Equal = refl
-    by Greater = refl
+module _ {K : Type 0} {eq : K → K → Bool} {cmp : K → K → Ordering} (total : IsTotalOrder cmp) (ties : (a b : K) → eq a b ≡ is_eq (cmp a b)) where
+  tie_is : (a b : K) → (not (is_lt (cmp a b)) && not (is_lt (cmp b a))) ≡ eq a b
+  tie_is a b = ap (λ r. not (is_lt (cmp a b)) && not (is_lt r)) (total.antisymm b a) ∙ by (cmp a b) ∙ sym (ties a b)
+    where
+      by : (r : Ordering) → (not (is_lt r) && not (is_lt (ordering_reverse r))) ≡ is_eq r
+      by Less = refl
+      by Equal = refl
+      by Greater = refl
 
--- the first value of each name stays the first
-pub stably : {V : Type 0} (xs ys : List (List ℕ × V)) → length ys ≡ length xs → IsStableByKey (λ (e : List ℕ × V). e.0) name_cmp xs ys → (name : List ℕ) → lookup (bytes_eq name) ys ≡ lookup (bytes_eq name) xs
-stably {V} [] [] same stable name = refl
-stably {V} [] (y ∷ ys) same stable name = absurd (omega (arith, same))
-stably {V} (x ∷ xs) ys same stable name =
-    looked_first (bytes_eq name) ys ∙ ap (λ test. first_value (filter test ys)) (λ i e. sym (tie_is name e.0) i)
-    ∙ ap first_value (stable (name, x.1))
-    ∙ ap (λ test. first_value (filter test (x ∷ xs))) (λ i e. tie_is name e.0 i) ∙ sym (looked_first (bytes_eq name) (x ∷ xs))
+  -- the first value of each key stays the first
+  pub stably : {V : Type 0} (xs ys : List (K × V)) → length ys ≡ length xs → IsStableByKey (λ (e : K × V). e.0) cmp xs ys → (key : K) → lookup (eq key) ys ≡ lookup (eq key) xs
+  stably {V} [] [] same stable key = refl
+  stably {V} [] (y ∷ ys) same stable key = absurd (omega (arith, same))
+  stably {V} (x ∷ xs) ys same stable key =
+      looked_first (eq key) ys ∙ ap (λ test. first_value (filter test ys)) (λ i e. sym (tie_is key e.0) i)
+      ∙ ap first_value (stable (key, x.1))
+      ∙ ap (λ test. first_value (filter test (x ∷ xs))) (λ i e. tie_is key e.0 i) ∙ sym (looked_first (eq key) (x ∷ xs))
 
 -- ---- A binary search
 
@@ -78,35 +79,41 @@ module _ {K V : Type 0} (c : K → Ordering) where
       by Equal low' rest = absurd (true≢false (sym low'))
       by Greater low' rest = absurd (true≢false (sym low'))
 
--- names are the same where neither is below the other
-pub name_test : (name k : List ℕ) → is_eq (name_cmp k name) ≡ bytes_eq name k
-name_test name k = sym (name_cmp_ties k name) ∙ nat_list_eq_equiv.symm k name
+-- what stands after the keys below one
+abbrev pub value_after : {K V : Type 0} → (K → K → Bool) → K → Option (K × V) → Option V
+value_after eq key None = None
+value_after eq key (Some e) = cond (eq key e.0) (Some e.1) None
 
--- names below one stand before the others
-pub parted : {V : Type 0} (name : List ℕ) (es : List (List ℕ × V)) → IsSortedByKey (λ (e : List ℕ × V). e.0) name_cmp es → IsPartitionedBy (λ (e : List ℕ × V). is_lt (name_cmp e.0 name)) es
-parted {V} name es sorted = subst {A = Ordering → Bool} (λ p. IsPartitionedBy (λ (e : List ℕ × V). p (name_cmp e.0 name)) es) (λ i o. below o i) (IsPartitionedBy-ltb (λ (e : List ℕ × V). ordering_index (name_cmp e.0 name)) es 1 (searchable_from_sorted name_cmp_total (λ (e : List ℕ × V). e.0) es name sorted))
-  where
-    below : (o : Ordering) → ltb (ordering_index o) 1 ≡ is_lt o
-    below Less = refl
-    below Equal = refl
-    below Greater = refl
+module _ {K : Type 0} {eq : K → K → Bool} {cmp : K → K → Ordering} (total : IsTotalOrder cmp) (ties : (a b : K) → eq a b ≡ is_eq (cmp a b)) where
+  -- keys are the same where neither is below the other
+  key_test : (key k : K) → is_eq (cmp k key) ≡ eq key k
+  key_test key k = ap is_eq (total.antisymm k key) ∙ by (cmp key k) ∙ sym (ties key k)
+    where
+      by : (r : Ordering) → is_eq (ordering_reverse r) ≡ is_eq r
+      by Less = refl
+      by Equal = refl
+      by Greater = refl
 
--- what stands after the names below one
-abbrev pub named_at : {V : Type 0} → List ℕ → Option (List ℕ × V) → Option V
-named_at name None = None
-named_at name (Some e) = cond (bytes_eq name e.0) (Some e.1) None
+  -- keys below one stand before the others
+  pub parted : {V : Type 0} (key : K) (es : List (K × V)) → IsSortedByKey (λ (e : K × V). e.0) cmp es → IsPartitionedBy (λ (e : K × V). is_lt (cmp e.0 key)) es
+  parted {V} key es sorted = subst {A = Ordering → Bool} (λ p. IsPartitionedBy (λ (e : K × V). p (cmp e.0 key)) es) (λ i o. below o i) (IsPartitionedBy-ltb (λ (e : K × V). ordering_index (cmp e.0 key)) es 1 (searchable_from_sorted total (λ (e : K × V). e.0) es key sorted))
+    where
+      below : (o : Ordering) → ltb (ordering_index o) 1 ≡ is_lt o
+      below Less = refl
+      below Equal = refl
+      below Greater = refl
 
--- what stands after the names below one is what is looked up
-pub found : {V : Type 0} (name : List ℕ) (es : List (List ℕ × V)) (i : ℕ) → IsSortedByKey (λ (e : List ℕ × V). e.0) name_cmp es → IsPartitionPoint (λ (e : List ℕ × V). is_lt (name_cmp e.0 name) ≡ true) (λ (e : List ℕ × V). is_lt (name_cmp e.0 name) ≡ false) es i → (o : Option (List ℕ × V)) → o ≡ slice_get es i → lookup (bytes_eq name) es ≡ named_at name o
-found {V} name es i sorted point o at =
-    ap (λ test. lookup test es) (λ j k. sym (name_test name k) j)
-    ∙ looked_at (λ k. name_cmp k name) es i point.0 point.1 (searchable_from_sorted name_cmp_total (λ (e : List ℕ × V). e.0) es name sorted)
-    ∙ ap (value_at (λ k. name_cmp k name)) (sym at) ∙ by o
-  where
-    by : (o : Option (List ℕ × V)) → value_at (λ k. name_cmp k name) o ≡ named_at name o
-    by None = refl
-    by (Some e) = ap (λ b. cond b (Some e.1) None) (name_test name e.0)
+  -- what stands after the keys below one is what is looked up
+  pub found : {V : Type 0} (key : K) (es : List (K × V)) (i : ℕ) → IsSortedByKey (λ (e : K × V). e.0) cmp es → IsPartitionPoint (λ (e : K × V). is_lt (cmp e.0 key) ≡ true) (λ (e : K × V). is_lt (cmp e.0 key) ≡ false) es i → (o : Option (K × V)) → o ≡ slice_get es i → lookup (eq key) es ≡ value_after eq key o
+  found {V} key es i sorted point o at =
+      ap (λ test. lookup test es) (λ j k. sym (key_test key k) j)
+      ∙ looked_at (λ k. cmp k key) es i point.0 point.1 (searchable_from_sorted total (λ (e : K × V). e.0) es key sorted)
+      ∙ ap (value_at (λ k. cmp k key)) (sym at) ∙ by o
+    where
+      by : (o : Option (K × V)) → value_at (λ k. cmp k key) o ≡ value_after eq key o
+      by None = refl
+      by (Some e) = ap (λ b. cond b (Some e.1) None) (key_test key e.0)
 
--- the same where the name is looked up by its key
-pub found_by : {V : Type 0} (key name : List ℕ) → key ≡ name → (es : List (List ℕ × V)) (i : ℕ) → IsSortedByKey (λ (e : List ℕ × V). e.0) name_cmp es → IsPartitionPoint (λ (e : List ℕ × V). is_lt (name_cmp e.0 key) ≡ true) (λ (e : List ℕ × V). is_lt (name_cmp e.0 key) ≡ false) es i → (o : Option (List ℕ × V)) → o ≡ slice_get es i → lookup (bytes_eq name) es ≡ named_at name o
-found_by {V} key name same es i sorted point o at = ap (λ n. lookup (bytes_eq n) es) (sym same) ∙ found key es i sorted point o at ∙ ap (λ n. named_at n o) same
+-- the same where a name is looked up by its key
+pub found_by : {V : Type 0} (key name : List ℕ) → key ≡ name → (es : List (List ℕ × V)) (i : ℕ) → IsSortedByKey (λ (e : List ℕ × V). e.0) name_cmp es → IsPartitionPoint (λ (e : List ℕ × V). is_lt (name_cmp e.0 key) ≡ true) (λ (e : List ℕ × V). is_lt (name_cmp e.0 key) ≡ false) es i → (o : Option (List ℕ × V)) → o ≡ slice_get es i → lookup (bytes_eq name) es ≡ value_after bytes_eq name o
+found_by {V} key name same es i sorted point o at = ap (λ n. lookup (bytes_eq n) es) (sym same) ∙ found name_cmp_total name_cmp_ties key es i sorted point o at ∙ ap (λ n. value_after bytes_eq n o) same

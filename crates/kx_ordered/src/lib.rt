@@ -9,6 +9,7 @@ mod ordered;
 mod ordered_set;
 mod short_name;
 mod sorted_names;
+mod sorted_numbers;
 
 pub use again::Again;
 pub use name_key::NameKey;
@@ -16,3 +17,4 @@ pub use ordered::Ordered;
 pub use ordered_set::OrderedSet;
 pub use short_name::ShortName;
 pub use sorted_names::SortedNames;
+pub use sorted_numbers::SortedNumbers;

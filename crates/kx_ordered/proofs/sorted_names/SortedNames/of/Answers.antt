@@ -1,5 +1,6 @@
 use Rattle.std.proofs.Common.{rules}
 use Rattle.std.proofs.lemmas.List.Sorted.{answers_always, length_permutation}
+use Rattle.kx_ordered.specs.Names.{name_cmp_ties, name_cmp_total}
 use Rattle.kx_ordered.proofs.Sorted.{stably}
 use Rattle.kx_ordered.proofs.sorted_names.SortedNames.of.Goals as goal
 
@@ -7,4 +8,4 @@ pub invariant_of-result : goal.invariant_of-result
 invariant_of-result g c = c.in_ok-sort_by_key.ensures.sorted (λ e. e.0) (answers_always _ _ _ (λ f a r f2 k. search rules))
 
 pub returns : goal.returns
-returns g c = stably c.args.entries.items c.sort_by_key.new.self.items (length_permutation c.args.entries.items c.sort_by_key.new.self.items c.sort_by_key.ensures.permutation) (c.sort_by_key.ensures.stable (λ e. e.0) (answers_always _ _ _ (λ f a r f2 k. search rules)))
+returns g c = stably name_cmp_total name_cmp_ties c.args.entries.items c.sort_by_key.new.self.items (length_permutation c.args.entries.items c.sort_by_key.new.self.items c.sort_by_key.ensures.permutation) (c.sort_by_key.ensures.stable (λ e. e.0) (answers_always _ _ _ (λ f a r f2 k. search rules)))
