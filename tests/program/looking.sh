@@ -14,7 +14,7 @@ type "FOUR" { modifiers=Shift+Mod5; map[Shift]=Level2; map[Mod5]=Level3; map[Shi
 xkb_compat { interpret Shift_L+Any { action=SetMods(modifiers=Shift); }; };
 xkb_symbols { name[1]="Board"; key <AE01> { type="FOUR", [1, exclam, onesuperior, dead_acute] };
 key <AC01> { type="TWO", [a, A], type[2]="TWO", symbols[2]=[U444, less] };
-key <LFSH> {[Shift_L]}; key <RALT> {[ISO_Level3_Shift]}; key <KPAD> {[KP_Add]}; key <I99> {[U1f600]};
+key <LFSH> {[Shift_L]}; key <RALT> {[ISO_Level3_Shift]}; key <KPAD> {[KP_Add]}; key <I99> {type="TWO", [U1f600, { x, y }]};
 modifier_map Shift { Shift_L }; }; };
 END
 "$program" compile board board.image > ../out 2> ../err
@@ -47,6 +47,7 @@ gives 0 'AC01 code=38 group=1 level=1 hold=none' find board.image a
 gives 0 'AC01 code=38 group=2 level=1 hold=none' find board.image ф
 gives 0 'AE01 code=10 group=1 level=4 hold=Shift+Mod5' find board.image dead_acute
 gives 0 'I99 code=99 group=1 level=1 hold=none' find board.image 0x101f600
+gives 0 'I99 code=99 group=1 level=2 hold=Shift,Lock' find board.image y
 gives 0 '' find board.image z
 gives 1 'no keysym is named nosuch' find board.image nosuch
 echo 'mine 0x61' > names

@@ -4,7 +4,7 @@ ghost use Rattle.kx_mods.specs.Mods.{mask};
 ghost use Rattle.kx_ordered.specs.Numbers.{untold};
 
 use kx_mods::Mods;
-use kx_ordered::Again;
+use kx_ordered::TableKey;
 use std::alloc::AllocError;
 
 /// The keysyms that an interpretation is for.
@@ -52,7 +52,7 @@ impl InterpretationMatch {
     }
 }
 
-impl Again for InterpretationMatch {
+impl TableKey for InterpretationMatch {
     ghost number = { λ k. None };
 
     ghost told = { untold };

@@ -7,14 +7,14 @@ ghost use Rattle.kx_merge.specs.Offers.{taken, widened};
 
 use kx_include::Place;
 use kx_lex::Fault;
-use kx_ordered::Again;
+use kx_ordered::TableKey;
 use kx_parse::{Item, Mode};
 use std::alloc::Global;
 
 /// What the statements of a section kind make of records, under a context `C`.
 pub trait Fields<C>: Drop {
     /// What records are told apart by.
-    type Key: Ord + Again + Drop;
+    type Key: Ord + TableKey + Drop;
     /// What can have a value in a record; never held.
     type Cell;
     /// The value of a cell; never held.

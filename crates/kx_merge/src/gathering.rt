@@ -13,13 +13,13 @@ use crate::merging::{add_included, add_joined, merge_own, mode_of};
 use crate::repeats::{PartRepeats, Repeats};
 use kx_include::{Entry, Expansion, Link, Map, Place};
 use kx_lex::Fault;
-use kx_ordered::{Again, Ordered};
+use kx_ordered::{TableKey, Ordered};
 use kx_parse::Mode;
 use std::alloc::Global;
 
 /// Records, and what is noted of the statements that they were read from.
 #[derive(Drop)]
-pub struct Merged<K: Ord + Again + Drop, R, N> {
+pub struct Merged<K: Ord + TableKey + Drop, R, N> {
     /// By what tells them apart, in the order in which they were first named.
     pub records: Ordered<K, R>,
     pub notes: N,

@@ -2,7 +2,7 @@
 ghost use Rattle.std.specs.Prelude.{None};
 ghost use Rattle.kx_ordered.specs.Numbers.{untold};
 
-use kx_ordered::Again;
+use kx_ordered::TableKey;
 use std::alloc::AllocError;
 
 /// What a modifier map gives modifiers.
@@ -14,7 +14,7 @@ pub enum Target {
     Keysym(u32),
 }
 
-impl Again for Target {
+impl TableKey for Target {
     ghost number = { λ k. None };
 
     ghost told = { untold };

@@ -2,7 +2,6 @@
 //! choose keys that are slow to find.
 #![tactic(auto)]
 
-mod again;
 mod by_name;
 mod name_key;
 mod ordered;
@@ -10,11 +9,12 @@ mod ordered_set;
 mod short_name;
 mod sorted_names;
 mod sorted_numbers;
+mod table_key;
 
-pub use again::Again;
 pub use name_key::NameKey;
 pub use ordered::Ordered;
 pub use ordered_set::OrderedSet;
 pub use short_name::ShortName;
 pub use sorted_names::SortedNames;
 pub use sorted_numbers::SortedNumbers;
+pub use table_key::TableKey;

@@ -9,7 +9,7 @@ ghost use Rattle.std.proofs.Common.{rules};
 ghost use Rattle.kx_ordered.specs.Numbers.{untold};
 ghost use Rattle.kx_ordered.specs.Names.{head_of, folded, name_cmp, name_cmp_total, name_cmp_ties};
 
-use crate::again::Again;
+use crate::table_key::TableKey;
 use std::alloc::AllocError;
 use std::cmp::Ordering;
 use std::marker::Model;
@@ -150,7 +150,7 @@ impl<'l> Ord for NameKey<'l> {
     }
 }
 
-impl<'l> Again for NameKey<'l> {
+impl<'l> TableKey for NameKey<'l> {
     ghost number = { λ k. None };
 
     ghost told = { untold };

@@ -6,7 +6,7 @@ ghost use Rattle.kx_ordered.specs.KeyPlaces.{ArePlaced};
 ghost use Rattle.kx_ordered.specs.Numbers.{numbered};
 ghost use Rattle.kx_ordered.specs.Lending.{lends_at, lends_value};
 
-use crate::again::Again;
+use crate::table_key::TableKey;
 use std::alloc::{AllocError, Global};
 use std::collections::BTreeMap;
 use std::marker::Model;
@@ -20,7 +20,7 @@ const SPARE: usize = 16;
 /// Values by key, in the order in which the keys were first put. A key is found in the logarithm of how many there are,
 /// whatever the keys are, and one that is told by a small number at once.
 #[derive(Drop)]
-pub struct Ordered<K: Again + Drop, V> {
+pub struct Ordered<K: TableKey + Drop, V> {
     entries: Vec<(K, V)>,
     /// The places of keys by their numbers, for those that are found by them.
     numbers: Vec<Option<usize>>,
@@ -28,7 +28,7 @@ pub struct Ordered<K: Again + Drop, V> {
     places: BTreeMap<K, usize>,
 }
 
-impl<K: Again + Drop, V> Model for Ordered<K, V> {
+impl<K: TableKey + Drop, V> Model for Ordered<K, V> {
     ghost use Rattle.std.specs.Prelude.{ℕ};
     ghost use Rattle.std.specs.Coded.{coded_ℕ};
     ghost use Rattle.std.specs.List.{IsDistinct};
@@ -80,7 +80,7 @@ fn room_for(
     Ok(Some(number))
 }
 
-impl<K: Again + Drop, V> Ordered<K, V> {
+impl<K: TableKey + Drop, V> Ordered<K, V> {
     /// No values.
     pub fn new(alloc: Global) -> Ordered<K, V>
         ensures empty { result.entries ≡ [] }

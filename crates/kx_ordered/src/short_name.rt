@@ -12,9 +12,9 @@ ghost use Rattle.kx_ordered.specs.Names.{name_cmp, name_cmp_ties, name_cmp_total
 ghost use Rattle.kx_ordered.specs.Numbers.{untold};
 ghost use Rattle.kx_basics.specs.declared.limits.TheConstants.{MOST_NAME_BYTES};
 
-use crate::again::Again;
 use crate::name_key::{NameKey, cmp_by_head, head_of};
 use crate::ordered::Ordered;
+use crate::table_key::TableKey;
 use kx_basics::MOST_NAME_BYTES;
 use std::alloc::AllocError;
 use std::cmp::Ordering;
@@ -121,7 +121,7 @@ impl Ord for ShortName {
     }
 }
 
-impl Again for ShortName {
+impl TableKey for ShortName {
     ghost number = { λ k. None };
 
     ghost told = { untold };

@@ -4,7 +4,7 @@ ghost use Rattle.kx_ordered.specs.Numbers.{untold};
 
 use crate::limits::MOST_VIRTUAL_MODIFIERS;
 use kx_mods::Mods;
-use kx_ordered::Again;
+use kx_ordered::TableKey;
 use std::alloc::AllocError;
 use std::marker::Model;
 
@@ -114,7 +114,7 @@ impl NameSet {
     }
 }
 
-impl Again for NameSet {
+impl TableKey for NameSet {
     ghost number = { λ k. None };
 
     ghost told = { untold };

@@ -13,7 +13,7 @@ pub invariant_of-self-in-Some : goal.invariant_of-self-in-Some
 invariant_of-self-in-Some g c =
     let eq = g.K.PartialEq.eq in
     let cmp = g.K.Ord.cmp in
-    let number = g.K.Again.number in
+    let number = g.K.TableKey.number in
     let es = c.self.inside.entries.items in
     let key = c.args.key in
     let entry : g.row.K.Denot × g.row.V.Denot = (key, c.args.value) in
@@ -26,10 +26,10 @@ invariant_of-self-in-Some g c =
     let is : number key ≡ Some n = sym c.number.ensures ∙ room.0 in
     let pushed = sym c.in_ok-push-in-Some.ensures.items in
     let places = c.self.inside.places in (
-      subst (IsEachPlaced cmp number _ places) pushed (each_by_number cmp g.met.K.Ord.total number g.met.K.Again.told es entry unplaced_key n is c.self.inside.numbers.items _ places c.self.invariant.0
+      subst (IsEachPlaced cmp number _ places) pushed (each_by_number cmp g.met.K.Ord.total number g.met.K.TableKey.told es entry unplaced_key n is c.self.inside.numbers.items _ places c.self.invariant.0
           (set_same more n c.len-place.result room.1 ∙ ap Some last)
           (λ m apart. set_other more n c.len-place.result m apart ∙ c.in_ok-room_for.ensures.same m)),
-      subst (ArePlaced cmp number places) pushed (placed_by_number cmp g.met.K.Ord.total number g.met.K.Again.told es entry unplaced_key n is places c.self.invariant.1),
+      subst (ArePlaced cmp number places) pushed (placed_by_number cmp g.met.K.Ord.total number g.met.K.TableKey.told es entry unplaced_key n is places c.self.invariant.1),
       subst (λ es. IsDistinct eq (keys_of es)) pushed (distinct_more eq g.met.K.Eq.laws es entry none c.self.invariant.2),
     )
 

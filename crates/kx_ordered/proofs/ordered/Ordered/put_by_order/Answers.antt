@@ -16,7 +16,7 @@ pub invariant_of-self-in-Err : goal.invariant_of-self-in-Err
 invariant_of-self-in-Err g c =
     let es = c.self.inside.entries.items in
     let cmp = g.K.Ord.cmp in
-    let number = g.K.Again.number in
+    let number = g.K.TableKey.number in
     let entry : g.row.K.Denot × g.row.V.Denot = (c.args.key, c.args.value) in
     let more : 0 < vec_len c.push.new.self = omega (arith, c.in_ok-push.ensures.len) in
     let same = popped es c.pop.new.self.items entry c.pop.result (sym c.in_ok-push.ensures.items ∙ c.pop.ensures.items) (c.pop.ensures.variant.1 more) in
@@ -38,8 +38,8 @@ invariant_of-self-in_default g c =
     let pushed = sym c.in_ok-push.ensures.items in
     let unplaced_key = by_order eq cmp g.met.K.Ord.matches_eq key es ∙ none in
     let looked : (compare : g.row.K.Denot → Ordering) → Respects cmp compare → tree.get_by compare c.insert.new.self ≡ cond (is_at compare key) (Some (length es)) (tree.get_by compare c.self.inside.places) = λ compare respects. ap (lookup (is_at compare)) c.in_default.ensures.entries ∙ look_again cmp g.met.K.Ord.total compare respects c.self.inside.places.entries key c.in_ok-again.again c.len-place.result c.in_ok-again.ensures ∙ ap (λ n. cond (is_at compare key) (Some n) (lookup (is_at compare) c.self.inside.places.entries)) last in (
-      subst (IsEachPlaced cmp g.K.Again.number c.self.inside.numbers.items c.insert.new.self) pushed
-          (each_by_order cmp g.met.K.Ord.total g.K.Again.number g.met.K.Again.told es entry unplaced_key c.self.inside.numbers.items c.self.inside.places c.insert.new.self c.self.invariant.0 (λ k. looked (cmp k) (g.met.K.Ord.total.congr k))),
+      subst (IsEachPlaced cmp g.K.TableKey.number c.self.inside.numbers.items c.insert.new.self) pushed
+          (each_by_order cmp g.met.K.Ord.total g.K.TableKey.number g.met.K.TableKey.told es entry unplaced_key c.self.inside.numbers.items c.self.inside.places c.insert.new.self c.self.invariant.0 (λ k. looked (cmp k) (g.met.K.Ord.total.congr k))),
       λ compare respects unnumbered.
           looked compare respects
           ∙ ap (cond (is_at compare key) (Some (length es))) (c.self.invariant.1 compare respects unnumbered)

@@ -1,13 +1,13 @@
-//! What can be had twice.
+//! Keys of tables.
 ghost use Rattle.std.specs.Prelude.{◌≡◌, ℕ, IfOk, None, Option, Some};
 ghost use Rattle.std.specs.declared.cmp.Ordering.TheVariants.{Equal};
 ghost use Rattle.kx_ordered.specs.Numbers.{IsTold, told_itself, untold};
 
 use std::alloc::AllocError;
 
-/// What can be had again, as a key that stands in a table and in its index.
-pub trait Again: Ord {
-    // Some number of a key, if it has one.
+/// The key of a table. It can be had again, since it stands among the entries and in their index.
+pub trait TableKey: Ord {
+    // The number that tells a key, if it has one.
     ghost number: { Self → Option ℕ };
 
     /// A number that tells the key from all others, if it is made up of one that is small: such a key is found by an index.
@@ -24,7 +24,7 @@ pub trait Again: Ord {
     ghost told: { IsTold Self.Ord.cmp number };
 }
 
-impl Again for u8 {
+impl TableKey for u8 {
     ghost number = { λ n. Some n };
 
     ghost told = { told_itself };
@@ -38,7 +38,7 @@ impl Again for u8 {
     }
 }
 
-impl Again for u16 {
+impl TableKey for u16 {
     ghost number = { λ n. Some n };
 
     ghost told = { told_itself };
@@ -52,7 +52,7 @@ impl Again for u16 {
     }
 }
 
-impl Again for u32 {
+impl TableKey for u32 {
     ghost number = { λ k. None };
 
     ghost told = { untold };
@@ -66,7 +66,7 @@ impl Again for u32 {
     }
 }
 
-impl Again for usize {
+impl TableKey for usize {
     ghost number = { λ k. None };
 
     ghost told = { untold };
@@ -80,7 +80,7 @@ impl Again for usize {
     }
 }
 
-impl Again for Vec<u8> {
+impl TableKey for Vec<u8> {
     ghost number = { λ k. None };
 
     ghost told = { untold };
@@ -94,7 +94,7 @@ impl Again for Vec<u8> {
     }
 }
 
-impl Again for String {
+impl TableKey for String {
     ghost number = { λ k. None };
 
     ghost told = { untold };

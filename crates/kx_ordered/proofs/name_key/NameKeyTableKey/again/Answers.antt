@@ -1,7 +1,7 @@
 use Rattle.std.proofs.Common.{ap, ◌∙◌}
 use Rattle.std.proofs.lemmas.Cmp.{tied_itself}
 use Rattle.kx_ordered.specs.Names.{name_cmp, name_cmp_total}
-use Rattle.kx_ordered.proofs.name_key.NameKeyAgain.again.Goals as goal
+use Rattle.kx_ordered.proofs.name_key.NameKeyTableKey.again.Goals as goal
 
 pub returns : goal.returns
 returns c = ap (λ n. name_cmp n c.args.self.now) c.copied.ensures ∙ tied_itself name_cmp_total c.args.self.now
