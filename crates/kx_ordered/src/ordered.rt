@@ -15,7 +15,7 @@ use std::marker::Model;
 /// table of numbers takes no more room than entries do, whatever the numbers are.
 const SPREAD: usize = 4;
 
-const SPARE: usize = 16;
+const SPARE: usize = 64;
 
 /// Values by key, in the order in which the keys were first put. A key is found in the logarithm of how many there are,
 /// whatever the keys are, and one that is told by a small number at once.

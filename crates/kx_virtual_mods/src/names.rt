@@ -7,23 +7,23 @@ ghost use Rattle.kx_lex.specs.declared.fault.Fault.TheVariants.{Memory};
 ghost use Rattle.kx_merge.specs.Offers.{with_name};
 
 use kx_lex::Fault;
-use kx_ordered::Ordered;
+use kx_ordered::{Ordered, OwnedName};
 use std::alloc::Global;
 use std::marker::Model;
 
 /// Names, each once, numbered from 0 in the order in which they were added; seen as the list of their bytes.
 #[derive(Drop)]
 pub struct Names {
-    numbers: Ordered<Vec<u8>, ()>,
+    numbers: Ordered<OwnedName, ()>,
 }
 
 impl Model for Names {
-    ghost use Rattle.std.specs.Prelude.{List, ℕ, map};
+    ghost use Rattle.std.specs.Prelude.{List, ℕ};
     ghost use Rattle.indexmap.specs.IndexMap.{keys};
 
     ghost Value = { List (List ℕ) };
 
-    ghost view = { λ n. map (λ v. v.items) (keys n.numbers) };
+    ghost view = { λ n. keys n.numbers };
 }
 
 impl Names {
@@ -48,7 +48,7 @@ impl Names {
         ensures value { result ≡ position (bytes_eq name.now) self.now }
         ensures within { IfSome result (λ number. number < length self.now) }
     {
-        self.numbers.place_of_name(name)
+        self.numbers.place_of_owned_name(name)
     }
 
     /// The name of a number.
@@ -64,7 +64,7 @@ impl Names {
     fn has(&self, name: &[u8]) -> bool
         ensures { result ≡ list_any (bytes_eq name.now) self.now }
     {
-        self.numbers.place_of_name(name).is_some()
+        self.numbers.place_of_owned_name(name).is_some()
     }
 
     /// Adds a name after the others, where it isn't among them.
@@ -78,7 +78,7 @@ impl Names {
         if self.has(name) {
             return Ok(());
         }
-        let name = Vec::from_slice(alloc, name)?;
+        let name = OwnedName::of(alloc, name)?;
         self.numbers.insert(name, ())?;
         Ok(())
     }
