@@ -1,7 +1,8 @@
 -- Going over a body: what is after is in the records, and has no fault.
-use Rattle.std.proofs.Common.{◌≡◌, ℕ, ◌+◌, ◌<◌, ◌≤◌, zero, suc, Bool, List, [], ◌∷◌, ◌++◌, length, drop, get_or, Option, None, Contains, Result, Ok, Err, IfErr, OnOk, refl, sym, ap, ◌∙◌, subst, arith}
+use Rattle.std.proofs.Common.{◌≡◌, ℕ, ◌+◌, ◌<◌, ◌≤◌, zero, suc, Bool, true, List, [], ◌∷◌, ◌++◌, length, drop, get_or, eqb-true, Option, None, Contains, Result, Ok, Err, IfErr, OnOk, refl, sym, ap, ◌∙◌, subst, arith}
 use Rattle.std.proofs.lemmas.List.{drop_all}
 use Rattle.std.proofs.lemmas.List.Elements.{Contains-append_left}
+use Rattle.std.specs.Prelude.{◌==◌}
 use Rattle.std.specs.HashMap.{HashMap}
 use Rattle.std.specs.Map.{keys_of, lookup}
 use Rattle.std.specs.Result.{IsErrAnd}
@@ -177,6 +178,10 @@ pub only : {X : Type 0} (xs : List X) (d : X) → 1 ≤ length xs → length xs 
 only [] d some few = absurd (omega (arith, some))
 only (x ∷ []) d some few = refl
 only (x ∷ y ∷ xs) d some few = absurd (omega (arith, few))
+
+pub empty : {X : Type 0} (xs : List X) → true ≡ (length xs == 0) → xs ≡ []
+empty [] e = refl
+empty (x ∷ xs) e = let none = eqb-true (suc (length xs)) 0 (sym e) in absurd (omega (arith, none))
 
 -- lists that are alike at each place
 abbrev pub no_link : Link

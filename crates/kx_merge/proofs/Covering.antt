@@ -3,11 +3,13 @@ use Rattle.std.proofs.Common.{◌≡◌, ℕ, Bool, true, false, cond, max, List
 use Rattle.kx_lex.specs.declared.fault.Fault.{Fault}
 use Rattle.std.proofs.lemmas.Bool.{false≢true}
 use Rattle.std.specs.Cmp.{IsEquivalence}
+use Rattle.std.specs.List.{list_any}
+use Rattle.std.specs.Map.{keys_of}
 use Rattle.std.specs.Option.{option_or, option_map_or}
 use Rattle.kx_parse.specs.declared.tree.Mode.{Mode}
 use Rattle.kx_parse.specs.declared.tree.Mode.TheVariants.{Augment, Override, Replace}
 use Rattle.kx_merge.specs.Bodies.{Moves, gather, gathered, moved, moved_to}
-use Rattle.kx_merge.specs.Gatherings.{AreGentle, none, more}
+use Rattle.kx_merge.specs.Renewals.{AreGentle, AreGentleTo, AreWeak, Picks, TakesBack, none, more, no_offer, an_offer}
 use Rattle.kx_merge.specs.Offers.{Offer, is_about, is_replace, is_strong, taken, widened, value_of, width_of, names_behind, names_of}
 use Rattle.kx_merge.specs.Records.{AreOffered, Shows}
 use Rattle.kx_merge.specs.Records.AreOffered.{more as an_offered}
@@ -15,6 +17,7 @@ use Rattle.kx_merge.proofs.Again.{Named, no_name, all-named, behind, named-again
 use Rattle.kx_merge.proofs.Movings.{append-inner}
 use Rattle.kx_merge.proofs.Precedence.{names_behind-append}
 use Rattle.kx_merge.proofs.Repeated.{behind-append, named-more}
+use Rattle.kx_merge.proofs.Single.{or-both, or-first, or-last}
 
 -- ---- Values and widths
 
@@ -63,14 +66,13 @@ gentle-mode Replace weak = absurd (false≢true (sym weak))
 -- ---- Offers under augment
 
 module _ {K C V : Type 0} where
-  -- all of them are under augment
-  pub data AreWeak : List (Offer K C V) → Type 0 where
-    no_offer : AreWeak []
-    an_offer : {o : Offer K C V} {os : List (Offer K C V)} → is_strong o.mode ≡ false → AreWeak os → AreWeak (o ∷ os)
-
   pub weak_gentle : (os : List (Offer K C V)) → AreWeak os → AreGentle os
   weak_gentle [] no_offer = none
   weak_gentle (o ∷ os) (an_offer weak rest) = more (gentle-mode o.mode weak) (weak_gentle os rest)
+
+  pub gentle_to : (eq : K → K → Bool) (k : K) (os : List (Offer K C V)) → AreGentle os → AreGentleTo eq k os
+  gentle_to eq k [] none = none
+  gentle_to eq k (o ∷ os) (more one rest) = more (λ about. one) (gentle_to eq k os rest)
 
   pub gentle_both : (os ps : List (Offer K C V)) → AreGentle os → AreGentle ps → AreGentle (os ++ ps)
   gentle_both [] ps none after = after
@@ -85,15 +87,15 @@ module _ {K C V : Type 0} where
     gentle-of gentle [] = none
     gentle-of gentle (k ∷ ks) = more gentle (gentle-of gentle ks)
 
-    weak-of : is_strong mode ≡ false → (ks : List K) → AreWeak (map (gather eq mode inner) ks)
-    weak-of weak [] = no_offer
-    weak-of weak (k ∷ ks) = an_offer weak (weak-of weak ks)
+    pub weak_of : is_strong mode ≡ false → (ks : List K) → AreWeak (map (gather eq mode inner) ks)
+    weak_of weak [] = no_offer
+    weak_of weak (k ∷ ks) = an_offer weak (weak_of weak ks)
 
     pub gentle_gathered : is_replace mode ≡ false → AreGentle (gathered eq mode inner)
     gentle_gathered gentle = gentle-of gentle (names_of eq inner)
 
     pub weak_gathered : is_strong mode ≡ false → AreWeak (gathered eq mode inner)
-    weak_gathered weak = weak-of weak (names_of eq inner)
+    weak_gathered weak = weak_of weak (names_of eq inner)
 
   module _ (moves : Moves K C) where
     gentle-at : (n : ℕ) (o : Offer K C V) → is_replace o.mode ≡ false → (to : Option K) → AreGentle (option_map_or (λ k. moved_to moves n o k ∷ []) to [])
@@ -125,6 +127,24 @@ offered_gentle mode [] [] gentle offered = none
 offered_gentle mode [] (o ∷ os) gentle offered = elim offered [ ]
 offered_gentle mode (r ∷ rs) [] gentle offered = elim offered [ ]
 offered_gentle mode (r ∷ rs) (o ∷ os) gentle (an_offered one rest) = more (ap is_replace one.mode_is ∙ gentle) (offered_gentle mode rs os gentle rest)
+
+module _ {K C V R : Type 0} {cell : R → C → Option V} {width : R → ℕ → ℕ} (eq : K → K → Bool) (mode : Mode) where
+  -- offers to some records take nothing back from others
+  untouched : (k : K) (rs : List (K × R)) (os : List (Offer K C V)) → AreOffered mode cell width rs os → list_any (eq k) (keys_of rs) ≡ false → AreGentleTo eq k os
+  untouched k [] [] offered away = none
+  untouched k [] (o ∷ os) offered away = elim offered [ ]
+  untouched k (r ∷ rs) [] offered away = elim offered [ ]
+  untouched k (r ∷ rs) (o ∷ os) (an_offered one rest) away =
+      more (λ about. absurd (false≢true (sym (or-first (eq k r.0) (list_any (eq k) (keys_of rs)) away) ∙ ap (eq k) (sym one.name_is) ∙ about)))
+      (untouched k rs os rest (or-last (eq k r.0) (list_any (eq k) (keys_of rs)) away))
+
+  -- so where the keys of a statement under replace are noted, others stay
+  pub takes_back : (rs : List (K × R)) (os : List (Offer K C V)) (old new : List K) → AreOffered mode cell width rs os → new ≡ old ++ cond (is_replace mode) (keys_of rs) [] → TakesBack eq false old new os
+  takes_back rs os old new offered noted = by (is_replace mode) refl noted
+    where
+      by : (b : Bool) → is_replace mode ≡ b → new ≡ old ++ cond b (keys_of rs) [] → TakesBack eq false old new os
+      by true e noted = record { keys = keys_of rs; noted = noted; gentle = λ own k away. untouched k rs os offered away }
+      by false e noted = record { keys = []; noted = noted; gentle = λ own k away. gentle_to eq k os (offered_gentle mode rs os e offered) }
 
 -- ---- What offers leave covered
 
@@ -158,49 +178,60 @@ module _ {K C V : Type 0} (eq : K → K → Bool) (k : K) where
           omega (arith, first, none_first)
       by false next = next w
 
-  stays-value : (c : C) (os : List (Offer K C V)) → AreGentle os → (v y : Option V) → option_or v y ≡ v → option_or (behind eq k (take eq k c) v os) y ≡ behind eq k (take eq k c) v os
+  stays-value : (c : C) (os : List (Offer K C V)) → AreGentleTo eq k os → (v y : Option V) → option_or v y ≡ v → option_or (behind eq k (take eq k c) v os) y ≡ behind eq k (take eq k c) v os
   unfolding take
   stays-value c [] none v y e = e
-  stays-value c (o ∷ os) (more gentle rest) v y e = stays-value c os rest (cond (is_about eq k o) (taken o.mode v (o.value c)) v) y (by (is_about eq k o))
+  stays-value c (o ∷ os) (more gentle rest) v y e = stays-value c os rest (cond (is_about eq k o) (taken o.mode v (o.value c)) v) y (by (is_about eq k o) refl)
     where
-      by : (b : Bool) → option_or (cond b (taken o.mode v (o.value c)) v) y ≡ cond b (taken o.mode v (o.value c)) v
-      by true = taken-stays o.mode gentle v (o.value c) y e
-      by false = e
+      by : (b : Bool) → is_about eq k o ≡ b → option_or (cond b (taken o.mode v (o.value c)) v) y ≡ cond b (taken o.mode v (o.value c)) v
+      by true about = taken-stays o.mode (gentle about) v (o.value c) y e
+      by false other = e
 
-  stays-width : (g : ℕ) (os : List (Offer K C V)) → AreGentle os → (v y : ℕ) → max v y ≡ v → max (behind eq k (widen eq k g) v os) y ≡ behind eq k (widen eq k g) v os
+  stays-width : (g : ℕ) (os : List (Offer K C V)) → AreGentleTo eq k os → (v y : ℕ) → max v y ≡ v → max (behind eq k (widen eq k g) v os) y ≡ behind eq k (widen eq k g) v os
   unfolding widen
   stays-width g [] none v y e = e
-  stays-width g (o ∷ os) (more gentle rest) v y e = stays-width g os rest (cond (is_about eq k o) (widened o.mode v (o.width g)) v) y (by (is_about eq k o))
+  stays-width g (o ∷ os) (more gentle rest) v y e = stays-width g os rest (cond (is_about eq k o) (widened o.mode v (o.width g)) v) y (by (is_about eq k o) refl)
     where
-      by : (b : Bool) → max (cond b (widened o.mode v (o.width g)) v) y ≡ cond b (widened o.mode v (o.width g)) v
-      by true = widened-stays o.mode gentle v (o.width g) y e
-      by false = e
+      by : (b : Bool) → is_about eq k o ≡ b → max (cond b (widened o.mode v (o.width g)) v) y ≡ cond b (widened o.mode v (o.width g)) v
+      by true about = widened-stays o.mode (gentle about) v (o.width g) y e
+      by false other = e
+
+pub any-front : {K : Type 0} (test : K → Bool) (js ks : List K) → list_any test (js ++ ks) ≡ false → list_any test js ≡ false
+any-front test [] ks away = refl
+any-front test (j ∷ js) ks away = or-both (test j) (list_any test js) (or-first (test j) (list_any test (js ++ ks)) away) (any-front test js ks (or-last (test j) (list_any test (js ++ ks)) away))
+
+pub any-rest : {K : Type 0} (test : K → Bool) (js ks : List K) → list_any test (js ++ ks) ≡ false → list_any test ks ≡ false
+any-rest test [] ks away = away
+any-rest test (j ∷ js) ks away = any-rest test js ks (or-last (test j) (list_any test (js ++ ks)) away)
 
 module _ {K C V : Type 0} (eq : K → K → Bool) (laws : IsEquivalence eq) where
-  -- whatever stands before, after `kept` others that are under augment give nothing
-  pub record Covers (kept xs : List (Offer K C V)) : Type 0 where
-    pub values : (k : K) (c : C) (w : Option V) → option_or (behind eq k (take eq k c) w kept) (behind eq k (take eq k c) None xs) ≡ behind eq k (take eq k c) w kept
-    pub widths : (k : K) (g w : ℕ) → max (behind eq k (widen eq k g) w kept) (behind eq k (widen eq k g) 0 xs) ≡ behind eq k (widen eq k g) w kept
+  -- whatever stands before, after `kept` others that are under augment give nothing, but to the records of some keys
+  pub record Covers (keys : List K) (kept xs : List (Offer K C V)) : Type 0 where
+    pub values : (k : K) (c : C) (w : Option V) → list_any (eq k) keys ≡ false → option_or (behind eq k (take eq k c) w kept) (behind eq k (take eq k c) None xs) ≡ behind eq k (take eq k c) w kept
+    pub widths : (k : K) (g w : ℕ) → list_any (eq k) keys ≡ false → max (behind eq k (widen eq k g) w kept) (behind eq k (widen eq k g) 0 xs) ≡ behind eq k (widen eq k g) w kept
     pub named : (ks : List K) → Named eq laws (names_behind eq ks kept) xs
 
-  pub covers_more : (kept added xs : List (Offer K C V)) → AreGentle added → Covers kept xs → Covers (kept ++ added) xs
-  covers_more kept added xs gentle covers = record {
-    values = λ k c w.
+  -- what takes values back at some keys leaves it so at others
+  pub covers_more : (keys more_keys : List K) (kept added xs : List (Offer K C V)) → ((k : K) → list_any (eq k) more_keys ≡ false → AreGentleTo eq k added) → Covers keys kept xs → Covers (keys ++ more_keys) (kept ++ added) xs
+  covers_more keys more_keys kept added xs gentle covers = record {
+    values = λ k c w away.
         let y = behind eq k (take eq k c) None xs in
-        subst (λ v. option_or v y ≡ v) (sym (behind-append eq k (take eq k c) w kept added)) (stays-value eq k c added gentle (behind eq k (take eq k c) w kept) y (covers.values k c w));
-    widths = λ k g w.
+        let other = gentle k (any-rest (eq k) keys more_keys away) in
+        subst (λ v. option_or v y ≡ v) (sym (behind-append eq k (take eq k c) w kept added)) (stays-value eq k c added other (behind eq k (take eq k c) w kept) y (covers.values k c w (any-front (eq k) keys more_keys away)));
+    widths = λ k g w away.
         let y = behind eq k (widen eq k g) 0 xs in
-        subst (λ v. max v y ≡ v) (sym (behind-append eq k (widen eq k g) w kept added)) (stays-width eq k g added gentle (behind eq k (widen eq k g) w kept) y (covers.widths k g w));
+        let other = gentle k (any-rest (eq k) keys more_keys away) in
+        subst (λ v. max v y ≡ v) (sym (behind-append eq k (widen eq k g) w kept added)) (stays-width eq k g added other (behind eq k (widen eq k g) w kept) y (covers.widths k g w (any-front (eq k) keys more_keys away)));
     named = λ ks. subst (λ js. Named eq laws js xs) (sym (names_behind-append eq ks kept added)) (named-more eq laws (names_behind eq ks kept) xs added (covers.named ks));
   }
 
-  pub covers_self : (kept xs : List (Offer K C V)) → AreWeak xs → Covers (kept ++ xs) xs
-  covers_self kept xs weak = record {
-    values = λ k c w.
+  pub covers_self : (keys : List K) (kept xs : List (Offer K C V)) → AreWeak xs → Covers keys (kept ++ xs) xs
+  covers_self keys kept xs weak = record {
+    values = λ k c w away.
         let y = behind eq k (take eq k c) None xs in
         let v = behind eq k (take eq k c) w kept in
         subst (λ u. option_or u y ≡ u) (sym (behind-append eq k (take eq k c) w kept xs ∙ weak-value eq k c xs weak v)) (or-same v y);
-    widths = λ k g w.
+    widths = λ k g w away.
         let y = behind eq k (widen eq k g) 0 xs in
         let v = behind eq k (widen eq k g) w kept in
         subst (λ u. max u y ≡ u) (sym (behind-append eq k (widen eq k g) w kept xs ∙ weak-width eq k g xs weak v)) (omega arith);
@@ -208,20 +239,62 @@ module _ {K C V : Type 0} (eq : K → K → Bool) (laws : IsEquivalence eq) wher
   }
 
   -- what gives nothing is covered
-  pub covers_none : (kept : List (Offer K C V)) → Covers kept []
-  covers_none kept = record { values = λ k c w. or-none (behind eq k (take eq k c) w kept); widths = λ k g w. omega arith; named = λ ks. no_name }
+  pub covers_none : (keys : List K) (kept : List (Offer K C V)) → Covers keys kept []
+  covers_none keys kept = record { values = λ k c w away. or-none (behind eq k (take eq k c) w kept); widths = λ k g w away. omega arith; named = λ ks. no_name }
 
-  module _ {R : Type 0} (cell : R → C → Option V) (width : R → ℕ → ℕ) where
-    -- so records that show what stands before show them too
-    pub covers_shown : (ns : List K) (at : K → Option R) (os kept xs : List (Offer K C V)) → AreWeak xs → Covers kept xs → Shows cell width eq ns at (os ++ kept) → Shows cell width eq ns at (os ++ (kept ++ xs))
-    covers_shown ns at os kept xs weak covers shows = subst (Shows cell width eq ns at) (append-inner os kept xs) (record {
-      names_are = shows.names_are ∙ sym (names_behind-append eq [] (os ++ kept) xs ∙ named-again eq laws (names_of eq (os ++ kept)) xs (subst (λ js. Named eq laws js xs) (sym (names_behind-append eq [] os kept)) (covers.named (names_of eq os))));
-      cells_are = λ k c.
-          let y = behind eq k (take eq k c) None xs in
-          let is = value-behind eq k c os kept in
-          shows.cells_are k c ∙ sym (value-behind eq k c (os ++ kept) xs ∙ weak-value eq k c xs weak (value_of eq (os ++ kept) k c) ∙ subst (λ v. option_or v y ≡ v) (sym is) (covers.values k c (value_of eq os k c)));
-      widths_are = λ k g.
-          let y = behind eq k (widen eq k g) 0 xs in
-          let is = width-behind eq k g os kept in
-          shows.widths_are k g ∙ sym (width-behind eq k g (os ++ kept) xs ∙ weak-width eq k g xs weak (width_of eq (os ++ kept) k g) ∙ subst (λ v. max v y ≡ v) (sym is) (covers.widths k g (width_of eq os k g)));
+  -- what weak offers give to a record
+  value-after : (k : K) (c : C) (os xs : List (Offer K C V)) → AreWeak xs → value_of eq (os ++ xs) k c ≡ option_or (value_of eq os k c) (value_of eq xs k c)
+  value-after k c os xs weak = value-behind eq k c os xs ∙ weak-value eq k c xs weak (value_of eq os k c) ∙ ap (option_or (value_of eq os k c)) (sym (value-behind eq k c [] xs))
+
+  width-after : (k : K) (g : ℕ) (os xs : List (Offer K C V)) → AreWeak xs → width_of eq (os ++ xs) k g ≡ max (width_of eq os k g) (width_of eq xs k g)
+  width-after k g os xs weak = width-behind eq k g os xs ∙ weak-width eq k g xs weak (width_of eq os k g) ∙ ap (max (width_of eq os k g)) (sym (width-behind eq k g [] xs))
+
+  module _ {R : Type 0} (cell : R → C → Option V) (width : R → ℕ → ℕ) (keys : List K) (ns : List K) (at : K → Option R) (os kept xs picked : List (Offer K C V)) (weak : AreWeak xs) (covers : Covers keys kept xs) (picks : Picks eq keys xs picked) where
+    covers-names : names_of eq ((os ++ kept) ++ picked) ≡ names_of eq ((os ++ kept) ++ xs)
+    covers-names =
+        let known = named-again eq laws (names_of eq (os ++ kept)) xs (subst (λ js. Named eq laws js xs) (sym (names_behind-append eq [] os kept)) (covers.named (names_of eq os))) in
+        names_behind-append eq [] (os ++ kept) picked ∙ picks.named (names_of eq (os ++ kept)) known ∙ sym known ∙ sym (names_behind-append eq [] (os ++ kept) xs)
+
+    covers-values : (k : K) (c : C) → value_of eq ((os ++ kept) ++ picked) k c ≡ value_of eq ((os ++ kept) ++ xs) k c
+    covers-values k c = value-after k c (os ++ kept) picked picks.weak ∙ by (list_any (eq k) keys) refl ∙ sym (value-after k c (os ++ kept) xs weak)
+      where
+        v : Option V
+        v = value_of eq (os ++ kept) k c
+
+        by : (b : Bool) → list_any (eq k) keys ≡ b → option_or v (value_of eq picked k c) ≡ option_or v (value_of eq xs k c)
+        by true here = ap (option_or v) (picks.values_here k c here)
+        by false away =
+            ap (option_or v) (picks.values_away k c away) ∙ or-none v
+            ∙ sym (ap (option_or v) (value-behind eq k c [] xs) ∙ subst (λ u. option_or u (behind eq k (take eq k c) None xs) ≡ u) (sym (value-behind eq k c os kept)) (covers.values k c (value_of eq os k c) away))
+
+    covers-widths : (k : K) (g : ℕ) → width_of eq ((os ++ kept) ++ picked) k g ≡ width_of eq ((os ++ kept) ++ xs) k g
+    covers-widths k g = width-after k g (os ++ kept) picked picks.weak ∙ by (list_any (eq k) keys) refl ∙ sym (width-after k g (os ++ kept) xs weak)
+      where
+        v : ℕ
+        v = width_of eq (os ++ kept) k g
+
+        by : (b : Bool) → list_any (eq k) keys ≡ b → max v (width_of eq picked k g) ≡ max v (width_of eq xs k g)
+        by true here = ap (max v) (picks.widths_here k g here)
+        by false away =
+            let none_picked = picks.widths_away k g away in
+            let covered = ap (max v) (width-behind eq k g [] xs) ∙ subst (λ u. max u (behind eq k (widen eq k g) 0 xs) ≡ u) (sym (width-behind eq k g os kept)) (covers.widths k g (width_of eq os k g) away) in
+            omega (arith, none_picked, covered)
+
+    -- so records that show what stands before, and what is given to those keys, show them all
+    pub covers_shown : Shows cell width eq ns at ((os ++ kept) ++ picked) → Shows cell width eq ns at (os ++ (kept ++ xs))
+    covers_shown shows = subst (Shows cell width eq ns at) (append-inner os kept xs) (record {
+      names_are = shows.names_are ∙ covers-names;
+      cells_are = λ k c. shows.cells_are k c ∙ covers-values k c;
+      widths_are = λ k g. shows.widths_are k g ∙ covers-widths k g;
     })
+
+  -- nothing is given to the records of no key
+  pub picks_none : (xs : List (Offer K C V)) → Picks eq [] xs []
+  picks_none xs = record {
+    weak = no_offer;
+    values_here = λ k c here. absurd (false≢true here);
+    values_away = λ k c away. refl;
+    widths_here = λ k g here. absurd (false≢true here);
+    widths_away = λ k g away. refl;
+    named = λ ks known. refl;
+  }

@@ -6,5 +6,7 @@ pub mod Covering
 pub mod Single
 pub mod Again
 pub mod Repeated
+pub mod Marks
+pub mod Picking
 pub mod Passing
 pub mod Parting

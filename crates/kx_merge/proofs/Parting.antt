@@ -7,12 +7,14 @@ use Rattle.kx_include.specs.Expansion.{Body}
 use Rattle.kx_include.specs.Shared.{body_at, links_body}
 use Rattle.kx_include.specs.declared.expansion.Link.{Link}
 use Rattle.kx_merge.specs.Bodies.{Rules, Moves, moved, gathered, offers, faults, offers_of, faults_of}
-use Rattle.kx_merge.specs.Gatherings.{Adds, AreGentle, PartStandsSince}
+use Rattle.kx_merge.specs.Gatherings.{Adds, PartStandsSince}
+use Rattle.kx_merge.specs.Renewals.{AreGentle, AreWeak}
 use Rattle.kx_merge.specs.Offers.{Offer, is_replace, is_strong}
+use Rattle.kx_merge.specs.Records.{Shows}
 use Rattle.kx_merge.proofs.Behind.{Left, left_all, left_step, link_at, link_blamed_at}
-use Rattle.kx_merge.proofs.Covering.{AreWeak, Covers, covers_more, covers_self, covers_shown, gentle_gathered, gentle_moved, weak_gathered, weak_gentle, weak_moved}
-use Rattle.kx_merge.proofs.Movings.{append-inner}
-use Rattle.kx_merge.proofs.Passing.{at-last}
+use Rattle.kx_merge.proofs.Covering.{Covers, covers_more, covers_self, covers_shown, gentle_gathered, gentle_moved, gentle_to, picks_none, weak_gathered, weak_moved}
+use Rattle.kx_merge.proofs.Movings.{append-none, append-inner}
+use Rattle.kx_merge.proofs.Marks.{at-last}
 
 got : {X : Type 0} (xs : List X) (i : ℕ) (x : X) → i < length xs → x ≡ get_or xs i x → slice_get xs i ≡ Some x
 got [] i x within is = absurd (omega (arith, within))
@@ -29,7 +31,7 @@ module _ {K C V D R : Type 0} (cell : R → C → Option V) (width : R → ℕ �
   -- the parts before a place are in the records, and cover each of those under augment from another place on
   pub record Parted (names : List K) (at : K → Option R) (since i : ℕ) (now_names : List K) (now_at : K → Option R) : Type 0 where
     pub left : Left cell width eq rules moves names at rules.start (links_body bodies xs) now_names now_at rules.start (links_body bodies (drop i xs))
-    pub covers : (n : ℕ) (x : Link) → since ≤ n → n < i → slice_get xs n ≡ Some x → is_strong x.mode ≡ false → Covers eq laws left.behind (link_offers x) × (link_faults x ≡ [])
+    pub covers : (n : ℕ) (x : Link) → since ≤ n → n < i → slice_get xs n ≡ Some x → is_strong x.mode ≡ false → Covers eq laws [] left.behind (link_offers x) × (link_faults x ≡ [])
 
   pub parted_first : (names : List K) (at : K → Option R) → Parted names at 0 0 names at
   parted_first names at = record { left = left_all cell width eq rules moves names at rules.start (links_body bodies xs); covers = λ n x from before is weak. absurd (omega (arith, before)) }
@@ -42,16 +44,16 @@ module _ {K C V D R : Type 0} (cell : R → C → Option V) (width : R → ℕ �
 
   -- what one part more covers
   covered-next : (kept : List (Offer K C V)) (since i : ℕ) (x : Link) → i < length xs → x ≡ get_or xs i x → link_faults x ≡ []
-      → ((n : ℕ) (y : Link) → since ≤ n → n < i → slice_get xs n ≡ Some y → is_strong y.mode ≡ false → Covers eq laws kept (link_offers y) × (link_faults y ≡ []))
+      → ((n : ℕ) (y : Link) → since ≤ n → n < i → slice_get xs n ≡ Some y → is_strong y.mode ≡ false → Covers eq laws [] kept (link_offers y) × (link_faults y ≡ []))
       → (b : Bool) → is_replace x.mode ≡ b
-      → (n : ℕ) (y : Link) → cond b (i + 1) since ≤ n → n < i + 1 → slice_get xs n ≡ Some y → is_strong y.mode ≡ false → Covers eq laws (kept ++ link_offers x) (link_offers y) × (link_faults y ≡ [])
+      → (n : ℕ) (y : Link) → cond b (i + 1) since ≤ n → n < i + 1 → slice_get xs n ≡ Some y → is_strong y.mode ≡ false → Covers eq laws [] (kept ++ link_offers x) (link_offers y) × (link_faults y ≡ [])
   covered-next kept since i x within is clean covers true replaces n y from before at weak = absurd (omega (arith, from, before))
   covered-next kept since i x within is clean covers false gentle n y from before at weak =
       at-last n i before
-      (λ earlier. let c = covers n y from earlier at weak in (covers_more eq laws kept (link_offers x) (link_offers y) (gentle-part x gentle) c.0, c.1))
+      (λ earlier. let c = covers n y from earlier at weak in (covers_more eq laws [] [] kept (link_offers x) (link_offers y) (λ k away. gentle_to eq k (link_offers x) (gentle-part x gentle)) c.0, c.1))
       (λ here.
       let same : x ≡ y = same_Some x y (sym (got xs i x within is) ∙ ap (slice_get xs) (sym here) ∙ at) in
-      subst (λ z. Covers eq laws (kept ++ link_offers x) (link_offers z) × (link_faults z ≡ [])) same (covers_self eq laws kept (link_offers x) (weak-part x (ap (λ z. is_strong z.mode) same ∙ weak)), clean))
+      subst (λ z. Covers eq laws [] (kept ++ link_offers x) (link_offers z) × (link_faults z ≡ [])) same (covers_self eq laws [] kept (link_offers x) (weak-part x (ap (λ z. is_strong z.mode) same ∙ weak)), clean))
 
   module _ {names : List K} {at : K → Option R} {since i : ℕ} {n1 : List K} {a1 : K → Option R} where
     -- a part is taken up
@@ -67,12 +69,12 @@ module _ {K C V D R : Type 0} (cell : R → C → Option V) (width : R → ℕ �
     parted_past x p within is stands = record {
       left = record {
         behind = p.left.behind ++ link_offers x;
-        shown = λ os before. covers_shown eq laws cell width n1 a1 os p.left.behind (link_offers x) (weak-part x stands.weak) found.0 (p.left.shown os before);
+        shown = λ os before. covers_shown eq laws cell width [] n1 a1 os p.left.behind (link_offers x) [] (weak-part x stands.weak) found.0 (picks_none eq laws (link_offers x)) (subst (Shows cell width eq n1 a1) (sym (append-none (os ++ p.left.behind))) (p.left.shown os before));
         offered = p.left.offered ∙ ap (λ rest. p.left.behind ++ rest) (link_at eq rules moves bodies xs i x within is) ∙ sym (append-inner p.left.behind (link_offers x) (offers eq rules moves rules.start (links_body bodies (drop (i + 1) xs))));
         blamed = p.left.blamed ∙ link_blamed_at eq rules moves bodies xs i x within is ∙ ap (λ fs. fs ++ faults eq rules moves rules.start (links_body bodies (drop (i + 1) xs))) found.1;
       };
       covers = covered-next p.left.behind since i x within is found.1 p.covers (is_replace x.mode) refl;
     }
       where
-        found : Covers eq laws p.left.behind (link_offers x) × (link_faults x ≡ [])
+        found : Covers eq laws [] p.left.behind (link_offers x) × (link_faults x ≡ [])
         found = p.covers stands.at x stands.from stands.before stands.is stands.weak

@@ -5,6 +5,7 @@ use Rattle.std.proofs.lemmas.List.{drop_all}
 use Rattle.std.proofs.lemmas.List.Elements.{Contains-append_left}
 use Rattle.std.proofs.lemmas.Option.{same_Some}
 use Rattle.std.specs.Cmp.{IsEquivalence}
+use Rattle.std.specs.List.{list_any}
 use Rattle.kx_lex.specs.declared.fault.Fault.{Fault}
 use Rattle.kx_lex.specs.declared.fault.Fault.TheVariants.{Memory}
 use Rattle.kx_include.specs.Expansion.{Body, End}
@@ -14,24 +15,20 @@ use Rattle.kx_include.specs.declared.expansion.Entry.TheVariants.{Own, Include}
 use Rattle.kx_include.specs.declared.expansion.Link.{Link}
 use Rattle.kx_include.specs.declared.place.Place.{Place}
 use Rattle.kx_parse.specs.declared.tree.Mode.{Mode}
-use Rattle.kx_parse.specs.declared.tree.Mode.TheVariants.{Augment}
+use Rattle.kx_parse.specs.declared.tree.Mode.TheVariants.{Augment, Override, Replace}
 use Rattle.kx_merge.specs.Bodies.{Rules, Moves, gathered, offers, faults, offers_of, faults_of}
-use Rattle.kx_merge.specs.Gatherings.{AddsBehind, AreGentle, StandsBetween, StandsSince, included_at, included_by, entry_mode, entry_offers, entry_faults, entry_next}
+use Rattle.kx_merge.specs.Gatherings.{AddsBehind, StandsBetween, StoodAt, included_at, included_by, entry_offers, entry_faults, entry_next}
+use Rattle.kx_merge.specs.Renewals.{AreGentleTo, TakesBack, TakesUp, keys_since}
 use Rattle.kx_merge.specs.Offers.{Offer, is_replace, is_strong, names_behind, names_of, value_of, width_of}
 use Rattle.kx_merge.specs.Records.{Shows}
 use Rattle.kx_merge.proofs.Behind.{entry-first, entry_at, entry_blamed_at}
-use Rattle.kx_merge.proofs.Covering.{Covers, covers_more, covers_none, covers_self, covers_shown, gentle_gathered, weak_gathered}
+use Rattle.kx_merge.proofs.Covering.{Covers, covers_more, covers_none, covers_self, covers_shown, gentle_gathered, gentle_to, weak_gathered}
+use Rattle.kx_merge.proofs.Marks.{Marked, at-last, length-both, marked_next, marked_none, since_more, since_same}
 use Rattle.kx_merge.proofs.Movings.{append-none, append-inner}
 use Rattle.kx_merge.proofs.Precedence.{names_behind-append}
 use Rattle.kx_merge.proofs.Repeated.{names_passed, values_passed, widths_passed}
 
 -- ---- Places of entries
-
-pub at-last : {P : Type 0} (n i : ℕ) → n < i + 1 → (n < i → P) → (n ≡ i → P) → P
-at-last zero zero within earlier here = here refl
-at-last zero (suc i) within earlier here = earlier (omega arith)
-at-last (suc n) zero within earlier here = absurd (omega (arith, within))
-at-last (suc n) (suc i) within earlier here = at-last n i (omega (arith, within)) (λ less. earlier (omega (arith, less))) (λ e. here (ap suc e))
 
 included-here : (xs : List Entry) (i : ℕ) (e : Entry) → i < length xs → e ≡ get_or xs i e → included_at xs i ≡ Some (included_by e)
 included-here [] i e within is = absurd (omega (arith, within))
@@ -270,74 +267,90 @@ module _ {K C V D R : Type 0} (cell : R → C → Option V) (width : R → ℕ �
   abbrev pub offers_by : Mode × List Link → List (Offer K C V)
   offers_by = included_offers eq rules moves bodies
 
-  -- the same, and each include under augment from another place on gives nothing more
-  pub record Covering (names : List K) (at : K → Option R) (last : Mode × List Link) (since i : ℕ) (d : D) (now_names : List K) (now_at : K → Option R) : Type 0 where
+  -- the same, and each include under augment from another place on gives nothing more, but to records that were given anew after it
+  pub record Covering (names : List K) (at : K → Option R) (last : Mode × List Link) (since : ℕ) (marks : List ℕ) (noted : List K) (i : ℕ) (d : D) (now_names : List K) (now_at : K → Option R) : Type 0 where
     pub going : Reaches names at last i d now_names now_at
-    pub covers : (n : ℕ) (x : Mode × List Link) → since ≤ n → n < i → included_at xs n ≡ Some x → is_strong x.0 ≡ false → Covers eq laws going.kept (offers_by x)
+    pub marked : Marked marks (length noted) i
+    pub covers : (n : ℕ) (x : Mode × List Link) → since ≤ n → n < i → included_at xs n ≡ Some x → is_strong x.0 ≡ false → Covers eq laws (keys_since marks noted n) going.kept (offers_by x)
 
-  pub covering_first : (names : List K) (at : K → Option R) → Covering names at (Augment, []) 0 0 rules.start names at
-  covering_first names at = record { going = going_first cell width eq rules moves bodies place xs names at; covers = λ n x from before is weak. absurd (omega (arith, before)) }
+  pub covering_first : (names : List K) (at : K → Option R) → Covering names at (Augment, []) 0 [] [] 0 rules.start names at
+  covering_first names at = record { going = going_first cell width eq rules moves bodies place xs names at; marked = marked_none 0; covers = λ n x from before is weak. absurd (omega (arith, before)) }
 
   -- what an entry that was taken up covers
-  covered-entry : (kept : List (Offer K C V)) (d : D) (e : Entry) → is_strong (included_by e).0 ≡ false → Covers eq laws (kept ++ entry_offers eq rules moves bodies place d e) (offers_by (included_by e))
-  covered-entry kept d (Own item) weak = covers_none eq laws (kept ++ rules.offers d place item.now)
-  covered-entry kept d (Include mode links) weak = covers_self eq laws kept (offers_by (mode, links.items)) (weak_gathered eq mode (offers_of eq rules moves (links_body bodies links.items)) weak)
+  covered-entry : (keys : List K) (kept : List (Offer K C V)) (d : D) (e : Entry) → is_strong (included_by e).0 ≡ false → Covers eq laws keys (kept ++ entry_offers eq rules moves bodies place d e) (offers_by (included_by e))
+  covered-entry keys kept d (Own item) weak = covers_none eq laws keys (kept ++ rules.offers d place item.now)
+  covered-entry keys kept d (Include mode links) weak = covers_self eq laws keys kept (offers_by (mode, links.items)) (weak_gathered eq mode (offers_of eq rules moves (links_body bodies links.items)) weak)
 
-  covered-next : (kept : List (Offer K C V)) (since i : ℕ) (d : D) (e : Entry) → i < length xs → e ≡ get_or xs i e
-      → ((n : ℕ) (x : Mode × List Link) → since ≤ n → n < i → included_at xs n ≡ Some x → is_strong x.0 ≡ false → Covers eq laws kept (offers_by x))
-      → (b : Bool) → is_replace (entry_mode e) ≡ b → (is_replace (entry_mode e) ≡ false → AreGentle (entry_offers eq rules moves bodies place d e))
-      → (n : ℕ) (x : Mode × List Link) → cond b (i + 1) since ≤ n → n < i + 1 → included_at xs n ≡ Some x → is_strong x.0 ≡ false → Covers eq laws (kept ++ entry_offers eq rules moves bodies place d e) (offers_by x)
-  covered-next kept since i d e within is covers true replaces gentle n x from before at weak = absurd (omega (arith, from, before))
-  covered-next kept since i d e within is covers false gently gentle n x from before at weak =
-      at-last n i before
-      (λ earlier. covers_more eq laws kept (entry_offers eq rules moves bodies place d e) (offers_by x) (gentle gently) (covers n x from earlier at weak))
-      (λ here.
-      let same : included_by e ≡ x = same_Some (included_by e) x (sym (included-here xs i e within is) ∙ ap (included_at xs) (sym here) ∙ at) in
-      subst (λ y. Covers eq laws (kept ++ entry_offers eq rules moves bodies place d e) (offers_by y)) same (covered-entry kept d e (ap (λ y. is_strong y.0) same ∙ weak)))
+  module _ (kept : List (Offer K C V)) (since : ℕ) (marks : List ℕ) (noted keys : List K) (i : ℕ) (d : D) (e : Entry) (within : i < length xs) (is : e ≡ get_or xs i e) (marked : Marked marks (length noted) i)
+      (covers : (n : ℕ) (x : Mode × List Link) → since ≤ n → n < i → included_at xs n ≡ Some x → is_strong x.0 ≡ false → Covers eq laws (keys_since marks noted n) kept (offers_by x)) where
+    covered-next : (b : Bool) → is_replace (included_by e).0 ≡ b → (is_replace (included_by e).0 ≡ false → (k : K) → list_any (eq k) keys ≡ false → AreGentleTo eq k (entry_offers eq rules moves bodies place d e))
+        → (n : ℕ) (x : Mode × List Link) → cond b (i + 1) since ≤ n → n < i + 1 → included_at xs n ≡ Some x → is_strong x.0 ≡ false → Covers eq laws (keys_since (marks ++ length (noted ++ keys) ∷ []) (noted ++ keys) n) (kept ++ entry_offers eq rules moves bodies place d e) (offers_by x)
+    covered-next true replaces gentle n x from before at weak = absurd (omega (arith, from, before))
+    covered-next false gently gentle n x from before at weak =
+        let added = entry_offers eq rules moves bodies place d e in
+        let since_now = keys_since (marks ++ length (noted ++ keys) ∷ []) (noted ++ keys) n in
+        at-last n i before
+        (λ earlier.
+        subst (λ js. Covers eq laws js (kept ++ added) (offers_by x)) (sym (since_more (length (noted ++ keys)) n noted keys refl earlier marked))
+        (covers_more eq laws (keys_since marks noted n) keys kept added (offers_by x) (gentle gently) (covers n x from earlier at weak)))
+        (λ here.
+        let same : included_by e ≡ x = same_Some (included_by e) x (sym (included-here xs i e within is) ∙ ap (included_at xs) (sym here) ∙ at) in
+        subst (λ y. Covers eq laws since_now (kept ++ added) (offers_by y)) same (covered-entry since_now kept d e (ap (λ y. is_strong y.0) same ∙ weak)))
 
   passed : {names : List K} {at : K → Option R} {last : Mode × List Link} {i : ℕ} {d : D} {n1 : List K} {a1 : K → Option R} (same : (j k : K) → eq j k ≡ true → j ≡ k) (e : Entry) (l : Reaches names at last i d n1 a1) → i < length xs → e ≡ get_or xs i e → StandsBetween xs i (included_by e) → (r : Reaches names at last (i + 1) d n1 a1) × (r.kept ≡ l.kept)
   unfolding going_past
   passed same (Own item) l within is stands = absurd (false≢true stands.strong)
   passed same (Include mode links) l within is stands = (going_past cell width eq rules moves bodies place xs laws same (Include mode links) l within is stands, refl)
 
-  module _ {names : List K} {at : K → Option R} {last : Mode × List Link} {since i : ℕ} {d : D} {n1 : List K} {a1 : K → Option R} where
+  augment-is : (m : Mode) → is_strong m ≡ false → Augment ≡ m
+  augment-is Augment weak = refl
+  augment-is Override weak = absurd (false≢true (sym weak))
+  augment-is Replace weak = absurd (false≢true (sym weak))
+
+  module _ {names : List K} {at : K → Option R} {last : Mode × List Link} {since : ℕ} {marks : List ℕ} {noted : List K} {i : ℕ} {d : D} {n1 : List K} {a1 : K → Option R} where
     -- an entry is taken up
-    pub covering_on : {X : Type 0} {x : X} {n2 : List K} {a2 : K → Option R} (e : Entry) → Covering names at last since i d n1 a1 → i < length xs → e ≡ get_or xs i e
-        → (is_replace (entry_mode e) ≡ false → AreGentle (entry_offers eq rules moves bodies place d e))
+    pub covering_on : {X : Type 0} {x : X} {n2 : List K} {a2 : K → Option R} {new_noted : List K} (e : Entry) → Covering names at last since marks noted i d n1 a1 → i < length xs → e ≡ get_or xs i e
+        → TakesBack eq (is_replace (included_by e).0) noted new_noted (entry_offers eq rules moves bodies place d e)
         → AddsBehind cell width eq (offers_by last) n1 a1 (Ok x) n2 a2 (entry_offers eq rules moves bodies place d e) (entry_faults eq rules moves bodies place d e)
-        → Covering names at (included_by e) (cond (is_replace (entry_mode e)) (i + 1) since) (i + 1) (entry_next rules d e) n2 a2
+        → Covering names at (included_by e) (cond (is_replace (included_by e).0) (i + 1) since) (marks ++ length new_noted ∷ []) new_noted (i + 1) (entry_next rules d e) n2 a2
     unfolding going_on
-    covering_on e l within is gentle adds = record {
-      going = going_on cell width eq rules moves bodies place xs e l.going within is adds;
-      covers = covered-next l.going.kept since i d e within is l.covers (is_replace (entry_mode e)) refl gentle;
-    }
+    covering_on {n2 = n2} {a2 = a2} e l within is back adds =
+        subst (λ ks. Covering names at (included_by e) (cond (is_replace (included_by e).0) (i + 1) since) (marks ++ length ks ∷ []) ks (i + 1) (entry_next rules d e) n2 a2) (sym back.noted)
+        (record {
+          going = going_on cell width eq rules moves bodies place xs e l.going within is adds;
+          marked = marked_next (length (noted ++ back.keys)) (length-both noted back.keys) l.marked;
+          covers = covered-next l.going.kept since marks noted back.keys i d e within is l.marked l.covers (is_replace (included_by e).0) refl back.gentle;
+        })
 
     -- an include is passed over that stands before and after, too
-    pub covering_past : (same : (j k : K) → eq j k ≡ true → j ≡ k) (e : Entry) → Covering names at last since i d n1 a1 → i < length xs → e ≡ get_or xs i e → StandsBetween xs i (included_by e)
-        → Covering names at last (cond (is_replace (entry_mode e)) (i + 1) since) (i + 1) d n1 a1
+    pub covering_past : (same : (j k : K) → eq j k ≡ true → j ≡ k) (e : Entry) → Covering names at last since marks noted i d n1 a1 → i < length xs → e ≡ get_or xs i e → StandsBetween xs i (included_by e)
+        → Covering names at last (cond (is_replace (included_by e).0) (i + 1) since) (marks ++ length noted ∷ []) noted (i + 1) d n1 a1
     covering_past same e l within is stands = record {
       going = past.0;
-      covers = subst (λ ks. (n : ℕ) (x : Mode × List Link) → cond (is_replace (entry_mode e)) (i + 1) since ≤ n → n < i + 1 → included_at xs n ≡ Some x → is_strong x.0 ≡ false → Covers eq laws ks (offers_by x)) (sym past.1) (by (is_replace (entry_mode e)));
+      marked = marked_next (length noted) (omega arith) l.marked;
+      covers = subst (λ ks. (n : ℕ) (x : Mode × List Link) → cond (is_replace (included_by e).0) (i + 1) since ≤ n → n < i + 1 → included_at xs n ≡ Some x → is_strong x.0 ≡ false → Covers eq laws (keys_since (marks ++ length noted ∷ []) noted n) ks (offers_by x)) (sym past.1) (by (is_replace (included_by e).0));
     }
       where
         past : (r : Reaches names at last (i + 1) d n1 a1) × (r.kept ≡ l.going.kept)
         past = passed same e l.going within is stands
 
-        by : (b : Bool) (n : ℕ) (x : Mode × List Link) → cond b (i + 1) since ≤ n → n < i + 1 → included_at xs n ≡ Some x → is_strong x.0 ≡ false → Covers eq laws l.going.kept (offers_by x)
+        by : (b : Bool) (n : ℕ) (x : Mode × List Link) → cond b (i + 1) since ≤ n → n < i + 1 → included_at xs n ≡ Some x → is_strong x.0 ≡ false → Covers eq laws (keys_since (marks ++ length noted ∷ []) noted n) l.going.kept (offers_by x)
         by true n x from before at weak = absurd (omega (arith, from, before))
         by false n x from before at weak =
-            at-last n i before (λ earlier. l.covers n x from earlier at weak)
+            at-last n i before
+            (λ earlier. subst (λ js. Covers eq laws js l.going.kept (offers_by x)) (sym (since_same (length noted) n noted earlier l.marked)) (l.covers n x from earlier at weak))
             (λ here. absurd (false≢true (sym weak ∙ ap (λ y. is_strong y.0) (same_Some x (included_by e) (sym at ∙ ap (included_at xs) here ∙ included-here xs i e within is)) ∙ stands.strong)))
 
-    -- an include under augment is passed over that stands before, too
-    pub covering_again : (e : Entry) → Covering names at last since i d n1 a1 → i < length xs → e ≡ get_or xs i e → StandsSince xs since i (included_by e)
-        → Covering names at (included_by e) (cond (is_replace (entry_mode e)) (i + 1) since) (i + 1) d n1 a1
-    covering_again (Own item) l within is stands = absurd (omega (arith, stands.some))
-    covering_again (Include mode links) l within is stands = record {
+    -- of an include under augment that stands before, too, only the records are gone over that were given anew after it
+    pub covering_again : {n2 : List K} {a2 : K → Option R} (before : ℕ) (e : Entry) → Covering names at last since marks noted i d n1 a1 → i < length xs → e ≡ get_or xs i e → StoodAt xs since i before (included_by e)
+        → TakesUp cell width eq (keys_since marks noted before) n1 a1 n2 a2 (gathered eq Augment (offers_of eq rules moves (links_body bodies (included_by e).1)))
+        → Covering names at (included_by e) (cond (is_replace (included_by e).0) (i + 1) since) (marks ++ length noted ∷ []) noted (i + 1) d n2 a2
+    covering_again before (Own item) l within is stood takes = absurd (omega (arith, stood.some))
+    covering_again {n2 = n2} {a2 = a2} before (Include mode links) l within is stood takes = record {
       going = record {
         kept = k.kept ++ added;
         all = k.all ++ added;
-        shown = λ os before. covers_shown eq laws cell width n1 a1 os k.kept added (weak_gathered eq mode (offers_of eq rules moves (links_body bodies links.items)) stands.weak) found (k.shown os before);
+        shown = λ os first. covers_shown eq laws cell width (keys_since marks noted before) n2 a2 os k.kept added up.picked (weak_gathered eq mode (offers_of eq rules moves (links_body bodies links.items)) stood.weak) found up.picks (up.shows (os ++ k.kept) (k.shown os first));
         offered = k.offered ∙ ap (λ os. k.all ++ os) os_are ∙ sym (append-inner k.all added next);
         blamed = k.blamed ∙ entry_blamed_at eq rules moves bodies place d xs i (Include mode links) within is ∙ ap (λ fs. fs ++ faults eq rules moves d (entries_body bodies place (drop (i + 1) xs) End)) earlier.clean;
         names_same = λ os. ap (names_of eq) (sym (append-inner os k.kept added)) ∙ names_behind-append eq [] (os ++ k.kept) added ∙ ap (λ ks. names_behind eq ks added) (k.names_same os) ∙ sym (names_behind-append eq [] (os ++ k.all) added) ∙ ap (names_of eq) (append-inner os k.all added);
@@ -348,7 +361,9 @@ module _ {K C V D R : Type 0} (cell : R → C → Option V) (width : R → ℕ �
         clean = earlier.clean;
         past = past-next cell width eq rules moves bodies place xs k.all i d (Include mode links) within is earlier.clean k.past;
       };
-      covers = covered-next k.kept since i d (Include mode links) within is l.covers (is_replace mode) refl (gentle_gathered eq mode (offers_of eq rules moves (links_body bodies links.items)));
+      marked = marked_next (length noted) (omega arith) l.marked;
+      covers = subst (λ ks. (n : ℕ) (x : Mode × List Link) → cond (is_replace mode) (i + 1) since ≤ n → n < i + 1 → included_at xs n ≡ Some x → is_strong x.0 ≡ false → Covers eq laws (keys_since (marks ++ length ks ∷ []) ks n) (k.kept ++ added) (offers_by x)) (append-none noted)
+          (covered-next k.kept since marks noted [] i d (Include mode links) within is l.marked l.covers (is_replace mode) refl (λ gentle j away. gentle_to eq j added (gentle_gathered eq mode (offers_of eq rules moves (links_body bodies links.items)) gentle)));
     }
       where
         k : Reaches names at last i d n1 a1
@@ -356,6 +371,9 @@ module _ {K C V D R : Type 0} (cell : R → C → Option V) (width : R → ℕ �
 
         added : List (Offer K C V)
         added = offers_by (mode, links.items)
+
+        up : TakesUp cell width eq (keys_since marks noted before) n1 a1 n2 a2 added
+        up = subst (λ m. TakesUp cell width eq (keys_since marks noted before) n1 a1 n2 a2 (gathered eq m (offers_of eq rules moves (links_body bodies links.items)))) (augment-is mode stood.weak) takes
 
         next : List (Offer K C V)
         next = offers eq rules moves d (entries_body bodies place (drop (i + 1) xs) End)
@@ -366,8 +384,8 @@ module _ {K C V D R : Type 0} (cell : R → C → Option V) (width : R → ℕ �
         rest : (k.kept ++ added) ++ next ≡ k.kept ++ offers eq rules moves d (entries_body bodies place (drop i xs) End)
         rest = append-inner k.kept added next ∙ ap (λ os. k.kept ++ os) (sym os_are)
 
-        found : Covers eq laws k.kept added
-        found = l.covers stands.at (mode, links.items) stands.from stands.before stands.is stands.weak
+        found : Covers eq laws (keys_since marks noted before) k.kept added
+        found = l.covers before (mode, links.items) stood.from stood.before stood.is stood.weak
 
         earlier : Past eq rules moves bodies place k.all (mode, links.items)
-        earlier = k.past stands.at (mode, links.items) stands.before stands.is
+        earlier = k.past before (mode, links.items) stood.before stood.is

@@ -24,7 +24,7 @@ pub or-last : (a b : Bool) → (a || b) ≡ false → b ≡ false
 or-last true b h = absurd (false≢true (sym h))
 or-last false b h = h
 
-or-both : (a b : Bool) → a ≡ false → b ≡ false → (a || b) ≡ false
+pub or-both : (a b : Bool) → a ≡ false → b ≡ false → (a || b) ≡ false
 or-both true b h k = h
 or-both false b h k = k
 

@@ -10,13 +10,13 @@ use Rattle.kx_merge.specs.Offers.{Offer, taken, widened, is_about, value_of, wid
 use Rattle.kx_merge.specs.Records.{IsOffered, Shows, cell_in, width_in}
 use Rattle.kx_merge.proofs.Precedence.{value-other, value-more, width-other, width-more, names-more}
 
-taken-none : {X : Type 0} (m : Mode) (v : Option X) → taken m None v ≡ v
+pub taken-none : {X : Type 0} (m : Mode) (v : Option X) → taken m None v ≡ v
 taken-none Augment v = refl
 taken-none Override None = refl
 taken-none Override (Some x) = refl
 taken-none Replace v = refl
 
-widened-none : (m : Mode) (n : ℕ) → widened m 0 n ≡ n
+pub widened-none : (m : Mode) (n : ℕ) → widened m 0 n ≡ n
 widened-none Augment n = omega arith
 widened-none Override n = omega arith
 widened-none Replace n = refl
@@ -91,7 +91,7 @@ keys-put eq (e ∷ es) key r = by (eq key e.0) (keys-put eq es key r)
     by false rest = ap (λ ks. e.0 ∷ ks) rest ∙ inner (list_any (eq key) (keys_of es))
 
 -- a key that is there is among the names
-there : {K R : Type 0} (test : K → Bool) (es : List (K × R)) → is_some (lookup test es) ≡ list_any test (keys_of es)
+pub there : {K R : Type 0} (test : K → Bool) (es : List (K × R)) → is_some (lookup test es) ≡ list_any test (keys_of es)
 there test [] = refl
 there test (e ∷ es) = by (test e.0) (there test es)
   where

@@ -14,8 +14,8 @@ use Rattle.kx_parse.specs.declared.tree.Mode.{Mode}
 use Rattle.kx_parse.specs.declared.tree.Mode.TheVariants.{Augment}
 use Rattle.kx_merge.specs.declared.gathering.Merged.{Merged}
 use Rattle.kx_merge.specs.Bodies.{Rules, Moves, gathered, offers_of, faults_of}
-use Rattle.kx_merge.specs.Offers.{Offer, is_replace, is_strong}
-use Rattle.kx_merge.specs.Records.{Shows, mode_of}
+use Rattle.kx_merge.specs.Offers.{Offer, is_strong}
+use Rattle.kx_merge.specs.Records.{Shows}
 
 module _ {K C V R : Type 0} (cell : R → C → Option V) (width : R → ℕ → ℕ) (eq : K → K → Bool) where
   -- records take up offers, unless a fault among some is met
@@ -75,20 +75,10 @@ pub record StandsBetween (es : List Entry) (place : ℕ) (included : Mode × Lis
   pub behind : place < last
   pub last_is : included_at es last ≡ Some included
 
--- none of the offers takes back what stands before it
-pub data AreGentle {K C V : Type 0} : List (Offer K C V) → Type 0 where
-  none : AreGentle []
-  more : {o : Offer K C V} {os : List (Offer K C V)} → is_replace o.mode ≡ false → AreGentle os → AreGentle (o ∷ os)
-
-abbrev pub entry_mode : Entry → Mode
-entry_mode (Own item) = mode_of item.now
-entry_mode (Include mode links) = mode
-
--- an include under augment stands before a place, and not before another
-pub record StandsSince (es : List Entry) (since place : ℕ) (included : Mode × List Link) : Type 0 where
+-- an include under augment stands at a place before another, and not before a third
+pub record StoodAt (es : List Entry) (since place at : ℕ) (included : Mode × List Link) : Type 0 where
   pub some : 1 ≤ length included.1
   pub weak : is_strong included.0 ≡ false
-  pub at : ℕ
   pub from : since ≤ at
   pub before : at < place
   pub is : included_at es at ≡ Some included

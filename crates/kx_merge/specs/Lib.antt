@@ -8,4 +8,5 @@ pub mod Offers
 pub mod Bodies
 pub mod Records
 pub mod Moved
+pub mod Renewals
 pub mod Gatherings

@@ -1,16 +1,19 @@
-ghost use Rattle.std.specs.Prelude.{◌≡◌, ◌+◌, ◌<◌, ◌^◌, ◌++◌, ◌∷◌, [], List, Contains, IfOk, OnOk, IfErr, IsTrue, false, if◌then◌else◌};
+ghost use Rattle.std.specs.Prelude.{◌≡◌, ◌+◌, ◌<◌, ◌^◌, ◌++◌, ◌∷◌, [], List, Contains, IfOk, OnOk, IfErr, IsTrue, Some, ℕ, false, true, if◌then◌else◌};
 ghost use Rattle.indexmap.specs.IndexMap.{get, keys};
 ghost use Rattle.kx_include.specs.Expansion.{Body, End};
 ghost use Rattle.kx_include.specs.Shared.{bodies_behind, body_at, expanded_body, links_body, shared_body};
 ghost use Rattle.kx_lex.specs.declared.fault.Fault.TheVariants.{Memory};
+ghost use Rattle.kx_parse.specs.declared.tree.Mode.TheVariants.{Augment};
 ghost use Rattle.kx_merge.specs.Bodies.{Rules, moved, gathered, faults_of, offers_of};
-ghost use Rattle.kx_merge.specs.Gatherings.{Adds, AddsBehind, AreGathered, AreGentle, IsGathered, entry_faults, entry_mode, entry_next, entry_offers, included_by};
+ghost use Rattle.kx_merge.specs.Gatherings.{Adds, AddsBehind, AreGathered, IsGathered, entry_faults, entry_next, entry_offers, included_by};
+ghost use Rattle.kx_merge.specs.Renewals.{TakesBack, TakesUp, keys_since};
 ghost use Rattle.kx_merge.specs.Offers.{is_replace};
 ghost use Rattle.kx_merge.specs.Records.{Shows};
 
 use crate::fields::Fields;
-use crate::merging::{add_included, add_joined, merge_own, mode_of};
+use crate::merging::{add_again, add_included, add_joined, are_kept, merge_own};
 use crate::repeats::{PartRepeats, Repeats};
+use crate::replaced::Replaced;
 use kx_include::{Entry, Expansion, Link, Map, Place};
 use kx_lex::Fault;
 use kx_ordered::{TableKey, Ordered};
@@ -91,8 +94,8 @@ fn gather_map<C, R: Fields<C>>(
 }
 
 /// What the items of a map make of records. An include that isn't under augment is passed over where the same stands before
-/// it and after it: the one after it gives the values, and the one before it the order. One under augment is passed over
-/// where the same stands before it, and nothing between takes a value back.
+/// it and after it: the one after it gives the values, and the one before it the order. Of one under augment where the same
+/// stands before it, only the records are gone over whose values were taken back between.
 fn merge_map<C, R: Fields<C>>(
     alloc: Global,
     context: &C,
@@ -112,21 +115,33 @@ fn merge_map<C, R: Fields<C>>(
         links: &[],
     };
     let mut since = 0;
+    let mut replaced = Replaced::new(alloc);
     'entries: for place in 0..entries.len() {
         let entry = &entries[place];
         let included = included_by(entry);
+        let stood = repeats.stood_since(entries, since, place, included);
         if repeats.stands_between(entries, place, included) {
             note_links::<C, R>(done, included.links, notes);
-        } else if repeats.stands_since(entries, since, place, included) {
+        } else if merge_again::<C, R>(alloc, done, included.links, stood, &replaced, records)? {
             note_links::<C, R>(done, included.links, notes);
             last = included;
         } else {
             defaults = merge_entry::<C, R>(
-                alloc, context, done, map.place, last, entry, defaults, records, notes,
+                alloc,
+                context,
+                done,
+                map.place,
+                last,
+                entry,
+                defaults,
+                records,
+                &mut replaced.keys,
+                notes,
             )?;
             last = included;
         }
-        since = since_after(since, place, entry_mode(entry));
+        replaced.pass()?;
+        since = since_after(since, place, included.mode);
     }
     Ok(())
 }
@@ -154,17 +169,7 @@ pub(crate) fn included_by<'m>(entry: &'m Entry) -> Included<'m>
     }
 }
 
-/// The mode of an entry.
-fn entry_mode(entry: &Entry) -> Mode
-    ensures { result ≡ entry_mode entry.now }
-{
-    match entry {
-        Entry::Own(item) => mode_of(item),
-        Entry::Include { mode, .. } => *mode,
-    }
-}
-
-/// From which place on nothing takes a value back, once what stands at a place has this mode.
+/// From which place on no include takes a value back, once one that stands at a place has this mode.
 fn since_after(since: usize, place: usize, mode: Mode) -> usize
     requires { place < 2 ^ 63 }
     ensures { result ≡ (if is_replace mode then place + 1 else since) }
@@ -177,7 +182,7 @@ fn since_after(since: usize, place: usize, mode: Mode) -> usize
 }
 
 /// What an item makes of records, and the defaults after it. Where it includes what the item before it does, the records
-/// stay as they are.
+/// stay as they are. The keys of records whose values a statement takes back are noted.
 fn merge_entry<C, R: Fields<C>>(
     alloc: Global,
     context: &C,
@@ -187,17 +192,20 @@ fn merge_entry<C, R: Fields<C>>(
     entry: &Entry,
     defaults: R::Defaults,
     records: &mut Ordered<R::Key, R>,
+    replaced: &mut Vec<R::Key>,
     notes: &mut R::Notes,
 ) -> Result<R::Defaults, Fault>
     ensures adds { (bodies : List Body) → AreGathered R.cell R.width R.Key.eq (R.rules context.now) R.moves done.now bodies
         → faults_of R.Key.eq (R.rules context.now) R.moves (links_body bodies last.entry.links.now) ≡ []
         → AddsBehind R.cell R.width R.Key.eq (gathered R.Key.eq last.entry.mode (offers_of R.Key.eq (R.rules context.now) R.moves (links_body bodies last.entry.links.now))) (keys records.old) (get R.Key.eq records.old) result (keys records.new) (get R.Key.eq records.new) (entry_offers R.Key.eq (R.rules context.now) R.moves bodies place defaults entry.now) (entry_faults R.Key.eq (R.rules context.now) R.moves bodies place defaults entry.now) }
-    ensures gentle { is_replace (entry_mode entry.now) ≡ false → OnOk result ((bodies : List Body) → AreGentle (entry_offers R.Key.eq (R.rules context.now) R.moves bodies place defaults entry.now)) }
+    ensures back { OnOk result ((bodies : List Body) → TakesBack R.Key.eq (is_replace (included_by entry.now).0) replaced.old.items replaced.new.items (entry_offers R.Key.eq (R.rules context.now) R.moves bodies place defaults entry.now)) }
     ensures next { IfOk result (λ d. d ≡ entry_next (R.rules context.now) defaults entry.now) }
 {
     match entry {
         Entry::Own(item) => {
-            merge_own::<C, R>(alloc, context, defaults, place, item, records, notes)
+            merge_own::<C, R>(
+                alloc, context, defaults, place, item, records, replaced, notes,
+            )
         }
         Entry::Include { mode, links } => {
             let included = Included {
@@ -270,6 +278,80 @@ fn merge_after<C, R: Fields<C>>(
         return Ok(());
     }
     merge_include::<C, R>(alloc, done, included.mode, included.links, records, notes)
+}
+
+/// What an include under augment makes of records where the same stood before: only the records are gone over that were
+/// given anew since. `false` where it has to be gone over whole.
+fn merge_again<C, R: Fields<C>>(
+    alloc: Global,
+    done: &[Result<Merged<R::Key, R, R::Notes>, Fault>],
+    links: &[Link],
+    stood: Option<usize>,
+    replaced: &Replaced<R::Key>,
+    records: &mut Ordered<R::Key, R>,
+) -> Result<bool, Fault>
+    ensures again { IfOk result (λ again. again ≡ true → (before : ℕ) × (stood ≡ Some before) × ((rules : Rules R.Key R.Cell R.Value R.Defaults) (bodies : List Body) → AreGathered R.cell R.width R.Key.eq rules R.moves done.now bodies
+        → TakesUp R.cell R.width R.Key.eq (keys_since replaced.now.marks.items replaced.now.keys.items before) (keys records.old) (get R.Key.eq records.old) (keys records.new) (get R.Key.eq records.new) (gathered R.Key.eq Augment (offers_of R.Key.eq rules R.moves (links_body bodies links.now))))) }
+    ensures whole { IfOk result (λ again. again ≡ false → records.new ≡ records.old) }
+    ensures err { IfErr result (λ e. e ≡ Memory) }
+{
+    match stood {
+        None => Ok(false),
+        Some(before) => { merge_keys::<C, R>(alloc, done, links, replaced.since(before), records) }
+    }
+}
+
+/// What the records of some keys take up of an include under augment. `false` where it has to be gone over whole.
+fn merge_keys<C, R: Fields<C>>(
+    alloc: Global,
+    done: &[Result<Merged<R::Key, R, R::Notes>, Fault>],
+    links: &[Link],
+    renewed: &[R::Key],
+    records: &mut Ordered<R::Key, R>,
+) -> Result<bool, Fault>
+    ensures again { IfOk result (λ again. again ≡ true → (rules : Rules R.Key R.Cell R.Value R.Defaults) (bodies : List Body) → AreGathered R.cell R.width R.Key.eq rules R.moves done.now bodies
+        → TakesUp R.cell R.width R.Key.eq renewed.now (keys records.old) (get R.Key.eq records.old) (keys records.new) (get R.Key.eq records.new) (gathered R.Key.eq Augment (offers_of R.Key.eq rules R.moves (links_body bodies links.now)))) }
+    ensures whole { IfOk result (λ again. again ≡ false → records.new ≡ records.old) }
+    ensures err { IfErr result (λ e. e ≡ Memory) }
+{
+    if renewed.is_empty() {
+        return Ok(true);
+    }
+    match links {
+        [link] => merge_link_keys::<C, R>(alloc, done, *link, renewed, records),
+        _ => Ok(false),
+    }
+}
+
+/// What the records of some keys take up of a part under augment. `false` where the part has to be gone over whole: where
+/// it has fewer records, and where records become others as its map is moved.
+fn merge_link_keys<C, R: Fields<C>>(
+    alloc: Global,
+    done: &[Result<Merged<R::Key, R, R::Notes>, Fault>],
+    link: Link,
+    renewed: &[R::Key],
+    records: &mut Ordered<R::Key, R>,
+) -> Result<bool, Fault>
+    ensures again { IfOk result (λ again. again ≡ true → (rules : Rules R.Key R.Cell R.Value R.Defaults) (bodies : List Body) → AreGathered R.cell R.width R.Key.eq rules R.moves done.now bodies
+        → TakesUp R.cell R.width R.Key.eq renewed.now (keys records.old) (get R.Key.eq records.old) (keys records.new) (get R.Key.eq records.new) (moved R.moves link.group (gathered R.Key.eq Augment (offers_of R.Key.eq rules R.moves (body_at bodies link.map))))) }
+    ensures whole { IfOk result (λ again. again ≡ false → records.new ≡ records.old) }
+    ensures err { IfErr result (λ e. e ≡ Memory) }
+{
+    let Some(Ok(found)) = done.get(link.map) else {
+        return Ok(false);
+    };
+    if found.records.len() < renewed.len() || !are_kept::<C, R>(renewed, link.group) {
+        return Ok(false);
+    }
+    add_again::<C, R>(
+        alloc,
+        records,
+        Mode::Augment,
+        &found.records,
+        renewed,
+        link.group,
+    )?;
+    Ok(true)
 }
 
 /// What an include makes of records under its mode. What a single part brings needs no joining.

@@ -8,6 +8,7 @@ mod gathering;
 mod merging;
 mod numbers;
 mod repeats;
+mod replaced;
 mod words;
 
 pub use faults::{bad_value, expression_of, unknown_field};

@@ -1,16 +1,18 @@
-ghost use Rattle.std.specs.Prelude.{◌≡◌, ◌++◌, ◌∷◌, [], List, IfOk, OnOk, IfErr, false};
+ghost use Rattle.std.specs.Prelude.{◌≡◌, ◌++◌, ◌∷◌, [], List, IfOk, OnOk, IfErr, IsTrue, Some, All, map, false, if◌then◌else◌};
+ghost use Rattle.std.specs.Map.{keys_of};
 ghost use Rattle.indexmap.specs.IndexMap.{get, keys};
 ghost use Rattle.kx_lex.specs.declared.fault.Fault.TheVariants.{Memory};
 ghost use Rattle.kx_merge.specs.Bodies.{moved, gather, gathered};
-ghost use Rattle.kx_merge.specs.Gatherings.{Adds, AreGentle};
-ghost use Rattle.kx_merge.specs.Moved.{IsOfferedMoved};
+ghost use Rattle.kx_merge.specs.Gatherings.{Adds};
+ghost use Rattle.kx_merge.specs.Renewals.{TakesBack, held};
+ghost use Rattle.kx_merge.specs.Moved.{IsOfferedMoved, moved_key};
 ghost use Rattle.kx_merge.specs.Offers.{Offer, is_replace};
 ghost use Rattle.kx_merge.specs.Records.{AreOffered, IsGood, IsOffered, Shows, mode_of};
 
 use crate::fields::Fields;
 use kx_include::Place;
 use kx_lex::Fault;
-use kx_ordered::Ordered;
+use kx_ordered::{Again, Ordered};
 use kx_parse::{Item, Mode};
 use std::alloc::Global;
 
@@ -133,6 +135,78 @@ pub(crate) fn add_included<C, R: Fields<C>>(
     Ok(())
 }
 
+/// Whether records stay the same records where their map is moved to a group.
+pub(crate) fn are_kept<C, R: Fields<C>>(keys: &[R::Key], group: Option<u8>) -> bool
+    ensures { IsTrue result → All (λ key. moved_key R.moves group key ≡ Some key) keys.now }
+{
+    'keys: for key in keys {
+        match R::key_in(key, group) {
+            None => return false,
+            Some(to) => {
+                if to != *key {
+                    return false;
+                }
+            }
+        }
+    }
+    true
+}
+
+/// Takes up under a mode what an included map gives to the records of some keys, as it stands where the map is moved to a
+/// group, beside those that are there.
+pub(crate) fn add_again<C, R: Fields<C>>(
+    alloc: Global,
+    records: &mut Ordered<R::Key, R>,
+    mode: Mode,
+    given: &Ordered<R::Key, R>,
+    renewed: &[R::Key],
+    group: Option<u8>,
+) -> Result<(), Fault>
+    ensures shows { (os inner : List (Offer R.Key R.Cell R.Value))
+        → Shows R.cell R.width R.Key.eq (keys records.old) (get R.Key.eq records.old) os
+        → Shows R.cell R.width R.Key.eq (keys given.now) (get R.Key.eq given.now) inner
+        → OnOk result (Shows R.cell R.width R.Key.eq (keys records.new) (get R.Key.eq records.new) (os ++ moved R.moves group (map (gather R.Key.eq mode inner) (held R.Key.eq (keys given.now) renewed.now)))) }
+    ensures err { IfErr result (λ e. e ≡ Memory) }
+{
+    'keys: for key in renewed {
+        if let Some(one) = given.get(key) {
+            add_found::<C, R>(alloc, records, mode, key, one, group)?;
+        }
+    }
+    Ok(())
+}
+
+/// Notes the keys of records.
+fn note_keys<C, R: Fields<C>>(
+    replaced: &mut Vec<R::Key>,
+    given: &[(R::Key, R)],
+) -> Result<(), Fault>
+    ensures noted { OnOk result (replaced.new.items ≡ replaced.old.items ++ keys_of given.now) }
+    ensures err { IfErr result (λ e. e ≡ Memory) }
+{
+    'records: for entry in given {
+        let key = entry.0.again()?;
+        replaced.push(key)?;
+    }
+    Ok(())
+}
+
+/// Notes the keys of records that take back the values before them.
+fn note_replaced<C, R: Fields<C>>(
+    replaced: &mut Vec<R::Key>,
+    mode: Mode,
+    given: &[(R::Key, R)],
+) -> Result<(), Fault>
+    ensures noted { OnOk result (replaced.new.items ≡ replaced.old.items ++ (if is_replace mode then keys_of given.now else [])) }
+    ensures err { IfErr result (λ e. e ≡ Memory) }
+{
+    match mode {
+        Mode::Augment => Ok(()),
+        Mode::Override => Ok(()),
+        Mode::Replace => note_keys::<C, R>(replaced, given),
+    }
+}
+
 /// The mode of a statement.
 pub(crate) fn mode_of(item: &Item) -> Mode
     ensures { result ≡ mode_of item.now }
@@ -143,7 +217,7 @@ pub(crate) fn mode_of(item: &Item) -> Mode
     }
 }
 
-/// What a statement makes of records, and the defaults after it.
+/// What a statement makes of records, and the defaults after it. The keys of records whose values it takes back are noted.
 pub(crate) fn merge_own<C, R: Fields<C>>(
     alloc: Global,
     context: &C,
@@ -151,13 +225,16 @@ pub(crate) fn merge_own<C, R: Fields<C>>(
     place: Place,
     item: &Item,
     records: &mut Ordered<R::Key, R>,
+    replaced: &mut Vec<R::Key>,
     notes: &mut R::Notes,
 ) -> Result<R::Defaults, Fault>
     ensures adds { Adds R.cell R.width R.Key.eq (keys records.old) (get R.Key.eq records.old) result (keys records.new) (get R.Key.eq records.new) ((R.rules context.now).offers defaults place item.now) ((R.rules context.now).faults defaults place item.now) }
-    ensures gentle { is_replace (mode_of item.now) ≡ false → OnOk result (AreGentle ((R.rules context.now).offers defaults place item.now)) }
+    ensures back { OnOk result (TakesBack R.Key.eq false replaced.old.items replaced.new.items ((R.rules context.now).offers defaults place item.now)) }
     ensures next { IfOk result (λ d. d ≡ (R.rules context.now).next defaults item.now) }
 {
     let given = R::read(alloc, context, &defaults, place, item, notes)?;
-    add_all::<C, R>(alloc, records, mode_of(item), given)?;
+    let mode = mode_of(item);
+    note_replaced::<C, R>(replaced, mode, given.as_slice())?;
+    add_all::<C, R>(alloc, records, mode, given)?;
     R::next(alloc, context, defaults, item)
 }

@@ -1,7 +1,7 @@
 //! Includes that stand more than once in a map, and parts that stand more than once in the text of one.
-ghost use Rattle.std.specs.Prelude.{◌≡◌, IfErr, IsTrue, Some, slice_get};
+ghost use Rattle.std.specs.Prelude.{◌≡◌, IfErr, IfSome, IsTrue, Some, slice_get};
 ghost use Rattle.kx_lex.specs.declared.fault.Fault.TheVariants.{Memory};
-ghost use Rattle.kx_merge.specs.Gatherings.{PartStandsSince, StandsBetween, StandsSince, included_at};
+ghost use Rattle.kx_merge.specs.Gatherings.{PartStandsSince, StandsBetween, StoodAt, included_at};
 
 use crate::gathering::{Included, are_same_links, included_by, is_same_link};
 use kx_include::{Entry, Link};
@@ -133,24 +133,24 @@ impl Repeats {
         }
     }
 
-    /// Whether an include under augment also stands before a place, and not before another. Notes that it stands there.
-    pub(crate) fn stands_since(
+    /// Where an include under augment also stands before a place, and not before another. Notes that it stands there.
+    pub(crate) fn stood_since(
         &mut self,
         entries: &[Entry],
         since: usize,
         place: usize,
         included: Included,
-    ) -> bool
-        ensures { IsTrue result → StandsSince entries.now since place (included.entry.mode, included.entry.links.now) }
+    ) -> Option<usize>
+        ensures { IfSome result (λ before. StoodAt entries.now since place before (included.entry.mode, included.entry.links.now)) }
     {
         if included.mode != Mode::Augment || included.links.is_empty() {
-            return false;
+            return None;
         }
-        match self.seen(place, included) {
-            None => false,
-            Some(before) => {
-                since <= before && before < place && stands_at(entries, before, included)
-            }
+        let before = self.seen(place, included)?;
+        if since <= before && before < place && stands_at(entries, before, included) {
+            Some(before)
+        } else {
+            None
         }
     }
 
