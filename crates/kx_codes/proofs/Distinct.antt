@@ -1,5 +1,5 @@
 -- No two pairs that a keycodes body leaves share a name or a code.
-use Rattle.std.proofs.Common.{◌≡◌, ℕ, Bool, true, false, cond, ◌||◌, ◌&&◌, not, ◌==◌, List, [], ◌∷◌, ◌++◌, ◌↔◌, Option, Some, is_some, unwrap_or, Result, Ok, Err, IfOk, refl, sym, ap, ◌∙◌, filter}
+use Rattle.std.proofs.Common.{◌≡◌, ℕ, Bool, true, false, cond, ◌||◌, ◌&&◌, not, ◌==◌, List, [], ◌∷◌, ◌++◌, Some, is_some, unwrap_or, refl, sym, ap, ◌∙◌, filter}
 use Rattle.std.specs.Cmp.{unsigned_Decides}
 use Rattle.std.specs.List.{list_any}
 use Rattle.std.specs.Str.{bytes_eq}
@@ -14,7 +14,7 @@ use Rattle.kx_parse.specs.declared.tree.Statement.{Statement as Said}
 use Rattle.kx_parse.specs.declared.tree.Statement.TheVariants as said
 use Rattle.kx_include.specs.Expansion.{Body, End, Begin, Own, Inc}
 use Rattle.kx_codes.specs.Indexed.{distinct}
-use Rattle.kx_codes.specs.Pairs.{Pair, shares, without, taken, all_taken, said_pairs, own_pairs, pairs_from, pairs_of, code_in, name_in}
+use Rattle.kx_codes.specs.Pairs.{Pair, shares, without, taken, all_taken, said_pairs, own_pairs, pairs_from, code_in, name_in}
 
 either-way : (a b c d : Bool) → (c ≡ true → a ≡ true) → (d ≡ true → b ≡ true) → (a || b) ≡ false → (c || d) ≡ false
 either-way true b c d f g h = absurd (false≢true (sym h))
@@ -173,16 +173,3 @@ name_of_code (p ∷ ps) code name d h = by (bytes_eq name p.name) (bytes_eq-Deci
     by : (b : Bool) → (b ≡ true → name ≡ p.name) → (code_in ps name ≡ Some code → name_in ps code ≡ Some name) → cond b (Some p.code) (code_in ps name) ≡ Some code → cond (code == p.code) (Some p.name) (name_in ps code) ≡ Some name
     by true same rest h = ap (λ b. cond b (Some p.name) (name_in ps code)) ((unsigned_Decides code p.code).1 (sym (ap (λ o. unwrap_or o code) h))) ∙ ap Some (sym (same refl))
     by false same rest h = other (code == p.code) (unsigned_Decides code p.code).0 (rest h)
-
--- what shows the pairs of a body tells each code's name as a name of that code, and no other
-pub joined : (body : Body) (named : ℕ → Option (List ℕ)) (coded : List ℕ → Option ℕ) → ((code : ℕ) → named code ≡ name_in (pairs_of body) code) → ((name : List ℕ) → coded name ≡ code_in (pairs_of body) name)
-    → (code : ℕ) (name : List ℕ) → (named code ≡ Some name) ↔ (coded name ≡ Some code)
-joined body named coded names codes code name = (
-  λ h. codes name ∙ code_of_name (pairs_of body) code name (from_distinct [] body refl) (sym (names code) ∙ h),
-  λ h. names code ∙ name_of_code (pairs_of body) code name (from_distinct [] body refl) (sym (codes name) ∙ h),
-)
-
-pub joined_answer : {C F : Type 0} (named : C → ℕ → Option (List ℕ)) (coded : C → List ℕ → Option ℕ) (r : Result C F) (ps : List Pair) (body : Body) → ps ≡ pairs_of body → IfOk r (λ c. (name : List ℕ) → coded c name ≡ code_in ps name) → IfOk r (λ c. (code : ℕ) → named c code ≡ name_in ps code)
-    → IfOk r (λ c. (code : ℕ) (name : List ℕ) → (named c code ≡ Some name) ↔ (coded c name ≡ Some code))
-joined_answer named coded (Ok c) ps body is codes names = joined body (named c) (coded c) (λ code. names code ∙ ap (λ qs. name_in qs code) is) (λ name. codes name ∙ ap (λ qs. code_in qs name) is)
-joined_answer named coded (Err e) ps body is codes names = tt

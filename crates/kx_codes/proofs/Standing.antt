@@ -16,7 +16,7 @@ use Rattle.kx_parse.specs.declared.tree.Mode.TheVariants.{Augment, Override, Rep
 use Rattle.kx_codes.proofs.Distinct.{both_of, no_first, no_second, first_of, second_of, taken_distinct, all_distinct, code_of_name, name_of_code, pushed}
 use Rattle.kx_codes.proofs.Matching.{Apart, unless, over, any_look, took_over, took_under, all_over, all_under, last_put, stays, option_same, some_same}
 use Rattle.kx_codes.specs.Indexed.{Indexed, Stands, distinct}
-use Rattle.kx_codes.specs.Pairs.{Pair, shares, without, taken, all_taken, code_in, name_in}
+use Rattle.kx_codes.specs.Pairs.{Agree, Pair, shares, without, taken, all_taken, code_in, name_in}
 
 abbrev n-of : Pair → List ℕ
 n-of p = p.name
@@ -143,6 +143,20 @@ module _ (ps vs qs : List Pair) (dv : distinct vs ≡ true) (dq : distinct qs �
     codes_are = λ name. s.codes_are name ∙ order-codes mode dp name;
     names_are = λ code. s.names_are code ∙ order-names mode dp code;
   }
+
+-- pairs by name and by code that stand for a list of pairs agree
+pub agreed : (x : Indexed) (ps : List Pair) → Stands x ps → Agree x.by_name x.by_code
+agreed x ps s name code = (
+  λ h. s.names_are code ∙ name_of_code ps code name s.distinct_are (sym (s.codes_are name) ∙ h),
+  λ h. s.codes_are name ∙ code_of_name ps code name s.distinct_are (sym (s.names_are code) ∙ h),
+)
+
+-- so do others that show the same
+pub agreed_alike : (x y : Indexed) → ((name : List ℕ) → code_in y.by_name name ≡ code_in x.by_name name) → ((code : ℕ) → name_in y.by_code code ≡ name_in x.by_code code) → Agree x.by_name x.by_code → Agree y.by_name y.by_code
+agreed_alike x y codes names agree name code = (
+  λ h. names code ∙ (agree name code).0 (sym (codes name) ∙ h),
+  λ h. codes name ∙ (agree name code).1 (sym (names code) ∙ h),
+)
 
 -- what shares something, and what the removals and the insertion of a pair leave
 pub sharing : (x : Indexed) (ps : List Pair) (name : List ℕ) (code : ℕ) → Stands x ps → list_any (shares (record { name = name; code = code })) ps ≡ (is_some (code_in x.by_name name) || is_some (name_in x.by_code code))

@@ -1,5 +1,5 @@
 -- Pairs of a name and a keycode, and those that a keycodes body leaves at its end.
-use Rattle.std.specs.Prelude.{ℕ, Bool, not, ◌==◌, ◌||◌, List, [], ◌∷◌, ◌++◌, Option, None, Some, if◌then◌else◌, filter, fold}
+use Rattle.std.specs.Prelude.{◌≡◌, ◌↔◌, ℕ, Bool, not, ◌==◌, ◌||◌, List, [], ◌∷◌, ◌++◌, Option, None, Some, if◌then◌else◌, filter, fold}
 use Rattle.std.specs.List.{list_any}
 use Rattle.std.specs.Str.{bytes_eq}
 use Rattle.kx_parse.specs.declared.tree.Item.{Item}
@@ -52,6 +52,10 @@ code_in (p ∷ ps) name = if bytes_eq name p.name then Some p.code else code_in 
 abbrev pub name_in : List Pair → ℕ → Option (List ℕ)
 name_in [] code = None
 name_in (p ∷ ps) code = if code == p.code then Some p.name else name_in ps code
+
+-- pairs by name and pairs by code agree: a name has a code exactly where the code has the name
+abbrev pub Agree : List Pair → List Pair → Type 0
+Agree by_name by_code = (name : List ℕ) (code : ℕ) → (code_in by_name name ≡ Some code) ↔ (name_in by_code code ≡ Some name)
 
 -- ---- Under names, for clauses and proofs
 

@@ -7,7 +7,7 @@ ghost use Rattle.kx_basics.specs.declared.limits.TheConstants.{CODES};
 ghost use Rattle.kx_codes.specs.Codes.{IsEnd};
 ghost use Rattle.kx_codes.specs.Indexed.{Stands};
 ghost use Rattle.kx_codes.specs.Numbers.{IsOnce, StandsIn, number};
-ghost use Rattle.kx_codes.specs.Pairs.{Pair as PairValue, shares, code_in, name_in};
+ghost use Rattle.kx_codes.specs.Pairs.{Agree, Pair as PairValue, shares, code_in, name_in};
 
 use crate::name::LentName;
 use crate::numbers::Names;
@@ -83,16 +83,21 @@ impl<'l> Model for NamedPairs<'l> {
     ghost use Rattle.std.specs.Prelude.{List, ℕ};
     ghost use Rattle.kx_codes.specs.Codes.{named, coded};
     ghost use Rattle.kx_codes.specs.Indexed.{Indexed};
+    ghost use Rattle.kx_codes.specs.Pairs.{Agree};
 
     ghost Value = { Indexed };
 
     ghost view = { λ p. record { by_name = named (λ (k : List ℕ). k) p.codes; by_code = coded p.names.entries } };
+
+    ghost invariant = { λ p. Agree (named (λ (k : List ℕ). k) p.codes) (coded p.names.entries) };
 }
 
 impl<'l> NamedPairs<'l> {
     /// These pairs, whose names are found by their order.
     fn sorted(gathered: Gathered<'l>) -> Result<NamedPairs<'l>, Fault>
+        requires { Agree gathered.by_name gathered.by_code }
         ensures stands { IfOk result (λ named. (ps : List PairValue) → Stands gathered.entry ps → Stands named ps) }
+        ensures agree { IfOk result (λ named. Agree named.by_name named.by_code) }
         ensures err { IfErr result (λ e. e ≡ Memory) }
     {
         Ok(NamedPairs {
@@ -107,7 +112,10 @@ impl<'l> NamedPairs<'l> {
         names: &Names<'l>,
         pairs: &Pairs,
     ) -> Result<NamedPairs<'l>, Fault>
-        ensures named { IfOk result (λ named. IsOnce names.now → (ps : List PairValue) → StandsIn names.now pairs.now ps → Stands named ps) }
+        requires once { IsOnce names.now }
+        requires stand { (ps : List PairValue) × StandsIn names.now pairs.now ps }
+        ensures named { IfOk result (λ named. (ps : List PairValue) → StandsIn names.now pairs.now ps → Stands named ps) }
+        ensures agree { IfOk result (λ named. Agree named.by_name named.by_code) }
         ensures err { IfErr result (λ e. e ≡ Memory) }
     {
         let mut gathered = Gathered::new(alloc);

@@ -3,6 +3,7 @@ ghost use Rattle.std.specs.Option.{option_map};
 ghost use Rattle.kx_codes.specs.Aliases.{target_in};
 ghost use Rattle.kx_codes.specs.Codes.{IsEnd, code_of, name_of};
 ghost use Rattle.kx_basics.specs.KeyNames.{IsKeyName};
+ghost use Rattle.kx_codes.specs.Pairs.{Agree};
 ghost use Rattle.kx_codes.specs.Records.{shown_alias};
 
 use crate::aliases::Alias;
@@ -10,8 +11,8 @@ use crate::named::NamedPairs;
 use kx_ordered::{Ordered, ShortName};
 use std::marker::Model;
 
-/// The pairs that keycodes leave at the end, by name and by code, and the aliases. The names of pairs are lent by the
-/// trees of the source.
+/// The pairs that keycodes leave at the end, by name and by code, which agree, and the aliases. The names of pairs are
+/// lent by the trees of the source.
 #[derive(Drop)]
 pub struct Codes<'l> {
     pairs: NamedPairs<'l>,
@@ -21,15 +22,19 @@ pub struct Codes<'l> {
 impl<'l> Model for Codes<'l> {
     ghost use Rattle.std.specs.Prelude.{map};
     ghost use Rattle.kx_codes.specs.Codes.{Codes};
+    ghost use Rattle.kx_codes.specs.Pairs.{Agree};
     ghost use Rattle.kx_codes.specs.Records.{shown_alias};
 
     ghost Value = { Codes };
 
     ghost view = { λ c. record { by_name = c.pairs.by_name; by_code = c.pairs.by_code; aliases = map shown_alias c.aliases.entries } };
+
+    ghost invariant = { λ c. Agree c.pairs.by_name c.pairs.by_code };
 }
 
 impl<'l> Codes<'l> {
     pub(crate) fn of(pairs: NamedPairs<'l>, aliases: Ordered<ShortName, Alias>) -> Codes<'l>
+        requires { Agree pairs.by_name pairs.by_code }
         ensures { result ≡ record { by_name = pairs.entry.by_name; by_code = pairs.entry.by_code; aliases = map shown_alias aliases.entries } }
     {
         Codes { pairs, aliases }
@@ -59,10 +64,11 @@ impl<'l> Codes<'l> {
         }
     }
 
-    /// The name of a keycode.
+    /// The name of a keycode, whose pair has the keycode.
     pub fn name_of(&self, code: u16) -> Option<&[u8]>
         ensures value { option_map (λ n. n.now) result ≡ name_of self.now code }
         ensures valid { IfSome result (λ name. IsKeyName name.now) }
+        ensures agree { Agree self.now.by_name self.now.by_code }
     {
         self.pairs.name_of(code)
     }

@@ -1,9 +1,9 @@
+use Rattle.std.proofs.Common.{◌≡◌, ◌↔◌, Some, subst, sym}
 use Rattle.kx_include.specs.Shared.{expanded_body}
 use Rattle.kx_codes.specs.Codes.{name_of, paired}
 use Rattle.kx_codes.specs.Gathering.{Blames}
 use Rattle.kx_codes.specs.Pairs.{pairs_of}
 use Rattle.kx_codes.proofs.Behind.{err_passed, memory_blamed}
-use Rattle.kx_codes.proofs.Distinct.{joined}
 use Rattle.kx_codes.proofs.Faultless.{refused}
 use Rattle.kx_codes.proofs.Numbering.{once_none}
 use Rattle.kx_codes.proofs.Targets.{codes_show}
@@ -20,15 +20,13 @@ returns-in_err-merged-clause-fault c =
 pub returns-clause-shows : goal.returns-clause-shows
 returns-clause-shows c =
     let once = once_none c.new-names.result c.new-names.ensures.none in
-    let stands = c.in_ok-pairs.ensures.named (c.in_ok-gathered.ensures.grows once).once (pairs_of (expanded_body c.args.expansion.now)) (c.in_ok-gathered.ensures.gathered once).pairs_are in
+    let stands = c.in_ok-pairs.ensures.named (pairs_of (expanded_body c.args.expansion.now)) (c.in_ok-gathered.ensures.gathered once).pairs_are in
     codes_show c.of-2.result c.in_ok-pairs.pairs c.in_ok-merged.merged.records (expanded_body c.args.expansion.now) c.of-2.ensures stands c.in_ok-merged.ensures.shows
 
 pub returns-clause-joined : goal.returns-clause-joined
-returns-clause-joined c =
-    let once = once_none c.new-names.result c.new-names.ensures.none in
-    let stands = c.in_ok-pairs.ensures.named (c.in_ok-gathered.ensures.grows once).once (pairs_of (expanded_body c.args.expansion.now)) (c.in_ok-gathered.ensures.gathered once).pairs_are in
-    let shows = codes_show c.of-2.result c.in_ok-pairs.pairs c.in_ok-merged.merged.records (expanded_body c.args.expansion.now) c.of-2.ensures stands c.in_ok-merged.ensures.shows in
-    joined (expanded_body c.args.expansion.now) (name_of c.of-2.result) (paired c.of-2.result) shows.names_are shows.codes_are
+returns-clause-joined c = λ code name.
+    let agree = c.in_ok-pairs.ensures.agree name code in
+    subst (λ v. (name_of v code ≡ Some name) ↔ (paired v name ≡ Some code)) (sym c.of-2.ensures) (agree.1, agree.0)
 
 pub returns-clause-faultless : goal.returns-clause-faultless
 returns-clause-faultless c = (c.in_ok-gathered.ensures.gathered (once_none c.new-names.result c.new-names.ensures.none)).faultless
