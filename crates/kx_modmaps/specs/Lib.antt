@@ -1,3 +1,4 @@
 pub mod Entries
 pub mod Maps
 pub mod Shown
+pub mod Targets

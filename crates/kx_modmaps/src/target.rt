@@ -1,6 +1,5 @@
 //! What a modifier map gives modifiers.
-ghost use Rattle.std.specs.Prelude.{None};
-ghost use Rattle.kx_ordered.specs.Numbers.{untold};
+ghost use Rattle.kx_modmaps.specs.Targets.{target_number, told_target};
 
 use kx_ordered::TableKey;
 use std::alloc::AllocError;
@@ -15,12 +14,15 @@ pub enum Target {
 }
 
 impl TableKey for Target {
-    ghost number = { λ k. None };
+    ghost number = { target_number };
 
-    ghost told = { untold };
+    ghost told = { told_target };
 
     fn number(&self) -> Option<u16> {
-        None
+        match self {
+            Target::Key(code) => Some(*code),
+            Target::Keysym(_) => None,
+        }
     }
 
     fn again(&self) -> Result<Target, AllocError> {

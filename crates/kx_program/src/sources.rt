@@ -7,14 +7,29 @@ use kx_finding::{FindFault, Folder, Found, find_files};
 use kx_tool::Files;
 use std::alloc::{AllocError, Global};
 use std::fs;
+use std::fs::OpenFile;
+use std::io;
+use std::io::Read;
 use std::rt::Files as FileSystem;
+
+/// Room for this many bytes at most, 16 MiB, is made before a file is read; more is made as it comes.
+const MOST_ROOM: u64 = 1 << 24;
+
+/// The bytes of a file. Room for them is made at once where their count is known, so that none of them is moved.
+fn bytes_of(rt: &(impl FileSystem + AllocGlobal), path: &str) -> io::Result<Vec<u8>> {
+    let mut file = fs::open(rt, path)?;
+    let room = file.metadata()?.len().min(MOST_ROOM) + 1;
+    let mut bytes = Vec::with_capacity(rt.alloc(), room as usize)?;
+    file.read_to_end(&mut bytes)?;
+    Ok(bytes)
+}
 
 /// Reads a file.
 pub(crate) fn read<'a>(
     rt: &(impl FileSystem + AllocGlobal),
     path: &'a str,
 ) -> Result<Vec<u8>, Failure<'a>> {
-    match fs::read(rt, path) {
+    match bytes_of(rt, path) {
         Ok(bytes) => Ok(bytes),
         Err(fault) => Err(Failure::of_file(&fault, path)),
     }
