@@ -16,7 +16,7 @@ use crate::repeats::{PartRepeats, Repeats};
 use crate::replaced::Replaced;
 use kx_include::{Entry, Expansion, Link, Map, Place};
 use kx_lex::Fault;
-use kx_ordered::{TableKey, Ordered};
+use kx_ordered::{Ordered, TableKey};
 use kx_parse::Mode;
 use std::alloc::Global;
 

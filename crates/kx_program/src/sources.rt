@@ -6,11 +6,10 @@ use kx_failure::Failure;
 use kx_finding::{FindFault, Folder, Found, find_files};
 use kx_tool::Files;
 use std::alloc::{AllocError, Global};
-use std::fs;
 use std::fs::OpenFile;
-use std::io;
 use std::io::Read;
 use std::rt::Files as FileSystem;
+use std::{fs, io};
 
 /// Room for this many bytes at most, 16 MiB, is made before a file is read; more is made as it comes.
 const MOST_ROOM: u64 = 1 << 24;
