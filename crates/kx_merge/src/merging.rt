@@ -12,7 +12,7 @@ ghost use Rattle.kx_merge.specs.Records.{AreOffered, IsGood, IsOffered, Shows, m
 use crate::fields::Fields;
 use kx_include::Place;
 use kx_lex::Fault;
-use kx_ordered::{TableKey, Ordered};
+use kx_ordered::{Ordered, TableKey};
 use kx_parse::{Item, Mode};
 use std::alloc::Global;
 
