@@ -14,14 +14,14 @@ use Rattle.kx_merge.specs.Offers.{Offer, is_about, is_replace, is_strong, taken,
 use Rattle.kx_merge.specs.Records.{AreOffered, Shows}
 use Rattle.kx_merge.specs.Records.AreOffered.{more as an_offered}
 use Rattle.kx_merge.proofs.Again.{Named, no_name, all-named, behind, named-again, take, value-behind, widen, width-behind}
-use Rattle.kx_merge.proofs.Movings.{append-inner}
+use Rattle.kx_merge.proofs.Movings.{append-inner, append-none}
 use Rattle.kx_merge.proofs.Precedence.{names_behind-append}
 use Rattle.kx_merge.proofs.Repeated.{behind-append, named-more}
 use Rattle.kx_merge.proofs.Single.{or-both, or-first, or-last}
 
 -- ---- Values and widths
 
-or-none : {X : Type 0} (a : Option X) → option_or a None ≡ a
+pub or-none : {X : Type 0} (a : Option X) → option_or a None ≡ a
 or-none None = refl
 or-none (Some x) = refl
 
@@ -256,29 +256,28 @@ module _ {K C V : Type 0} (eq : K → K → Bool) (laws : IsEquivalence eq) wher
         names_behind-append eq [] (os ++ kept) picked ∙ picks.named (names_of eq (os ++ kept)) known ∙ sym known ∙ sym (names_behind-append eq [] (os ++ kept) xs)
 
     covers-values : (k : K) (c : C) → value_of eq ((os ++ kept) ++ picked) k c ≡ value_of eq ((os ++ kept) ++ xs) k c
-    covers-values k c = value-after k c (os ++ kept) picked picks.weak ∙ by (list_any (eq k) keys) refl ∙ sym (value-after k c (os ++ kept) xs weak)
+    covers-values k c = by (list_any (eq k) keys) refl
       where
         v : Option V
         v = value_of eq (os ++ kept) k c
 
-        by : (b : Bool) → list_any (eq k) keys ≡ b → option_or v (value_of eq picked k c) ≡ option_or v (value_of eq xs k c)
-        by true here = ap (option_or v) (picks.values_here k c here)
+        by : (b : Bool) → list_any (eq k) keys ≡ b → value_of eq ((os ++ kept) ++ picked) k c ≡ value_of eq ((os ++ kept) ++ xs) k c
+        by true here = picks.values_here k c (os ++ kept) (os ++ kept) here refl
         by false away =
-            ap (option_or v) (picks.values_away k c away) ∙ or-none v
-            ∙ sym (ap (option_or v) (value-behind eq k c [] xs) ∙ subst (λ u. option_or u (behind eq k (take eq k c) None xs) ≡ u) (sym (value-behind eq k c os kept)) (covers.values k c (value_of eq os k c) away))
+            picks.values_away k c (os ++ kept) away
+            ∙ sym (value-after k c (os ++ kept) xs weak ∙ ap (option_or v) (value-behind eq k c [] xs) ∙ subst (λ u. option_or u (behind eq k (take eq k c) None xs) ≡ u) (sym (value-behind eq k c os kept)) (covers.values k c (value_of eq os k c) away))
 
     covers-widths : (k : K) (g : ℕ) → width_of eq ((os ++ kept) ++ picked) k g ≡ width_of eq ((os ++ kept) ++ xs) k g
-    covers-widths k g = width-after k g (os ++ kept) picked picks.weak ∙ by (list_any (eq k) keys) refl ∙ sym (width-after k g (os ++ kept) xs weak)
+    covers-widths k g = by (list_any (eq k) keys) refl
       where
         v : ℕ
         v = width_of eq (os ++ kept) k g
 
-        by : (b : Bool) → list_any (eq k) keys ≡ b → max v (width_of eq picked k g) ≡ max v (width_of eq xs k g)
-        by true here = ap (max v) (picks.widths_here k g here)
+        by : (b : Bool) → list_any (eq k) keys ≡ b → width_of eq ((os ++ kept) ++ picked) k g ≡ width_of eq ((os ++ kept) ++ xs) k g
+        by true here = picks.widths_here k g (os ++ kept) (os ++ kept) here refl
         by false away =
-            let none_picked = picks.widths_away k g away in
-            let covered = ap (max v) (width-behind eq k g [] xs) ∙ subst (λ u. max u (behind eq k (widen eq k g) 0 xs) ≡ u) (sym (width-behind eq k g os kept)) (covers.widths k g (width_of eq os k g) away) in
-            omega (arith, none_picked, covered)
+            picks.widths_away k g (os ++ kept) away
+            ∙ sym (width-after k g (os ++ kept) xs weak ∙ ap (max v) (width-behind eq k g [] xs) ∙ subst (λ u. max u (behind eq k (widen eq k g) 0 xs) ≡ u) (sym (width-behind eq k g os kept)) (covers.widths k g (width_of eq os k g) away))
 
     -- so records that show what stands before, and what is given to those keys, show them all
     pub covers_shown : Shows cell width eq ns at ((os ++ kept) ++ picked) → Shows cell width eq ns at (os ++ (kept ++ xs))
@@ -291,10 +290,9 @@ module _ {K C V : Type 0} (eq : K → K → Bool) (laws : IsEquivalence eq) wher
   -- nothing is given to the records of no key
   pub picks_none : (xs : List (Offer K C V)) → Picks eq [] xs []
   picks_none xs = record {
-    weak = no_offer;
-    values_here = λ k c here. absurd (false≢true here);
-    values_away = λ k c away. refl;
-    widths_here = λ k g here. absurd (false≢true here);
-    widths_away = λ k g away. refl;
+    values_here = λ k c os ps here. absurd (false≢true here);
+    values_away = λ k c os away. ap (λ ys. value_of eq ys k c) (append-none os);
+    widths_here = λ k g os ps here. absurd (false≢true here);
+    widths_away = λ k g os away. ap (λ ys. width_of eq ys k g) (append-none os);
     named = λ ks known. refl;
   }

@@ -8,5 +8,6 @@ pub mod Again
 pub mod Repeated
 pub mod Marks
 pub mod Picking
+pub mod Joining
 pub mod Passing
 pub mod Parting

@@ -1,5 +1,5 @@
 -- What a part that is moved to a group gives to the records of some keys that stay the same.
-use Rattle.std.proofs.Common.{◌≡◌, ℕ, Bool, true, false, ◌||◌, cond, List, [], ◌∷◌, ◌++◌, map, Option, None, Some, All, is_some, refl, sym, ap, ◌∙◌, subst, arith}
+use Rattle.std.proofs.Common.{◌≡◌, ℕ, Bool, true, false, ◌||◌, cond, List, [], ◌∷◌, ◌++◌, map, Option, None, Some, All, is_some, refl, sym, ap, ◌∙◌, subst}
 use Rattle.std.proofs.lemmas.Bool.{false≢true}
 use Rattle.std.proofs.lemmas.List.Elements.{All-cons, All-head, All-nil, All-tail}
 use Rattle.std.proofs.lemmas.List.{map-append}
@@ -7,30 +7,15 @@ use Rattle.std.proofs.lemmas.Option.{same_Some}
 use Rattle.std.specs.Cmp.{IsEquivalence}
 use Rattle.std.specs.List.{list_any}
 use Rattle.kx_parse.specs.declared.tree.Mode.{Mode}
-use Rattle.kx_parse.specs.declared.tree.Mode.TheVariants.{Augment, Override, Replace}
 use Rattle.kx_merge.specs.Bodies.{Moves, gather, moved}
 use Rattle.kx_merge.specs.Renewals.{Picks, held}
 use Rattle.kx_merge.specs.Moved.{IsOfferedMoved, moved_key, moved_value, moved_width}
-use Rattle.kx_merge.specs.Offers.{Offer, is_about, is_strong, taken, widened, value_of, width_of}
+use Rattle.kx_merge.specs.Offers.{Offer, is_about, taken, widened, value_of, width_of}
 use Rattle.kx_merge.specs.Records.{IsGood, Shows, cell_in, width_in}
-use Rattle.kx_merge.proofs.Again.{Named, no_name, a_name, all-named, behind, behind-away, named-again, take, value-behind, widen, width-behind}
-use Rattle.kx_merge.proofs.Covering.{weak_moved, weak_of}
+use Rattle.kx_merge.proofs.Again.{Named, no_name, a_name, all-named, behind, behind-away, named-again, take, taken-again, value-behind, widen, widened-again, width-behind}
 use Rattle.kx_merge.proofs.Movings.{append-inner, moved-append, moved-none, nothing_offered, offered_moved}
 use Rattle.kx_merge.proofs.Repeated.{behind-append}
 use Rattle.kx_merge.proofs.Single.{names, or-both, or-first, or-last}
-use Rattle.kx_merge.proofs.Steps.{taken-none, widened-none}
-
-taken-both : {X : Type 0} (m : Mode) (v : Option X) → taken m v v ≡ v
-taken-both Augment None = refl
-taken-both Augment (Some x) = refl
-taken-both Override None = refl
-taken-both Override (Some x) = refl
-taken-both Replace v = refl
-
-widened-both : (m : Mode) (n : ℕ) → widened m n n ≡ n
-widened-both Augment n = omega arith
-widened-both Override n = omega arith
-widened-both Replace n = refl
 
 both-same : {X : Type 0} (b : Bool) (x : X) → cond b x x ≡ x
 both-same true x = refl
@@ -113,6 +98,13 @@ module _ {K : Type 0} (eq : K → K → Bool) (same : (j k : K) → eq j k ≡ t
       by : (b : Bool) → list_any (eq k) ns ≡ b → list_any (eq k) (held eq ns ks) ≡ list_any (eq k) ns
       by true there = held-in k ks there among ∙ sym there
       by false out = held-out k ks out ∙ sym out
+
+-- ---- Offers whose names are all there
+
+module _ {K C V : Type 0} (eq : K → K → Bool) (laws : IsEquivalence eq) where
+  pub named_by : (js : List K) (os : List (Offer K C V)) → All (λ k. list_any (eq k) js ≡ true) (names os) → Named eq laws js os
+  named_by js [] each = no_name
+  named_by js (o ∷ os) each = a_name (All-head (λ k. list_any (eq k) js ≡ true) o.name (names os) each) (named_by js os (All-tail (λ k. list_any (eq k) js ≡ true) o.name (names os) each))
 
 -- ---- What a part gives to a record that stays the same
 
@@ -210,19 +202,19 @@ module _ {K C V : Type 0} (eq : K → K → Bool) (laws : IsEquivalence eq) (sam
                   ap (λ b. behind eq k step (cond b (step one.0 w) w) (given_to ks)) (about false e) ∙ next
                   ∙ sym (ap (λ b. cond (b || list_any (eq k) ks) full w) (not-other j to goes e (eq k j) refl))
 
-    value-given : (c : C) (ks : List K) → value_of eq (given_to ks) k c ≡ cond (list_any (eq k) ks) (moved_value moves group (value_of eq inner k) c) None
+    pub value_given : (c : C) (w : Option V) (ks : List K) → behind eq k (take eq k c) w (given_to ks) ≡ cond (list_any (eq k) ks) (taken mode w (moved_value moves group (value_of eq inner k) c)) w
     unfolding take
-    value-given c ks =
+    value_given c w ks =
         let v = moved_value moves group (value_of eq inner k) c in
-        value-behind eq k c [] (given_to ks)
-        ∙ given-step (take eq k c) v (λ o is. ap (taken o.mode v) (is.value_is c) ∙ taken-both o.mode v) None (λ o is. taken-none o.mode (o.value c) ∙ is.value_is c) ks
+        given-step (take eq k c) (taken mode w v) (λ o is. ap (λ m. taken m (taken mode w v) (o.value c)) is.mode_is ∙ ap (taken mode (taken mode w v)) (is.value_is c) ∙ taken-again mode w v)
+        w (λ o is. ap (λ m. taken m w (o.value c)) is.mode_is ∙ ap (taken mode w) (is.value_is c)) ks
 
-    width-given : (g : ℕ) (ks : List K) → width_of eq (given_to ks) k g ≡ cond (list_any (eq k) ks) (moved_width moves group (width_of eq inner k) g) 0
+    pub width_given : (g w : ℕ) (ks : List K) → behind eq k (widen eq k g) w (given_to ks) ≡ cond (list_any (eq k) ks) (widened mode w (moved_width moves group (width_of eq inner k) g)) w
     unfolding widen
-    width-given g ks =
+    width_given g w ks =
         let v = moved_width moves group (width_of eq inner k) g in
-        width-behind eq k g [] (given_to ks)
-        ∙ given-step (widen eq k g) v (λ o is. ap (widened o.mode v) (is.width_is g) ∙ widened-both o.mode v) 0 (λ o is. widened-none o.mode (o.width g) ∙ is.width_is g) ks
+        given-step (widen eq k g) (widened mode w v) (λ o is. ap (λ m. widened m (widened mode w v) (o.width g)) is.mode_is ∙ ap (widened mode (widened mode w v)) (is.width_is g) ∙ widened-again mode w v)
+        w (λ o is. ap (λ m. widened m w (o.width g)) is.mode_is ∙ ap (widened mode w) (is.width_is g)) ks
 
     -- a record that is given something is among names that have all
     named-given : (js ks : List K) → Named eq laws js (given_to ks) → list_any (eq k) ks ≡ true → list_any (eq k) js ≡ true
@@ -253,11 +245,6 @@ module _ {K C V : Type 0} (eq : K → K → Bool) (laws : IsEquivalence eq) (sam
       ∙ ap (λ i. i ∷ names (given_to ks)) one.2.name_is
       ∙ ap (λ is. j ∷ is) (names-given ks (All-tail Stays j ks each))
 
-  -- offers whose names are all there
-  named-by : (js : List K) (os : List (Offer K C V)) → All (λ k. list_any (eq k) js ≡ true) (names os) → Named eq laws js os
-  named-by js [] each = no_name
-  named-by js (o ∷ os) each = a_name (All-head (λ k. list_any (eq k) js ≡ true) o.name (names os) each) (named-by js os (All-tail (λ k. list_any (eq k) js ≡ true) o.name (names os) each))
-
   all-there : (js ns ks : List K) → All Stays ks → Named eq laws js (given_to ns) → All (λ k. list_any (eq k) js ≡ true) (held eq ns ks)
   all-there js ns [] each all = All-nil (λ k. list_any (eq k) js ≡ true)
   all-there js ns (j ∷ ks) each all = by (list_any (eq j) ns) refl (all-there js ns ks (All-tail Stays j ks each) all)
@@ -266,20 +253,29 @@ module _ {K C V : Type 0} (eq : K → K → Bool) (laws : IsEquivalence eq) (sam
       by true there rest = All-cons (λ k. list_any (eq k) js ≡ true) j (held eq ns ks) (named-given j (All-head Stays j ks each) js ns all there) rest
       by false out rest = rest
 
-  pub picks_held : is_strong mode ≡ false → (keys ns : List K) → All Stays keys → Picks eq keys (given_to ns) (given_to (held eq ns keys))
-  picks_held weak keys ns each = record {
-    weak = weak_moved moves group (map (gather eq mode inner) some) (weak_of eq mode inner weak some);
-    values_here = λ k c here.
+  pub picks_held : (keys ns : List K) → All Stays keys → Picks eq keys (given_to ns) (given_to (held eq ns keys))
+  picks_held keys ns each = record {
+    values_here = λ k c os ps here e.
         let stays = stays-among k keys each here in
-        value-given k stays c some ∙ ap (λ b. cond b (moved_value moves group (value_of eq inner k) c) None) (held-same eq same ns k keys here) ∙ sym (value-given k stays c ns);
-    values_away = λ k c away. value-behind eq k c [] (given_to some) ∙ behind-away eq k (take eq k c) None (given_to some) (unnamed k away);
-    widths_here = λ k g here.
+        let v = moved_value moves group (value_of eq inner k) c in
+        let w = value_of eq os k c in
+        value-behind eq k c os (given_to some) ∙ value_given k stays c w some
+        ∙ ap (λ b. cond b (taken mode w v) w) (held-same eq same ns k keys here)
+        ∙ ap (λ u. cond (list_any (eq k) ns) (taken mode u v) u) e
+        ∙ sym (value-behind eq k c ps (given_to ns) ∙ value_given k stays c (value_of eq ps k c) ns);
+    values_away = λ k c os away. value-behind eq k c os (given_to some) ∙ behind-away eq k (take eq k c) (value_of eq os k c) (given_to some) (unnamed k away);
+    widths_here = λ k g os ps here e.
         let stays = stays-among k keys each here in
-        width-given k stays g some ∙ ap (λ b. cond b (moved_width moves group (width_of eq inner k) g) 0) (held-same eq same ns k keys here) ∙ sym (width-given k stays g ns);
-    widths_away = λ k g away. width-behind eq k g [] (given_to some) ∙ behind-away eq k (widen eq k g) 0 (given_to some) (unnamed k away);
+        let v = moved_width moves group (width_of eq inner k) g in
+        let w = width_of eq os k g in
+        width-behind eq k g os (given_to some) ∙ width_given k stays g w some
+        ∙ ap (λ b. cond b (widened mode w v) w) (held-same eq same ns k keys here)
+        ∙ ap (λ u. cond (list_any (eq k) ns) (widened mode u v) u) e
+        ∙ sym (width-behind eq k g ps (given_to ns) ∙ width_given k stays g (width_of eq ps k g) ns);
+    widths_away = λ k g os away. width-behind eq k g os (given_to some) ∙ behind-away eq k (widen eq k g) (width_of eq os k g) (given_to some) (unnamed k away);
     named = λ js known.
         let all = subst (λ is. Named eq laws is (given_to ns)) known (all-named eq laws js (given_to ns)) in
-        named-again eq laws js (given_to some) (named-by js (given_to some) (subst (All (λ k. list_any (eq k) js ≡ true)) (sym (names-given some stay)) (all-there js ns keys each all)));
+        named-again eq laws js (given_to some) (named_by eq laws js (given_to some) (subst (All (λ k. list_any (eq k) js ≡ true)) (sym (names-given some stay)) (all-there js ns keys each all)));
   }
     where
       some : List K

@@ -1,5 +1,5 @@
 -- Records whose values are taken back, and what is given to them again.
-use Rattle.std.specs.Prelude.{◌≡◌, Bool, true, false, if◌then◌else◌, ℕ, List, [], ◌∷◌, ◌++◌, drop, get_or, Option, None}
+use Rattle.std.specs.Prelude.{◌≡◌, Bool, true, false, if◌then◌else◌, ℕ, List, [], ◌∷◌, ◌++◌, drop, get_or, Option}
 use Rattle.std.specs.List.{list_any}
 use Rattle.kx_merge.specs.Offers.{Offer, is_about, is_replace, is_strong, names_behind, value_of, width_of}
 use Rattle.kx_merge.specs.Records.{Shows}
@@ -26,13 +26,12 @@ module _ {K C V : Type 0} (eq : K → K → Bool) where
     pub noted : new ≡ old ++ keys
     pub gentle : all ≡ false → (k : K) → list_any (eq k) keys ≡ false → AreGentleTo k os
 
-  -- some offers under augment give to the records of some keys what all give to them, and to others nothing
+  -- some offers give to the records of some keys what all give to them, whatever stands before, and to others nothing
   pub record Picks (keys : List K) (all picked : List (Offer K C V)) : Type 0 where
-    pub weak : AreWeak picked
-    pub values_here : (k : K) (c : C) → list_any (eq k) keys ≡ true → value_of eq picked k c ≡ value_of eq all k c
-    pub values_away : (k : K) (c : C) → list_any (eq k) keys ≡ false → value_of eq picked k c ≡ None
-    pub widths_here : (k : K) (g : ℕ) → list_any (eq k) keys ≡ true → width_of eq picked k g ≡ width_of eq all k g
-    pub widths_away : (k : K) (g : ℕ) → list_any (eq k) keys ≡ false → width_of eq picked k g ≡ 0
+    pub values_here : (k : K) (c : C) (os ps : List (Offer K C V)) → list_any (eq k) keys ≡ true → value_of eq os k c ≡ value_of eq ps k c → value_of eq (os ++ picked) k c ≡ value_of eq (ps ++ all) k c
+    pub values_away : (k : K) (c : C) (os : List (Offer K C V)) → list_any (eq k) keys ≡ false → value_of eq (os ++ picked) k c ≡ value_of eq os k c
+    pub widths_here : (k : K) (g : ℕ) (os ps : List (Offer K C V)) → list_any (eq k) keys ≡ true → width_of eq os k g ≡ width_of eq ps k g → width_of eq (os ++ picked) k g ≡ width_of eq (ps ++ all) k g
+    pub widths_away : (k : K) (g : ℕ) (os : List (Offer K C V)) → list_any (eq k) keys ≡ false → width_of eq (os ++ picked) k g ≡ width_of eq os k g
     pub named : (ks : List K) → names_behind eq ks all ≡ ks → names_behind eq ks picked ≡ ks
 
 -- the records of some keys take up what some offers give to them

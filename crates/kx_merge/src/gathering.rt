@@ -301,7 +301,8 @@ fn merge_again<C, R: Fields<C>>(
     }
 }
 
-/// What the records of some keys take up of an include under augment. `false` where it has to be gone over whole.
+/// What the records of some keys take up of an include under augment. `false` where it has to be gone over whole, as where
+/// it has so few records that looking up the keys in each of its parts takes longer.
 fn merge_keys<C, R: Fields<C>>(
     alloc: Global,
     done: &[Result<Merged<R::Key, R, R::Notes>, Fault>],
@@ -317,40 +318,105 @@ fn merge_keys<C, R: Fields<C>>(
     if renewed.is_empty() {
         return Ok(true);
     }
+    let lookups = renewed.len().saturating_mul(links.len());
+    if count_records::<C, R>(alloc, done, links)? < lookups {
+        return Ok(false);
+    }
     match links {
-        [link] => merge_link_keys::<C, R>(alloc, done, *link, renewed, records),
-        _ => Ok(false),
+        [link] => merge_link_keys::<C, R>(alloc, done, Mode::Augment, *link, renewed, records),
+        _ => merge_joined_keys::<C, R>(alloc, done, links, renewed, records),
     }
 }
 
-/// What the records of some keys take up of a part under augment. `false` where the part has to be gone over whole: where
-/// it has fewer records, and where records become others as its map is moved.
+/// How many records are gone over for the parts of an include. Those of a part that is passed over don't count.
+fn count_records<C, R: Fields<C>>(
+    alloc: Global,
+    done: &[Result<Merged<R::Key, R, R::Notes>, Fault>],
+    links: &[Link],
+) -> Result<usize, Fault>
+    ensures { IfErr result (λ e. e ≡ Memory) }
+{
+    let mut repeats = PartRepeats::new(alloc);
+    let mut since = 0;
+    let mut count: usize = 0;
+    'links: for place in 0..links.len() {
+        let link = links[place];
+        if !repeats.stands_since(links, since, place, link) {
+            if let Some(Ok(found)) = done.get(link.map) {
+                count = count.saturating_add(found.records.len());
+            }
+            repeats.add(place, link)?;
+        }
+        since = since_after(since, place, link.mode);
+    }
+    Ok(count)
+}
+
+/// What the records of some keys take up of the parts of an include, joined, under augment. `false` where the include has
+/// to be gone over whole.
+fn merge_joined_keys<C, R: Fields<C>>(
+    alloc: Global,
+    done: &[Result<Merged<R::Key, R, R::Notes>, Fault>],
+    links: &[Link],
+    renewed: &[R::Key],
+    records: &mut Ordered<R::Key, R>,
+) -> Result<bool, Fault>
+    ensures again { IfOk result (λ again. again ≡ true → (rules : Rules R.Key R.Cell R.Value R.Defaults) (bodies : List Body) → AreGathered R.cell R.width R.Key.eq rules R.moves done.now bodies
+        → TakesUp R.cell R.width R.Key.eq renewed.now (keys records.old) (get R.Key.eq records.old) (keys records.new) (get R.Key.eq records.new) (gathered R.Key.eq Augment (offers_of R.Key.eq rules R.moves (links_body bodies links.now)))) }
+    ensures whole { IfOk result (λ again. again ≡ false → records.new ≡ records.old) }
+    ensures err { IfErr result (λ e. e ≡ Memory) }
+{
+    let mut joined = Ordered::new(alloc);
+    if !merge_links_keys::<C, R>(alloc, done, links, renewed, &mut joined)? {
+        return Ok(false);
+    }
+    add_joined::<C, R>(alloc, records, Mode::Augment, joined)?;
+    Ok(true)
+}
+
+/// What the records of some keys take up of the parts of an include, each under its own mode. `false` where a part has to
+/// be gone over whole.
+fn merge_links_keys<C, R: Fields<C>>(
+    alloc: Global,
+    done: &[Result<Merged<R::Key, R, R::Notes>, Fault>],
+    links: &[Link],
+    renewed: &[R::Key],
+    records: &mut Ordered<R::Key, R>,
+) -> Result<bool, Fault>
+    ensures again { IfOk result (λ again. again ≡ true → (rules : Rules R.Key R.Cell R.Value R.Defaults) (bodies : List Body) → AreGathered R.cell R.width R.Key.eq rules R.moves done.now bodies
+        → TakesUp R.cell R.width R.Key.eq renewed.now (keys records.old) (get R.Key.eq records.old) (keys records.new) (get R.Key.eq records.new) (offers_of R.Key.eq rules R.moves (links_body bodies links.now))) }
+    ensures err { IfErr result (λ e. e ≡ Memory) }
+{
+    'links: for link in links {
+        if !merge_link_keys::<C, R>(alloc, done, link.mode, *link, renewed, records)? {
+            return Ok(false);
+        }
+    }
+    Ok(true)
+}
+
+/// What the records of some keys take up of a part under a mode. `false` where the part has to be gone over whole: where
+/// records become others as its map is moved.
 fn merge_link_keys<C, R: Fields<C>>(
     alloc: Global,
     done: &[Result<Merged<R::Key, R, R::Notes>, Fault>],
+    mode: Mode,
     link: Link,
     renewed: &[R::Key],
     records: &mut Ordered<R::Key, R>,
 ) -> Result<bool, Fault>
     ensures again { IfOk result (λ again. again ≡ true → (rules : Rules R.Key R.Cell R.Value R.Defaults) (bodies : List Body) → AreGathered R.cell R.width R.Key.eq rules R.moves done.now bodies
-        → TakesUp R.cell R.width R.Key.eq renewed.now (keys records.old) (get R.Key.eq records.old) (keys records.new) (get R.Key.eq records.new) (moved R.moves link.group (gathered R.Key.eq Augment (offers_of R.Key.eq rules R.moves (body_at bodies link.map))))) }
+        → TakesUp R.cell R.width R.Key.eq renewed.now (keys records.old) (get R.Key.eq records.old) (keys records.new) (get R.Key.eq records.new) (moved R.moves link.group (gathered R.Key.eq mode (offers_of R.Key.eq rules R.moves (body_at bodies link.map))))) }
     ensures whole { IfOk result (λ again. again ≡ false → records.new ≡ records.old) }
     ensures err { IfErr result (λ e. e ≡ Memory) }
 {
     let Some(Ok(found)) = done.get(link.map) else {
         return Ok(false);
     };
-    if found.records.len() < renewed.len() || !are_kept::<C, R>(renewed, link.group) {
+    if !are_kept::<C, R>(renewed, link.group) {
         return Ok(false);
     }
-    add_again::<C, R>(
-        alloc,
-        records,
-        Mode::Augment,
-        &found.records,
-        renewed,
-        link.group,
-    )?;
+    add_again::<C, R>(alloc, records, mode, &found.records, renewed, link.group)?;
     Ok(true)
 }
 
