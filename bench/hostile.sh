@@ -110,6 +110,8 @@ augmenting 4000 a:@
 run 'to groups 2 and 3 in turn' a="$work/moved"
 augmenting 4000 a:@ 'replace key <K1> { [b] };'
 run 'the same, with a key between that takes its values back' a="$work/moved"
+augmenting 2000 'a:@|a:4' 'replace key <K1> { [b] };'
+run 'the same with two parts, 2,000 times' a="$work/moved"
 
 files=
 for depth in 1 2 3 4 5 6 7 8 9 10; do
