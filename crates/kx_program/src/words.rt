@@ -7,12 +7,12 @@ const VERSION: &str = "0.1.0";
 
 /// What stands below the help of the whole program.
 const SESSION: &str = "\
-Without words a keymap's source is read from standard input, up to a line %%, and the lines behind it are events:
+Without words a keymap's source is read from standard input, up to a line %%, and the lines after it are events:
 
     down 38
     up 38
 
-Each is answered by a line: the code, the direction, the keysyms, and the keyboard's state behind the event:
+Each is answered by a line: the code, the direction, the keysyms, and the keyboard's state after the event:
 
     38 down a consumed=none base=none latched=none locked=none group=1
 
@@ -238,8 +238,12 @@ fn whole_command<'a>(alloc: Global) -> Result<Command<'a>, AllocError> {
     Ok(whole)
 }
 
-/// The program's words, as far as the first one asks for them: where it names a command, the others aren't made.
+/// The program's words, as far as the first one asks for them: where it names a command, the others aren't made, and for the
+/// version none is.
 fn command_for<'a>(alloc: Global, first: &str) -> Result<Command<'a>, AllocError> {
+    if first == "--version" || first == "-V" {
+        return Ok(program(alloc));
+    }
     match command_named(alloc, first)? {
         Some(command) => program(alloc).subcommand(command),
         None => whole_command(alloc),
