@@ -1,4 +1,5 @@
 pub mod KeyPlaces
 pub mod ByBytes
+pub mod ByHead
 pub mod Sorted
 pub mod Numbers

@@ -3,3 +3,4 @@ pub mod Lending
 pub mod Members
 pub mod Names
 pub mod Numbers
+pub mod Sorted

@@ -44,22 +44,3 @@ name_cmp_ties a b = by (nat_cmp (head_of a) (head_of b)) (bytes_eq a b) (sym (is
     by Less false is h = refl
     by Greater true is h = absurd (true≢false (sym (ap is_eq (h refl))))
     by Greater false is h = refl
-
--- names are compared by their numbers, and by their bytes only where these are the same
-module _ (a b : List ℕ) (x y : List ℕ) (m n : ℕ) (shown : a ≡ x) (other : b ≡ y) (headed : m ≡ head_of a) (headed_other : n ≡ head_of b) (r : Ordering) (ranked : r ≡ nat_cmp m n) where
-  by_head : ordering_then r (slice_cmp nat_cmp a b) ≡ name_cmp x y
-  unfolding name_cmp
-  by_head =
-      ap (λ o. ordering_then o (slice_cmp nat_cmp a b)) (ranked ∙ ap (nat_cmp m) headed_other ∙ ap (λ k. nat_cmp k (head_of b)) headed)
-      ∙ ap (λ l. name_cmp l b) shown ∙ ap (name_cmp x) other
-
-  pub by_bytes : (s : Ordering) → s ≡ slice_cmp nat_cmp a b → r ≡ Equal → s ≡ name_cmp x y
-  by_bytes s is equal = is ∙ ap (λ o. ordering_then o (slice_cmp nat_cmp a b)) (sym equal) ∙ by_head
-
-  pub by_heads : (r ≡ Equal → ⊥) → r ≡ name_cmp x y
-  by_heads unequal = alone r unequal ∙ by_head
-    where
-      alone : (o : Ordering) → (o ≡ Equal → ⊥) → o ≡ ordering_then o (slice_cmp nat_cmp a b)
-      alone Less h = refl
-      alone Equal h = absurd (h refl)
-      alone Greater h = refl

@@ -1,5 +1,5 @@
 -- Keys that are told by small numbers.
-use Rattle.std.specs.Prelude.{◌≡◌, ℕ, List, get_or, Option, None, Some}
+use Rattle.std.specs.Prelude.{◌≡◌, ◌<◌, ℕ, List, get_or, length, IfSome, Option, None, Some}
 use Rattle.std.specs.Ordering.{nat_cmp}
 use Rattle.std.specs.declared.cmp.Ordering.{Ordering}
 use Rattle.std.specs.declared.cmp.Ordering.TheVariants.{Equal}
@@ -23,3 +23,7 @@ told_itself = (λ j k e. ap Some (nat_cmp-IsAntisymmetric j k e), λ j k n e f. 
 abbrev pub numbered : List (Option ℕ) → Option ℕ → Option ℕ
 numbered places None = None
 numbered places (Some n) = get_or places n None
+
+-- a number for which there is room is the key's, and stands in the table
+abbrev pub HasRoom : List (Option ℕ) → Option ℕ → Option ℕ → Type 0
+HasRoom numbers number room = IfSome room (λ n. (number ≡ Some n) × (n < length numbers))

@@ -3,6 +3,7 @@
 #![tactic(auto)]
 
 mod by_name;
+mod by_text;
 mod name_key;
 mod ordered;
 mod ordered_set;

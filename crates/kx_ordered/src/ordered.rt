@@ -3,16 +3,17 @@ ghost use Rattle.std.specs.Option.{option_map, option_copied, option_copied_mut}
 ghost use Rattle.std.specs.Borrow.{sem};
 ghost use Rattle.indexmap.specs.IndexMap.{get, keys, values, index_map_len, insert_entry, IsUnique};
 ghost use Rattle.kx_ordered.specs.KeyPlaces.{ArePlaced};
-ghost use Rattle.kx_ordered.specs.Numbers.{numbered};
-ghost use Rattle.kx_ordered.specs.Lending.{lends_at, lends_value};
+ghost use Rattle.kx_ordered.specs.Numbers.{HasRoom, numbered};
+ghost use Rattle.kx_ordered.specs.Lending.{Updates, lends_at, lends_value, order_of};
 
 use crate::table_key::TableKey;
 use std::alloc::{AllocError, Global};
 use std::collections::BTreeMap;
 use std::marker::Model;
 
-/// A key is found by its number where that is below so many times the count of keys before it and [`SPARE`], so that the
-/// table of numbers takes no more room than entries do, whatever the numbers are.
+/// A key is found by its number, unless that number is more than so many times the count of keys before it and [`SPARE`].
+/// So the table of numbers has at most four places for each key and 260 more, whatever the numbers are. That can be more
+/// room than small entries take.
 const SPREAD: usize = 4;
 
 const SPARE: usize = 64;
@@ -43,7 +44,9 @@ impl<K: TableKey + Drop, V> Model for Ordered<K, V> {
 
     ghost view = { λ m. hash_map m.entries.items 0 0 };
 
-    ghost invariant = { λ m. IsEachPlaced K.cmp K.number m.numbers.items m.places m.entries.items × ArePlaced K.cmp K.number m.places m.entries.items × IsDistinct K.eq (keys_of m.entries.items) };
+    ghost invariant = { λ m. IsEachPlaced K.cmp K.number m.numbers.items m.places m.entries.items
+        × ArePlaced K.cmp K.number m.places m.entries.items
+        × IsDistinct K.eq (keys_of m.entries.items) };
 }
 
 /// What a table of numbers tells of one.
@@ -64,7 +67,7 @@ fn room_for(
     count: usize,
 ) -> Result<Option<usize>, AllocError>
     ensures same { (n : Option ℕ) → numbered numbers.new.items n ≡ numbered numbers.old.items n }
-    ensures room { IfOk result (λ room. IfSome room (λ n. (number ≡ Some n) × (n < length numbers.new.items))) }
+    ensures room { IfOk result (HasRoom numbers.new.items number) }
 {
     let Some(number) = number else {
         return Ok(None);
@@ -149,7 +152,8 @@ impl<K: TableKey + Drop, V> Ordered<K, V> {
 
     /// The value of a key, which can be written.
     pub fn get_mut(&mut self, key: &K) -> Option<&mut V>
-        ensures* writes_back { sem 𝓛 (lends_value K.row V.row (record { cmp = K.cmp; eq = K.eq; number = K.number; partial_cmp = K.partial_cmp }) self.entry key.now result) }
+        ensures* writes_back { sem 𝓛 (lends_value K.row V.row
+            (order_of K.cmp K.eq K.number K.partial_cmp) self.entry key.now result) }
         ensures value { option_copied_mut result ≡ get K.eq self.old key.now }
     {
         match self.place(key) {
@@ -161,7 +165,8 @@ impl<K: TableKey + Drop, V> Ordered<K, V> {
     /// The value at a place, counted from 0, which can be written.
     pub fn value_mut(&mut self, place: usize) -> &mut V
         requires { place < index_map_len self.old }
-        ensures* writes_back { sem 𝓛 (lends_at K.row V.row (record { cmp = K.cmp; eq = K.eq; number = K.number; partial_cmp = K.partial_cmp }) self.entry place result) }
+        ensures* writes_back { sem 𝓛 (lends_at K.row V.row
+            (order_of K.cmp K.eq K.number K.partial_cmp) self.entry place result) }
         ensures value { slice_get (values self.old) place ≡ Some result.now }
     {
         let entry = &mut self.entries[place];
@@ -189,8 +194,9 @@ impl<K: TableKey + Drop, V> Ordered<K, V> {
     where
         V: Drop,
         requires { get K.eq self.old key ≡ None }
-        ensures entries { OnOk result (self.new.entries ≡ insert_entry K.eq self.old.entries key value) }
-        ensures updates { OnOk result ((q : K) → get K.eq self.new q ≡ (if K.eq key q then Some value else get K.eq self.old q)) }
+        ensures entries { OnOk result
+            (self.new.entries ≡ insert_entry K.eq self.old.entries key value) }
+        ensures updates { OnOk result (Updates K.eq self.old key value self.new) }
         ensures unique { OnOk result (IsUnique K.eq self.new) }
         ensures err { OnErr result (self.new ≡ self.old) }
     {
@@ -239,8 +245,9 @@ impl<K: TableKey + Drop, V> Ordered<K, V> {
     pub fn insert(&mut self, key: K, value: V) -> Result<(), AllocError>
     where
         V: Drop,
-        ensures entries { OnOk result (self.new.entries ≡ insert_entry K.eq self.old.entries key value) }
-        ensures updates { OnOk result ((q : K) → get K.eq self.new q ≡ (if K.eq key q then Some value else get K.eq self.old q)) }
+        ensures entries { OnOk result
+            (self.new.entries ≡ insert_entry K.eq self.old.entries key value) }
+        ensures updates { OnOk result (Updates K.eq self.old key value self.new) }
         ensures err { OnErr result (self.new ≡ self.old) }
     {
         match self.place(&key) {

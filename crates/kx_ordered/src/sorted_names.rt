@@ -1,11 +1,10 @@
 //! Values by name, sorted once.
-ghost use Rattle.std.specs.Prelude.{◌≡◌, ℕ, List, IfOk, slice_get, true, false};
+ghost use Rattle.std.specs.Prelude.{◌≡◌, IfOk, slice_get};
 ghost use Rattle.std.specs.Map.{lookup};
 ghost use Rattle.std.specs.Option.{option_copied};
-ghost use Rattle.std.specs.List.Sorted.{IsPartitionPoint, IsSortedByKey};
-ghost use Rattle.std.specs.Ordering.{is_lt};
 ghost use Rattle.std.specs.Str.{bytes_eq};
 ghost use Rattle.kx_ordered.specs.Names.{name_cmp};
+ghost use Rattle.kx_ordered.specs.Sorted.{EndsBelow, FindsAs, IsSorted};
 
 use crate::name_key::NameKey;
 use std::alloc::AllocError;
@@ -20,14 +19,14 @@ pub struct SortedNames<'l, V: Drop> {
 
 impl<'l, V: Drop> Model for SortedNames<'l, V> {
     ghost use Rattle.std.specs.Prelude.{ℕ, List};
-    ghost use Rattle.std.specs.List.Sorted.{IsSortedByKey};
     ghost use Rattle.kx_ordered.specs.Names.{name_cmp};
+    ghost use Rattle.kx_ordered.specs.Sorted.{IsSorted};
 
     ghost Value = { List (List ℕ × V) };
 
     ghost view = { λ names. names.entries.items };
 
-    ghost invariant = { λ names. IsSortedByKey (λ (entry : List ℕ × V). entry.0) name_cmp names.entries.items };
+    ghost invariant = { λ names. IsSorted name_cmp names.entries.items };
 }
 
 impl<'l, V: Drop> SortedNames<'l, V> {
@@ -36,7 +35,7 @@ impl<'l, V: Drop> SortedNames<'l, V> {
     /// # Errors
     /// Where a growth is refused.
     pub fn of(entries: Vec<(NameKey<'l>, V)>) -> Result<SortedNames<'l, V>, AllocError>
-        ensures { IfOk result (λ names. (name : List ℕ) → lookup (bytes_eq name) names ≡ lookup (bytes_eq name) entries.entry.items) }
+        ensures { IfOk result (FindsAs bytes_eq entries.entry.items) }
     {
         let mut entries = entries;
         entries.sort_by_key(|entry| entry.0.copied())?;
@@ -62,8 +61,8 @@ impl<'l, V: Drop> SortedNames<'l, V> {
 
     /// Where the names below a name end.
     fn place(&self, key: &NameKey) -> usize
-        ensures point { IsPartitionPoint (λ (e : List ℕ × V). is_lt (name_cmp e.0 key.now) ≡ true) (λ (e : List ℕ × V). is_lt (name_cmp e.0 key.now) ≡ false) self.now result }
-        ensures sorted { IsSortedByKey (λ (e : List ℕ × V). e.0) name_cmp self.now }
+        ensures point { EndsBelow name_cmp key.now self.now result }
+        ensures sorted { IsSorted name_cmp self.now }
     {
         self.entries.partition_point(|entry| entry.0.is_below(key))
     }

@@ -1,9 +1,9 @@
 //! Values by number, sorted once.
-ghost use Rattle.std.specs.Prelude.{◌≡◌, ℕ, IfOk, nat_eq, slice_get, true, false};
+ghost use Rattle.std.specs.Prelude.{◌≡◌, IfOk, nat_eq, slice_get};
 ghost use Rattle.std.specs.Map.{lookup};
 ghost use Rattle.std.specs.Option.{option_copied};
-ghost use Rattle.std.specs.List.Sorted.{IsPartitionPoint, IsSortedByKey};
-ghost use Rattle.std.specs.Ordering.{is_lt, nat_cmp};
+ghost use Rattle.std.specs.Ordering.{nat_cmp};
+ghost use Rattle.kx_ordered.specs.Sorted.{EndsBelow, FindsAs, IsSorted};
 
 use std::alloc::AllocError;
 use std::marker::Model;
@@ -17,14 +17,14 @@ pub struct SortedNumbers<V: Drop> {
 
 impl<V: Drop> Model for SortedNumbers<V> {
     ghost use Rattle.std.specs.Prelude.{ℕ, List};
-    ghost use Rattle.std.specs.List.Sorted.{IsSortedByKey};
     ghost use Rattle.std.specs.Ordering.{nat_cmp};
+    ghost use Rattle.kx_ordered.specs.Sorted.{IsSorted};
 
     ghost Value = { List (ℕ × V) };
 
     ghost view = { λ numbers. numbers.entries.items };
 
-    ghost invariant = { λ numbers. IsSortedByKey (λ (entry : ℕ × V). entry.0) nat_cmp numbers.entries.items };
+    ghost invariant = { λ numbers. IsSorted nat_cmp numbers.entries.items };
 }
 
 impl<V: Drop> SortedNumbers<V> {
@@ -33,7 +33,7 @@ impl<V: Drop> SortedNumbers<V> {
     /// # Errors
     /// Where a growth is refused.
     pub fn of(entries: Vec<(u32, V)>) -> Result<SortedNumbers<V>, AllocError>
-        ensures { IfOk result (λ numbers. (number : ℕ) → lookup (nat_eq number) numbers ≡ lookup (nat_eq number) entries.items) }
+        ensures { IfOk result (FindsAs nat_eq entries.items) }
     {
         let mut entries = entries;
         entries.sort_by_key(|entry| entry.0)?;
@@ -59,8 +59,8 @@ impl<V: Drop> SortedNumbers<V> {
 
     /// Where the numbers below a number end.
     fn place(&self, number: u32) -> usize
-        ensures point { IsPartitionPoint (λ (e : ℕ × V). is_lt (nat_cmp e.0 number) ≡ true) (λ (e : ℕ × V). is_lt (nat_cmp e.0 number) ≡ false) self.now result }
-        ensures sorted { IsSortedByKey (λ (e : ℕ × V). e.0) nat_cmp self.now }
+        ensures point { EndsBelow nat_cmp number self.now result }
+        ensures sorted { IsSorted nat_cmp self.now }
     {
         self.entries.partition_point(|entry| entry.0 < number)
     }

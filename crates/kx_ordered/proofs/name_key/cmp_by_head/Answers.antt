@@ -1,5 +1,5 @@
 use Rattle.std.proofs.Common.{refl}
-use Rattle.kx_ordered.specs.Names.{by_bytes, by_heads}
+use Rattle.kx_ordered.proofs.ByHead.{by_bytes, by_heads}
 use Rattle.kx_ordered.proofs.name_key.cmp_by_head.Goals as goal
 
 pub returns-in-Equal : goal.returns-in-Equal
