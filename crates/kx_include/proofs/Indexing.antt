@@ -7,9 +7,9 @@ use Rattle.std.specs.Map.{lookup}
 use Rattle.std.specs.Option.{option_and_then, option_or}
 use Rattle.std.specs.Str.{bytes_eq}
 use Rattle.std.specs.BTreeMap.{insert_entry}
-use Rattle.std.specs.Cmp.Lexicographic.{slice_cmp}
-use Rattle.std.specs.Ordering.{is_eq, nat_cmp}
-use Rattle.kx_ordered.proofs.ByBytes.{put_look, look_tie}
+use Rattle.std.specs.Ordering.{is_eq}
+use Rattle.kx_ordered.specs.Names.{name_cmp}
+use Rattle.kx_ordered.proofs.ByNames.{put_look, look_tie}
 use Rattle.kx_lex.specs.declared.name.Name.{Name}
 use Rattle.kx_parse.specs.declared.tree.Kind.{Kind}
 use Rattle.kx_parse.specs.declared.tree.Kind.TheVariants.{Keycodes, Types, Compat, Symbols, Geometry}
@@ -76,50 +76,35 @@ not_true : (b : Bool) → (b ≡ true → ⊥) → b ≡ false
 not_true true refuted = absurd (refuted refl)
 not_true false refuted = refl
 
-abbrev by_bytes : {K : Type 0} → (K → List ℕ) → List (K × KindMaps) → List (List ℕ × KindMaps)
-by_bytes {K} f es = map {A = K × KindMaps} {B = List ℕ × KindMaps} (λ e. (f e.0, e.1)) es
+-- what a look-up gives of a kind
+pub look_is : (es named : List (List ℕ × KindMaps)) (key name : List ℕ) (o : Option KindMaps) → es ≡ named → key ≡ name → lookup (λ k. is_eq (name_cmp key k)) es ≡ o → (kind : Kind) → option_and_then (number_in kind) o ≡ named_in kind name named
+look_is es named key name o shown same is kind =
+    ap (option_and_then (number_in kind)) (sym is ∙ ap (λ n. lookup (λ k. is_eq (name_cmp n k)) es) same ∙ look_tie es name) ∙ ap (named_in kind name) shown
 
-module _ {K : Type 0} (f : K → List ℕ) where
-  look_cond : (name : List ℕ) (t : Bool) (e : K × KindMaps) (maps : KindMaps) (es put : List (K × KindMaps))
-      → lookup (bytes_eq name) (by_bytes f (cond t ((e.0, maps) ∷ es) (e ∷ put))) ≡ cond t (cond (bytes_eq name (f e.0)) (Some maps) (lookup (bytes_eq name) (by_bytes f es))) (cond (bytes_eq name (f e.0)) (Some e.1) (lookup (bytes_eq name) (by_bytes f put)))
-  look_cond name true e maps es put = refl
-  look_cond name false e maps es put = refl
+put_under : (es : List (List ℕ × KindMaps)) (key : List ℕ) (before maps : KindMaps) (s : Section) (given : Name) (n : ℕ) → s.name ≡ Some given → key ≡ given.bytes → maps ≡ with_map before s.kind n
+    → ((kind : Kind) → number_in kind before ≡ named_in kind given.bytes es)
+    → (kind : Kind) (name : List ℕ) → named_in kind name (insert_entry name_cmp es key maps) ≡ or_here (named_in kind name es) (is_of kind s && has_name name s.name) n
+put_under es key before maps s given n has stored made known kind name =
+    ap (option_and_then (number_in kind)) (put_look es key maps name)
+    ∙ ap (λ bytes. option_and_then (number_in kind) (cond (bytes_eq name bytes) (Some maps) (lookup (bytes_eq name) es))) stored
+    ∙ by (bytes_eq name given.bytes) (λ h. (bytes_eq-Decides name given.bytes).0 h)
+    ∙ ap (λ g. or_here (named_in kind name es) (is_of kind s && has_name name g) n) (sym has)
+  where
+    by : (b : Bool) → (b ≡ true → name ≡ given.bytes) → option_and_then (number_in kind) (cond b (Some maps) (lookup (bytes_eq name) es)) ≡ or_here (named_in kind name es) (is_of kind s && b) n
+    by true same =
+        ap (number_in kind) made ∙ number_with before s n kind
+        ∙ ap (λ o. or_here o (is_of kind s) n) (known kind ∙ ap (λ bytes. named_in kind bytes es) (sym (same refl)))
+        ∙ ap (λ b. or_here (named_in kind name es) b n) (sym (and_true (is_of kind s)))
+    by false same = not_here (named_in kind name es) (is_of kind s) n
 
-  look_same : (es : List (K × KindMaps)) (name : List ℕ) → lookup (bytes_eq name) (by_bytes f es) ≡ lookup (λ k. bytes_eq name (f k)) es
-  look_same [] name = refl
-  look_same (e ∷ es) name = ap (cond (bytes_eq name (f e.0)) (Some e.1)) (look_same es name)
-
-  look_put : (es : List (K × KindMaps)) (key : K) (maps : KindMaps) (name : List ℕ) → lookup (bytes_eq name) (by_bytes f (insert_entry (λ a b. slice_cmp nat_cmp (f a) (f b)) es key maps)) ≡ cond (bytes_eq name (f key)) (Some maps) (lookup (bytes_eq name) (by_bytes f es))
-  look_put es key maps name = look_same (insert_entry (λ a b. slice_cmp nat_cmp (f a) (f b)) es key maps) name ∙ put_look f es key maps name ∙ ap (cond (bytes_eq name (f key)) (Some maps)) (sym (look_same es name))
-
-  -- what a look-up gives of a kind
-  pub look_is : (es : List (K × KindMaps)) (named : List (List ℕ × KindMaps)) (name : List ℕ) (o : Option KindMaps) → by_bytes f es ≡ named → lookup (λ k. is_eq (slice_cmp nat_cmp name (f k))) es ≡ o → (kind : Kind) → option_and_then (number_in kind) o ≡ named_in kind name named
-  look_is es named name o shown is kind = ap (option_and_then (number_in kind)) (sym (ap (lookup (bytes_eq name)) (sym shown) ∙ look_same es name ∙ sym (look_tie f es name) ∙ is))
-
-  put_under : (es : List (K × KindMaps)) (key : K) (before maps : KindMaps) (s : Section) (given : Name) (n : ℕ) → s.name ≡ Some given → f key ≡ given.bytes → maps ≡ with_map before s.kind n
-      → ((kind : Kind) → number_in kind before ≡ named_in kind given.bytes (by_bytes f es))
-      → (kind : Kind) (name : List ℕ) → named_in kind name (by_bytes f (insert_entry (λ a b. slice_cmp nat_cmp (f a) (f b)) es key maps)) ≡ or_here (named_in kind name (by_bytes f es)) (is_of kind s && has_name name s.name) n
-  put_under es key before maps s given n has stored made known kind name =
-      ap (option_and_then (number_in kind)) (look_put es key maps name)
-      ∙ ap (λ bytes. option_and_then (number_in kind) (cond (bytes_eq name bytes) (Some maps) (lookup (bytes_eq name) (by_bytes f es)))) stored
-      ∙ by (bytes_eq name given.bytes) (λ h. (bytes_eq-Decides name given.bytes).0 h)
-      ∙ ap (λ g. or_here (named_in kind name (by_bytes f es)) (is_of kind s && has_name name g) n) (sym has)
-    where
-      by : (b : Bool) → (b ≡ true → name ≡ given.bytes) → option_and_then (number_in kind) (cond b (Some maps) (lookup (bytes_eq name) (by_bytes f es))) ≡ or_here (named_in kind name (by_bytes f es)) (is_of kind s && b) n
-      by true same =
-          ap (number_in kind) made ∙ number_with before s n kind
-          ∙ ap (λ o. or_here o (is_of kind s) n) (known kind ∙ ap (λ bytes. named_in kind bytes (by_bytes f es)) (sym (same refl)))
-          ∙ ap (λ b. or_here (named_in kind name (by_bytes f es)) b n) (sym (and_true (is_of kind s)))
-      by false same = not_here (named_in kind name (by_bytes f es)) (is_of kind s) n
-
-  -- a section is put under its name, with those of the name before it
-  pub named_put : (es new : List (K × KindMaps)) (named : List (List ℕ × KindMaps)) (key : K) (before maps : KindMaps) (s : Section) (given : Name) (n : ℕ) → by_bytes f es ≡ named → s.name ≡ Some given → f key ≡ given.bytes → new ≡ insert_entry (λ a b. slice_cmp nat_cmp (f a) (f b)) es key maps → maps ≡ with_map before s.kind n
-      → ((kind : Kind) → number_in kind before ≡ named_in kind given.bytes named)
-      → (kind : Kind) (name : List ℕ) → named_in kind name (by_bytes f new) ≡ or_here (named_in kind name named) (is_of kind s && has_name name s.name) n
-  named_put es new named key before maps s given n shown has stored put made known kind name =
-      ap (λ es. named_in kind name (by_bytes f es)) put
-      ∙ put_under es key before maps s given n has stored made (λ kind. known kind ∙ ap (named_in kind given.bytes) (sym shown)) kind name
-      ∙ ap (λ m. or_here (named_in kind name m) (is_of kind s && has_name name s.name) n) shown
+-- a section is put under its name, with those of the name before it
+pub named_put : (es new named : List (List ℕ × KindMaps)) (key : List ℕ) (before maps : KindMaps) (s : Section) (given : Name) (n : ℕ) → es ≡ named → s.name ≡ Some given → key ≡ given.bytes → new ≡ insert_entry name_cmp es key maps → maps ≡ with_map before s.kind n
+    → ((kind : Kind) → number_in kind before ≡ named_in kind given.bytes named)
+    → (kind : Kind) (name : List ℕ) → named_in kind name new ≡ or_here (named_in kind name named) (is_of kind s && has_name name s.name) n
+named_put es new named key before maps s given n shown has stored put made known kind name =
+    ap (named_in kind name) put
+    ∙ put_under es key before maps s given n has stored made (λ kind. known kind ∙ ap (named_in kind given.bytes) (sym shown)) kind name
+    ∙ ap (λ m. or_here (named_in kind name m) (is_of kind s && has_name name s.name) n) shown
 
 -- ---- One more section
 

@@ -17,9 +17,9 @@ length-mapped f (x ∷ xs) = ap suc (length-mapped f xs)
 position-map : {X Y : Type 0} (f : X → Y) (p : Y → Bool) (xs : List X) → position p (map f xs) ≡ position (λ x. p (f x)) xs
 position-map f p xs = rw (prefix_len-map f (λ y. not (p y)) xs, length-mapped f xs) refl
 
-pub number_of-at : {K V : Type 0} (f : K → List ℕ) (g : V → List ℕ) (es : List (K × V)) (files : List (List ℕ × List ℕ)) (name : List ℕ) (o : Option ℕ) → map {B = List ℕ × List ℕ} (λ e. (f e.0, g e.1)) es ≡ files → o ≡ position (λ k. bytes_eq name (f k)) (map {A = K × V} (λ e. e.0) es) → option_map (λ n. n + 1) o ≡ number_of (map {A = List ℕ × List ℕ} (λ p. p.0) files) name
-number_of-at {K = K} {V = V} f g es files name o same found =
-    ap (option_map (λ n. n + 1)) (found ∙ position-map {X = K × V} (λ e. e.0) (λ k. bytes_eq name (f k)) es ∙ sym (position-map {Y = List ℕ × List ℕ} (λ e. (f e.0, g e.1)) (λ p. bytes_eq name p.0) es) ∙ sym (position-map (λ p. p.0) (bytes_eq name) (map {B = List ℕ × List ℕ} (λ e. (f e.0, g e.1)) es)))
+pub number_of-at : {V : Type 0} (g : V → List ℕ) (es : List (List ℕ × V)) (files : List (List ℕ × List ℕ)) (name : List ℕ) (o : Option ℕ) → map {B = List ℕ × List ℕ} (λ e. (e.0, g e.1)) es ≡ files → o ≡ position (bytes_eq name) (map {A = List ℕ × V} (λ e. e.0) es) → option_map (λ n. n + 1) o ≡ number_of (map {A = List ℕ × List ℕ} (λ p. p.0) files) name
+number_of-at {V = V} g es files name o same found =
+    ap (option_map (λ n. n + 1)) (found ∙ position-map {X = List ℕ × V} (λ e. e.0) (bytes_eq name) es ∙ sym (position-map {Y = List ℕ × List ℕ} (λ e. (e.0, g e.1)) (λ p. bytes_eq name p.0) es) ∙ sym (position-map (λ p. p.0) (bytes_eq name) (map {B = List ℕ × List ℕ} (λ e. (e.0, g e.1)) es)))
     ∙ ap (λ fs. number_of (map {A = List ℕ × List ℕ} (λ p. p.0) fs) name) same
 
 pub not_left : {A B : Type 0} → A ⊎ B → (A → ⊥) → B
@@ -27,14 +27,14 @@ not_left (inl a) refuted = absurd (refuted a)
 not_left (inr b) refuted = b
 
 -- files where one is put into a map
-pub put-file : {K V : Type 0} (f : K → List ℕ) (g : V → List ℕ) (es : List (K × V)) (key : K) (value : V) → map {B = List ℕ × List ℕ} (λ e. (f e.0, g e.1)) (insert_entry (λ a b. bytes_eq (f a) (f b)) es key value) ≡ with_file (map {B = List ℕ × List ℕ} (λ e. (f e.0, g e.1)) es) (f key) (g value)
-put-file f g [] key value = refl
-put-file f g (e ∷ es) key value = by (bytes_eq (f key) (f e.0)) (put-file f g es key value)
+pub put-file : {V : Type 0} (g : V → List ℕ) (es : List (List ℕ × V)) (key : List ℕ) (value : V) → map {B = List ℕ × List ℕ} (λ e. (e.0, g e.1)) (insert_entry bytes_eq es key value) ≡ with_file (map {B = List ℕ × List ℕ} (λ e. (e.0, g e.1)) es) key (g value)
+put-file g [] key value = refl
+put-file g (e ∷ es) key value = by (bytes_eq key e.0) (put-file g es key value)
   where
-    by : (b : Bool) → map {B = List ℕ × List ℕ} (λ e. (f e.0, g e.1)) (insert_entry (λ a b. bytes_eq (f a) (f b)) es key value) ≡ with_file (map {B = List ℕ × List ℕ} (λ e. (f e.0, g e.1)) es) (f key) (g value)
-        → map {B = List ℕ × List ℕ} (λ e. (f e.0, g e.1)) (cond b ((e.0, value) ∷ es) (e ∷ insert_entry (λ a b. bytes_eq (f a) (f b)) es key value)) ≡ cond b ((f e.0, g value) ∷ map {B = List ℕ × List ℕ} (λ e. (f e.0, g e.1)) es) ((f e.0, g e.1) ∷ with_file (map {B = List ℕ × List ℕ} (λ e. (f e.0, g e.1)) es) (f key) (g value))
+    by : (b : Bool) → map {B = List ℕ × List ℕ} (λ e. (e.0, g e.1)) (insert_entry bytes_eq es key value) ≡ with_file (map {B = List ℕ × List ℕ} (λ e. (e.0, g e.1)) es) key (g value)
+        → map {B = List ℕ × List ℕ} (λ e. (e.0, g e.1)) (cond b ((e.0, value) ∷ es) (e ∷ insert_entry bytes_eq es key value)) ≡ cond b ((e.0, g value) ∷ map {B = List ℕ × List ℕ} (λ e. (e.0, g e.1)) es) ((e.0, g e.1) ∷ with_file (map {B = List ℕ × List ℕ} (λ e. (e.0, g e.1)) es) key (g value))
     by true rest = refl
-    by false rest = ap (λ fs. (f e.0, g e.1) ∷ fs) rest
+    by false rest = ap (λ fs. (e.0, g e.1) ∷ fs) rest
 
-pub put-files : {K V : Type 0} (f : K → List ℕ) (g : V → List ℕ) (es new : List (K × V)) (files made : List (List ℕ × List ℕ)) (key : K) (value : V) → map {B = List ℕ × List ℕ} (λ e. (f e.0, g e.1)) es ≡ files → map {B = List ℕ × List ℕ} (λ e. (f e.0, g e.1)) new ≡ made → new ≡ insert_entry (λ a b. bytes_eq (f a) (f b)) es key value → made ≡ with_file files (f key) (g value)
-put-files f g es new files made key value before after is = sym after ∙ ap (map (λ e. (f e.0, g e.1))) is ∙ put-file f g es key value ∙ ap (λ fs. with_file fs (f key) (g value)) before
+pub put-files : {V : Type 0} (g : V → List ℕ) (es new : List (List ℕ × V)) (files made : List (List ℕ × List ℕ)) (key name : List ℕ) (value : V) → map {B = List ℕ × List ℕ} (λ e. (e.0, g e.1)) es ≡ files → map {B = List ℕ × List ℕ} (λ e. (e.0, g e.1)) new ≡ made → new ≡ insert_entry bytes_eq es key value → key ≡ name → made ≡ with_file files name (g value)
+put-files g es new files made key name value before after is same = sym after ∙ ap (map (λ e. (e.0, g e.1))) is ∙ put-file g es key value ∙ ap (λ fs. with_file fs key (g value)) before ∙ ap (λ n. with_file files n (g value)) same

@@ -5,14 +5,14 @@ ghost use Rattle.kx_include.specs.Library.{number_of, with_file};
 ghost use Rattle.kx_include.specs.declared.sources.TheConstants.{MOST_FILES};
 
 use kx_lex::Fault;
-use kx_ordered::Ordered;
+use kx_ordered::{Ordered, OwnedName};
 use std::alloc::Global;
 use std::marker::Model;
 
 /// The files handed in, by name; includes find them. The n-th has the number n, counted from 1.
 #[derive(Drop)]
 pub struct Files {
-    files: Ordered<Vec<u8>, Vec<u8>>,
+    files: Ordered<OwnedName, Vec<u8>>,
 }
 
 impl Model for Files {
@@ -20,7 +20,7 @@ impl Model for Files {
 
     ghost Value = { List (List ℕ × List ℕ) };
 
-    ghost view = { λ f. map (λ e. (e.0.items, e.1.items)) f.files.entries };
+    ghost view = { λ f. map (λ e. (e.0, e.1.items)) f.files.entries };
 }
 
 impl Files {
@@ -42,7 +42,7 @@ impl Files {
         ensures err { IfErr result (λ e. e ≡ Memory) }
         ensures unchanged { OnErr result (self.new ≡ self.old) }
     {
-        self.files.insert(name, bytes)?;
+        self.files.insert(OwnedName::owning(name), bytes)?;
         Ok(())
     }
 
@@ -58,7 +58,7 @@ impl Files {
         requires { length self.now ≤ MOST_FILES }
         ensures { result ≡ number_of (map (λ f. f.0) self.now) name.now }
     {
-        match self.files.place_of_name(name) {
+        match self.files.place_of_owned_name(name) {
             None => None,
             Some(place) => Some(place as u32 + 1),
         }

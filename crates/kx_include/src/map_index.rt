@@ -7,6 +7,7 @@ ghost use Rattle.kx_parse.specs.declared.tree.Kind.{Kind};
 ghost use Rattle.kx_parse.specs.declared.tree.Section.{Section};
 
 use crate::kind_maps::KindMaps;
+use kx_ordered::{NameKey, OwnedName};
 use kx_parse::{Flag, Kind, Section};
 use std::alloc::{AllocError, Global};
 use std::collections::BTreeMap;
@@ -37,18 +38,17 @@ fn with_flagged(flagged: KindMaps, section: &Section, number: usize) -> KindMaps
 /// logarithm of how many names there are. Of several that fit, the first is found.
 #[derive(Drop)]
 pub struct MapIndex {
-    named: BTreeMap<Vec<u8>, KindMaps>,
+    named: BTreeMap<OwnedName, KindMaps>,
     flagged: KindMaps,
     first: KindMaps,
 }
 
 impl Model for MapIndex {
-    ghost use Rattle.std.specs.Prelude.{map};
     ghost use Rattle.kx_include.specs.MapIndex.{MapIndex};
 
     ghost Value = { MapIndex };
 
-    ghost view = { λ i. record { named = map (λ e. (e.0.items, e.1)) i.named.entries; flagged = i.flagged; first = i.first } };
+    ghost view = { λ i. record { named = i.named.entries; flagged = i.flagged; first = i.first } };
 }
 
 impl MapIndex {
@@ -66,7 +66,7 @@ impl MapIndex {
     fn of_name(&self, name: &[u8]) -> KindMaps
         ensures { (kind : Kind) → number_in kind result ≡ found self.now kind (Some name.now) }
     {
-        match self.named.get(name) {
+        match self.named.get(&NameKey::of(name)) {
             None => KindMaps::new(),
             Some(maps) => *maps,
         }
@@ -88,7 +88,7 @@ impl MapIndex {
         };
         let name = name.bytes.as_slice();
         let maps = self.of_name(name).with(section.kind, number);
-        self.named.insert(Vec::from_slice(alloc, name)?, maps)?;
+        self.named.insert(OwnedName::of(alloc, name)?, maps)?;
         Ok(())
     }
 

@@ -1,7 +1,7 @@
 //! What is said of what is passed over.
 use kx_explain::quoted;
 use kx_lex::At;
-use kx_ordered::Ordered;
+use kx_ordered::{Ordered, OwnedName};
 use std::alloc::{AllocError, Global};
 
 /// So many warnings of a kind are said.
@@ -56,7 +56,7 @@ pub struct Warnings {
     pub keys: Listed,
     pub types: Listed,
     pub levels: Listed,
-    idle: Ordered<Vec<u8>, Idle>,
+    idle: Ordered<OwnedName, Idle>,
 }
 
 impl Warnings {
@@ -73,7 +73,7 @@ impl Warnings {
 
     /// Adds a place of an action without effect.
     pub(crate) fn add_idle(&mut self, at: At, word: &[u8]) -> Result<(), AllocError> {
-        match self.idle.place_of_name(word) {
+        match self.idle.place_of_owned_name(word) {
             Some(place) => {
                 let idle = self.idle.value_mut(place);
                 idle.places = idle.places.saturating_add(1);
@@ -83,7 +83,7 @@ impl Warnings {
                     first: at,
                     places: 1,
                 };
-                self.idle.insert(Vec::from_slice(self.alloc, word)?, idle)?;
+                self.idle.insert(OwnedName::of(self.alloc, word)?, idle)?;
             }
         }
         Ok(())

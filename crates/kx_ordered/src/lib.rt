@@ -2,7 +2,6 @@
 //! choose keys that are slow to find.
 #![tactic(auto)]
 
-mod by_name;
 mod by_text;
 mod name_key;
 mod ordered;

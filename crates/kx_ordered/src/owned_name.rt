@@ -51,6 +51,16 @@ impl OwnedName {
         })
     }
 
+    /// The name that these bytes are.
+    pub fn owning(bytes: Vec<u8>) -> OwnedName
+        ensures { result ≡ bytes.items }
+    {
+        OwnedName {
+            head: head_of(bytes.as_slice()),
+            bytes,
+        }
+    }
+
     /// The bytes in order.
     pub fn as_slice(&self) -> &[u8]
         ensures { result.now ≡ self.now }

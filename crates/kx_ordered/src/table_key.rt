@@ -80,20 +80,6 @@ impl TableKey for usize {
     }
 }
 
-impl TableKey for Vec<u8> {
-    ghost number = { λ k. None };
-
-    ghost told = { untold };
-
-    fn number(&self) -> Option<u16> {
-        None
-    }
-
-    fn again(&self) -> Result<Vec<u8>, AllocError> {
-        Ok(self.clone()?)
-    }
-}
-
 impl TableKey for String {
     ghost number = { λ k. None };
 

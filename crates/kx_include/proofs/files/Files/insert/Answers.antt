@@ -3,4 +3,4 @@ use Rattle.kx_include.proofs.Numbers.{put-files}
 use Rattle.kx_include.proofs.files.Files.insert.Goals as goal
 
 pub returns-clause-file : goal.returns-clause-file
-returns-clause-file c = put-files (λ k. k.items) (λ v. v.items) c.self.inside.files.entries c.insert.new.self.entries c.args.self.now _ c.args.name c.args.bytes c.self.view_is refl c.in_ok-insert.ensures.entries
+returns-clause-file c = put-files (λ v. v.items) c.self.inside.files.entries c.insert.new.self.entries c.args.self.now _ c.owning.result c.args.name.items c.args.bytes c.self.view_is refl c.in_ok-insert.ensures.entries c.owning.ensures
