@@ -1,7 +1,7 @@
 -- What going over a part of a body makes of records.
 use Rattle.std.specs.Prelude.{◌≡◌, ◌<◌, ◌≤◌, Bool, true, false, ℕ, List, [], ◌∷◌, ◌++◌, length, slice_get, Option, Some, Result, Ok, Err, IfErr, OnOk, Contains}
 use Rattle.std.specs.Option.{option_map}
-use Rattle.indexmap.specs.IndexMap.{get, keys}
+use Rattle.indexmap.specs.IndexMap.{IndexMap, get, keys}
 use Rattle.kx_lex.specs.declared.fault.Fault.{Fault}
 use Rattle.kx_lex.specs.declared.fault.Fault.TheVariants.{Memory}
 use Rattle.kx_include.specs.Expansion.{Body}
@@ -29,6 +29,14 @@ module _ {K C V R : Type 0} (cell : R → C → Option V) (width : R → ℕ →
     pub shows : (os : List (Offer K C V)) → Shows cell width eq names at (os ++ last) → OnOk answer (Shows cell width eq new_names new_at ((os ++ last) ++ added))
     pub faultless : OnOk answer (blamed ≡ [])
     pub fault : IfErr answer (λ e. Contains (Memory ∷ blamed) e)
+
+  -- the same of a table of records
+  module _ {X S : Type 0} (old : IndexMap K R S) (answer : Result X Fault) (new : IndexMap K R S) where
+    abbrev pub TableAdds : List (Offer K C V) → List Fault → Type 0
+    TableAdds added blamed = Adds (keys old) (get eq old) answer (keys new) (get eq new) added blamed
+
+    abbrev pub TableAddsBehind : List (Offer K C V) → List (Offer K C V) → List Fault → Type 0
+    TableAddsBehind last added blamed = AddsBehind last (keys old) (get eq old) answer (keys new) (get eq new) added blamed
 
 module _ {K C V D R N : Type 0} (cell : R → C → Option V) (width : R → ℕ → ℕ) (eq : K → K → Bool) (rules : Rules K C V D) (moves : Moves K C) where
   -- a map's records show its body, or a fault of its stands in their place

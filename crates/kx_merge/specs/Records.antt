@@ -1,5 +1,6 @@
 -- Records, and what they show of offers.
 use Rattle.std.specs.Prelude.{◌≡◌, ℕ, Bool, List, [], ◌∷◌, Option, None, Some}
+use Rattle.indexmap.specs.IndexMap.{IndexMap, get, keys}
 use Rattle.kx_parse.specs.declared.tree.Item.{Item}
 use Rattle.kx_parse.specs.declared.tree.Item.TheVariants.{Include, Statement}
 use Rattle.kx_parse.specs.declared.tree.Mode.{Mode}
@@ -36,6 +37,10 @@ module _ {K C V R : Type 0} (cell : R → C → Option V) (width : R → ℕ →
     pub names_are : names ≡ names_of eq os
     pub cells_are : (k : K) (c : C) → cell_in cell (at k) c ≡ value_of eq os k c
     pub widths_are : (k : K) (g : ℕ) → width_in width (at k) g ≡ width_of eq os k g
+
+  -- the same of a table of records
+  abbrev pub TableShows : {S : Type 0} → IndexMap K R S → List (Offer K C V) → Type 0
+  TableShows table os = Shows (keys table) (get eq table) os
 
 -- a record has what offers give it
 pub record IsGood {K C V R : Type 0} (cell : R → C → Option V) (width : R → ℕ → ℕ) (eq : K → K → Bool) (os : List (Offer K C V)) (key : K) (r : R) : Type 0 where

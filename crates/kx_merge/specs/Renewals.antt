@@ -1,6 +1,7 @@
 -- Records whose values are taken back, and what is given to them again.
 use Rattle.std.specs.Prelude.{◌≡◌, Bool, true, false, if◌then◌else◌, ℕ, List, [], ◌∷◌, ◌++◌, drop, get_or, Option}
 use Rattle.std.specs.List.{list_any}
+use Rattle.indexmap.specs.IndexMap.{IndexMap, get, keys}
 use Rattle.kx_merge.specs.Offers.{Offer, is_about, is_replace, is_strong, names_behind, value_of, width_of}
 use Rattle.kx_merge.specs.Records.{Shows}
 
@@ -39,6 +40,10 @@ pub record TakesUp {K C V R : Type 0} (cell : R → C → Option V) (width : R �
   pub picked : List (Offer K C V)
   pub picks : Picks eq keys all picked
   pub shows : (os : List (Offer K C V)) → Shows cell width eq names at os → Shows cell width eq new_names new_at (os ++ picked)
+
+-- the same of a table of records
+abbrev pub TableTakesUp : {K C V R S : Type 0} → (R → C → Option V) → (R → ℕ → ℕ) → (K → K → Bool) → List K → IndexMap K R S → IndexMap K R S → List (Offer K C V) → Type 0
+TableTakesUp cell width eq keys_taken old new all = TakesUp cell width eq keys_taken (keys old) (get eq old) (keys new) (get eq new) all
 
 -- the keys that are among names
 abbrev pub held : {K : Type 0} → (K → K → Bool) → List K → List K → List K

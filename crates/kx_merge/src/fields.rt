@@ -56,14 +56,20 @@ pub trait Fields<C>: Drop {
         item: &Item,
         notes: &mut Self::Notes,
     ) -> Result<Vec<(Self::Key, Self)>, Fault>
-        ensures records { IfOk result (λ records. AreOffered (mode_of item.now) (cell) (width) records.items ((rules context.now).offers defaults.now place item.now)) }
-        ensures faultless { OnOk result ((rules context.now).faults defaults.now place item.now ≡ []) }
-        ensures fault { IfErr result (λ e. Contains (Memory ∷ (rules context.now).faults defaults.now place item.now) e) };
+        ensures records { IfOk result (λ records.
+            AreOffered (mode_of item.now) (cell) (width) records.items
+            ((rules context.now).offers defaults.now place item.now)) }
+        ensures faultless { OnOk result
+            ((rules context.now).faults defaults.now place item.now ≡ []) }
+        ensures fault { IfErr result (λ e. Contains
+            (Memory ∷ (rules context.now).faults defaults.now place item.now) e) };
 
     /// Takes up what a later record gives.
     fn absorb(&mut self, alloc: Global, other: Self, mode: Mode) -> Result<(), Fault>
-        ensures cells { OnOk result ((c : Self.Cell) → cell self.new c ≡ taken mode (cell self.old c) (cell other c)) }
-        ensures widths { OnOk result ((g : ℕ) → width self.new g ≡ widened mode (width self.old g) (width other g)) }
+        ensures cells { OnOk result ((c : Self.Cell)
+            → cell self.new c ≡ taken mode (cell self.old c) (cell other c)) }
+        ensures widths { OnOk result ((g : ℕ)
+            → width self.new g ≡ widened mode (width self.old g) (width other g)) }
         ensures err { IfErr result (λ e. e ≡ Memory) };
 
     /// A record that nothing was given yet.
@@ -80,8 +86,12 @@ pub trait Fields<C>: Drop {
         group: Option<u8>,
         mode: Mode,
     ) -> Result<(), Fault>
-        ensures cells { OnOk result ((c : Self.Cell) → cell self.new c ≡ taken mode (cell self.old c) (moved_value moves group (cell other.now) c)) }
-        ensures widths { OnOk result ((g : ℕ) → width self.new g ≡ widened mode (width self.old g) (moved_width moves group (width other.now) g)) }
+        ensures cells { OnOk result ((c : Self.Cell)
+            → cell self.new c ≡ taken mode (cell self.old c)
+            (moved_value moves group (cell other.now) c)) }
+        ensures widths { OnOk result ((g : ℕ)
+            → width self.new g ≡ widened mode (width self.old g)
+            (moved_width moves group (width other.now) g)) }
         ensures err { IfErr result (λ e. e ≡ Memory) };
 
     /// What a record is told apart by where its map is moved to a group; `None` where none is left of it.
@@ -95,7 +105,8 @@ pub trait Fields<C>: Drop {
     fn add_notes(notes: &mut Self::Notes, other: &Self::Notes);
 
     // No two records of a map that is moved become one.
-    ghost apart: { (n : ℕ) (j k to : Self.Key) → moves.key n j ≡ Some to → moves.key n k ≡ Some to → j ≡ k };
+    ghost apart: { (n : ℕ) (j k to : Self.Key)
+        → moves.key n j ≡ Some to → moves.key n k ≡ Some to → j ≡ k };
 
     // Keys that are equal are the same.
     ghost same: { (j k : Self.Key) → Self.Key.PartialEq.eq j k ≡ true → j ≡ k };

@@ -1,14 +1,13 @@
 ghost use Rattle.std.specs.Prelude.{◌≡◌, ◌+◌, ◌<◌, ◌^◌, ◌++◌, ◌∷◌, [], List, Contains, IfOk, OnOk, IfErr, IsTrue, Some, ℕ, false, true, if◌then◌else◌};
-ghost use Rattle.indexmap.specs.IndexMap.{get, keys};
 ghost use Rattle.kx_include.specs.Expansion.{Body, End};
 ghost use Rattle.kx_include.specs.Shared.{bodies_behind, body_at, expanded_body, links_body, shared_body};
 ghost use Rattle.kx_lex.specs.declared.fault.Fault.TheVariants.{Memory};
 ghost use Rattle.kx_parse.specs.declared.tree.Mode.TheVariants.{Augment};
 ghost use Rattle.kx_merge.specs.Bodies.{Rules, moved, gathered, faults_of, offers_of};
-ghost use Rattle.kx_merge.specs.Gatherings.{Adds, AddsBehind, AreGathered, IsGathered, entry_faults, entry_next, entry_offers, included_by};
-ghost use Rattle.kx_merge.specs.Renewals.{TakesBack, TakesUp, keys_since};
+ghost use Rattle.kx_merge.specs.Gatherings.{AreGathered, IsGathered, TableAdds, TableAddsBehind, entry_faults, entry_next, entry_offers, included_by};
+ghost use Rattle.kx_merge.specs.Renewals.{TableTakesUp, TakesBack, keys_since};
 ghost use Rattle.kx_merge.specs.Offers.{is_replace};
-ghost use Rattle.kx_merge.specs.Records.{Shows};
+ghost use Rattle.kx_merge.specs.Records.{TableShows};
 
 use crate::fields::Fields;
 use crate::merging::{add_again, add_included, add_joined, are_kept, merge_own};
@@ -39,9 +38,13 @@ pub fn merge<C, R: Fields<C>>(
     context: &C,
     expansion: &Expansion,
 ) -> Result<Merged<R::Key, R, R::Notes>, Fault>
-    ensures shows { IfOk result (λ m. Shows R.cell R.width R.Key.eq (keys m.records) (get R.Key.eq m.records) (offers_of R.Key.eq (R.rules context.now) R.moves (expanded_body expansion.now))) }
-    ensures faultless { OnOk result (faults_of R.Key.eq (R.rules context.now) R.moves (expanded_body expansion.now) ≡ []) }
-    ensures fault { IfErr result (λ e. Contains (Memory ∷ faults_of R.Key.eq (R.rules context.now) R.moves (expanded_body expansion.now)) e) }
+    ensures shows { IfOk result (λ m. TableShows R.cell R.width R.Key.eq m.records
+        (offers_of R.Key.eq (R.rules context.now) R.moves (expanded_body expansion.now))) }
+    ensures faultless { OnOk result
+        (faults_of R.Key.eq (R.rules context.now) R.moves (expanded_body expansion.now) ≡ []) }
+    ensures fault { IfErr result (λ e. Contains
+        (Memory ∷ faults_of R.Key.eq (R.rules context.now) R.moves (expanded_body expansion.now))
+        e) }
 {
     let done = gather_maps::<C, R>(alloc, context, expansion.maps.as_slice())?;
     let mut records = Ordered::new(alloc);
@@ -66,7 +69,8 @@ fn gather_maps<C, R: Fields<C>>(
     context: &C,
     maps: &[Map],
 ) -> Result<Vec<Result<Merged<R::Key, R, R::Notes>, Fault>>, Fault>
-    ensures gathered { IfOk result (λ done. AreGathered R.cell R.width R.Key.eq (R.rules context.now) R.moves done.items (bodies_behind [] maps.now)) }
+    ensures gathered { IfOk result (λ done. AreGathered R.cell R.width R.Key.eq
+        (R.rules context.now) R.moves done.items (bodies_behind [] maps.now)) }
     ensures err { IfErr result (λ e. e ≡ Memory) }
 {
     let mut done = Vec::new(alloc);
@@ -84,8 +88,10 @@ fn gather_map<C, R: Fields<C>>(
     done: &[Result<Merged<R::Key, R, R::Notes>, Fault>],
     map: &Map,
 ) -> Result<Merged<R::Key, R, R::Notes>, Fault>
-    ensures { (bodies : List Body) → AreGathered R.cell R.width R.Key.eq (R.rules context.now) R.moves done.now bodies
-        → IsGathered R.cell R.width R.Key.eq (R.rules context.now) R.moves result (shared_body bodies map.now End) }
+    ensures { (bodies : List Body)
+        → AreGathered R.cell R.width R.Key.eq (R.rules context.now) R.moves done.now bodies
+        → IsGathered R.cell R.width R.Key.eq (R.rules context.now) R.moves result
+        (shared_body bodies map.now End) }
 {
     let mut records = Ordered::new(alloc);
     let mut notes = R::no_notes();
@@ -104,8 +110,11 @@ fn merge_map<C, R: Fields<C>>(
     records: &mut Ordered<R::Key, R>,
     notes: &mut R::Notes,
 ) -> Result<(), Fault>
-    ensures { (bodies : List Body) → AreGathered R.cell R.width R.Key.eq (R.rules context.now) R.moves done.now bodies
-        → Adds R.cell R.width R.Key.eq (keys records.old) (get R.Key.eq records.old) result (keys records.new) (get R.Key.eq records.new) (offers_of R.Key.eq (R.rules context.now) R.moves (shared_body bodies map.now End)) (faults_of R.Key.eq (R.rules context.now) R.moves (shared_body bodies map.now End)) }
+    ensures { (bodies : List Body)
+        → AreGathered R.cell R.width R.Key.eq (R.rules context.now) R.moves done.now bodies
+        → TableAdds R.cell R.width R.Key.eq records.old result records.new
+        (offers_of R.Key.eq (R.rules context.now) R.moves (shared_body bodies map.now End))
+        (faults_of R.Key.eq (R.rules context.now) R.moves (shared_body bodies map.now End)) }
 {
     let entries = map.entries.as_slice();
     let mut repeats = Repeats::of(alloc, entries)?;
@@ -195,10 +204,19 @@ fn merge_entry<C, R: Fields<C>>(
     replaced: &mut Vec<R::Key>,
     notes: &mut R::Notes,
 ) -> Result<R::Defaults, Fault>
-    ensures adds { (bodies : List Body) → AreGathered R.cell R.width R.Key.eq (R.rules context.now) R.moves done.now bodies
-        → faults_of R.Key.eq (R.rules context.now) R.moves (links_body bodies last.entry.links.now) ≡ []
-        → AddsBehind R.cell R.width R.Key.eq (gathered R.Key.eq last.entry.mode (offers_of R.Key.eq (R.rules context.now) R.moves (links_body bodies last.entry.links.now))) (keys records.old) (get R.Key.eq records.old) result (keys records.new) (get R.Key.eq records.new) (entry_offers R.Key.eq (R.rules context.now) R.moves bodies place defaults entry.now) (entry_faults R.Key.eq (R.rules context.now) R.moves bodies place defaults entry.now) }
-    ensures back { OnOk result ((bodies : List Body) → TakesBack R.Key.eq (is_replace (included_by entry.now).0) replaced.old.items replaced.new.items (entry_offers R.Key.eq (R.rules context.now) R.moves bodies place defaults entry.now)) }
+    ensures adds { (bodies : List Body)
+        → AreGathered R.cell R.width R.Key.eq (R.rules context.now) R.moves done.now bodies
+        → faults_of R.Key.eq (R.rules context.now) R.moves
+        (links_body bodies last.entry.links.now) ≡ []
+        → TableAddsBehind R.cell R.width R.Key.eq records.old result records.new
+        (gathered R.Key.eq last.entry.mode
+        (offers_of R.Key.eq (R.rules context.now) R.moves (links_body bodies last.entry.links.now)))
+        (entry_offers R.Key.eq (R.rules context.now) R.moves bodies place defaults entry.now)
+        (entry_faults R.Key.eq (R.rules context.now) R.moves bodies place defaults entry.now) }
+    ensures back { OnOk result ((bodies : List Body)
+        → TakesBack R.Key.eq (is_replace (included_by entry.now).0)
+        replaced.old.items replaced.new.items
+        (entry_offers R.Key.eq (R.rules context.now) R.moves bodies place defaults entry.now)) }
     ensures next { IfOk result (λ d. d ≡ entry_next (R.rules context.now) defaults entry.now) }
 {
     match entry {
@@ -269,9 +287,15 @@ fn merge_after<C, R: Fields<C>>(
     records: &mut Ordered<R::Key, R>,
     notes: &mut R::Notes,
 ) -> Result<(), Fault>
-    ensures { (rules : Rules R.Key R.Cell R.Value R.Defaults) (bodies : List Body) → AreGathered R.cell R.width R.Key.eq rules R.moves done.now bodies
+    ensures { (rules : Rules R.Key R.Cell R.Value R.Defaults) (bodies : List Body)
+        → AreGathered R.cell R.width R.Key.eq rules R.moves done.now bodies
         → faults_of R.Key.eq rules R.moves (links_body bodies last.entry.links.now) ≡ []
-        → AddsBehind R.cell R.width R.Key.eq (gathered R.Key.eq last.entry.mode (offers_of R.Key.eq rules R.moves (links_body bodies last.entry.links.now))) (keys records.old) (get R.Key.eq records.old) result (keys records.new) (get R.Key.eq records.new) (gathered R.Key.eq included.entry.mode (offers_of R.Key.eq rules R.moves (links_body bodies included.entry.links.now))) (faults_of R.Key.eq rules R.moves (links_body bodies included.entry.links.now)) }
+        → TableAddsBehind R.cell R.width R.Key.eq records.old result records.new
+        (gathered R.Key.eq last.entry.mode
+        (offers_of R.Key.eq rules R.moves (links_body bodies last.entry.links.now)))
+        (gathered R.Key.eq included.entry.mode
+        (offers_of R.Key.eq rules R.moves (links_body bodies included.entry.links.now)))
+        (faults_of R.Key.eq rules R.moves (links_body bodies included.entry.links.now)) }
 {
     if included.mode == last.mode && are_same_links(included.links, last.links) {
         note_links::<C, R>(done, included.links, notes);
@@ -290,8 +314,13 @@ fn merge_again<C, R: Fields<C>>(
     replaced: &Replaced<R::Key>,
     records: &mut Ordered<R::Key, R>,
 ) -> Result<bool, Fault>
-    ensures again { IfOk result (λ again. again ≡ true → (before : ℕ) × (stood ≡ Some before) × ((rules : Rules R.Key R.Cell R.Value R.Defaults) (bodies : List Body) → AreGathered R.cell R.width R.Key.eq rules R.moves done.now bodies
-        → TakesUp R.cell R.width R.Key.eq (keys_since replaced.now.marks.items replaced.now.keys.items before) (keys records.old) (get R.Key.eq records.old) (keys records.new) (get R.Key.eq records.new) (gathered R.Key.eq Augment (offers_of R.Key.eq rules R.moves (links_body bodies links.now))))) }
+    ensures again { IfOk result (λ again. again ≡ true → (before : ℕ) × (stood ≡ Some before)
+        × ((rules : Rules R.Key R.Cell R.Value R.Defaults) (bodies : List Body)
+        → AreGathered R.cell R.width R.Key.eq rules R.moves done.now bodies
+        → TableTakesUp R.cell R.width R.Key.eq
+        (keys_since replaced.now.marks.items replaced.now.keys.items before) records.old records.new
+        (gathered R.Key.eq Augment
+        (offers_of R.Key.eq rules R.moves (links_body bodies links.now))))) }
     ensures whole { IfOk result (λ again. again ≡ false → records.new ≡ records.old) }
     ensures err { IfErr result (λ e. e ≡ Memory) }
 {
@@ -310,8 +339,12 @@ fn merge_keys<C, R: Fields<C>>(
     renewed: &[R::Key],
     records: &mut Ordered<R::Key, R>,
 ) -> Result<bool, Fault>
-    ensures again { IfOk result (λ again. again ≡ true → (rules : Rules R.Key R.Cell R.Value R.Defaults) (bodies : List Body) → AreGathered R.cell R.width R.Key.eq rules R.moves done.now bodies
-        → TakesUp R.cell R.width R.Key.eq renewed.now (keys records.old) (get R.Key.eq records.old) (keys records.new) (get R.Key.eq records.new) (gathered R.Key.eq Augment (offers_of R.Key.eq rules R.moves (links_body bodies links.now)))) }
+    ensures again { IfOk result (λ again. again ≡ true
+        → (rules : Rules R.Key R.Cell R.Value R.Defaults) (bodies : List Body)
+        → AreGathered R.cell R.width R.Key.eq rules R.moves done.now bodies
+        → TableTakesUp R.cell R.width R.Key.eq renewed.now records.old records.new
+        (gathered R.Key.eq Augment
+        (offers_of R.Key.eq rules R.moves (links_body bodies links.now)))) }
     ensures whole { IfOk result (λ again. again ≡ false → records.new ≡ records.old) }
     ensures err { IfErr result (λ e. e ≡ Memory) }
 {
@@ -361,8 +394,12 @@ fn merge_joined_keys<C, R: Fields<C>>(
     renewed: &[R::Key],
     records: &mut Ordered<R::Key, R>,
 ) -> Result<bool, Fault>
-    ensures again { IfOk result (λ again. again ≡ true → (rules : Rules R.Key R.Cell R.Value R.Defaults) (bodies : List Body) → AreGathered R.cell R.width R.Key.eq rules R.moves done.now bodies
-        → TakesUp R.cell R.width R.Key.eq renewed.now (keys records.old) (get R.Key.eq records.old) (keys records.new) (get R.Key.eq records.new) (gathered R.Key.eq Augment (offers_of R.Key.eq rules R.moves (links_body bodies links.now)))) }
+    ensures again { IfOk result (λ again. again ≡ true
+        → (rules : Rules R.Key R.Cell R.Value R.Defaults) (bodies : List Body)
+        → AreGathered R.cell R.width R.Key.eq rules R.moves done.now bodies
+        → TableTakesUp R.cell R.width R.Key.eq renewed.now records.old records.new
+        (gathered R.Key.eq Augment
+        (offers_of R.Key.eq rules R.moves (links_body bodies links.now)))) }
     ensures whole { IfOk result (λ again. again ≡ false → records.new ≡ records.old) }
     ensures err { IfErr result (λ e. e ≡ Memory) }
 {
@@ -383,8 +420,11 @@ fn merge_links_keys<C, R: Fields<C>>(
     renewed: &[R::Key],
     records: &mut Ordered<R::Key, R>,
 ) -> Result<bool, Fault>
-    ensures again { IfOk result (λ again. again ≡ true → (rules : Rules R.Key R.Cell R.Value R.Defaults) (bodies : List Body) → AreGathered R.cell R.width R.Key.eq rules R.moves done.now bodies
-        → TakesUp R.cell R.width R.Key.eq renewed.now (keys records.old) (get R.Key.eq records.old) (keys records.new) (get R.Key.eq records.new) (offers_of R.Key.eq rules R.moves (links_body bodies links.now))) }
+    ensures again { IfOk result (λ again. again ≡ true
+        → (rules : Rules R.Key R.Cell R.Value R.Defaults) (bodies : List Body)
+        → AreGathered R.cell R.width R.Key.eq rules R.moves done.now bodies
+        → TableTakesUp R.cell R.width R.Key.eq renewed.now records.old records.new
+        (offers_of R.Key.eq rules R.moves (links_body bodies links.now))) }
     ensures err { IfErr result (λ e. e ≡ Memory) }
 {
     'links: for link in links {
@@ -405,8 +445,12 @@ fn merge_link_keys<C, R: Fields<C>>(
     renewed: &[R::Key],
     records: &mut Ordered<R::Key, R>,
 ) -> Result<bool, Fault>
-    ensures again { IfOk result (λ again. again ≡ true → (rules : Rules R.Key R.Cell R.Value R.Defaults) (bodies : List Body) → AreGathered R.cell R.width R.Key.eq rules R.moves done.now bodies
-        → TakesUp R.cell R.width R.Key.eq renewed.now (keys records.old) (get R.Key.eq records.old) (keys records.new) (get R.Key.eq records.new) (moved R.moves link.group (gathered R.Key.eq mode (offers_of R.Key.eq rules R.moves (body_at bodies link.map))))) }
+    ensures again { IfOk result (λ again. again ≡ true
+        → (rules : Rules R.Key R.Cell R.Value R.Defaults) (bodies : List Body)
+        → AreGathered R.cell R.width R.Key.eq rules R.moves done.now bodies
+        → TableTakesUp R.cell R.width R.Key.eq renewed.now records.old records.new
+        (moved R.moves link.group (gathered R.Key.eq mode
+        (offers_of R.Key.eq rules R.moves (body_at bodies link.map))))) }
     ensures whole { IfOk result (λ again. again ≡ false → records.new ≡ records.old) }
     ensures err { IfErr result (λ e. e ≡ Memory) }
 {
@@ -429,8 +473,11 @@ fn merge_include<C, R: Fields<C>>(
     records: &mut Ordered<R::Key, R>,
     notes: &mut R::Notes,
 ) -> Result<(), Fault>
-    ensures { (rules : Rules R.Key R.Cell R.Value R.Defaults) (bodies : List Body) → AreGathered R.cell R.width R.Key.eq rules R.moves done.now bodies
-        → Adds R.cell R.width R.Key.eq (keys records.old) (get R.Key.eq records.old) result (keys records.new) (get R.Key.eq records.new) (gathered R.Key.eq mode (offers_of R.Key.eq rules R.moves (links_body bodies links.now))) (faults_of R.Key.eq rules R.moves (links_body bodies links.now)) }
+    ensures { (rules : Rules R.Key R.Cell R.Value R.Defaults) (bodies : List Body)
+        → AreGathered R.cell R.width R.Key.eq rules R.moves done.now bodies
+        → TableAdds R.cell R.width R.Key.eq records.old result records.new
+        (gathered R.Key.eq mode (offers_of R.Key.eq rules R.moves (links_body bodies links.now)))
+        (faults_of R.Key.eq rules R.moves (links_body bodies links.now)) }
 {
     match links {
         [link] => merge_link::<C, R>(alloc, done, mode, *link, records, notes),
@@ -447,8 +494,11 @@ fn merge_joined<C, R: Fields<C>>(
     records: &mut Ordered<R::Key, R>,
     notes: &mut R::Notes,
 ) -> Result<(), Fault>
-    ensures { (rules : Rules R.Key R.Cell R.Value R.Defaults) (bodies : List Body) → AreGathered R.cell R.width R.Key.eq rules R.moves done.now bodies
-        → Adds R.cell R.width R.Key.eq (keys records.old) (get R.Key.eq records.old) result (keys records.new) (get R.Key.eq records.new) (gathered R.Key.eq mode (offers_of R.Key.eq rules R.moves (links_body bodies links.now))) (faults_of R.Key.eq rules R.moves (links_body bodies links.now)) }
+    ensures { (rules : Rules R.Key R.Cell R.Value R.Defaults) (bodies : List Body)
+        → AreGathered R.cell R.width R.Key.eq rules R.moves done.now bodies
+        → TableAdds R.cell R.width R.Key.eq records.old result records.new
+        (gathered R.Key.eq mode (offers_of R.Key.eq rules R.moves (links_body bodies links.now)))
+        (faults_of R.Key.eq rules R.moves (links_body bodies links.now)) }
 {
     let mut joined = Ordered::new(alloc);
     merge_links::<C, R>(alloc, done, links, &mut joined, notes)?;
@@ -464,8 +514,11 @@ fn merge_links<C, R: Fields<C>>(
     records: &mut Ordered<R::Key, R>,
     notes: &mut R::Notes,
 ) -> Result<(), Fault>
-    ensures { (rules : Rules R.Key R.Cell R.Value R.Defaults) (bodies : List Body) → AreGathered R.cell R.width R.Key.eq rules R.moves done.now bodies
-        → Adds R.cell R.width R.Key.eq (keys records.old) (get R.Key.eq records.old) result (keys records.new) (get R.Key.eq records.new) (offers_of R.Key.eq rules R.moves (links_body bodies links.now)) (faults_of R.Key.eq rules R.moves (links_body bodies links.now)) }
+    ensures { (rules : Rules R.Key R.Cell R.Value R.Defaults) (bodies : List Body)
+        → AreGathered R.cell R.width R.Key.eq rules R.moves done.now bodies
+        → TableAdds R.cell R.width R.Key.eq records.old result records.new
+        (offers_of R.Key.eq rules R.moves (links_body bodies links.now))
+        (faults_of R.Key.eq rules R.moves (links_body bodies links.now)) }
 {
     let mut repeats = PartRepeats::new(alloc);
     let mut since = 0;
@@ -491,8 +544,12 @@ fn merge_link<C, R: Fields<C>>(
     records: &mut Ordered<R::Key, R>,
     notes: &mut R::Notes,
 ) -> Result<(), Fault>
-    ensures { (rules : Rules R.Key R.Cell R.Value R.Defaults) (bodies : List Body) → AreGathered R.cell R.width R.Key.eq rules R.moves done.now bodies
-        → Adds R.cell R.width R.Key.eq (keys records.old) (get R.Key.eq records.old) result (keys records.new) (get R.Key.eq records.new) (moved R.moves link.group (gathered R.Key.eq mode (offers_of R.Key.eq rules R.moves (body_at bodies link.map)))) (faults_of R.Key.eq rules R.moves (body_at bodies link.map)) }
+    ensures { (rules : Rules R.Key R.Cell R.Value R.Defaults) (bodies : List Body)
+        → AreGathered R.cell R.width R.Key.eq rules R.moves done.now bodies
+        → TableAdds R.cell R.width R.Key.eq records.old result records.new
+        (moved R.moves link.group (gathered R.Key.eq mode
+        (offers_of R.Key.eq rules R.moves (body_at bodies link.map))))
+        (faults_of R.Key.eq rules R.moves (body_at bodies link.map)) }
 {
     match done.get(link.map) {
         None => Ok(()),

@@ -1,13 +1,13 @@
 ghost use Rattle.std.specs.Prelude.{◌≡◌, ◌++◌, ◌∷◌, [], List, IfOk, OnOk, IfErr, IsTrue, Some, All, map, false, if◌then◌else◌};
 ghost use Rattle.std.specs.Map.{keys_of};
-ghost use Rattle.indexmap.specs.IndexMap.{get, keys};
+ghost use Rattle.indexmap.specs.IndexMap.{keys};
 ghost use Rattle.kx_lex.specs.declared.fault.Fault.TheVariants.{Memory};
 ghost use Rattle.kx_merge.specs.Bodies.{moved, gather, gathered};
-ghost use Rattle.kx_merge.specs.Gatherings.{Adds};
+ghost use Rattle.kx_merge.specs.Gatherings.{TableAdds};
 ghost use Rattle.kx_merge.specs.Renewals.{TakesBack, held};
 ghost use Rattle.kx_merge.specs.Moved.{IsOfferedMoved, moved_key};
 ghost use Rattle.kx_merge.specs.Offers.{Offer, is_replace};
-ghost use Rattle.kx_merge.specs.Records.{AreOffered, IsGood, IsOffered, Shows, mode_of};
+ghost use Rattle.kx_merge.specs.Records.{AreOffered, IsGood, IsOffered, TableShows, mode_of};
 
 use crate::fields::Fields;
 use kx_include::Place;
@@ -25,8 +25,9 @@ fn add_one<C, R: Fields<C>>(
     given: R,
 ) -> Result<(), Fault>
     ensures shows { (os : List (Offer R.Key R.Cell R.Value)) (o : Offer R.Key R.Cell R.Value)
-        → Shows R.cell R.width R.Key.eq (keys records.old) (get R.Key.eq records.old) os → IsOffered mode R.cell R.width key given o
-        → OnOk result (Shows R.cell R.width R.Key.eq (keys records.new) (get R.Key.eq records.new) (os ++ o ∷ [])) }
+        → TableShows R.cell R.width R.Key.eq records.old os
+        → IsOffered mode R.cell R.width key given o
+        → OnOk result (TableShows R.cell R.width R.Key.eq records.new (os ++ o ∷ [])) }
     ensures err { IfErr result (λ e. e ≡ Memory) }
 {
     if let Some(old) = records.get_mut(&key) {
@@ -44,8 +45,9 @@ pub(crate) fn add_all<C, R: Fields<C>>(
     given: Vec<(R::Key, R)>,
 ) -> Result<(), Fault>
     ensures shows { (os added : List (Offer R.Key R.Cell R.Value))
-        → Shows R.cell R.width R.Key.eq (keys records.old) (get R.Key.eq records.old) os → AreOffered mode R.cell R.width given.items added
-        → OnOk result (Shows R.cell R.width R.Key.eq (keys records.new) (get R.Key.eq records.new) (os ++ added)) }
+        → TableShows R.cell R.width R.Key.eq records.old os
+        → AreOffered mode R.cell R.width given.items added
+        → OnOk result (TableShows R.cell R.width R.Key.eq records.new (os ++ added)) }
     ensures err { IfErr result (λ e. e ≡ Memory) }
 {
     'records: for (key, one) in given {
@@ -62,9 +64,10 @@ pub(crate) fn add_joined<C, R: Fields<C>>(
     given: Ordered<R::Key, R>,
 ) -> Result<(), Fault>
     ensures shows { (os inner : List (Offer R.Key R.Cell R.Value))
-        → Shows R.cell R.width R.Key.eq (keys records.old) (get R.Key.eq records.old) os
-        → Shows R.cell R.width R.Key.eq (keys given) (get R.Key.eq given) inner
-        → OnOk result (Shows R.cell R.width R.Key.eq (keys records.new) (get R.Key.eq records.new) (os ++ gathered R.Key.eq mode inner)) }
+        → TableShows R.cell R.width R.Key.eq records.old os
+        → TableShows R.cell R.width R.Key.eq given inner
+        → OnOk result (TableShows R.cell R.width R.Key.eq records.new
+        (os ++ gathered R.Key.eq mode inner)) }
     ensures err { IfErr result (λ e. e ≡ Memory) }
 {
     add_all::<C, R>(alloc, records, mode, given.into_entries())
@@ -81,8 +84,9 @@ fn add_moved<C, R: Fields<C>>(
     group: Option<u8>,
 ) -> Result<(), Fault>
     ensures shows { (os : List (Offer R.Key R.Cell R.Value)) (o : Offer R.Key R.Cell R.Value)
-        → Shows R.cell R.width R.Key.eq (keys records.old) (get R.Key.eq records.old) os → IsOfferedMoved R.cell R.width R.moves mode group key one.now o
-        → OnOk result (Shows R.cell R.width R.Key.eq (keys records.new) (get R.Key.eq records.new) (os ++ o ∷ [])) }
+        → TableShows R.cell R.width R.Key.eq records.old os
+        → IsOfferedMoved R.cell R.width R.moves mode group key one.now o
+        → OnOk result (TableShows R.cell R.width R.Key.eq records.new (os ++ o ∷ [])) }
     ensures err { IfErr result (λ e. e ≡ Memory) }
 {
     if let Some(old) = records.get_mut(&key) {
@@ -104,8 +108,10 @@ fn add_found<C, R: Fields<C>>(
     group: Option<u8>,
 ) -> Result<(), Fault>
     ensures shows { (os inner : List (Offer R.Key R.Cell R.Value))
-        → Shows R.cell R.width R.Key.eq (keys records.old) (get R.Key.eq records.old) os → IsGood R.cell R.width R.Key.eq inner key.now one.now
-        → OnOk result (Shows R.cell R.width R.Key.eq (keys records.new) (get R.Key.eq records.new) (os ++ moved R.moves group (gather R.Key.eq mode inner key.now ∷ []))) }
+        → TableShows R.cell R.width R.Key.eq records.old os
+        → IsGood R.cell R.width R.Key.eq inner key.now one.now
+        → OnOk result (TableShows R.cell R.width R.Key.eq records.new
+        (os ++ moved R.moves group (gather R.Key.eq mode inner key.now ∷ []))) }
     ensures err { IfErr result (λ e. e ≡ Memory) }
 {
     match R::key_in(key, group) {
@@ -124,9 +130,10 @@ pub(crate) fn add_included<C, R: Fields<C>>(
     group: Option<u8>,
 ) -> Result<(), Fault>
     ensures shows { (os inner : List (Offer R.Key R.Cell R.Value))
-        → Shows R.cell R.width R.Key.eq (keys records.old) (get R.Key.eq records.old) os
-        → Shows R.cell R.width R.Key.eq (keys given.now) (get R.Key.eq given.now) inner
-        → OnOk result (Shows R.cell R.width R.Key.eq (keys records.new) (get R.Key.eq records.new) (os ++ moved R.moves group (gathered R.Key.eq mode inner))) }
+        → TableShows R.cell R.width R.Key.eq records.old os
+        → TableShows R.cell R.width R.Key.eq given.now inner
+        → OnOk result (TableShows R.cell R.width R.Key.eq records.new
+        (os ++ moved R.moves group (gathered R.Key.eq mode inner))) }
     ensures err { IfErr result (λ e. e ≡ Memory) }
 {
     'records: for entry in given.as_slice() {
@@ -163,9 +170,10 @@ pub(crate) fn add_again<C, R: Fields<C>>(
     group: Option<u8>,
 ) -> Result<(), Fault>
     ensures shows { (os inner : List (Offer R.Key R.Cell R.Value))
-        → Shows R.cell R.width R.Key.eq (keys records.old) (get R.Key.eq records.old) os
-        → Shows R.cell R.width R.Key.eq (keys given.now) (get R.Key.eq given.now) inner
-        → OnOk result (Shows R.cell R.width R.Key.eq (keys records.new) (get R.Key.eq records.new) (os ++ moved R.moves group (map (gather R.Key.eq mode inner) (held R.Key.eq (keys given.now) renewed.now)))) }
+        → TableShows R.cell R.width R.Key.eq records.old os
+        → TableShows R.cell R.width R.Key.eq given.now inner
+        → OnOk result (TableShows R.cell R.width R.Key.eq records.new (os ++ moved R.moves group
+        (map (gather R.Key.eq mode inner) (held R.Key.eq (keys given.now) renewed.now)))) }
     ensures err { IfErr result (λ e. e ≡ Memory) }
 {
     'keys: for key in renewed {
@@ -197,7 +205,9 @@ fn note_replaced<C, R: Fields<C>>(
     mode: Mode,
     given: &[(R::Key, R)],
 ) -> Result<(), Fault>
-    ensures noted { OnOk result (replaced.new.items ≡ replaced.old.items ++ (if is_replace mode then keys_of given.now else [])) }
+    ensures noted { OnOk result
+        (replaced.new.items ≡ replaced.old.items
+        ++ (if is_replace mode then keys_of given.now else [])) }
     ensures err { IfErr result (λ e. e ≡ Memory) }
 {
     match mode {
@@ -228,8 +238,11 @@ pub(crate) fn merge_own<C, R: Fields<C>>(
     replaced: &mut Vec<R::Key>,
     notes: &mut R::Notes,
 ) -> Result<R::Defaults, Fault>
-    ensures adds { Adds R.cell R.width R.Key.eq (keys records.old) (get R.Key.eq records.old) result (keys records.new) (get R.Key.eq records.new) ((R.rules context.now).offers defaults place item.now) ((R.rules context.now).faults defaults place item.now) }
-    ensures back { OnOk result (TakesBack R.Key.eq false replaced.old.items replaced.new.items ((R.rules context.now).offers defaults place item.now)) }
+    ensures adds { TableAdds R.cell R.width R.Key.eq records.old result records.new
+        ((R.rules context.now).offers defaults place item.now)
+        ((R.rules context.now).faults defaults place item.now) }
+    ensures back { OnOk result (TakesBack R.Key.eq false replaced.old.items replaced.new.items
+        ((R.rules context.now).offers defaults place item.now)) }
     ensures next { IfOk result (λ d. d ≡ (R.rules context.now).next defaults item.now) }
 {
     let given = R::read(alloc, context, &defaults, place, item, notes)?;

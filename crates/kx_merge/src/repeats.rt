@@ -93,7 +93,8 @@ fn add_place(
 
 /// Whether this include stands at a place.
 fn stands_at(entries: &[Entry], place: usize, included: Included) -> bool
-    ensures { IsTrue result → included_at entries.now place ≡ Some (included.entry.mode, included.entry.links.now) }
+    ensures { IsTrue result
+        → included_at entries.now place ≡ Some (included.entry.mode, included.entry.links.now) }
 {
     match entries.get(place) {
         None => false,
@@ -117,7 +118,8 @@ impl Repeats {
 
     /// Whether an include that isn't under augment also stands before a place and after it.
     pub(crate) fn stands_between(&self, entries: &[Entry], place: usize, included: Included) -> bool
-        ensures { IsTrue result → StandsBetween entries.now place (included.entry.mode, included.entry.links.now) }
+        ensures { IsTrue result
+            → StandsBetween entries.now place (included.entry.mode, included.entry.links.now) }
     {
         if included.mode == Mode::Augment {
             return false;
@@ -141,7 +143,8 @@ impl Repeats {
         place: usize,
         included: Included,
     ) -> Option<usize>
-        ensures { IfSome result (λ before. StoodAt entries.now since place before (included.entry.mode, included.entry.links.now)) }
+        ensures { IfSome result (λ before. StoodAt entries.now since place before
+            (included.entry.mode, included.entry.links.now)) }
     {
         if included.mode != Mode::Augment || included.links.is_empty() {
             return None;

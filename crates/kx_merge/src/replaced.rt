@@ -27,7 +27,8 @@ impl<K: Drop> Replaced<K> {
     /// Notes that one more entry was gone over.
     pub(crate) fn pass(&mut self) -> Result<(), Fault>
         ensures keys { OnOk result (self.new.keys.items ≡ self.old.keys.items) }
-        ensures marks { OnOk result (self.new.marks.items ≡ self.old.marks.items ++ length self.old.keys.items ∷ []) }
+        ensures marks { OnOk result
+            (self.new.marks.items ≡ self.old.marks.items ++ length self.old.keys.items ∷ []) }
         ensures err { IfErr result (λ e. e ≡ Memory) }
     {
         let count = self.keys.len();
