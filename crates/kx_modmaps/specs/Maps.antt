@@ -6,10 +6,12 @@ use Rattle.std.specs.Option.{option_map, option_map_or}
 use Rattle.ks_core.specs.Entry.{Entry as Named}
 use Rattle.kx_codes.specs.Codes.{Codes}
 use Rattle.kx_include.specs.Expansion.{Body}
+use Rattle.kx_lex.specs.declared.fault.Fault.{Fault}
 use Rattle.kx_lex.specs.declared.name.Name.{Name}
 use Rattle.kx_virtual_mods.specs.Sets.{has}
-use Rattle.kx_merge.specs.Bodies.{Rules, Moves, offers_of, no_moves}
+use Rattle.kx_merge.specs.Bodies.{Rules, Moves, faults_of, offers_of, no_moves}
 use Rattle.kx_merge.specs.Offers.{Offer, names_of, value_of, plain_offer}
+use Rattle.kx_merge.specs.Records.{AreOffered}
 use Rattle.kx_mods.specs.Mods.{mask}
 use Rattle.kx_parse.specs.declared.tree.Entry.{Entry}
 use Rattle.kx_parse.specs.declared.tree.Item.{Item}
@@ -94,3 +96,10 @@ map_moves = no_moves
 
 abbrev pub map_offer : Mode → ℕ → Target → Offer Target Cell ℕ
 map_offer mode mask target = plain_offer mode target (given target mask)
+
+abbrev pub map_faults_of : Codes → List Named → List (List ℕ) → Body → List Fault
+map_faults_of codes names modifiers body = faults_of same_target (map_rules codes names modifiers) map_moves body
+
+-- records of targets are offers in order
+abbrev pub AreAssigned : Mode → List (Target × Assigned) → List (Offer Target Cell ℕ) → Type 0
+AreAssigned mode records os = AreOffered {K = Target} {C = Cell} {V = ℕ} {R = Assigned} mode assigned_cell assigned_width records os

@@ -22,10 +22,10 @@ same_number (Key a) (Keysym b) e = absurd (true≢false (ap is_lt e))
 same_number (Keysym a) (Key b) e = absurd (true≢false (ap is_gt e))
 same_number (Keysym a) (Keysym b) e = refl
 
-same_target : (j k : Target) (n : ℕ) → target_number j ≡ Some n → target_number k ≡ Some n → ghosts.cmp j k ≡ Equal
-same_target (Key a) (Key b) n e f = ap (nat_cmp a) (ap (λ o. unwrap_or o n) (f ∙ sym e)) ∙ tied_itself nat_cmp_total a
-same_target (Key a) (Keysym b) n e f = absurd (true≢false (sym (ap is_some f)))
-same_target (Keysym a) k n e f = absurd (true≢false (sym (ap is_some e)))
+equal_by_number : (j k : Target) (n : ℕ) → target_number j ≡ Some n → target_number k ≡ Some n → ghosts.cmp j k ≡ Equal
+equal_by_number (Key a) (Key b) n e f = ap (nat_cmp a) (ap (λ o. unwrap_or o n) (f ∙ sym e)) ∙ tied_itself nat_cmp_total a
+equal_by_number (Key a) (Keysym b) n e f = absurd (true≢false (sym (ap is_some f)))
+equal_by_number (Keysym a) k n e f = absurd (true≢false (sym (ap is_some e)))
 
 pub told_target : IsTold ghosts.cmp target_number
-told_target = (same_number, same_target)
+told_target = (same_number, equal_by_number)

@@ -104,9 +104,11 @@ fn key_target(
     name: &KeyName,
     notes: &mut Notes,
 ) -> Result<Option<Target>, Fault>
-    ensures value { IfOk result (λ target. target ≡ option_map (λ code. Key code) (code_of codes.now name.now.bytes)) }
+    ensures value { IfOk result (λ target.
+        target ≡ option_map (λ code. Key code) (code_of codes.now name.now.bytes)) }
     ensures faultless { OnOk result (name_faults site.file site.whole name.now ≡ []) }
-    ensures fault { IfErr result (λ e. Contains (Memory ∷ name_faults site.file site.whole name.now) e) }
+    ensures fault { IfErr result (λ e. Contains
+        (Memory ∷ name_faults site.file site.whole name.now) e) }
 {
     if name.as_slice().len() > MOST_NAME_BYTES {
         return Err(Fault::TooMany(At {
@@ -133,7 +135,8 @@ fn read_entry(
 ) -> Result<Option<Target>, Fault>
     ensures value { IfOk result (λ target. target ≡ entry_target codes.now names.now entry.now) }
     ensures faultless { OnOk result (entry_faults site.file site.whole entry.now ≡ []) }
-    ensures fault { IfErr result (λ e. Contains (Memory ∷ entry_faults site.file site.whole entry.now) e) }
+    ensures fault { IfErr result (λ e. Contains
+        (Memory ∷ entry_faults site.file site.whole entry.now) e) }
 {
     match entry {
         Entry::KeyName(name) => key_target(codes, site, name, notes),
@@ -165,8 +168,10 @@ pub(crate) fn read_targets(
     notes: &mut Notes,
 ) -> Result<OrderedSet<Target>, Fault>
     ensures value { IfOk result (λ targets. targets ≡ targets_of codes.now names.now entries.now) }
-    ensures faultless { OnOk result (flat_map (entry_faults site.file site.whole) entries.now ≡ []) }
-    ensures fault { IfErr result (λ e. Contains (Memory ∷ flat_map (entry_faults site.file site.whole) entries.now) e) }
+    ensures faultless { OnOk result
+        (flat_map (entry_faults site.file site.whole) entries.now ≡ []) }
+    ensures fault { IfErr result (λ e. Contains
+        (Memory ∷ flat_map (entry_faults site.file site.whole) entries.now) e) }
 {
     let mut targets = OrderedSet::new(alloc);
     'entries: for entry in entries {

@@ -4,10 +4,8 @@ ghost use Rattle.std.specs.List.{flat_map};
 ghost use Rattle.indexmap.specs.IndexMap.{keys};
 ghost use Rattle.kx_include.specs.Shared.{expanded_body};
 ghost use Rattle.kx_lex.specs.declared.fault.Fault.TheVariants.{Memory};
-ghost use Rattle.kx_merge.specs.Bodies.{faults_of};
 ghost use Rattle.kx_mods.specs.Mods.{mask};
-ghost use Rattle.kx_modmaps.specs.Entries.{same_target};
-ghost use Rattle.kx_modmaps.specs.Maps.{AreModifierMaps, key_mask, map_moves, map_rules, shown_entry};
+ghost use Rattle.kx_modmaps.specs.Maps.{AreModifierMaps, key_mask, map_faults_of, shown_entry};
 ghost use Rattle.kx_modmaps.specs.Shown.{keysym_recorded, only_recorded};
 
 use crate::entries::Context;
@@ -81,7 +79,9 @@ fn add_keysym(
     named: &(Target, Assigned),
     entries: &mut Vec<KeysymEntry>,
 ) -> Result<(), Fault>
-    ensures added { OnOk result (map shown_entry entries.new.items ≡ map shown_entry entries.old.items ++ keysym_recorded records.now named.now.0) }
+    ensures added { OnOk result
+        (map shown_entry entries.new.items ≡ map shown_entry entries.old.items
+        ++ keysym_recorded records.now named.now.0) }
     ensures err { IfErr result (λ e. e ≡ Memory) }
 {
     match named.0 {
@@ -99,7 +99,8 @@ fn keysym_entries(
     alloc: Global,
     records: &Ordered<Target, Assigned>,
 ) -> Result<Vec<KeysymEntry>, Fault>
-    ensures entries { IfOk result (λ entries. map shown_entry entries.items ≡ flat_map (keysym_recorded records.now) (keys records.now)) }
+    ensures entries { IfOk result (λ entries. map shown_entry entries.items
+        ≡ flat_map (keysym_recorded records.now) (keys records.now)) }
     ensures err { IfErr result (λ e. e ≡ Memory) }
 {
     let mut entries = Vec::new(alloc);
@@ -123,9 +124,13 @@ pub fn modifier_maps(
     names: &NameTable,
     modifiers: &ModNames,
 ) -> Result<(ModifierMaps, Notes), Fault>
-    ensures maps { IfOk result (λ found. AreModifierMaps found.0 codes.now names.now modifiers.now.names (expanded_body expansion.now)) }
-    ensures faultless { OnOk result (faults_of same_target (map_rules codes.now names.now modifiers.now.names) map_moves (expanded_body expansion.now) ≡ []) }
-    ensures fault { IfErr result (λ e. Contains (Memory ∷ faults_of same_target (map_rules codes.now names.now modifiers.now.names) map_moves (expanded_body expansion.now)) e) }
+    ensures maps { IfOk result (λ found.
+        AreModifierMaps found.0 codes.now names.now modifiers.now.names (expanded_body expansion.now)) }
+    ensures faultless { OnOk result
+        (map_faults_of codes.now names.now modifiers.now.names (expanded_body expansion.now) ≡ []) }
+    ensures fault { IfErr result (λ e. Contains
+        (Memory ∷ map_faults_of codes.now names.now modifiers.now.names (expanded_body expansion.now))
+        e) }
 {
     let context = Context {
         codes,

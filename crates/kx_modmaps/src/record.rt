@@ -6,10 +6,10 @@ ghost use Rattle.kx_lex.specs.declared.fault.Fault.TheVariants.{Memory};
 ghost use Rattle.kx_parse.specs.declared.tree.Mode.{Mode as ModeValue};
 ghost use Rattle.kx_merge.specs.Moved.{moved_key, moved_value, moved_width};
 ghost use Rattle.kx_merge.specs.Offers.{Offer, taken, widened};
-ghost use Rattle.kx_merge.specs.Records.{AreOffered, mode_of};
+ghost use Rattle.kx_merge.specs.Records.{mode_of};
 ghost use Rattle.kx_mods.specs.Mods.{mask};
 ghost use Rattle.kx_modmaps.specs.Entries.{entry_faults, item_faults, targets_of, word_faults, word_mask};
-ghost use Rattle.kx_modmaps.specs.Maps.{assigned_cell, assigned_width, given, item_offers, map_moves, map_offer, map_rules, offers_to, present};
+ghost use Rattle.kx_modmaps.specs.Maps.{AreAssigned, assigned_cell, assigned_width, given, item_offers, map_moves, map_offer, map_rules, offers_to, present};
 
 use crate::entries::{Context, StatementSite, map_in, read_targets, read_word};
 use crate::target::Target;
@@ -60,7 +60,8 @@ impl Assigned {
 
     /// What is given once more is given under a mode.
     fn joined(self, other: Assigned, mode: Mode) -> Assigned
-        ensures { (c : Cell) → assigned_cell result c ≡ taken mode (assigned_cell self c) (assigned_cell other c) }
+        ensures { (c : Cell)
+            → assigned_cell result c ≡ taken mode (assigned_cell self c) (assigned_cell other c) }
     {
         match mode {
             Mode::Augment => Assigned {
@@ -82,7 +83,10 @@ fn add_record(
     target: &Target,
     mods: Mods,
 ) -> Result<(), Fault>
-    ensures added { (mode : ModeValue) (os : List (Offer Target Cell ℕ)) → AreOffered mode (assigned_cell) (assigned_width) records.old.items os → OnOk result (AreOffered mode (assigned_cell) (assigned_width) records.new.items (os ++ map_offer mode (mask mods) target.now ∷ [])) }
+    ensures added { (mode : ModeValue) (os : List (Offer Target Cell ℕ))
+        → AreAssigned mode records.old.items os
+        → OnOk result (AreAssigned mode records.new.items
+        (os ++ map_offer mode (mask mods) target.now ∷ [])) }
     ensures err { IfErr result (λ e. e ≡ Memory) }
 {
     records.push((*target, Assigned::of(*target, mods)))?;
@@ -95,7 +99,9 @@ fn records_for(
     targets: &[Target],
     mods: Mods,
 ) -> Result<Vec<(Target, Assigned)>, Fault>
-    ensures records { (mode : ModeValue) → IfOk result (λ records. AreOffered mode (assigned_cell) (assigned_width) records.items (map (map_offer mode (mask mods)) targets.now)) }
+    ensures records { (mode : ModeValue)
+        → IfOk result (λ records. AreAssigned mode records.items
+        (map (map_offer mode (mask mods)) targets.now)) }
     ensures err { IfErr result (λ e. e ≡ Memory) }
 {
     let mut records = Vec::new(alloc);
@@ -116,9 +122,14 @@ fn read_map(
     entries: &[Entry],
     notes: &mut Notes,
 ) -> Result<Vec<(Target, Assigned)>, Fault>
-    ensures records { (mode : ModeValue) → IfOk result (λ records. AreOffered mode (assigned_cell) (assigned_width) records.items (offers_to mode (word_mask word.now.bytes) (targets_of codes.now names.now entries.now))) }
-    ensures faultless { OnOk result (word_faults site.file modifiers.now.names word.now ++ flat_map (entry_faults site.file site.whole) entries.now ≡ []) }
-    ensures fault { IfErr result (λ e. Contains (Memory ∷ (word_faults site.file modifiers.now.names word.now ++ flat_map (entry_faults site.file site.whole) entries.now)) e) }
+    ensures records { (mode : ModeValue)
+        → IfOk result (λ records. AreAssigned mode records.items
+        (offers_to mode (word_mask word.now.bytes) (targets_of codes.now names.now entries.now))) }
+    ensures faultless { OnOk result (word_faults site.file modifiers.now.names word.now
+        ++ flat_map (entry_faults site.file site.whole) entries.now ≡ []) }
+    ensures fault { IfErr result (λ e. Contains
+        (Memory ∷ (word_faults site.file modifiers.now.names word.now
+        ++ flat_map (entry_faults site.file site.whole) entries.now)) e) }
 {
     let mods = read_word(modifiers, site.file, word)?;
     let targets = read_targets(alloc, codes, names, site, entries, notes)?;
@@ -126,7 +137,7 @@ fn read_map(
 }
 
 fn no_records(alloc: Global) -> Vec<(Target, Assigned)>
-    ensures { (mode : ModeValue) → AreOffered mode (assigned_cell) (assigned_width) result.items [] }
+    ensures { (mode : ModeValue) → AreAssigned mode result.items [] }
 {
     Vec::new(alloc)
 }
@@ -141,9 +152,11 @@ fn read_item(
     item: &Item,
     notes: &mut Notes,
 ) -> Result<Vec<(Target, Assigned)>, Fault>
-    ensures records { IfOk result (λ records. AreOffered (mode_of item.now) (assigned_cell) (assigned_width) records.items (item_offers codes.now names.now item.now)) }
+    ensures records { IfOk result (λ records. AreAssigned (mode_of item.now) records.items
+        (item_offers codes.now names.now item.now)) }
     ensures faultless { OnOk result (item_faults file modifiers.now.names item.now ≡ []) }
-    ensures fault { IfErr result (λ e. Contains (Memory ∷ item_faults file modifiers.now.names item.now) e) }
+    ensures fault { IfErr result (λ e. Contains
+        (Memory ∷ item_faults file modifiers.now.names item.now) e) }
 {
     match item {
         Item::Include { .. } => Ok(no_records(alloc)),
@@ -220,8 +233,12 @@ impl<'a> Fields<Context<'a>> for Assigned {
     }
 
     fn absorb(&mut self, _alloc: Global, other: Assigned, mode: Mode) -> Result<(), Fault>
-        ensures cells { OnOk result ((c : Cell) → assigned_cell self.new c ≡ taken mode (assigned_cell self.old c) (assigned_cell other c)) }
-        ensures widths { OnOk result ((g : ℕ) → assigned_width self.new g ≡ widened mode (assigned_width self.old g) (assigned_width other g)) }
+        ensures cells { OnOk result ((c : Cell)
+            → assigned_cell self.new c ≡ taken mode (assigned_cell self.old c)
+            (assigned_cell other c)) }
+        ensures widths { OnOk result ((g : ℕ)
+            → assigned_width self.new g ≡ widened mode (assigned_width self.old g)
+            (assigned_width other g)) }
         ensures err { IfErr result (λ e. e ≡ Memory) }
     {
         *self = self.joined(other, mode);
@@ -245,8 +262,12 @@ impl<'a> Fields<Context<'a>> for Assigned {
         _group: Option<u8>,
         mode: Mode,
     ) -> Result<(), Fault>
-        ensures cells { OnOk result ((c : Cell) → assigned_cell self.new c ≡ taken mode (assigned_cell self.old c) (moved_value map_moves _group (assigned_cell other.now) c)) }
-        ensures widths { OnOk result ((g : ℕ) → assigned_width self.new g ≡ widened mode (assigned_width self.old g) (moved_width map_moves _group (assigned_width other.now) g)) }
+        ensures cells { OnOk result ((c : Cell)
+            → assigned_cell self.new c ≡ taken mode (assigned_cell self.old c)
+            (moved_value map_moves _group (assigned_cell other.now) c)) }
+        ensures widths { OnOk result ((g : ℕ)
+            → assigned_width self.new g ≡ widened mode (assigned_width self.old g)
+            (moved_width map_moves _group (assigned_width other.now) g)) }
         ensures err { IfErr result (λ e. e ≡ Memory) }
     {
         *self = self.joined(*other, mode);

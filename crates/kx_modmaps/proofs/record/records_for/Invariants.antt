@@ -1,9 +1,8 @@
 use Rattle.std.proofs.Common.{map, take}
 use Rattle.kx_mods.specs.Mods.{mask}
 use Rattle.kx_parse.specs.declared.tree.Mode.{Mode}
-use Rattle.kx_modmaps.specs.Maps.{map_offer}
-use Rattle.kx_modmaps.proofs.Given.{Offered}
+use Rattle.kx_modmaps.specs.Maps.{AreAssigned, map_offer}
 use Rattle.kx_modmaps.proofs.record.records_for.Given as goal
 
 abbrev pub invariant-targets : goal.invariant-targets
-invariant-targets l = (mode : Mode) → Offered mode l.records.items (map (map_offer mode (mask l.mods)) (take l.target-index l.targets))
+invariant-targets l = (mode : Mode) → AreAssigned mode l.records.items (map (map_offer mode (mask l.mods)) (take l.target-index l.targets))
