@@ -175,6 +175,15 @@ base_group-push keys key = fold-append (λ z k. base_group_after k.action z) (po
 pub count_of-push : (bit : ℕ) (keys : List HeldKey) (key : HeldKey) → count_of bit (keys ++ key ∷ []) ≡ count_of bit keys + bit_at (held_mods key.action) bit
 count_of-push bit keys key = fold-append (λ n k. n + bit_at (held_mods k.action) bit) 0 keys (key ∷ [])
 
+-- a key that sets no modifier
+pub base_mods-push_none : (keys : List HeldKey) (key : HeldKey) → held_mods key.action ≡ 0 → base_mods (keys ++ key ∷ []) ≡ base_mods keys
+base_mods-push_none keys key none = base_mods-push keys key ∙ ap (bit_or (base_mods keys)) none ∙ or_zero_r (base_mods keys)
+
+pub count_of-push_none : (bit : ℕ) (keys : List HeldKey) (key : HeldKey) → held_mods key.action ≡ 0 → count_of bit (keys ++ key ∷ []) ≡ count_of bit keys
+count_of-push_none bit keys key none =
+    let zero_bit : bit_at (held_mods key.action) bit ≡ 0 = ap (λ m. bit_at m bit) none ∙ bit_at-zero bit in
+    omega (arith, count_of-push bit keys key, zero_bit)
+
 -- ---- a key that is let go
 
 pub AreSound-remove : (keys : List HeldKey) (place : ℕ) → place < length keys → AreSound keys → AreSound (remove keys place)
@@ -376,6 +385,10 @@ count_left bit keys place key left old mods within read mask before less =
     let parts = sum_by-remove (λ k. bit_at (held_mods k.action) bit) keys place key within in
     let same : bit_at mods bit ≡ bit_at (held_mods (get_or keys place key).action) bit = ap (λ m. bit_at m bit) (mask ∙ ap (λ k. held_mods k.action) read) in
     omega arith
+
+pub count_left_none : (bit : ℕ) (keys : List HeldKey) (place : ℕ) (key : HeldKey) (old : ℕ) → place < length keys → key ≡ get_or keys place key → held_mods key.action ≡ 0 → old ≡ count_of bit keys → old ≡ count_of bit (remove keys place)
+count_left_none bit keys place key old within read none before =
+    count_left bit keys place key old old 0 within read (sym none) before (omega (arith, bit_at-zero bit))
 
 -- a held key is counted
 pub counted_one : (bit : ℕ) (keys : List HeldKey) (place : ℕ) (key : HeldKey) (old mods : ℕ) → place < length keys → key ≡ get_or keys place key → mods ≡ held_mods key.action → old ≡ count_of bit keys → bit_at mods bit ≤ old

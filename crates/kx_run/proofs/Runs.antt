@@ -10,10 +10,10 @@ use Rattle.kx_run.specs.declared.direction.Direction.TheVariants.{Down, Up}
 use Rattle.kx_run.specs.declared.direction.Event.{Event}
 use Rattle.kx_run.specs.declared.held.HeldKey.{HeldKey}
 use Rattle.kx_run.specs.Held.{base_mods, base_group, is_at, is_held, held_at, other_keys, disturbed}
-use Rattle.kx_run.specs.World.{World, group_modulo, effective_mods, effective_group, latch_group, latch_number, press_effect, release_effect, held_key, pressed, let_go, is_moved, moved, action_in, step}
+use Rattle.kx_run.specs.World.{World, group_modulo, effective_mods, effective_group, latch_group, latch_number, press_effect, release_effect, held_key, pressed, let_go, moved, action_in, step}
 use Rattle.kx_run.specs.Replies.{Answer, Glance, Status, unknown, answer, run, world_after, look_at, status_of, status_in, lit_mask, lit_in}
 use Rattle.kx_run.specs.Laws.{is_down, down_after, ReleasesAll, IsLetGo, Agree}
-use Rattle.kx_run.proofs.HeldLists.{held_at-none, is_held-disturbed}
+use Rattle.kx_run.proofs.HeldLists.{is_held-disturbed}
 
 -- ---- one more event
 
@@ -48,24 +48,6 @@ pub step_same : (a b : Keymap) → Agree a b → (world : World) (code : ℕ) (d
 step_same a b agree world code direction =
     step_by a b agree world code direction (a.known code) refl
     ∙ ap (λ known. cond known (moved b.groups world code direction (action_in b world code)) world) (agree.known code)
-
--- an event that changes no held key changes nothing
-still_down : (held : Bool) (after world : World) → not held ≡ false → cond held world after ≡ world
-still_down true after world h = refl
-still_down false after world h = absurd (cc)
-
-moved_still : (groups : ℕ) (world : World) (code : ℕ) (direction : Direction) (action : Action) → is_moved world code direction ≡ false → moved groups world code direction action ≡ world
-moved_still groups world code Down action h = still_down (is_held code world.held) (pressed groups code action world) world h
-moved_still groups world code Up action h = ap (λ found. let_go groups code found world) (held_at-none code world.held h)
-
-step_by_still : (known : Bool) (after world : World) → after ≡ world → cond known after world ≡ world
-step_by_still true after world h = h
-step_by_still false after world h = refl
-
-pub step_still : (keymap : Keymap) (world : World) (code : ℕ) (direction : Direction) → is_moved world code direction ≡ false → step keymap world code direction ≡ world
-step_still keymap world code direction h =
-    step_by_still (keymap.known code) (moved keymap.groups world code direction (action_in keymap world code)) world
-    (moved_still keymap.groups world code direction (action_in keymap world code) h)
 
 -- what a known key gives
 abbrev given : Keymap → World → ℕ → Glance
@@ -107,13 +89,13 @@ known_look keymap world code shown known same =
     ap (λ (s : Shown). record { known = true; syms = s.syms; consumed = s.consumed }) same
     ∙ sym (ap (λ b. cond b (given keymap world code) unknown) known)
 
--- the reply to an event that changes nothing
-pub answer_still : (keymap : Keymap) (world : World) (code : ℕ) (direction : Direction) (look : Glance) (state : Status) (lit : ℕ) → is_moved world code direction ≡ false → look ≡ look_at keymap (status_in keymap world) code → state ≡ status_in keymap world → lit ≡ lit_in keymap (status_in keymap world) → put_together look state lit ≡ answer keymap world code direction
+-- the reply to an event after which the state is shown as before
+pub answer_still : (keymap : Keymap) (world : World) (code : ℕ) (direction : Direction) (look : Glance) (state : Status) (lit : ℕ) → status_in keymap (step keymap world code direction) ≡ status_in keymap world → look ≡ look_at keymap (status_in keymap world) code → state ≡ status_in keymap world → lit ≡ lit_in keymap (status_in keymap world) → put_together look state lit ≡ answer keymap world code direction
 answer_still keymap world code direction look state lit still looks states indicator_maps =
     ap (λ l. put_together l state lit) looks
     ∙ ap (λ s. put_together (look_at keymap (status_in keymap world) code) s lit) states
     ∙ ap (put_together (look_at keymap (status_in keymap world) code) (status_in keymap world)) indicator_maps
-    ∙ ap (λ w. put_together (look_at keymap (status_in keymap world) code) (status_in keymap w) (lit_in keymap (status_in keymap w))) (sym (step_still keymap world code direction still))
+    ∙ ap (λ s. put_together (look_at keymap (status_in keymap world) code) s (lit_in keymap s)) (sym still)
 
 answer_same : (a b : Keymap) → Agree a b → (world : World) (code : ℕ) (direction : Direction) → answer a world code direction ≡ answer b world code direction
 answer_same a b agree world code direction =

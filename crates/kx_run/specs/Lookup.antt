@@ -1,8 +1,9 @@
 -- What a look-up in tables finds.
-use Rattle.std.specs.Prelude.{ℕ, ◌≡◌, ◌+◌, ◌^◌, ◌<◌, ◌≤◌, List, length, Option, Some, None, slice_get, get_or, IfSome}
+use Rattle.std.specs.Prelude.{ℕ, ◌≡◌, ◌+◌, ◌^◌, ◌<◌, ◌≤◌, List, length, Option, Some, None, slice_get, get_or}
 use Rattle.kx_mods.specs.Mods.{mask}
 use Rattle.kx_tables.specs.Content.{Content, part}
-use Rattle.kx_tables.specs.Keymap.{Shown, entry_for, key_with}
+use Rattle.kx_tables.specs.Keymap.{Shown, cell_shows, consumed_by, entry_for, group_shows, key_with, level_of}
+use Rattle.kx_tables.specs.declared.rows.GroupRow.{GroupRow}
 use Rattle.kx_tables.specs.declared.rows.EntryRow.{EntryRow}
 use Rattle.kx_tables.specs.declared.rows.KeyRow.{KeyRow}
 use Rattle.kx_tables.specs.declared.rows.TypeRow.{TypeRow}
@@ -31,11 +32,27 @@ pub record NamesLevels (c : Content) (t : TypeRow) : Type 0 where
   pub some : (place : ℕ) (e : EntryRow) → t.first_entry ≤ place → place < t.first_entry + t.entries → slice_get c.entries place ≡ Some e → 1 ≤ e.level
   pub most : (place : ℕ) (e : EntryRow) → t.first_entry ≤ place → place < t.first_entry + t.entries → slice_get c.entries place ≡ Some e → e.level ≤ t.levels
 
--- a choice of a type: the entry that some modifiers choose, which names one of the type's levels
+-- what a type gives under some modifiers: one of its levels, counted from 0, and the modifiers that are used up
+pub record Chooses (c : Content) (t : TypeRow) (mods : ℕ) (choice : Choice) : Type 0 where
+  pub level : choice.level ≡ level_of (entry_for c t mods)
+  pub consumed : mask choice.consumed ≡ consumed_by t (entry_for c t mods)
+  pub within : choice.level < t.levels
+
+-- what a group shows at the level that its type gives, and what the group at a place shows
+abbrev pub shown_at : Content → GroupRow → Choice → Shown
+shown_at c group choice = cell_shows c (mask choice.consumed) (slice_get c.cells (group.first_cell + choice.level))
+
+abbrev pub shown_in : Content → ℕ → ℕ → Shown
+shown_in c place mods = group_shows c mods (slice_get c.groups place)
+
+-- what the type at a place gives
+abbrev pub Gives : Content → ℕ → ℕ → Choice → Type 0
+Gives c place mods choice = (t : TypeRow) → slice_get c.types place ≡ Some t → Chooses c t mods choice
+
+-- a choice of a type: its modifiers, and what it gives under those of them that are set
 pub record IsChoice (c : Content) (t : TypeRow) (choice : Choice) : Type 0 where
-  pub chosen : choice.entry ≡ entry_for c t (mask choice.mods)
-  pub some : IfSome choice.entry (λ e. 1 ≤ e.level)
-  pub most : IfSome choice.entry (λ e. e.level ≤ t.levels)
+  pub of : mask choice.of ≡ mask t.mods
+  pub chosen : Chooses c t (mask choice.mods) choice
 
 -- for each type of tables a choice
 pub record TellsChoices (choices : List Choice) (c : Content) : Type 0 where

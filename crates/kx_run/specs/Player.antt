@@ -26,3 +26,7 @@ pub record IsKept (c : Content) (keys : List (Option KeyRow)) (choices : List Ch
 pub record Followed : Type 0 where
   pub content : Content
   pub status : Status
+
+-- the state of a player is shown as that of another over the same tables
+abbrev pub IsShownAs : Played → Played → Type 0
+IsShownAs before after = status_in (keymap_of before.content) after.world ≡ status_in (keymap_of before.content) before.world

@@ -124,11 +124,6 @@ abbrev pub moved : ℕ → World → ℕ → Direction → Action → World
 moved groups world code Down action = if is_held code world.held then world else pressed groups code action world
 moved groups world code Up action = released groups code world
 
--- whether an event of a known key changes the held keys
-abbrev pub is_moved : World → ℕ → Direction → Bool
-is_moved world code Down = not (is_held code world.held)
-is_moved world code Up = is_held code world.held
-
 -- the action of a key in a state
 abbrev pub action_in : Keymap → World → ℕ → Action
 action_in keymap world code = (keymap.shown code (effective_group keymap.groups world) (effective_mods world)).action

@@ -1,25 +1,46 @@
-//! The entry of a type that was last chosen, kept for the next event.
-ghost use Rattle.std.specs.Prelude.{◌≡◌, ◌≤◌, slice_get, Some, IfOk, IfSome};
+//! What a type last gave, kept for the next event.
+ghost use Rattle.std.specs.Prelude.{◌≡◌, ◌+◌, ◌^◌, ◌<◌, ◌≤◌, length, IfOk};
 ghost use Rattle.kx_mods.specs.Mods.{mask};
-ghost use Rattle.kx_tables.specs.Keymap.{entry_for};
-ghost use Rattle.kx_run.specs.Lookup.{TellsChoices};
+ghost use Rattle.kx_run.specs.Lookup.{Gives, IsChoice, NamesLevels, TellsChoices};
 
-use crate::lookup::find_entry;
+use crate::lookup::{consumed, find_entry, level};
 use kx_mods::Mods;
-use kx_tables::{EntryRow, Tables, TypeRow};
+use kx_tables::{Tables, TypeRow};
 use std::alloc::{AllocError, Global};
 use std::marker::Model;
 
-/// The entry of a type that some modifiers choose.
+/// What a type gives under some modifiers.
 #[derive(Clone, Copy, Debug)]
 pub struct Choice {
-    /// Those of the type's modifiers that are set.
+    /// The type's modifiers.
+    pub of: Mods,
+    /// Those of them that are set.
     pub mods: Mods,
-    /// The entry, if one has these modifiers.
-    pub entry: Option<EntryRow>,
+    /// The level, counted from 0.
+    pub level: u8,
+    /// The modifiers that are used up.
+    pub consumed: Mods,
 }
 
-/// What each type chose last, since most events find the modifiers as the last one left them.
+/// What a type gives under some modifiers.
+pub fn choice_of<T: Tables>(tables: &T, row: TypeRow, mods: Mods) -> Choice
+    requires within { row.first_entry + row.entries ≤ length (T.content tables.now).entries }
+    requires fits { length (T.content tables.now).entries < 2 ^ 32 }
+    requires names { NamesLevels (T.content tables.now) row }
+    requires levels { 1 ≤ row.levels }
+    ensures choice { IsChoice (T.content tables.now) row result }
+    ensures mods { result.mods ≡ mods }
+{
+    let entry = find_entry(tables, row, mods);
+    Choice {
+        of: row.mods,
+        mods,
+        level: level(entry),
+        consumed: consumed(row, entry),
+    }
+}
+
+/// What each type gave last, since most events find the modifiers as the last one left them.
 #[derive(Debug, Drop)]
 pub struct Choices {
     choices: Vec<Choice>,
@@ -35,7 +56,7 @@ impl Model for Choices {
 }
 
 impl Choices {
-    /// What each type chooses where no modifier is set.
+    /// What each type gives where no modifier is set.
     pub fn new<T: Tables>(alloc: Global, tables: &T) -> Result<Choices, AllocError>
         ensures { IfOk result (λ choices. TellsChoices choices (T.content tables.now)) }
     {
@@ -43,39 +64,28 @@ impl Choices {
         let count = tables.counts().types;
         let mut choices = Vec::with_capacity(alloc, usize::from(count))?;
         for index in 0..count {
-            let row = tables.type_row(index);
-            choices.push_reserved(Choice {
-                mods: Mods::NONE,
-                entry: find_entry(tables, row, Mods::NONE),
-            });
+            choices.push_reserved(choice_of(tables, tables.type_row(index), Mods::NONE));
         }
         Ok(Choices { choices })
     }
 
-    /// The entry of a type that effective modifiers choose.
-    pub fn entry<T: Tables>(
-        &mut self,
-        tables: &T,
-        index: u16,
-        row: TypeRow,
-        mods: Mods,
-    ) -> Option<EntryRow>
-        requires row { slice_get (T.content tables.now).types index ≡ Some row }
+    /// What a type gives under effective modifiers. Its row is read only where others of its modifiers are set than
+    /// the last time.
+    pub fn choose<T: Tables>(&mut self, tables: &T, index: u16, mods: Mods) -> Choice
+        requires index { index < length (T.content tables.now).types }
         requires choices { TellsChoices self.old (T.content tables.now) }
-        ensures value { result ≡ entry_for (T.content tables.now) row (mask mods) }
-        ensures some { IfSome result (λ e. 1 ≤ e.level) }
-        ensures most { IfSome result (λ e. e.level ≤ row.levels) }
+        ensures chosen { Gives (T.content tables.now) index (mask mods) result }
         ensures choices { TellsChoices self.new (T.content tables.now) }
     {
         let _sound = tables.key_count();
-        let mods = mods.meet(row.mods);
         let place = usize::from(index);
         let last = self.choices[place];
-        if last.mods.mask() == mods.mask() {
-            return last.entry;
+        let met = mods.meet(last.of);
+        if last.mods.mask() == met.mask() {
+            return last;
         }
-        let entry = find_entry(tables, row, mods);
-        self.choices[place] = Choice { mods, entry };
-        entry
+        let choice = choice_of(tables, tables.type_row(index), met);
+        self.choices[place] = choice;
+        choice
     }
 }

@@ -1,7 +1,8 @@
 //! A key that is down, with the action that it was pressed with.
 ghost use Rattle.std.specs.Prelude.{◌≡◌, ℕ, ◌^◌, ◌<◌, ◌≤◌, ◌≤ℤ◌, false, List, [], ◌∷◌, ◌++◌, slice_index, map, IfOk, IfNone, pos, negsuc};
 ghost use Rattle.kx_mods.specs.Mods.{mask};
-ghost use Rattle.kx_run.specs.Held.{held_mods, base_mods, base_group, count_of, is_group_held, is_held, held_at, other_keys, disturbed, action_size, AreSound, AreAllDisturbed};
+ghost use Rattle.kx_tables.specs.declared.rows.Action.TheVariants.{None as NoAction};
+ghost use Rattle.kx_run.specs.Held.{held_mods, base_mods, base_group, count_of, is_group_held, is_held, held_at, other_keys, disturbed, action_size, AreSound, AreAllDisturbed, AreDistinct};
 ghost use Rattle.kx_basics.specs.declared.limits.TheConstants.{CODES, MOST_GROUPS};
 
 use crate::counts::{Counts, counted, counted_mods, uncounted};
@@ -23,6 +24,13 @@ pub struct HeldKey {
     pub recorded: Mods,
     /// Whether another key was pressed since.
     pub disturbed: bool,
+}
+
+/// Whether an action does anything.
+pub fn acts(action: Action) -> bool
+    ensures { result ≡ false → action ≡ NoAction }
+{
+    !matches!(action, Action::None)
 }
 
 /// The modifiers that an action sets for as long as its key is down.
@@ -114,6 +122,10 @@ impl HeldKeys {
         requires others { AreAllDisturbed self.old }
         ensures { self.new ≡ self.old ++ key ∷ [] }
     {
+        if !acts(key.action) {
+            self.keys.push(key);
+            return;
+        }
         let mods = mods_of(key.action);
         self.counts = counted(self.counts, mods);
         self.mods = self.mods.with(mods);
@@ -127,8 +139,12 @@ impl HeldKeys {
         ensures found { result ≡ held_at code self.old }
         ensures rest { self.new ≡ other_keys code self.old }
         ensures none { IfNone result (self.new ≡ self.old) }
+        ensures distinct { AreDistinct self.old }
     {
         let key = self.keys.take(code)?;
+        if !acts(key.action) {
+            return Some(key);
+        }
         self.counts = uncounted(self.counts, mods_of(key.action));
         self.mods = mods_without(key.action, self.mods, &self.counts, &self.keys);
         self.group = group_without(key.action, self.group, &self.keys);

@@ -1,15 +1,17 @@
 ghost use Rattle.std.specs.Prelude.{◌≡◌, ◌<◌, ◌≤◌, false, IfOk, if◌then◌else◌};
 ghost use Rattle.std.specs.Int.RustNames.{bit_and};
 ghost use Rattle.kx_mods.specs.Mods.{mask};
-ghost use Rattle.kx_run.specs.Held.{is_held, action_size};
+ghost use Rattle.kx_tables.specs.declared.rows.Action.TheVariants.{None as NoAction};
+ghost use Rattle.kx_run.specs.Held.{AreDistinct, action_size, held_at, is_held};
 ghost use Rattle.kx_run.specs.Laws.{IsBounded};
-ghost use Rattle.kx_run.specs.World.{opening, effective_mods, effective_group, press_effect, release_effect, is_moved, latch_mods, latch_group, recorded_mods, pressed, released, moved};
+ghost use Rattle.kx_run.specs.declared.direction.Direction.TheVariants.{Down};
+ghost use Rattle.kx_run.specs.World.{opening, effective_mods, effective_group, press_effect, release_effect, latch_mods, latch_group, recorded_mods, pressed, released, moved};
 ghost use Rattle.kx_run.specs.Replies.{status_of, told};
 ghost use Rattle.kx_basics.specs.declared.limits.TheConstants.{CODES, MOST_GROUPS};
 
 use crate::direction::Direction;
 use crate::group::{difference, effective, locked_after, number_of, sum};
-use crate::held::{HeldKey, HeldKeys};
+use crate::held::{HeldKey, HeldKeys, acts};
 use crate::reply::Components;
 use kx_mods::Mods;
 use kx_tables::Action;
@@ -86,33 +88,75 @@ impl Keyboard {
         }
     }
 
-    /// Whether an event of a known key changes the held keys: a press of a held key and a release of one that is up
-    /// change nothing.
-    pub fn takes(&self, code: u16, direction: Direction) -> bool
-        requires { code < CODES }
-        ensures { result ≡ is_moved self.now code direction }
-    {
-        match direction {
-            Direction::Down => !self.held.is_held(code),
-            Direction::Up => self.held.is_held(code),
-        }
-    }
-
-    /// Applies an event of a known key, whose action in this state is the one given.
-    pub fn apply(&mut self, code: u16, direction: Direction, action: Action, groups: u8)
+    /// Applies an event of a known key, whose action in this state is the one given; whether that may change the
+    /// state as it is shown.
+    pub fn apply(&mut self, code: u16, direction: Direction, action: Action, groups: u8) -> bool
         requires some_group { 1 ≤ groups }
         requires code { code < CODES }
         requires size { action_size action ≤ MOST_GROUPS }
-        ensures { self.new ≡ moved groups self.old code direction action }
+        ensures world { self.new ≡ moved groups self.old code direction action }
+        ensures still { result ≡ false → status_of groups self.new ≡ status_of groups self.old }
+        ensures bounded { IsBounded self.new }
     {
-        match direction {
-            Direction::Down => {
-                if !self.held.is_held(code) {
-                    self.press(code, action, groups);
-                }
-            }
-            Direction::Up => self.release(code, groups),
+        let changes = match direction {
+            Direction::Down => self.down(code, action, groups),
+            Direction::Up => self.up(code, groups),
+        };
+        self.bounds();
+        changes
+    }
+
+    /// No effect: what the keys that are held make sure of.
+    fn bounds(&self)
+        ensures { IsBounded self.now }
+    {
+        let _sound = self.held.group();
+    }
+
+    /// Presses a key, where it is up; whether that may change the state as it is shown.
+    fn down(&mut self, code: u16, action: Action, groups: u8) -> bool
+        requires some_group { 1 ≤ groups }
+        requires code { code < CODES }
+        requires size { action_size action ≤ MOST_GROUPS }
+        ensures world { self.new ≡ moved groups self.old code Down action }
+        ensures still { result ≡ false → status_of groups self.new ≡ status_of groups self.old }
+    {
+        if !self.is_held(code) {
+            let changes = self.changes_by_press(action);
+            self.press(code, action, groups);
+            return changes;
         }
+        false
+    }
+
+    /// Releases a key, where it is down; whether that may change the state as it is shown.
+    fn up(&mut self, code: u16, groups: u8) -> bool
+        requires some_group { 1 ≤ groups }
+        requires code { code < CODES }
+        ensures world { self.new ≡ released groups code self.old }
+        ensures still { result ≡ false → status_of groups self.new ≡ status_of groups self.old }
+    {
+        match self.release(code, groups) {
+            None => false,
+            Some(key) => acts(key.action),
+        }
+    }
+
+    /// Whether a code's key is down.
+    fn is_held(&self, code: u16) -> bool
+        requires { code < CODES }
+        ensures { result ≡ is_held code self.now.held }
+    {
+        self.held.is_held(code)
+    }
+
+    /// Whether a press of a key with this action may change the state as it is shown.
+    fn changes_by_press(&self, action: Action) -> bool
+        ensures action { result ≡ false → action ≡ NoAction }
+        ensures mods { result ≡ false → self.now.latched ≡ 0 }
+        ensures group { result ≡ false → self.now.latched_group ≡ 0 }
+    {
+        acts(action) || !self.latched.is_none() || self.latched_group > 0
     }
 
     /// Presses a key that is up, for which this action was found.
@@ -134,15 +178,17 @@ impl Keyboard {
         self.begin(action, groups);
     }
 
-    /// Releases a key, where it is held.
-    fn release(&mut self, code: u16, groups: u8)
+    /// Releases a key, where it is held; the key as it was held.
+    fn release(&mut self, code: u16, groups: u8) -> Option<HeldKey>
         requires some_group { 1 ≤ groups }
         requires code { code < CODES }
-        ensures { self.new ≡ released groups code self.old }
+        ensures world { self.new ≡ released groups code self.old }
+        ensures key { result ≡ held_at code self.old.held }
+        ensures distinct { AreDistinct self.old.held }
     {
-        if let Some(key) = self.held.take(code) {
-            self.end(key, groups);
-        }
+        let key = self.held.take(code)?;
+        self.end(key, groups);
+        Some(key)
     }
 
     /// What a press does beyond holding its key.

@@ -2,11 +2,11 @@
 ghost use Rattle.std.specs.Prelude.{◌≡◌, ◌+◌, ◌^◌, ◌<◌, ◌≤◌, [], length, slice_get, Some, IfSome};
 ghost use Rattle.kx_mods.specs.Mods.{mask};
 ghost use Rattle.kx_tables.specs.Content.{part};
-ghost use Rattle.kx_tables.specs.Keymap.{key_with, cell_shows, entry_for, level_of, consumed_by, group_shows, key_shows};
+ghost use Rattle.kx_tables.specs.Keymap.{key_with, entry_for, level_of, consumed_by, group_shows, key_shows};
 ghost use Rattle.kx_tables.specs.Sound.{Sound};
-ghost use Rattle.kx_run.specs.Lookup.{found_shows, IsReadable, NamesLevels, TellsChoices};
+ghost use Rattle.kx_run.specs.Lookup.{found_shows, shown_at, shown_in, IsReadable, NamesLevels, TellsChoices};
 
-use crate::choices::Choices;
+use crate::choices::{Choice, Choices, choice_of};
 use arrayvec::ArrayVec;
 use kx_mods::Mods;
 use kx_tables::{Action, CellRow, EntryRow, GroupRow, KeyRow, Tables, TypeRow, wrap_group};
@@ -75,10 +75,7 @@ pub fn look_up_chosen<T: Tables>(
         return Found::NOTHING;
     }
     let place = wrap_group(i64::from(group), key.groups, key.range);
-    let group = tables.group_row(key.first_group + u32::from(place));
-    let row = tables.type_row(group.key_type);
-    let entry = choices.entry(tables, group.key_type, row, mods);
-    level_found(tables, group, row, entry)
+    look_up_group_chosen(tables, choices, key.first_group + u32::from(place), mods)
 }
 
 /// What the group at a place of the table gives at effective modifiers.
@@ -90,29 +87,39 @@ fn look_up_group<T: Tables>(tables: &T, place: u32, mods: Mods) -> Found
 {
     let group = tables.group_row(place);
     let row = tables.type_row(group.key_type);
-    let entry = find_entry(tables, row, mods);
-    level_found(tables, group, row, entry)
+    level_found(tables, group, choice_of(tables, row, mods))
 }
 
-/// What a group gives at the level that an entry of its type names.
-fn level_found<T: Tables>(
+/// The same, where the choices of the types are kept.
+fn look_up_group_chosen<T: Tables>(
     tables: &T,
-    group: GroupRow,
-    row: TypeRow,
-    entry: Option<EntryRow>,
+    choices: &mut Choices,
+    place: u32,
+    mods: Mods,
 ) -> Found
     requires sound { Sound (T.content tables.now) }
-    requires cells { group.first_cell + row.levels ≤ length (T.content tables.now).cells }
-    requires levels { 1 ≤ row.levels }
-    requires some { IfSome entry (λ e. 1 ≤ e.level) }
-    requires most { IfSome entry (λ e. e.level ≤ row.levels) }
-    ensures value { found_shows (T.content tables.now) result ≡ cell_shows (T.content tables.now) (consumed_by row entry) (slice_get (T.content tables.now).cells (group.first_cell + level_of entry)) }
+    requires within { place < length (T.content tables.now).groups }
+    requires choices { TellsChoices choices.old (T.content tables.now) }
+    ensures value { let c = T.content tables.now in found_shows c result ≡ shown_in c place (mask mods) }
+    ensures readable { IsReadable (T.content tables.now) result }
+    ensures choices { TellsChoices choices.new (T.content tables.now) }
+{
+    let group = tables.group_row(place);
+    let choice = choices.choose(tables, group.key_type, mods);
+    level_found(tables, group, choice)
+}
+
+/// What a group gives at the level that its type gives.
+fn level_found<T: Tables>(tables: &T, group: GroupRow, choice: Choice) -> Found
+    requires sound { Sound (T.content tables.now) }
+    requires within { group.first_cell + choice.level < length (T.content tables.now).cells }
+    ensures value { let c = T.content tables.now in found_shows c result ≡ shown_at c group choice }
     ensures readable { IsReadable (T.content tables.now) result }
 {
-    let cell = tables.cell_row(group.first_cell + u32::from(level(entry)));
+    let cell = tables.cell_row(group.first_cell + u32::from(choice.level));
     Found {
         cell,
-        consumed: consumed(row, entry),
+        consumed: choice.consumed,
     }
 }
 
@@ -137,7 +144,7 @@ pub fn find_entry<T: Tables>(tables: &T, row: TypeRow, mods: Mods) -> Option<Ent
 }
 
 /// The level that an entry names, counted from 0; the first without one.
-fn level(entry: Option<EntryRow>) -> u8
+pub fn level(entry: Option<EntryRow>) -> u8
     requires { IfSome entry (λ e. 1 ≤ e.level) }
     ensures { result ≡ level_of entry }
 {
@@ -148,7 +155,7 @@ fn level(entry: Option<EntryRow>) -> u8
 }
 
 /// The modifiers that a type uses up by an entry.
-fn consumed(row: TypeRow, entry: Option<EntryRow>) -> Mods
+pub fn consumed(row: TypeRow, entry: Option<EntryRow>) -> Mods
     ensures { mask result ≡ consumed_by row entry }
 {
     match entry {
@@ -157,7 +164,7 @@ fn consumed(row: TypeRow, entry: Option<EntryRow>) -> Mods
     }
 }
 
-/// Puts the keysyms of a level into an empty list.
+/// Puts the keysyms of a level, mostly one, into an empty list.
 pub fn read_keysyms<T: Tables>(tables: &T, cell: CellRow, syms: &mut ArrayVec<u32, 8>)
     requires few { cell.keysyms ≤ 8 }
     requires within { cell.first_keysym + cell.keysyms ≤ length (T.content tables.now).keysyms }
@@ -165,6 +172,10 @@ pub fn read_keysyms<T: Tables>(tables: &T, cell: CellRow, syms: &mut ArrayVec<u3
     requires empty { syms.old.items ≡ [] }
     ensures { syms.new.items ≡ part (T.content tables.now).keysyms cell.first_keysym cell.keysyms }
 {
+    if cell.keysyms == 1 {
+        syms.push(tables.keysym(cell.first_keysym));
+        return;
+    }
     let last = cell.first_keysym + u32::from(cell.keysyms);
     for place in cell.first_keysym..last {
         syms.push(tables.keysym(place));

@@ -1,7 +1,8 @@
-ghost use Rattle.std.specs.Prelude.{◌≡◌, ◌<◌, ◌≤◌, [], map, IfOk, OnOk, OnErr};
+ghost use Rattle.std.specs.Prelude.{◌≡◌, ◌<◌, ◌≤◌, false, [], map, IfOk, OnOk, OnErr};
 ghost use Rattle.kx_tables.specs.Keymap.{Keymap, keymap_of};
 ghost use Rattle.kx_run.specs.Held.{action_size};
 ghost use Rattle.kx_run.specs.Laws.{Agree, IsBounded, IsLetGo, ReleasesAll};
+ghost use Rattle.kx_run.specs.Player.{IsShownAs};
 ghost use Rattle.kx_run.specs.Replies.{answer, answered, lit_in, run, status_in, told, unknown, world_after};
 ghost use Rattle.kx_run.specs.World.{moved, opening, step};
 ghost use Rattle.kx_basics.specs.declared.limits.TheConstants.{CODES, MOST_GROUPS};
@@ -145,28 +146,31 @@ impl<T: Tables + Drop> Player<T> {
                 read_keysyms(&self.tables, found.cell, &mut reply.syms);
                 reply.known = true;
                 reply.consumed = found.consumed;
-                if !self.keyboard.takes(code, direction) {
-                    return;
+                if self.apply(code, direction, found.cell.action) {
+                    reply.state = self.state;
+                    reply.lit = self.lit;
                 }
-                self.apply(code, direction, found.cell.action);
-                reply.state = self.state;
-                reply.lit = self.lit;
             }
         }
     }
 
-    /// Applies an event of a known key, whose action in this state is the one given.
-    fn apply(&mut self, code: u16, direction: Direction, action: Action)
+    /// Applies an event of a known key, whose action in this state is the one given; whether the state that is shown
+    /// changes.
+    fn apply(&mut self, code: u16, direction: Direction, action: Action) -> bool
         requires code { code < CODES }
         requires size { action_size action ≤ MOST_GROUPS }
-        ensures { self.new ≡ record self.old { world = moved (keymap_of self.old.content).groups self.old.world code direction action } }
+        ensures world { self.new ≡ record self.old { world = moved (keymap_of self.old.content).groups self.old.world code direction action } }
+        ensures still { result ≡ false → IsShownAs self.old self.new }
     {
-        self.keyboard.apply(code, direction, action, self.groups);
+        if !self.keyboard.apply(code, direction, action, self.groups) {
+            return false;
+        }
         let state = self.keyboard.components(self.groups);
         if state == self.state {
-            return;
+            return false;
         }
         self.state = state;
         self.lit = lit(&self.tables, state, self.groups);
+        true
     }
 }

@@ -1,18 +1,12 @@
 use Rattle.std.proofs.Common.{arith}
 use Rattle.kx_tables.proofs.Bounds.{keysyms_within}
 use Rattle.kx_tables.specs.Sound.{CellHolds}
-use Rattle.kx_run.proofs.TableReads.{action_size-holds, level_within}
+use Rattle.kx_run.proofs.TableReads.{action_size-holds}
 use Rattle.kx_run.proofs.lookup.level_found.Goals as goal
 
 pub overflow_add-group : goal.overflow_add-group
 overflow_add-group g c =
-    let level = level_within c.args.entry c.args.row.levels c.requires.levels c.requires.some c.requires.most in
-    record { fits = omega (arith, c.from.ensures, c.level.ensures, c.requires.cells, c.requires.sound.counts.cells_fit) }
-
-pub cell_row-cell-requires : goal.cell_row-cell-requires
-cell_row-cell-requires g c =
-    let level = level_within c.args.entry c.args.row.levels c.requires.levels c.requires.some c.requires.most in
-    omega (arith, c.from.ensures, c.level.ensures, c.requires.cells)
+    record { fits = omega (arith, c.from.ensures, c.requires.within, c.requires.sound.counts.cells_fit) }
 
 pub returns-clause-readable : goal.returns-clause-readable
 returns-clause-readable g c =

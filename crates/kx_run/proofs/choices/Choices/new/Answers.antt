@@ -1,31 +1,35 @@
 use Rattle.std.proofs.Common.{◌≡◌, ◌+◌, ◌∙◌, ap, arith, get_or, length, length-append, subst, sym}
 use Rattle.std.proofs.lemmas.Option.{slice_get_within}
 use Rattle.kx_tables.proofs.Bounds.{entries_within}
+use Rattle.kx_tables.specs.Sound.{TypeHolds}
 use Rattle.kx_tables.specs.declared.tables.Counts.{Counts}
 use Rattle.kx_run.proofs.TableReads.{names_levels}
 use Rattle.kx_run.proofs.TypeChoices.{choice_push}
 use Rattle.kx_run.specs.Lookup.{IsChoice}
-use Rattle.kx_run.specs.declared.choices.Choice.{Choice}
 use Rattle.kx_run.proofs.choices.Choices.new.Goals as goal
 
-pub find_entry-requires-clause-within : goal.find_entry-requires-clause-within
-find_entry-requires-clause-within g c =
-    entries_within (g.T.Rows.content c.args.tables.now) c.key_count-sound.ensures.sound _ c.type_row-row.result c.type_row-row.ensures
+pub choice_of-requires-clause-within : goal.choice_of-requires-clause-within
+choice_of-requires-clause-within g c =
+    entries_within (g.T.Rows.content c.args.tables.now) c.key_count-sound.ensures.sound _ c.type_row.result c.type_row.ensures
 
-pub find_entry-requires-clause-levels : goal.find_entry-requires-clause-levels
-find_entry-requires-clause-levels g c =
-    names_levels (g.T.Rows.content c.args.tables.now) _ c.type_row-row.result c.key_count-sound.ensures.sound c.type_row-row.ensures
+pub choice_of-requires-clause-names : goal.choice_of-requires-clause-names
+choice_of-requires-clause-names g c =
+    names_levels (g.T.Rows.content c.args.tables.now) _ c.type_row.result c.key_count-sound.ensures.sound c.type_row.ensures
+
+pub choice_of-requires-clause-levels : goal.choice_of-requires-clause-levels
+choice_of-requires-clause-levels g c =
+    let holds : TypeHolds (g.T.Rows.content c.args.tables.now) _ c.type_row.result = c.key_count-sound.ensures.sound.types _ c.type_row.result c.type_row.ensures in
+    holds.some_level
 
 pub loop-index-preserved : goal.loop-index-preserved
 loop-index-preserved g c =
     let content = g.T.Rows.content c.args.tables.now in
     let items = c.loop-index.choices.items in
-    let row = c.type_row-row.result in
-    let choice : Choice = record { mods = record { 0 = 0 }; entry = c.find_entry.result } in
-    let holds : IsChoice content row choice = record { chosen = c.find_entry.ensures.value; some = c.find_entry.ensures.some; most = c.find_entry.ensures.most } in
+    let row = c.type_row.result in
+    let choice = c.choice_of.result in
     let pushed = c.push_reserved.ensures.items in
     record {
-      each = λ i t d within read. subst (λ cs. IsChoice content t (get_or cs i d)) (sym pushed) (choice_push content items c.loop-index.index row choice c.loop-index.invariant.long c.loop-index.invariant.each c.type_row-row.ensures holds i t d within read);
+      each = λ i t d within read. subst (λ cs. IsChoice content t (get_or cs i d)) (sym pushed) (choice_push content items c.loop-index.index row choice c.loop-index.invariant.long c.loop-index.invariant.each c.type_row.ensures c.choice_of.ensures.choice i t d within read);
       long = ap length pushed ∙ length-append items _ ∙ ap (λ n. n + 1) c.loop-index.invariant.long;
       room = omega (arith, c.push_reserved.ensures.capacity, c.loop-index.invariant.room);
     }

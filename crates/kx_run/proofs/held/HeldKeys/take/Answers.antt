@@ -1,7 +1,7 @@
 use Rattle.std.proofs.Common.{◌≡◌, ◌∙◌, ap, subst, sym}
 use Rattle.std.specs.Prelude.{IfNone}
-use Rattle.kx_run.specs.Held.{AreSound, base_group, base_mods, count_of}
-use Rattle.kx_run.proofs.HeldLists.{AreSound-remove, count_left, counted_one, group_left, kept_group, others_none, mods_left, place_in, stands_at}
+use Rattle.kx_run.specs.Held.{AreSound, base_group, base_mods, count_of, held_mods, is_group_held}
+use Rattle.kx_run.proofs.HeldLists.{AreSound-remove, count_left, count_left_none, counted_one, group_left, kept_group, others_none, mods_left, place_in, stands_at}
 use Rattle.kx_run.proofs.held.HeldKeys.take.Goals as goal
 
 pub returns-in_err-key-clause-none : goal.returns-in_err-key-clause-none
@@ -72,4 +72,19 @@ invariant_of-self-2 c =
           ∙ ap (count_of bit) (sym left);
       mods = c.mods_without-self-inside.ensures;
       group = kept_group c.take.new.self _ sound c.group_without-self-inside.ensures;
+    }
+
+pub invariant_of-self-then-not-acts : goal.invariant_of-self-then-not-acts
+invariant_of-self-then-not-acts c =
+    let keys = c.self.inside.keys in
+    let key = c.in_ok-key.key in
+    let place = place_in c.args.code keys in
+    let at = stands_at c.args.code keys key c.self.invariant.sound.distinct (sym c.in_ok-key.ensures.found) in
+    let left = c.take.ensures.rest ∙ at.left in
+    let plain = c.acts.ensures c.if-not-acts.true in
+    record {
+      sound = subst AreSound (sym left) (AreSound-remove keys place at.within c.self.invariant.sound);
+      counts = λ bit small. count_left_none bit keys place key _ at.within at.read (ap held_mods plain) (c.self.invariant.counts bit small) ∙ ap (count_of bit) (sym left);
+      mods = c.self.invariant.mods ∙ sym (mods_left keys place key at.within at.read (ap held_mods plain)) ∙ ap base_mods (sym left);
+      group = c.self.invariant.group ∙ sym (group_left keys place key at.within at.read (ap is_group_held plain)) ∙ ap base_group (sym left);
     }
