@@ -1,11 +1,14 @@
 //! The names that statements of indicators write.
-ghost use Rattle.std.specs.Prelude.{◌≡◌, length, option_to_list, slice_get};
+ghost use Rattle.std.specs.Prelude.{◌≡◌, IfErr, OnOk, option_to_list};
 ghost use Rattle.std.specs.Option.{option_map};
 ghost use Rattle.kx_indicators.specs.Blocks.{indicator_in, indicator_map_names};
+ghost use Rattle.kx_lex.specs.declared.fault.Fault.TheVariants.{Memory};
+ghost use Rattle.kx_virtual_mods.specs.Counted.{with_names};
 
-use kx_lex::{Name, Row};
+use kx_lex::{Fault, Name, Row};
 use kx_parse::{Field, Item, Statement};
-use kx_virtual_mods::Naming;
+use kx_virtual_mods::{Names, Naming};
+use std::alloc::Global;
 
 /// The name and the fields of an indicator.
 pub(crate) fn indicator_in(statement: &Statement) -> Option<(&Name, &Row<Field>)>
@@ -45,21 +48,13 @@ pub struct IndicatorMapNaming;
 impl Naming for IndicatorMapNaming {
     ghost names = { indicator_map_names };
 
-    fn count(item: &Item) -> usize
-        ensures { result ≡ length (indicator_map_names item.now) }
+    fn add(alloc: Global, others: &mut Names, item: &Item) -> Result<(), Fault>
+        ensures added { OnOk result (others.new ≡ with_names others.old (indicator_map_names item.now)) }
+        ensures err { IfErr result (λ e. e ≡ Memory) }
     {
         match written_name(item) {
-            None => 0,
-            Some(_) => 1,
+            None => Ok(()),
+            Some(name) => others.add(alloc, name),
         }
-    }
-
-    fn name(item: &Item, place: usize) -> Option<&[u8]>
-        ensures { option_map (λ n. n.now) result ≡ slice_get (indicator_map_names item.now) place }
-    {
-        if place > 0 {
-            return None;
-        }
-        written_name(item)
     }
 }

@@ -1,11 +1,15 @@
 //! The names that type statements write.
-ghost use Rattle.std.specs.Prelude.{◌≡◌, length, option_to_list, slice_get};
+ghost use Rattle.std.specs.Prelude.{◌≡◌, IfErr, OnOk, option_to_list};
 ghost use Rattle.std.specs.Option.{option_map};
+ghost use Rattle.kx_lex.specs.declared.fault.Fault.TheVariants.{Memory};
 ghost use Rattle.kx_types.specs.Types.{type_names};
+ghost use Rattle.kx_virtual_mods.specs.Counted.{with_names};
 
 use crate::declared::type_in;
+use kx_lex::Fault;
 use kx_parse::Item;
-use kx_virtual_mods::Naming;
+use kx_virtual_mods::{Names, Naming};
+use std::alloc::Global;
 
 /// The names of types.
 pub(crate) struct TypeNaming;
@@ -13,22 +17,14 @@ pub(crate) struct TypeNaming;
 impl Naming for TypeNaming {
     ghost names = { type_names };
 
-    fn count(item: &Item) -> usize
-        ensures { result ≡ length (type_names item.now) }
+    fn add(alloc: Global, others: &mut Names, item: &Item) -> Result<(), Fault>
+        ensures added { OnOk result (others.new ≡ with_names others.old (type_names item.now)) }
+        ensures err { IfErr result (λ e. e ≡ Memory) }
     {
         match written_name(item) {
-            None => 0,
-            Some(_) => 1,
+            None => Ok(()),
+            Some(name) => others.add(alloc, name),
         }
-    }
-
-    fn name(item: &Item, place: usize) -> Option<&[u8]>
-        ensures { option_map (λ n. n.now) result ≡ slice_get (type_names item.now) place }
-    {
-        if place > 0 {
-            return None;
-        }
-        written_name(item)
     }
 }
 

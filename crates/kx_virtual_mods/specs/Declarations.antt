@@ -34,9 +34,13 @@ abbrev pub declarations_of : Item → List Declaration
 declarations_of (Statement mode statement first span) = declarations_in statement
 declarations_of (Include mode text span) = []
 
+-- what a declaration names; a word for real modifiers is no virtual one
+abbrev pub named_by : Declaration → List (List ℕ)
+named_by d = if is_some (real_mask d.word.bytes) then [] else d.word.bytes ∷ []
+
 -- the virtual modifiers that a statement names
 abbrev pub named_in : Item → List (List ℕ)
-named_in item = map (λ (d : Declaration). d.word.bytes) (declarations_of item)
+named_in item = flat_map named_by (declarations_of item)
 
 -- what a declaration gives: its number, and the mask where it writes one
 abbrev pub Given : Type 0

@@ -1,6 +1,5 @@
 //! The names that the statements of bodies write.
-ghost use Rattle.std.specs.Prelude.{◌≡◌, ◌≤◌, ◌∷◌, [], ℕ, Contains, IfErr, IfOk, List, OnOk, false, length, option_to_list, slice_get, slice_set, take, true, unwrap_or};
-ghost use Rattle.std.specs.Option.{option_map};
+ghost use Rattle.std.specs.Prelude.{◌≡◌, ◌≤◌, ◌∷◌, [], ℕ, Contains, IfErr, IfOk, List, OnOk, false, length, slice_get, slice_set, take, true, unwrap_or};
 ghost use Rattle.kx_include.specs.Shared.{body_at, expanded_body};
 ghost use Rattle.kx_parse.specs.declared.tree.Item.{Item as ItemValue};
 ghost use Rattle.kx_lex.specs.declared.fault.Fault.TheVariants.{Memory};
@@ -17,13 +16,10 @@ use std::alloc::Global;
 pub trait Naming {
     ghost names: { ItemValue → List (List ℕ) };
 
-    /// How many names a statement writes.
-    fn count(item: &Item) -> usize
-        ensures { result ≡ length (names item.now) };
-
-    /// The name at a place among those that a statement writes, counted from 0.
-    fn name(item: &Item, place: usize) -> Option<&[u8]>
-        ensures { option_map (λ n. n.now) result ≡ slice_get (names item.now) place };
+    /// Adds the names of a statement to others.
+    fn add(alloc: Global, others: &mut Names, item: &Item) -> Result<(), Fault>
+        ensures added { OnOk result (others.new ≡ with_names others.old (names item.now)) }
+        ensures err { IfErr result (λ e. e ≡ Memory) };
 }
 
 /// The whole of a statement, from its mode to its `;`.
@@ -64,28 +60,6 @@ impl Tally {
     }
 }
 
-/// Adds a name of a statement, where there is one.
-fn add_name(alloc: Global, names: &mut Names, name: Option<&[u8]>) -> Result<(), Fault>
-    ensures added { OnOk result (names.new ≡ with_names names.old (option_to_list (option_map (λ n. n.now) name.entry))) }
-    ensures err { IfErr result (λ e. e ≡ Memory) }
-{
-    match name {
-        None => Ok(()),
-        Some(name) => names.add(alloc, name),
-    }
-}
-
-/// Adds the names of a statement.
-fn add_names<N: Naming>(alloc: Global, names: &mut Names, item: &Item) -> Result<(), Fault>
-    ensures added { OnOk result (names.new ≡ with_names names.old (N.names item.now)) }
-    ensures err { IfErr result (λ e. e ≡ Memory) }
-{
-    'places: for place in 0..N::count(item) {
-        add_name(alloc, names, N::name(item, place))?;
-    }
-    Ok(())
-}
-
 /// Adds the names of a statement, of which there may be no more than a limit then.
 fn add_statement<N: Naming>(
     alloc: Global,
@@ -98,7 +72,7 @@ fn add_statement<N: Naming>(
     ensures few { OnOk result (length names.new ≤ limit) }
     ensures fault { IfErr result (λ e. Contains (Memory ∷ crossing N.names limit names.old ((place, item.now) ∷ [])) e) }
 {
-    add_names::<N>(alloc, names, item)?;
+    N::add(alloc, names, item)?;
     if names.len() > limit {
         return Err(Fault::TooMany(At {
             file: place.file,

@@ -1,5 +1,5 @@
 //! What statements declare of virtual modifiers.
-ghost use Rattle.std.specs.Prelude.{◌≡◌, ◌==◌, ◌++◌, ◌∷◌, [], ℕ, Contains, IfErr, IfOk, None, OnOk, fold, length, map, nat_eq, slice_get, unwrap_or, if◌then◌else◌};
+ghost use Rattle.std.specs.Prelude.{◌≡◌, ◌==◌, ◌++◌, ◌∷◌, [], ℕ, Contains, IfErr, IfOk, None, OnOk, fold, map, nat_eq, unwrap_or, if◌then◌else◌};
 ghost use Rattle.std.specs.List.{flat_map, list_any};
 ghost use Rattle.std.specs.Option.{option_or, option_map};
 ghost use Rattle.std.proofs.Common.{◌∙◌, ap, eqb-true, sym};
@@ -8,7 +8,8 @@ ghost use Rattle.kx_merge.specs.Moved.{moved_key, moved_value, moved_width};
 ghost use Rattle.kx_merge.specs.Offers.{taken, widened, with_name};
 ghost use Rattle.kx_merge.specs.Records.{AreOffered, mode_of};
 ghost use Rattle.kx_parse.specs.declared.tree.Mode.{Mode as ModeValue};
-ghost use Rattle.kx_virtual_mods.specs.Declarations.{declaration_faults, declarations_in, declarations_of, declared_faults, given_by, given_in, item_faults, item_offers, last_mask, mask_moves, mask_offer, mask_offers, mask_rules, name_faults, named_in, numbers_of};
+ghost use Rattle.kx_virtual_mods.specs.Declarations.{declaration_faults, declarations_in, declarations_of, declared_faults, given_by, given_in, item_faults, item_offers, last_mask, mask_moves, mask_offer, mask_offers, mask_rules, name_faults, named_by, named_in, numbers_of};
+ghost use Rattle.kx_virtual_mods.specs.Counted.{with_names};
 ghost use Rattle.kx_virtual_mods.specs.Masks.{mask_set, virtual_number};
 ghost use Rattle.kx_virtual_mods.specs.Records.{declared_cell, declared_width};
 
@@ -55,22 +56,37 @@ fn declarations_of(item: &Item) -> &[Declaration]
     }
 }
 
+/// Adds the virtual modifier that a declaration names.
+fn add_one(alloc: Global, names: &mut Names, declaration: &Declaration) -> Result<(), Fault>
+    ensures added { OnOk result (names.new ≡ with_names names.old (named_by declaration.now)) }
+    ensures err { IfErr result (λ e. e ≡ Memory) }
+{
+    let word = declaration.word.bytes.as_slice();
+    match real_mask(word) {
+        Some(_) => Ok(()),
+        None => names.add(alloc, word),
+    }
+}
+
+/// Adds the virtual modifiers that declarations name.
+fn add_declared(alloc: Global, names: &mut Names, declarations: &[Declaration]) -> Result<(), Fault>
+    ensures added { OnOk result (names.new ≡ with_names names.old (flat_map named_by declarations.now)) }
+    ensures err { IfErr result (λ e. e ≡ Memory) }
+{
+    'declarations: for declaration in declarations {
+        add_one(alloc, names, declaration)?;
+    }
+    Ok(())
+}
+
 impl Naming for Declared {
     ghost names = { named_in };
 
-    fn count(item: &Item) -> usize
-        ensures { result ≡ length (named_in item.now) }
+    fn add(alloc: Global, others: &mut Names, item: &Item) -> Result<(), Fault>
+        ensures added { OnOk result (others.new ≡ with_names others.old (named_in item.now)) }
+        ensures err { IfErr result (λ e. e ≡ Memory) }
     {
-        declarations_of(item).len()
-    }
-
-    fn name(item: &Item, place: usize) -> Option<&[u8]>
-        ensures { option_map (λ n. n.now) result ≡ slice_get (named_in item.now) place }
-    {
-        match declarations_of(item).get(place) {
-            None => None,
-            Some(declaration) => Some(declaration.word.bytes.as_slice()),
-        }
+        add_declared(alloc, others, declarations_of(item))
     }
 }
 

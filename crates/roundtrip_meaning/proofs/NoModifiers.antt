@@ -1,5 +1,5 @@
 -- There are no virtual modifiers in what is printed.
-use Rattle.std.proofs.Common.{◌≡◌, ℕ, nat_eq, nat_lt, cond, List, [], ◌∷◌, ◌++◌, length, map, fold, refl, ap, ap₂, ◌∙◌}
+use Rattle.std.proofs.Common.{◌≡◌, ℕ, nat_eq, nat_lt, cond, List, [], ◌∷◌, ◌++◌, length, fold, refl, ap, ap₂, ◌∙◌}
 use Rattle.std.specs.List.{flat_map}
 use Rattle.std.specs.Str.{bytes_eq}
 use Rattle.kx_builder.specs.IndicatorMaps.{ResolvedIndicator}
@@ -10,7 +10,7 @@ use Rattle.kx_include.specs.declared.place.Place.{Place}
 use Rattle.kx_lex.specs.declared.fault.Fault.{Fault}
 use Rattle.kx_lex.specs.declared.fault.Fault.TheVariants.{TooMany}
 use Rattle.kx_virtual_mods.specs.Counted.{Said, Text, statements_of, all_statements, names_with, crossing, whole_span}
-use Rattle.kx_virtual_mods.specs.Declarations.{declarations_in, declarations_of, named_in, declaration_faults, mask_rules, modifier_faults, virtual_names}
+use Rattle.kx_virtual_mods.specs.Declarations.{declarations_in, declarations_of, named_by, named_in, declaration_faults, mask_rules, modifier_faults, virtual_names}
 use Rattle.kx_virtual_mods.specs.declared.limits.TheConstants.{MOST_VIRTUAL_MODIFIERS}
 use Rattle.kx_merge.specs.Bodies.{faults_of, faults, no_moves}
 use Rattle.kx_merge.specs.Offers.{with_name}
@@ -40,7 +40,7 @@ body_silent b ends = tt
 body_silent b (own place is each) = own_silent place is each
 
 abbrev named_of : List Declaration → List Text
-named_of ds = map (λ (d : Declaration). d.word.bytes) ds
+named_of ds = flat_map named_by ds
 
 silent_names : (before : List Text) (saids : List Said) → AreSilent saids → fold (names_with named_in) before saids ≡ before
 silent_names before [] each = refl
