@@ -32,15 +32,10 @@ use Rattle.kx_actions.specs.declared.settings.Given.{Given}
 use Rattle.kx_actions.specs.declared.settings.Settings.{Settings}
 
 -- a field as it is named, by a word with an index or without, and its setting
-pub record Member : Type 0 where
-  pub word : Name
-  pub index : Option Index
-  pub setting : Setting
-
-abbrev pub named : Argument → Option Member
-named (arguments.Off word) = Some (record { word = word; index = None; setting = Off })
-named (arguments.Set word index value) = Some (record { word = word; index = index; setting = To (Expressed value) })
-named (arguments.Plain e) = option_map (λ word. record { word = word; index = None; setting = On }) (lone_word e)
+abbrev pub named : Argument → Option (Name × Option Index × Setting)
+named (arguments.Off word) = Some (word, None, Off)
+named (arguments.Set word index value) = Some (word, index, To (Expressed value))
+named (arguments.Plain e) = option_map (λ word. (word, None, On)) (lone_word e)
 
 -- absent modifiers are none, an absent group is a change by 0, an absent affect is both, absent flags are false
 abbrev pub action_with : ActionKind → Settings → KeyAction
@@ -56,15 +51,15 @@ module _ (names : List (List ℕ)) where
   -- each field has what the call's last argument for it gives, else its default; an action of an unknown name has no effect
   abbrev pub action_for : ActionDefaults → List PlacedArgument → Option ActionKind → KeyAction
   action_for d xs None = actions.Other
-  action_for d xs (Some kind) = action_with kind (last_settings (λ a. option_and_then (λ n. member_given names kind n.word n.index n.setting) (named a.argument)) (settings_for d kind) xs)
+  action_for d xs (Some kind) = action_with kind (last_settings (λ a. option_and_then (λ n. member_given names kind n.0 n.1 n.2) (named a.argument)) (settings_for d kind) xs)
 
   abbrev pub action_of : ActionDefaults → Call → KeyAction
   action_of d call = action_for d call.arguments (among kind_words call.word.bytes)
 
 module _ (file : ℕ) (names : List (List ℕ)) where
-  abbrev pub named_faults : ActionKind → Span → Option Member → List Fault
+  abbrev pub named_faults : ActionKind → Span → Option (Name × Option Index × Setting) → List Fault
   named_faults kind whole None = BadValue (at file whole) ∷ []
-  named_faults kind whole (Some n) = member_faults file names kind n.word n.index whole n.setting
+  named_faults kind whole (Some n) = member_faults file names kind n.0 n.1 whole n.2
 
   abbrev pub argument_faults : ActionKind → PlacedArgument → List Fault
   argument_faults kind a = named_faults kind a.span (named a.argument)
@@ -80,4 +75,4 @@ module _ (file : ℕ) (names : List (List ℕ)) where
 -- ---- Under names, for clauses and proofs
 
 abbrev pub argument_given : (names : List (List ℕ)) → ActionKind → PlacedArgument → Option Given
-argument_given names kind a = option_and_then (λ n. member_given names kind n.word n.index n.setting) (named a.argument)
+argument_given names kind a = option_and_then (λ n. member_given names kind n.0 n.1 n.2) (named a.argument)

@@ -4,9 +4,8 @@ use Rattle.std.specs.Option.{option_and_then, option_map_or}
 use Rattle.kx_include.specs.IncludeFaults.{at}
 use Rattle.kx_lex.specs.declared.fault.Fault.{Fault}
 use Rattle.kx_lex.specs.declared.fault.Fault.TheVariants.{UnknownField}
-use Rattle.kx_lex.specs.declared.name.Name.{Name}
 use Rattle.kx_parse.specs.declared.tree.Field.{Field}
-use Rattle.kx_actions.specs.Settings.{last_settings, no_settings, with_given}
+use Rattle.kx_actions.specs.Settings.{each_last, no_settings, with_given}
 use Rattle.kx_actions.specs.Values.{member_faults, member_given}
 use Rattle.kx_merge.specs.Words.{among}
 use Rattle.kx_actions.specs.Words.{kind_words}
@@ -66,7 +65,7 @@ module _ (names : List (List ℕ)) where
 
   -- what default statements give an action: each of its fields has what the last of those gives that give it anything
   abbrev pub defaulted : List Field → ActionKind → Settings
-  defaulted statements kind = last_settings (default_given kind) no_settings statements
+  defaulted statements kind = each_last (default_given kind) no_settings statements
 
   -- the defaults after one more statement
   abbrev pub next_defaults : ActionDefaults → Field → ActionDefaults
@@ -77,12 +76,12 @@ module _ (names : List (List ℕ)) where
   defaults_behind statements = fold next_defaults no_defaults statements
 
 module _ (file : ℕ) (names : List (List ℕ)) (field : Field) where
-  abbrev pub member_default_faults : Name → List Fault
-  member_default_faults member = option_map_or (λ kind. member_faults file names kind member field.place.index field.span field.setting) (kind_of field) (UnknownField (at file field.place.word.span) ∷ [])
+  abbrev pub unknown_faults : List Fault
+  unknown_faults = UnknownField (at file field.place.word.span) ∷ []
 
   -- of a field as a default for an action
   abbrev pub default_faults : List Fault
-  default_faults = option_map_or member_default_faults field.place.member (UnknownField (at file field.place.word.span) ∷ [])
+  default_faults = option_map_or (λ member. option_map_or (λ kind. member_faults file names kind member field.place.index field.span field.setting) (kind_of field) unknown_faults) field.place.member unknown_faults
 
 -- ---- Under names, for clauses and proofs
 

@@ -17,13 +17,10 @@ use Rattle.kx_merge.specs.declared.numbers.Counted.TheVariants.{Group}
 abbrev pub Written : Type 0
 Written = Option Sign × ℕ
 
-abbrev pub unsigned : ℕ → Written
-unsigned n = (None, n)
-
 abbrev pub term_written : Term → Option Written
 term_written (Signed signed) = Some (Some signed.sign, signed.number.value)
-term_written (Number number) = Some (unsigned number.value)
-term_written (Word word) = option_map unsigned (word_number Group word.bytes)
+term_written (Number number) = Some (None, number.value)
+term_written (Word word) = option_map (λ n. (None, n)) (word_number Group word.bytes)
 term_written _ = None
 
 abbrev pub written : Expression → Option Written

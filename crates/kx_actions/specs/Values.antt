@@ -63,11 +63,8 @@ module _ (names : List (List ℕ)) where
   setting_given field (To _) = None
 
 -- a field of an action takes no index
-abbrev pub unindexed : Option Index → Option ActionField → Option ActionField
-unindexed index field = if is_some index then None else field
-
 abbrev pub known_field : ActionKind → Name → Option Index → Option ActionField
-known_field kind word index = unindexed index (field_of kind word.bytes)
+known_field kind word index = if is_some index then None else field_of kind word.bytes
 
 -- what an action's field, named by a word with an index or without, is given by a setting
 abbrev pub member_given : List (List ℕ) → ActionKind → Name → Option Index → Setting → Option Given
