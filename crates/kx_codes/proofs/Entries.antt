@@ -18,7 +18,7 @@ pub name_coded : (es : List (ℕ × List ℕ)) (code : ℕ) → name_in (coded e
 name_coded [] code = refl
 name_coded (e ∷ es) code = ap (cond (nat_eq code e.0) (Some e.1)) (name_coded es code)
 
-flip : {N : Type 0} (eq : N → N → Bool) → ((x y : N) → Decides (eq x y) (x ≡ y)) → (x y : N) → eq x y ≡ eq y x
+pub flip : {N : Type 0} (eq : N → N → Bool) → ((x y : N) → Decides (eq x y) (x ≡ y)) → (x y : N) → eq x y ≡ eq y x
 flip eq d x y = bool_same (eq x y) (eq y x) (λ h. (d y x).1 (sym ((d x y).0 h))) (λ h. (d x y).1 (sym ((d y x).0 h)))
 
 module _ {K V N : Type 0} (f : K → N) (eq : N → N → Bool) (d : (x y : N) → Decides (eq x y) (x ≡ y)) where

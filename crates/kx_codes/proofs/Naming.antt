@@ -2,21 +2,21 @@
 use Rattle.std.proofs.Common.{◌≡◌, ℕ, ◌+◌, zero, suc, Bool, true, false, cond, ◌||◌, List, [], ◌∷◌, ◌++◌, None, Some, is_some, take, refl, sym, ap, ◌∙◌, subst, nat_eq}
 use Rattle.std.proofs.lemmas.Bool.{false≢true}
 use Rattle.std.proofs.lemmas.List.{take_more}
+use Rattle.std.proofs.lemmas.Slice.Eq.{bytes_eq-Decides}
 use Rattle.std.specs.Cmp.{unsigned_Decides}
 use Rattle.std.specs.List.{list_any, slice_get}
-use Rattle.std.specs.Map.{lookup}
 use Rattle.std.specs.Str.{bytes_eq}
-use Rattle.std.specs.Cmp.Lexicographic.{nat_list_eq_equiv}
-use Rattle.kx_codes.proofs.Entries.{code_named}
+use Rattle.indexmap.specs.IndexMap.{insert_entry}
+use Rattle.kx_codes.proofs.Entries.{flip, name_coded}
 use Rattle.kx_codes.proofs.Distinct.{first_of, second_of, no_first, no_second, neither_of, shares_sym}
 use Rattle.kx_codes.proofs.Matching.{some_same}
 use Rattle.kx_codes.proofs.Numbering.{name_back, numbered_push, same_any}
 use Rattle.kx_codes.proofs.Standing.{got_at, shares-split, within_at}
 use Rattle.kx_codes.specs.Indexed.{Indexed, Stands, distinct}
 use Rattle.kx_codes.specs.Numbers.{AreNumbered, IsNumbered, IsOnce, StandsIn, number}
-use Rattle.kx_codes.specs.Codes.{named}
+use Rattle.kx_codes.specs.Codes.{coded}
 use Rattle.kx_codes.specs.Pairs.{Pair, shares, code_in, name_in}
-use Rattle.kx_ordered.proofs.KeyPlaces.{looked_pushed}
+use Rattle.kx_ordered.proofs.KeyPlaces.{insert_absent, unplaced}
 
 any_at : (test : Pair → Bool) (vs : List Pair) (i : ℕ) (v : Pair) → list_any test vs ≡ false → slice_get vs i ≡ Some v → test v ≡ false
 any_at test [] i v h is = absurd (false≢true (ap is_some is))
@@ -56,7 +56,7 @@ module _ (names : List (List ℕ)) (once : IsOnce names) (x old new : Indexed) (
         puts back.0 v.code back.1 before.0 (is ∙ ap Some same) back.3 before.2 none,
       )
 
--- ---- Names after others
+-- ---- A pair that shares nothing with others
 
 absent : (name : List ℕ) (ps : List Pair) → list_any (λ q. bytes_eq name q.name) ps ≡ false → code_in ps name ≡ None
 absent name [] h = refl
@@ -66,13 +66,41 @@ absent name (p ∷ ps) h = by (bytes_eq name p.name) (list_any (λ q. bytes_eq n
     by true c h rest = absurd (false≢true (sym h))
     by false c h rest = rest h
 
--- a name that no pair shares has no code
-pub absent_named : (x : Indexed) (ps : List Pair) (name : List ℕ) (code : ℕ) → Stands x ps → list_any (shares (record { name = name; code = code })) ps ≡ false → code_in x.by_name name ≡ None
-absent_named x ps name code s none = s.codes_are name ∙ absent name ps (first_of (list_any (λ q. bytes_eq name q.name) ps) (list_any (λ q. nat_eq code q.code) ps) (sym (shares-split (record { name = name; code = code }) ps) ∙ none))
+uncoded : (code : ℕ) (ps : List Pair) → list_any (λ q. nat_eq code q.code) ps ≡ false → name_in ps code ≡ None
+uncoded code [] h = refl
+uncoded code (p ∷ ps) h = by (nat_eq code p.code) (list_any (λ q. nat_eq code q.code) ps) h (uncoded code ps)
+  where
+    by : (b c : Bool) → (b || c) ≡ false → (c ≡ false → name_in ps code ≡ None) → cond b (Some p.name) (name_in ps code) ≡ None
+    by true c h rest = absurd (false≢true (sym h))
+    by false c h rest = rest h
 
--- what entries show with one more after them
-pub named_pushed : (key name : List ℕ) → key ≡ name → (code : ℕ) (es new : List (List ℕ × ℕ)) → new ≡ es ++ (key, code) ∷ [] → code_in (named (λ k. k) es) name ≡ None → (n : List ℕ) → code_in (named (λ k. k) new) n ≡ cond (bytes_eq name n) (Some code) (code_in (named (λ k. k) es) n)
-named_pushed key name same code es new is none n =
-    code_named (λ k. k) new n ∙ ap (lookup (bytes_eq n)) (is ∙ ap (λ k. es ++ (k, code) ∷ []) same)
-    ∙ looked_pushed bytes_eq nat_list_eq_equiv es (name, code) (sym (code_named (λ k. k) es name) ∙ none) n
-    ∙ ap (cond (bytes_eq name n) (Some code)) (sym (code_named (λ k. k) es n))
+module _ (x : Indexed) (ps : List Pair) (name : List ℕ) (code : ℕ) (s : Stands x ps) (none : list_any (shares (record { name = name; code = code })) ps ≡ false) where
+  abbrev neither : (list_any (λ q. bytes_eq name q.name) ps || list_any (λ q. nat_eq code q.code) ps) ≡ false
+  neither = sym (shares-split (record { name = name; code = code }) ps) ∙ none
+
+  -- its name has no code
+  pub absent_named : code_in x.by_name name ≡ None
+  absent_named = s.codes_are name ∙ absent name ps (first_of (list_any (λ q. bytes_eq name q.name) ps) (list_any (λ q. nat_eq code q.code) ps) neither)
+
+  -- its code has no name
+  pub absent_code : name_in x.by_code code ≡ None
+  absent_code = s.names_are code ∙ uncoded code ps (second_of (list_any (λ q. bytes_eq name q.name) ps) (list_any (λ q. nat_eq code q.code) ps) neither)
+
+-- what pairs show with one more after them
+module _ (code : ℕ) (name : List ℕ) where
+  pub codes_after : (es : List (ℕ × List ℕ)) → code_in (coded es) name ≡ None → (n : List ℕ) → code_in (coded (es ++ (code, name) ∷ [])) n ≡ cond (bytes_eq name n) (Some code) (code_in (coded es) n)
+  codes_after [] none n = ap (λ b. cond b (Some code) None) (flip bytes_eq bytes_eq-Decides n name)
+  codes_after (e ∷ es) none n = by (bytes_eq n e.1) (bytes_eq name n) (bytes_eq name e.1) refl refl refl none (λ others. codes_after es others n)
+    where
+      by : (b c d : Bool) → bytes_eq n e.1 ≡ b → bytes_eq name n ≡ c → bytes_eq name e.1 ≡ d → cond d (Some e.0) (code_in (coded es) name) ≡ None
+          → (code_in (coded es) name ≡ None → code_in (coded (es ++ (code, name) ∷ [])) n ≡ cond (bytes_eq name n) (Some code) (code_in (coded es) n))
+          → cond b (Some e.0) (code_in (coded (es ++ (code, name) ∷ [])) n) ≡ cond c (Some code) (cond b (Some e.0) (code_in (coded es) n))
+      by b c true eb ec ed none rest = absurd (false≢true (ap is_some (sym none)))
+      by true true false eb ec ed none rest = absurd (false≢true (sym ed ∙ (bytes_eq-Decides name e.1).1 ((bytes_eq-Decides name n).0 ec ∙ (bytes_eq-Decides n e.1).0 eb)))
+      by true false false eb ec ed none rest = refl
+      by false c false eb ec ed none rest = rest none ∙ ap (λ b. cond b (Some code) (code_in (coded es) n)) ec
+
+  pub entries_after : (es new : List (ℕ × List ℕ)) (stored : List ℕ) → stored ≡ name → new ≡ insert_entry nat_eq es code stored → name_in (coded es) code ≡ None → new ≡ es ++ (code, name) ∷ []
+  entries_after es new stored same is none =
+      is ∙ sym (insert_absent nat_eq code stored es (unplaced (nat_eq code) es (sym (name_coded es code) ∙ none)))
+      ∙ ap (λ n. es ++ (code, n) ∷ []) same

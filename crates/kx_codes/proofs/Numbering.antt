@@ -1,16 +1,22 @@
 -- Pairs of numbers and the pairs of names that they stand for.
-use Rattle.std.proofs.Common.{◌≡◌, ℕ, Bool, true, false, cond, not, ◌||◌, ◌&&◌, ◌==◌, List, [], ◌∷◌, ◌++◌, Some, is_some, refl, sym, ap, ◌∙◌, subst, nat_eq}
+use Rattle.std.proofs.Common.{◌≡◌, ℕ, zero, suc, Bool, true, false, cond, not, ◌||◌, ◌&&◌, ◌==◌, List, [], ◌∷◌, ◌++◌, Option, None, Some, get_or, is_some, refl, sym, ap, ◌∙◌, subst, nat_eq}
 use Rattle.std.proofs.lemmas.Bool.{false≢true}
+use Rattle.std.proofs.lemmas.List.Quantifiers.{position-Some}
+use Rattle.std.proofs.lemmas.Option.{slice_get-get_or}
 use Rattle.std.proofs.lemmas.Slice.Eq.{bytes_eq-Decides}
 use Rattle.std.specs.Cmp.{unsigned_Decides}
-use Rattle.std.specs.List.{list_any, slice_get}
+use Rattle.std.specs.List.{list_any, position, slice_get}
+use Rattle.std.specs.Map.{keys_of}
+use Rattle.std.specs.Option.{option_and_then, option_map}
 use Rattle.std.specs.Str.{bytes_eq}
 use Rattle.kx_parse.specs.declared.tree.Mode.{Mode}
 use Rattle.kx_parse.specs.declared.tree.Mode.TheVariants.{Augment, Override, Replace}
+use Rattle.kx_ordered.proofs.KeyPlaces.{place_is}
+use Rattle.kx_ordered.specs.KeyPlaces.{place_in}
 use Rattle.kx_codes.proofs.Matching.{bool_same, option_same, some_same}
 use Rattle.kx_codes.proofs.NumberMaps.{single}
-use Rattle.kx_codes.specs.Indexed.{Indexed, Stands, distinct}
-use Rattle.kx_codes.specs.Numbers.{AreNumbered, Grows, IsNumbered, IsOnce, StandsIn, number}
+use Rattle.kx_codes.specs.Indexed.{Indexed, Stands, both, distinct}
+use Rattle.kx_codes.specs.Numbers.{AreNumbered, FindsCodes, Grows, IsNumbered, IsOnce, StandsIn, number}
 use Rattle.kx_codes.specs.Pairs.{Pair, shares, without, taken, all_taken, code_in, name_in}
 
 module _ (names : List (List ℕ)) (once : IsOnce names) where
@@ -122,11 +128,11 @@ same-code c = (unsigned_Decides c c).1 refl
 
 -- a name's code is that of its number, and a code's name that of its number
 module _ (names : List (List ℕ)) where
-  code-forth : (qs ps : List Pair) → AreNumbered names qs ps → (name : List ℕ) (c : ℕ) → code_in ps name ≡ Some c → (n : ℕ) × (slice_get names n ≡ Some name) × (code_in qs (number n) ≡ Some c)
-  code-forth [] [] are name c h = absurd (false≢true (ap is_some h))
-  code-forth [] (p ∷ ps) are name c h = absurd are
-  code-forth (q ∷ qs) [] are name c h = absurd are
-  code-forth (q ∷ qs) (p ∷ ps) are name c h = by (bytes_eq name p.name) (bytes_eq-Decides name p.name).0 (bytes_eq-Decides name p.name).1 (code-forth qs ps are.1 name c) h
+  pub code_forth : (qs ps : List Pair) → AreNumbered names qs ps → (name : List ℕ) (c : ℕ) → code_in ps name ≡ Some c → (n : ℕ) × (slice_get names n ≡ Some name) × (code_in qs (number n) ≡ Some c)
+  code_forth [] [] are name c h = absurd (false≢true (ap is_some h))
+  code_forth [] (p ∷ ps) are name c h = absurd are
+  code_forth (q ∷ qs) [] are name c h = absurd are
+  code_forth (q ∷ qs) (p ∷ ps) are name c h = by (bytes_eq name p.name) (bytes_eq-Decides name p.name).0 (bytes_eq-Decides name p.name).1 (code_forth qs ps are.1 name c) h
     where
       other : (n : ℕ) → slice_get names n ≡ Some name → (name ≡ p.name → ⊥) → (b : Bool) → (b ≡ true → number n ≡ q.name) → b ≡ false
       other n is never false same = refl
@@ -172,10 +178,10 @@ module _ (names : List (List ℕ)) where
       by false false e rest is = rest is
 
 module _ (names : List (List ℕ)) (once : IsOnce names) where
-  code-back : (qs ps : List Pair) → AreNumbered names qs ps → (n : ℕ) (name : List ℕ) (c : ℕ) → slice_get names n ≡ Some name → code_in qs (number n) ≡ Some c → code_in ps name ≡ Some c
-  code-back [] ps are n name c is h = absurd (false≢true (ap is_some h))
-  code-back (q ∷ qs) [] are n name c is h = absurd are
-  code-back (q ∷ qs) (p ∷ ps) are n name c is h = by (bytes_eq (number n) q.name) (bytes_eq name p.name) (same-name names once (record { name = number n; code = 0 }) (record { name = name; code = 0 }) q p (record { place = n; number_is = refl; name_is = is; code_is = refl }) are.0) (code-back qs ps are.1 n name c is) h
+  pub code_back : (qs ps : List Pair) → AreNumbered names qs ps → (n : ℕ) (name : List ℕ) (c : ℕ) → slice_get names n ≡ Some name → code_in qs (number n) ≡ Some c → code_in ps name ≡ Some c
+  code_back [] ps are n name c is h = absurd (false≢true (ap is_some h))
+  code_back (q ∷ qs) [] are n name c is h = absurd are
+  code_back (q ∷ qs) (p ∷ ps) are n name c is h = by (bytes_eq (number n) q.name) (bytes_eq name p.name) (same-name names once (record { name = number n; code = 0 }) (record { name = name; code = 0 }) q p (record { place = n; number_is = refl; name_is = is; code_is = refl }) are.0) (code_back qs ps are.1 n name c is) h
     where
       by : (b d : Bool) → b ≡ d → (code_in qs (number n) ≡ Some c → code_in ps name ≡ Some c) → cond b (Some q.code) (code_in qs (number n)) ≡ Some c → cond d (Some p.code) (code_in ps name) ≡ Some c
       by true true e rest k = ap Some (sym are.0.code_is) ∙ k
@@ -189,7 +195,7 @@ module _ (names : List (List ℕ)) (once : IsOnce names) where
   -- two lists of numbers that look alike, and what they stand for
   module _ (ms ns : List Pair) (us ws : List Pair) (ma : AreNumbered names ms us) (nb : AreNumbered names ns ws) where
     names-alike : ((m : List ℕ) → code_in ms m ≡ code_in ns m) → (name : List ℕ) (c : ℕ) → code_in us name ≡ Some c → code_in ws name ≡ Some c
-    names-alike alike name c h = let found = code-forth names ms us ma name c h in code-back ns ws nb found.0 name c found.1 (sym (alike (number found.0)) ∙ found.2)
+    names-alike alike name c h = let found = code_forth names ms us ma name c h in code_back ns ws nb found.0 name c found.1 (sym (alike (number found.0)) ∙ found.2)
 
     codes-alike : ((code : ℕ) → name_in ms code ≡ name_in ns code) → (code : ℕ) (name : List ℕ) → name_in us code ≡ Some name → name_in ws code ≡ Some name
     codes-alike alike code name h =
@@ -200,8 +206,8 @@ module _ (names : List (List ℕ)) (once : IsOnce names) where
     numbers-alike : ((name : List ℕ) → code_in us name ≡ code_in ws name) → (m : List ℕ) (c : ℕ) → code_in ms m ≡ Some c → code_in ns m ≡ Some c
     numbers-alike alike m c h =
         let shape = code-shape names ms us ma m c h in
-        let there = code-back ms us ma shape.0 shape.1 c shape.3 (ap (code_in ms) (sym shape.2) ∙ h) in
-        let found = code-forth names ns ws nb shape.1 c (sym (alike shape.1) ∙ there) in
+        let there = code_back ms us ma shape.0 shape.1 c shape.3 (ap (code_in ms) (sym shape.2) ∙ h) in
+        let found = code_forth names ns ws nb shape.1 c (sym (alike shape.1) ∙ there) in
         ap (code_in ns) (shape.2 ∙ same-number shape.0 found.0 shape.1 shape.3 found.1) ∙ found.2
 
     places-alike : ((code : ℕ) → name_in us code ≡ name_in ws code) → (code : ℕ) (m : List ℕ) → name_in ms code ≡ Some m → name_in ns code ≡ Some m
@@ -228,7 +234,7 @@ module _ (names : List (List ℕ)) (once : IsOnce names) where
   -- other pairs that look alike stand there too
   pub stands_alike : (x : Indexed) (ps rs : List Pair) → StandsIn names x ps → distinct rs ≡ true → ((name : List ℕ) → code_in ps name ≡ code_in rs name) → ((code : ℕ) → name_in ps code ≡ name_in rs code) → StandsIn names x rs
   stands_alike x ps rs s d codes places =
-      let found = numbers-for rs (λ name c h. let f = code-forth names s.numbered ps s.are name c (codes name ∙ h) in (f.0, f.1)) in
+      let found = numbers-for rs (λ name c h. let f = code_forth names s.numbered ps s.are name c (codes name ∙ h) in (f.0, f.1)) in
       record {
         numbered = found.0;
         stands = record {
@@ -254,3 +260,43 @@ module _ (names : List (List ℕ)) (once : IsOnce names) where
         (λ m h. codes-alike vs s.numbered ns ps are s.are (λ k. sym (v.names_are k) ∙ s.stands.names_are k) code m h)
         (λ m h. codes-alike s.numbered vs ps ns s.are are (λ k. sym (s.stands.names_are k) ∙ v.names_are k) code m h);
   }
+
+-- a name's place among names
+pub placed : (names : List (List ℕ)) (name : List ℕ) (n : ℕ) → position (bytes_eq name) names ≡ Some n → slice_get names n ≡ Some name
+placed names name n is =
+    let at = position-Some (bytes_eq name) names n [] is in
+    slice_get-get_or names n [] at.0 ∙ ap Some (sym ((bytes_eq-Decides name (get_or names n [])).0 at.1))
+
+abbrev units : List (List ℕ) → List (List ℕ × Unit {0})
+units [] = []
+units (k ∷ ks) = (k, tt) ∷ units ks
+
+keys-units : (ks : List (List ℕ)) → keys_of (units ks) ≡ ks
+keys-units [] = refl
+keys-units (k ∷ ks) = ap (λ rest. k ∷ rest) (keys-units ks)
+
+unplaced : (ks : List (List ℕ)) (name : List ℕ) (n : ℕ) → place_in (bytes_eq name) (units ks) ≡ None → slice_get ks n ≡ Some name → ⊥
+unplaced [] name n none is = false≢true (ap is_some is)
+unplaced (k ∷ ks) name n none is = by (bytes_eq name k) (place_in (bytes_eq name) (units ks)) n (bytes_eq-Decides name k).1 (unplaced ks name) none is
+  where
+    by : (b : Bool) (o : Option ℕ) (n : ℕ) → (name ≡ k → b ≡ true) → ((m : ℕ) → o ≡ None → slice_get ks m ≡ Some name → ⊥) → cond b (Some 0) (option_map suc o) ≡ None → slice_get (k ∷ ks) n ≡ Some name → ⊥
+    by true o n same rest none is = false≢true (sym (ap is_some none))
+    by false (Some m) n same rest none is = false≢true (sym (ap is_some none))
+    by false None zero same rest none is = false≢true (same (some_same name k (sym is)))
+    by false None (suc m) same rest none is = rest m refl is
+
+unplaced_name : (names : List (List ℕ)) (name : List ℕ) (n : ℕ) → position (bytes_eq name) names ≡ None → slice_get names n ≡ Some name → ⊥
+unplaced_name names name n none =
+    unplaced names name n (sym (place_is (bytes_eq name) (units names)) ∙ ap (position (bytes_eq name)) (keys-units names) ∙ none)
+
+-- a code that is found by the number of a name is that of the name in what the numbers stand for
+pub codes_found : (names : List (List ℕ)) → IsOnce names → (x : Indexed) (ps : List Pair) (by_code : List Pair) → StandsIn names x ps → Stands (both by_code) ps → FindsCodes names x.by_name by_code
+codes_found names once x ps by_code s stands name = by (position (bytes_eq name) names) refl ∙ sym (stands.codes_are name)
+  where
+    by : (o : Option ℕ) → position (bytes_eq name) names ≡ o → option_and_then (λ n. code_in x.by_name (number n)) o ≡ code_in ps name
+    by None is = option_same None (code_in ps name) (λ c h. absurd (false≢true (ap is_some h))) (λ c h. let found = code_forth names s.numbered ps s.are name c h in absurd (unplaced_name names name found.0 is found.1))
+    by (Some n) is =
+        let at = placed names name n is in
+        s.stands.codes_are (number n) ∙ option_same (code_in s.numbered (number n)) (code_in ps name)
+        (λ c h. code_back names once s.numbered ps s.are n name c at h)
+        (λ c h. let found = code_forth names s.numbered ps s.are name c h in ap (λ m. code_in s.numbered (number m)) (once n found.0 name at found.1) ∙ found.2)

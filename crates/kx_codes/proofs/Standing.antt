@@ -1,5 +1,5 @@
 -- What maps of pairs stand for, and what stands for what a change leaves.
-use Rattle.std.proofs.Common.{◌≡◌, ℕ, ◌+◌, ◌<◌, zero, suc, length, take, get_or, arith, Bool, true, false, cond, ◌||◌, ◌&&◌, not, List, [], ◌∷◌, ◌++◌, is_some, Option, None, Some, refl, sym, ap, ◌∙◌, subst, filter, fold, nat_eq}
+use Rattle.std.proofs.Common.{◌≡◌, ℕ, ◌+◌, ◌<◌, zero, suc, length, take, get_or, arith, IsSome, Bool, true, false, cond, ◌||◌, ◌&&◌, not, List, [], ◌∷◌, ◌++◌, is_some, Option, None, Some, refl, sym, ap, ◌∙◌, subst, filter, fold, nat_eq}
 use Rattle.std.specs.Cmp.{unsigned_Decides}
 use Rattle.std.proofs.lemmas.List.Sums.{fold_more}
 use Rattle.std.specs.List.{slice_get, list_any, AllByRecursion, IsDistinct}
@@ -275,6 +275,16 @@ pub none_at : (es : List (ℕ × List ℕ)) (i : ℕ) → slice_get es i ≡ Non
 none_at [] i h p is = false≢true (ap is_some is)
 none_at (e ∷ es) zero h p is = false≢true (ap is_some (sym h))
 none_at (e ∷ es) (suc i) h p is = none_at es i h p is
+
+-- the code of an entry has a name
+pub named_at : (es : List (ℕ × List ℕ)) (i code : ℕ) (name : List ℕ) → slice_get es i ≡ Some (code, name) → IsSome (name_in (coded es) code)
+named_at [] i code name h = absurd (false≢true (ap is_some h))
+named_at (e ∷ es) zero code name h = subst (λ b. IsSome (cond b (Some e.1) (name_in (coded es) code))) (sym ((unsigned_Decides code e.0).1 (ap (λ x. x.0) (sym (some_same e (code, name) h))))) refl
+named_at (e ∷ es) (suc i) code name h = by (nat_eq code e.0) (named_at es i code name h)
+  where
+    by : (b : Bool) → IsSome (name_in (coded es) code) → IsSome (cond b (Some e.1) (name_in (coded es) code))
+    by true rest = refl
+    by false rest = rest
 
 -- the steps of the loop over others
 pub next_taken : (mode : Mode) (x : Indexed) (ps vs : List Pair) (i : ℕ) (p : Pair) → slice_get vs i ≡ Some p → Stands x (taken mode (all_taken mode ps (take i vs)) p) → Stands x (all_taken mode ps (take (i + 1) vs))

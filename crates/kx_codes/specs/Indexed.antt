@@ -8,6 +8,10 @@ pub record Indexed : Type 0 where
   pub by_name : List Pair
   pub by_code : List Pair
 
+-- pairs that are looked up by name and by code
+abbrev pub both : List Pair → Indexed
+both ps = record { by_name = ps; by_code = ps }
+
 -- no two share a name or a code
 abbrev pub distinct : List Pair → Bool
 distinct [] = true

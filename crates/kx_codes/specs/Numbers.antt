@@ -1,7 +1,9 @@
 -- Names that are numbered, and pairs of a number and a keycode that stand for pairs of a name and a keycode.
-use Rattle.std.specs.Prelude.{◌≡◌, ℕ, List, [], ◌∷◌, Some, map, slice_get, ⊤}
+use Rattle.std.specs.Prelude.{◌≡◌, ℕ, List, [], ◌∷◌, Some, map, position, slice_get, ⊤}
+use Rattle.std.specs.Option.{option_and_then}
+use Rattle.std.specs.Str.{bytes_eq}
 use Rattle.kx_codes.specs.Indexed.{Indexed, Stands}
-use Rattle.kx_codes.specs.Pairs.{Pair}
+use Rattle.kx_codes.specs.Pairs.{Pair, code_in}
 
 -- no name has two numbers
 abbrev pub IsOnce : List (List ℕ) → Type 0
@@ -38,3 +40,7 @@ pub record StandsIn (names : List (List ℕ)) (x : Indexed) (ps : List Pair) : T
   pub numbered : List Pair
   pub stands : Stands x numbered
   pub are : AreNumbered names numbered ps
+
+-- the code of a name is that of its number
+abbrev pub FindsCodes : List (List ℕ) → List Pair → List Pair → Type 0
+FindsCodes names numbered pairs = (name : List ℕ) → option_and_then (λ n. code_in numbered (number n)) (position (bytes_eq name) names) ≡ code_in pairs name

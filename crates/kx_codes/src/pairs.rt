@@ -42,6 +42,24 @@ impl Pairs {
         }
     }
 
+    /// The code of a name.
+    pub(crate) fn code_of(&self, name: usize) -> Option<u16>
+        ensures { result ≡ code_in self.now.by_name (numbered name) }
+    {
+        self.codes.get(&name).copied()
+    }
+
+    /// The same, with room for so many.
+    pub(crate) fn with_room(alloc: Global, count: usize) -> Result<Pairs, Fault>
+        ensures none { IfOk result (λ pairs. Stands pairs []) }
+        ensures err { IfErr result (λ e. e ≡ Memory) }
+    {
+        Ok(Pairs {
+            codes: IndexMap::with_capacity(alloc, count)?,
+            names: IndexMap::with_capacity(alloc, count)?,
+        })
+    }
+
     /// Whether a pair has the name or the code.
     fn has_sharing(&self, name: usize, code: u16) -> bool
         ensures { (ps : List PairValue) → Stands self.now ps → result ≡ list_any (shares (record { name = numbered name; code = code })) ps }

@@ -27,7 +27,7 @@ pub fn codes<'l>(alloc: Global, expansion: &Expansion<'l>) -> Result<Codes<'l>, 
 {
     let mut names = Names::new(alloc);
     let gathered = gather(alloc, &mut names, expansion)?;
-    let pairs = NamedPairs::of(alloc, &names, &gathered)?;
+    let pairs = NamedPairs::of(alloc, names, gathered)?;
     let merged = merge::<(), Alias>(alloc, &(), expansion)?;
     Ok(Codes::of(pairs, merged.records))
 }

@@ -40,7 +40,8 @@ fn gather_sections<'l>(
     ensures gathered { (bodies : List Body) → AreGathered names.old done.now bodies → IsGathered names.new (shared_sections bodies sections.now) result }
     ensures grows { IsOnce names.old → Grows names.old names.new }
 {
-    let mut gathered = Pairs::new(alloc);
+    let count = sections.first().map_or(0, |section| section.entries.len());
+    let mut gathered = Pairs::with_room(alloc, count)?;
     'sections: for section in sections {
         gather_section(alloc, done, names, section, &mut gathered)?;
     }
@@ -57,7 +58,7 @@ fn gather_map<'l>(
     ensures gathered { (bodies : List Body) → AreGathered names.old done.now bodies → IsGathered names.new (shared_body bodies map.now End) result }
     ensures grows { IsOnce names.old → Grows names.old names.new }
 {
-    let mut gathered = Pairs::new(alloc);
+    let mut gathered = Pairs::with_room(alloc, map.entries.len())?;
     gather_section(alloc, done, names, map, &mut gathered)?;
     Ok(gathered)
 }

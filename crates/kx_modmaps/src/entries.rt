@@ -23,8 +23,8 @@ use std::alloc::Global;
 
 /// What modifier maps are read against.
 #[derive(Clone, Copy)]
-pub struct Context<'a> {
-    pub codes: &'a Codes<'a>,
+pub struct Context<'a, 'l> {
+    pub codes: &'a Codes<'l>,
     pub names: &'a NameTable,
     pub modifiers: &'a ModNames,
 }

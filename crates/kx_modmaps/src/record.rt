@@ -183,7 +183,7 @@ fn read_item(
     }
 }
 
-impl<'a> Fields<Context<'a>> for Assigned {
+impl<'a, 'l> Fields<Context<'a, 'l>> for Assigned {
     type Key = Target;
 
     type Cell = Cell;
@@ -202,11 +202,11 @@ impl<'a> Fields<Context<'a>> for Assigned {
 
     ghost width = { λ r g. assigned_width r g };
 
-    fn start(_alloc: Global, _context: &Context<'a>) {}
+    fn start(_alloc: Global, _context: &Context<'a, 'l>) {}
 
     fn next(
         _alloc: Global,
-        _context: &Context<'a>,
+        _context: &Context<'a, 'l>,
         _defaults: (),
         _item: &Item,
     ) -> Result<(), Fault> {
@@ -215,7 +215,7 @@ impl<'a> Fields<Context<'a>> for Assigned {
 
     fn read(
         alloc: Global,
-        context: &Context<'a>,
+        context: &Context<'a, 'l>,
         _defaults: &(),
         place: Place,
         item: &Item,

@@ -8,7 +8,6 @@ mod ordered;
 mod ordered_set;
 mod owned_name;
 mod short_name;
-mod sorted_names;
 mod sorted_numbers;
 mod table_key;
 
@@ -17,6 +16,5 @@ pub use ordered::Ordered;
 pub use ordered_set::OrderedSet;
 pub use owned_name::OwnedName;
 pub use short_name::ShortName;
-pub use sorted_names::SortedNames;
 pub use sorted_numbers::SortedNumbers;
 pub use table_key::TableKey;

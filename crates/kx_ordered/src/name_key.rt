@@ -1,17 +1,21 @@
 //! Names in an order that is quick to tell.
-ghost use Rattle.std.specs.Prelude.{◌≡◌, None, ◌≤◌, length, drop, take, refl};
+ghost use Rattle.std.specs.Prelude.{◌≡◌, None, ◌≤◌, ◌<◌, IfSome, length, drop, position, take, refl};
 ghost use Rattle.std.specs.Cmp.{partial_equiv_from_equiv, partial_order_from_own_ties, partial_order_from_total};
-ghost use Rattle.std.specs.Cmp.Lexicographic.{nat_list_eq_equiv};
+ghost use Rattle.std.specs.Cmp.Lexicographic.{nat_list_eq_equiv, slice_cmp};
 ghost use Rattle.std.specs.Cmp.Rules.{comparing};
-ghost use Rattle.std.specs.Ordering.{as_partial_cmp, is_lt};
+ghost use Rattle.std.specs.Ordering.{as_partial_cmp, nat_cmp};
+ghost use Rattle.std.specs.BTreeMap.Comparable.{le_lt_trans};
+ghost use Rattle.indexmap.specs.IndexMap.{index_map_len, keys};
 ghost use Rattle.std.specs.Str.{bytes_eq};
 ghost use Rattle.std.proofs.Common.{rules};
 ghost use Rattle.kx_ordered.specs.Numbers.{untold};
 ghost use Rattle.kx_ordered.specs.Names.{head_of, folded, name_cmp, name_cmp_total, name_cmp_ties};
 
+use crate::ordered::Ordered;
 use crate::table_key::TableKey;
 use std::alloc::AllocError;
 use std::cmp::Ordering;
+use std::collections::btree_map::Comparable;
 use std::marker::Model;
 
 /// A name that is lent, with a number of its first eight bytes: names are told apart by these numbers, and their bytes are
@@ -50,6 +54,17 @@ pub(crate) fn head_of(bytes: &[u8]) -> u64
     head
 }
 
+/// The order of two names by their bytes. That they are the same, as where a name is found, is told by eight bytes at a time,
+/// and their order byte by byte.
+fn cmp_bytes(bytes: &[u8], other: &[u8]) -> Ordering
+    ensures { result ≡ slice_cmp nat_cmp bytes.now other.now }
+{
+    if bytes == other {
+        return Ordering::Equal;
+    }
+    bytes.cmp(other)
+}
+
 /// The order of two names, which have these numbers.
 pub(crate) fn cmp_by_head(head: u64, other_head: u64, bytes: &[u8], other: &[u8]) -> Ordering
     requires head { head ≡ head_of bytes.now }
@@ -57,7 +72,7 @@ pub(crate) fn cmp_by_head(head: u64, other_head: u64, bytes: &[u8], other: &[u8]
     ensures { result ≡ name_cmp bytes.now other.now }
 {
     match head.cmp(&other_head) {
-        Ordering::Equal => bytes.cmp(other),
+        Ordering::Equal => cmp_bytes(bytes, other),
         unequal => unequal,
     }
 }
@@ -95,20 +110,6 @@ impl<'l> NameKey<'l> {
             head: self.head,
             bytes: self.bytes,
         }
-    }
-
-    /// Whether the key is that of a name.
-    pub fn is_name(&self, name: &[u8]) -> bool
-        ensures { result ≡ bytes_eq name.now self.now }
-    {
-        name == self.bytes
-    }
-
-    /// Whether the key stands before another.
-    pub(crate) fn is_below(&self, other: &NameKey) -> bool
-        ensures { result ≡ is_lt (name_cmp self.now other.now) }
-    {
-        self.cmp(other).is_lt()
     }
 }
 
@@ -161,5 +162,41 @@ impl<'l> TableKey for NameKey<'l> {
 
     fn again(&self) -> Result<NameKey<'l>, AllocError> {
         Ok(self.copied())
+    }
+}
+
+/// A name that is looked for among lent ones.
+#[derive(Drop)]
+struct SoughtName<'l> {
+    key: NameKey<'l>,
+}
+
+impl<'k, 'l> Comparable<NameKey<'k>> for &SoughtName<'l> {
+    ghost compare = { λ q k. name_cmp q.now.key k };
+
+    ghost respects_cmp = { λ q x y. name_cmp_total.congr q.now.key x y };
+
+    ghost below_greater = { λ q x y. le_lt_trans name_cmp_total q.now.key x y };
+
+    fn compare(&self, key: &NameKey<'k>) -> Ordering {
+        cmp_by_head(
+            self.key.head(),
+            key.head(),
+            self.key.as_slice(),
+            key.as_slice(),
+        )
+    }
+}
+
+impl<'k, V> Ordered<NameKey<'k>, V> {
+    /// The place of a name, counted from 0.
+    pub fn place_of_lent_name(&self, name: &[u8]) -> Option<usize>
+        ensures value { result ≡ position (bytes_eq name.now) (keys self.now) }
+        ensures within { IfSome result (λ place. place < index_map_len self.now) }
+    {
+        let sought = SoughtName {
+            key: NameKey::of(name),
+        };
+        self.places().get(&sought).copied()
     }
 }

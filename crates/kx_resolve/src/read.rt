@@ -10,9 +10,9 @@ use kx_types::Types;
 
 /// What is read of a keymap's sections.
 #[derive(Clone, Copy)]
-pub struct Read<'a> {
+pub struct Read<'a, 'l> {
     /// The keycodes and their names.
-    pub codes: &'a Codes<'a>,
+    pub codes: &'a Codes<'l>,
     /// What each virtual modifier stands for, by its number.
     pub stands: &'a [Mods],
     /// The key types by name.

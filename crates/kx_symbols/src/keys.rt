@@ -35,8 +35,8 @@ use std::marker::Model;
 
 /// What key statements are read against.
 #[derive(Clone, Copy)]
-pub struct Context<'a> {
-    pub codes: &'a Codes<'a>,
+pub struct Context<'a, 'l> {
+    pub codes: &'a Codes<'l>,
     pub names: &'a NameTable,
     pub modifiers: &'a ModNames,
 }
@@ -174,7 +174,7 @@ fn read_item(
     }
 }
 
-impl<'a> Fields<Context<'a>> for KeyRecord {
+impl<'a, 'l> Fields<Context<'a, 'l>> for KeyRecord {
     type Key = u16;
 
     type Cell = Cell;
@@ -193,13 +193,13 @@ impl<'a> Fields<Context<'a>> for KeyRecord {
 
     ghost width = { λ r g. width_in_key r g };
 
-    fn start(_alloc: Global, _context: &Context<'a>) -> SectionDefaults {
+    fn start(_alloc: Global, _context: &Context<'a, 'l>) -> SectionDefaults {
         SectionDefaults::none()
     }
 
     fn next(
         alloc: Global,
-        context: &Context<'a>,
+        context: &Context<'a, 'l>,
         defaults: SectionDefaults,
         item: &Item,
     ) -> Result<SectionDefaults, Fault> {
@@ -208,7 +208,7 @@ impl<'a> Fields<Context<'a>> for KeyRecord {
 
     fn read(
         alloc: Global,
-        context: &Context<'a>,
+        context: &Context<'a, 'l>,
         defaults: &SectionDefaults,
         place: Place,
         item: &Item,
