@@ -22,6 +22,7 @@ mod Growing
 mod IndicatorMaps
 mod Names
 mod Order
+mod PlacedTypes
 mod Small
 mod Steps
 mod Typed

@@ -43,11 +43,11 @@ unfolding IsDistinct
 all_distinct xs = behind_distinct [] xs tt
 
 -- names only grow at their end
-record Extends (ks more : List Text) : Type 0 where
-  rest : List Text
-  is : more ≡ ks ++ rest
+pub record Extends (ks more : List Text) : Type 0 where
+  pub rest : List Text
+  pub is : more ≡ ks ++ rest
 
-extends_one : (ks : List Text) (k : Text) → Extends ks (with_name bytes_eq ks k)
+pub extends_one : (ks : List Text) (k : Text) → Extends ks (with_name bytes_eq ks k)
 extends_one ks k = by (list_any (bytes_eq k) ks)
   where
     by : (b : Bool) → Extends ks (if b then ks else ks ++ k ∷ [])
@@ -116,7 +116,15 @@ place_early x ks rest there =
     let whole : position_or_len (bytes_eq x) (ks ++ rest) < length (ks ++ rest) = omega (arith, less, same, length-append ks rest) in
     subst (λ o. unwrap_or o 0 < length ks) (sym (position_is (bytes_eq x) (ks ++ rest) whole)) (omega (arith, less, same))
 
-same_self : (x : Text) → bytes_eq x x ≡ true
+-- what follows doesn't change it
+pub place_kept : (x : Text) (ks rest : List Text) → list_any (bytes_eq x) ks ≡ true → place_in (ks ++ rest) x ≡ place_in ks x
+place_kept x ks rest there =
+    let less = len_within (bytes_eq x) ks there in
+    let same = len_kept (bytes_eq x) ks rest there in
+    let whole : position_or_len (bytes_eq x) (ks ++ rest) < length (ks ++ rest) = omega (arith, less, same, length-append ks rest) in
+    ap (λ o. unwrap_or o 0) (position_is (bytes_eq x) (ks ++ rest) whole ∙ ap Some same ∙ sym (position_is (bytes_eq x) ks less))
+
+pub same_self : (x : Text) → bytes_eq x x ≡ true
 same_self x = (bytes_decides x x).1 refl
 
 place_next : (x : Text) (ks rest : List Text) → list_any (bytes_eq x) ks ≡ false → place_in (ks ++ x ∷ rest) x ≡ length ks

@@ -1,5 +1,5 @@
 //! Keys, pushed group by group and level by level.
-ghost use Rattle.std.specs.Prelude.{◌≡◌, ◌≤◌, ◌<◌, ◌++◌, ◌^◌, ℕ, IfErr, OnOk, List, [], Some, fold, length};
+ghost use Rattle.std.specs.Prelude.{◌≡◌, ◌≤◌, ◌<◌, ◌++◌, ◌^◌, ℕ, IfErr, IfOk, OnOk, List, [], Some, drop, fold, length, map, take};
 ghost use Rattle.kx_basics.specs.declared.limits.TheConstants.{CODES, MOST_GROUPS, MOST_LEVELS, MOST_NAME_BYTES};
 ghost use Rattle.kx_builder.specs.Valid.{CellIsValid};
 ghost use Rattle.kx_builder.specs.Pushes.{last_groups, with_cell, with_group, with_key};
@@ -11,19 +11,21 @@ ghost use Rattle.kx_resolve.specs.Modmaps.{modmap_at};
 ghost use Rattle.kx_virtual_mods.specs.Sets.{real_of};
 ghost use Rattle.kx_virtual_mods.specs.Standing.{stands_for};
 ghost use Rattle.kx_mods.specs.Mods.{mask};
-ghost use Rattle.kx_resolve.specs.Bounds.{BoundsBelow, CellsAreValid, GroupsAreValid, KeepsBounds, last_cells, levels_of_group};
+ghost use Rattle.kx_resolve.specs.Bounds.{BoundsBelow, CellsAreValid, KeepsBounds, last_cells};
+ghost use Rattle.kx_resolve.specs.PlacedTypes.{PlacedAreValid, placed_group, placed_groups, placed_type};
 ghost use Rattle.kx_resolve.specs.LevelActions.{level_actions_of};
-ghost use Rattle.kx_resolve.specs.Keys.{cell_of, cells_of, resolved_group, key_if_named, key_of, keyed_of, keys_below, type_place};
+ghost use Rattle.kx_resolve.specs.Keys.{cell_of, cells_of, key_if_named, keyed_of, keys_below, type_names_below, type_names_if};
 ghost use Rattle.kx_symbols.specs.Keys.{key_at};
 ghost use Rattle.kx_tables.specs.Sound.{ActionHolds, RangeHolds};
 ghost use Rattle.kx_resolve.specs.Given.{given, given_in};
-ghost use Rattle.kx_resolve.specs.GroupTypes.{content_group, group_count, has_action};
+ghost use Rattle.kx_resolve.specs.GroupTypes.{content_group, has_action};
 ghost use Rattle.kx_types.specs.Types.{type_named};
 
 use crate::given::{keysyms_at, range};
-use crate::group_types::{GroupType, content_group, group_count, group_type, has_action};
+use crate::group_types::{content_group, group_count, has_action};
 use crate::key_modmaps::KeyModmaps;
 use crate::level_actions::level_action;
+use crate::placed_types::{PlacedType, UsedTypes};
 use crate::read::Read;
 use ks_core::{Note, Notes};
 use kx_builder::{BuildFault, Builder};
@@ -32,8 +34,6 @@ use kx_lex::Fault;
 use kx_mods::Mods;
 use kx_symbols::KeyRecord;
 use kx_tables::{Action, Range};
-use kx_types::Types;
-use kx_virtual_mods::Names;
 
 /// A key with what it is read against.
 #[derive(Clone, Copy)]
@@ -134,25 +134,14 @@ fn push_bare_group(builder: &mut Builder, key_type: u16) -> Result<(), Fault>
     builder.push_group(key_type).map_err(refused)
 }
 
-/// The place of a type among those that are used.
-fn type_place(used: &Names, name: &[u8]) -> u16
-    requires { length used.now < 2 ^ 16 }
-    ensures { result ≡ type_place used.now name.now }
-{
-    match used.number_of(name) {
-        Some(place) => place as u16,
-        None => 0,
-    }
-}
-
 /// Notes a type that stands in place of another, and keysyms or an action after its levels.
-fn note_group(key: &KeyRecord, content: usize, group_type: GroupType, notes: &mut Notes) {
-    if group_type.falls_back {
+fn note_group(key: &KeyRecord, content: usize, placed: &PlacedType, notes: &mut Notes) {
+    if placed.falls_back() {
         notes.count(Note::OtherType);
     }
     let lost = |level| key.keysyms(content, level).is_some()
         || key.action(content, level).is_some();
-    if (group_type.levels..key.width(content)).any(lost) {
+    if (placed.levels()..key.width(content)).any(lost) {
         notes.count(Note::LostLevels);
     }
 }
@@ -160,27 +149,24 @@ fn note_group(key: &KeyRecord, content: usize, group_type: GroupType, notes: &mu
 /// Pushes a group with its levels.
 fn push_group(
     builder: &mut Builder,
-    types: &Types,
-    used: &Names,
     key: KeyMeaning,
     group: usize,
+    placed: &PlacedType,
     notes: &mut Notes,
 ) -> Result<(), Fault>
     requires small { IsWithinLimits builder.old }
     requires some { 0 < length builder.old.keys }
     requires few { length (last_groups builder.old.keys) < MOST_GROUPS }
-    requires places { length used.now < 2 ^ 16 }
     requires own { key.own ≡ has_action (given key.key.now) }
-    ensures pushed { OnOk result (builder.new ≡ with_group builder.old (resolved_group (type_named types.now) used.now (level_actions_of (real_of (stands_for key.entry.stands.now)) key.entry.interpretations.now key.entry.modmap (given key.entry.key.now)) (given key.entry.key.now) group)) }
-    ensures valid { OnOk result (CellsAreValid (level_actions_of (real_of (stands_for key.entry.stands.now)) key.entry.interpretations.now key.entry.modmap (given key.entry.key.now)) (given key.entry.key.now) (content_group (given key.entry.key.now) group) (levels_of_group (type_named types.now) (given key.entry.key.now) group)) }
+    ensures pushed { OnOk result (builder.new ≡ with_group builder.old (placed_group (level_actions_of (real_of (stands_for key.entry.stands.now)) key.entry.interpretations.now key.entry.modmap (given key.entry.key.now)) (given key.entry.key.now) group placed.now)) }
+    ensures valid { OnOk result (CellsAreValid (level_actions_of (real_of (stands_for key.entry.stands.now)) key.entry.interpretations.now key.entry.modmap (given key.entry.key.now)) (given key.entry.key.now) (content_group (given key.entry.key.now) group) placed.now.levels) }
     ensures small { OnOk result (IsWithinLimits builder.new) }
     ensures err { IfErr result (λ e. e ≡ Memory) }
 {
-    let group_type = group_type(types, key.key, group);
     let content = content_group(key.key, group);
-    note_group(key.key, content, group_type, notes);
-    push_bare_group(builder, type_place(used, group_type.name))?;
-    push_levels(builder, key, content, group_type.levels)?;
+    note_group(key.key, content, placed, notes);
+    push_bare_group(builder, placed.place())?;
+    push_levels(builder, key, content, placed.levels())?;
     Ok(())
 }
 
@@ -201,30 +187,29 @@ fn push_bare_key(
     builder.push_key(code, name, modmap, range).map_err(refused)
 }
 
-/// Pushes a key with its groups.
+/// Pushes a key with its groups, one for each type.
 fn push_key(
     builder: &mut Builder,
-    types: &Types,
-    used: &Names,
     code: u16,
     name: &[u8],
     key: KeyMeaning,
+    placed: &[PlacedType],
     notes: &mut Notes,
 ) -> Result<(), Fault>
     requires small { IsWithinLimits builder.old }
     requires few { length builder.old.keys < CODES }
+    requires groups { length placed.now ≤ MOST_GROUPS }
     requires short { length name.now ≤ MOST_NAME_BYTES }
-    requires places { length used.now < 2 ^ 16 }
     requires own { key.own ≡ has_action (given key.key.now) }
-    ensures pushed { OnOk result (builder.new ≡ with_key builder.old (key_of (type_named types.now) used.now (level_actions_of (real_of (stands_for key.entry.stands.now)) key.entry.interpretations.now key.entry.modmap (given key.entry.key.now)) (given key.entry.key.now) code name.now key.entry.modmap)) }
-    ensures valid { OnOk result (GroupsAreValid (type_named types.now) (level_actions_of (real_of (stands_for key.entry.stands.now)) key.entry.interpretations.now key.entry.modmap (given key.entry.key.now)) (given key.entry.key.now) (group_count (given key.entry.key.now))) }
+    ensures pushed { OnOk result (builder.new ≡ with_key builder.old (record { code = code; name = name.now; modmap = key.entry.modmap; range = (given key.entry.key.now).range; groups = placed_groups (level_actions_of (real_of (stands_for key.entry.stands.now)) key.entry.interpretations.now key.entry.modmap (given key.entry.key.now)) (given key.entry.key.now) placed.now (length placed.now) })) }
+    ensures valid { OnOk result (PlacedAreValid (level_actions_of (real_of (stands_for key.entry.stands.now)) key.entry.interpretations.now key.entry.modmap (given key.entry.key.now)) (given key.entry.key.now) placed.now (length placed.now)) }
     ensures range { RangeHolds (given key.entry.key.now).range }
     ensures small { OnOk result (IsWithinLimits builder.new) }
     ensures err { IfErr result (λ e. e ≡ Memory) }
 {
     push_bare_key(builder, code, name, key.modmap, range(key.key))?;
-    'groups: for group in 0..group_count(key.key) {
-        push_group(builder, types, used, key, group, notes)?;
+    'groups: for group in 0..placed.len() {
+        push_group(builder, key, group, &placed[group], notes)?;
     }
     Ok(())
 }
@@ -237,26 +222,38 @@ fn key_mods(modmaps: &KeyModmaps, code: u16) -> Mods
     modmaps.key(code)
 }
 
-/// Pushes the key of a code, where the code has a name.
+/// The types of so many groups, and those after them.
+fn split(placed: &[PlacedType], count: usize) -> (&[PlacedType], &[PlacedType])
+    ensures own { result.0.now ≡ take count placed.now }
+    ensures rest { result.1.now ≡ drop count placed.now }
+{
+    match placed.split_at_checked(count) {
+        Some(split) => split,
+        None => (placed, &[]),
+    }
+}
+
+/// Pushes the key of a code, where the code has a name; answers the types after those of its groups.
 #[tactic(auto, using(crate::proofs::Steps::none_groups))]
-fn push_code(
+fn push_code<'p>(
     builder: &mut Builder,
     read: Read,
-    used: &Names,
+    placed: &'p [PlacedType],
     code: u16,
     notes: &mut Notes,
-) -> Result<(), Fault>
+) -> Result<&'p [PlacedType], Fault>
     requires small { IsWithinLimits builder.old }
     requires few { length builder.old.keys < CODES }
-    requires places { length used.now < 2 ^ 16 }
-    ensures pushed { OnOk result (builder.new ≡ record builder.old { keys = builder.old.keys ++ key_if_named (type_named read.entry.types.now) used.now (level_actions_of (real_of (stands_for read.entry.stands.now)) read.entry.interpretations.now (modmap_at read.entry.modmaps.now code) (given_in (key_at read.entry.keys.now code))) (given_in (key_at read.entry.keys.now code)) code (name_of read.entry.codes.now code) (modmap_at read.entry.modmaps.now code) }) }
-    ensures bounds { OnOk result ((name : List ℕ) → name_of read.entry.codes.now code ≡ Some name → KeepsBounds (type_named read.entry.types.now) name (modmap_at read.entry.modmaps.now code) (level_actions_of (real_of (stands_for read.entry.stands.now)) read.entry.interpretations.now (modmap_at read.entry.modmaps.now code) (given_in (key_at read.entry.keys.now code))) (given_in (key_at read.entry.keys.now code))) }
+    ensures pushed { OnOk result ((used ns : List (List ℕ)) → placed.now ≡ map (placed_type (type_named read.entry.types.now) used) (type_names_if (type_named read.entry.types.now) (name_of read.entry.codes.now code) (given_in (key_at read.entry.keys.now code)) ++ ns) → builder.new ≡ record builder.old { keys = builder.old.keys ++ key_if_named (type_named read.entry.types.now) used (level_actions_of (real_of (stands_for read.entry.stands.now)) read.entry.interpretations.now (modmap_at read.entry.modmaps.now code) (given_in (key_at read.entry.keys.now code))) (given_in (key_at read.entry.keys.now code)) code (name_of read.entry.codes.now code) (modmap_at read.entry.modmaps.now code) }) }
+    ensures bounds { OnOk result ((used ns : List (List ℕ)) → placed.now ≡ map (placed_type (type_named read.entry.types.now) used) (type_names_if (type_named read.entry.types.now) (name_of read.entry.codes.now code) (given_in (key_at read.entry.keys.now code)) ++ ns) → (name : List ℕ) → name_of read.entry.codes.now code ≡ Some name → KeepsBounds (type_named read.entry.types.now) name (modmap_at read.entry.modmaps.now code) (level_actions_of (real_of (stands_for read.entry.stands.now)) read.entry.interpretations.now (modmap_at read.entry.modmaps.now code) (given_in (key_at read.entry.keys.now code))) (given_in (key_at read.entry.keys.now code))) }
+    ensures rest { IfOk result (λ rest. (used ns : List (List ℕ)) → placed.now ≡ map (placed_type (type_named read.entry.types.now) used) (type_names_if (type_named read.entry.types.now) (name_of read.entry.codes.now code) (given_in (key_at read.entry.keys.now code)) ++ ns) → rest.now ≡ map (placed_type (type_named read.entry.types.now) used) ns) }
     ensures small { OnOk result (IsWithinLimits builder.new) }
     ensures err { IfErr result (λ e. e ≡ Memory) }
 {
     let modmap = key_mods(read.modmaps, code);
     match (read.codes.name_of(code), read.keys.key(code)) {
         (Some(name), Some(key)) => {
+            let (own, rest) = split(placed, group_count(key));
             let key = KeyMeaning {
                 key,
                 own: has_action(key),
@@ -264,14 +261,14 @@ fn push_code(
                 interpretations: read.interpretations,
                 stands: read.stands,
             };
-            push_key(builder, read.types, used, code, name, key, notes)?;
-            Ok(())
+            push_key(builder, code, name, key, own, notes)?;
+            Ok(rest)
         }
         (Some(name), None) => {
             push_bare_key(builder, code, name, modmap, Range::Wrap)?;
-            Ok(())
+            Ok(placed)
         }
-        (None, _) => Ok(()),
+        (None, _) => Ok(placed),
     }
 }
 
@@ -279,19 +276,20 @@ fn push_code(
 pub(crate) fn push_keys(
     builder: &mut Builder,
     read: Read,
-    used: &Names,
+    used: &UsedTypes,
     notes: &mut Notes,
 ) -> Result<(), Fault>
     requires small { IsWithinLimits builder.old }
     requires keyless { builder.old.keys ≡ [] }
-    requires places { length used.now < 2 ^ 16 }
-    ensures pushed { OnOk result (builder.new ≡ record builder.old { keys = keys_below (type_named read.entry.types.now) used.now (keyed_of (real_of (stands_for read.entry.stands.now)) read.entry.codes.now read.entry.keys.now (modmap_at read.entry.modmaps.now) read.entry.interpretations.now) CODES }) }
+    requires placed { used.now.placed.items ≡ map (placed_type (type_named read.types.now) used.now.names) (type_names_below (type_named read.types.now) (name_of read.codes.now) (λ c. given_in (key_at read.keys.now c)) CODES) }
+    ensures pushed { OnOk result (builder.new ≡ record builder.old { keys = keys_below (type_named read.entry.types.now) used.now.names (keyed_of (real_of (stands_for read.entry.stands.now)) read.entry.codes.now read.entry.keys.now (modmap_at read.entry.modmaps.now) read.entry.interpretations.now) CODES }) }
     ensures bounds { OnOk result (BoundsBelow (type_named read.entry.types.now) (keyed_of (real_of (stands_for read.entry.stands.now)) read.entry.codes.now read.entry.keys.now (modmap_at read.entry.modmaps.now) read.entry.interpretations.now) CODES) }
     ensures small { OnOk result (IsWithinLimits builder.new) }
     ensures err { IfErr result (λ e. e ≡ Memory) }
 {
+    let mut placed = used.placed.as_slice();
     'codes: for code in 0..read.codes.end() {
-        push_code(builder, read, used, code, notes)?;
+        placed = push_code(builder, read, placed, code, notes)?;
     }
     Ok(())
 }

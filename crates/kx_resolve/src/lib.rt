@@ -10,6 +10,7 @@ mod key_modmaps;
 mod keys;
 mod level_actions;
 mod lighting;
+mod placed_types;
 mod places;
 mod read;
 mod resolving;

@@ -19,8 +19,9 @@ ghost use Rattle.kx_types.specs.Types.{type_named};
 
 use crate::keys::push_keys;
 use crate::lighting::with_indicator_maps;
+use crate::placed_types::types_used;
 use crate::read::Read;
-use crate::using::{types_used, with_types};
+use crate::using::with_types;
 use ks_core::Notes;
 use kx_lex::Fault;
 use kx_tables::RawTables;
@@ -38,7 +39,7 @@ pub fn resolve(alloc: Global, read: Read) -> Result<(RawTables, Notes), Fault>
     ensures err { IfErr result (λ e. e ≡ Memory) }
 {
     let used = types_used(alloc, read.codes, read.types, read.keys)?;
-    let mut builder = with_types(alloc, read.types, read.stands, &used)?;
+    let mut builder = with_types(alloc, read.types, read.stands, &used.names)?;
     let mut notes = Notes::new();
     push_keys(&mut builder, read, &used, &mut notes)?;
     let parts = with_indicator_maps(

@@ -1,83 +1,26 @@
-//! The key types that keys use.
+//! The key types that keys use, as rows.
 ghost use Rattle.std.specs.Prelude.{◌≡◌, ◌≤◌, ◌<◌, ◌+◌, ℕ, All, IfErr, IfOk, OnOk, List, [], Some, length, map, slice_get};
 ghost use Rattle.kx_basics.specs.declared.limits.TheConstants.{MOST_NAME_BYTES};
 ghost use Rattle.kx_builder.specs.Valid.{TypeIsValid};
 ghost use Rattle.kx_builder.specs.Pushes.{with_type};
 ghost use Rattle.kx_builder.specs.WithinLimits.{IsWithinLimits};
-ghost use Rattle.kx_codes.specs.Codes.{name_of};
 ghost use Rattle.kx_resolve.specs.Rows.{RowsShow, entry_rows, mods_of};
 ghost use Rattle.kx_lex.specs.declared.fault.Fault.TheVariants.{Memory};
-ghost use Rattle.kx_virtual_mods.specs.Counted.{with_names};
 ghost use Rattle.kx_virtual_mods.specs.Sets.{real_of};
 ghost use Rattle.kx_virtual_mods.specs.Standing.{stands_for};
 ghost use Rattle.kx_resolve.specs.Bounds.{TypeHolds};
-ghost use Rattle.kx_resolve.specs.Given.{given, given_in};
-ghost use Rattle.kx_resolve.specs.GroupTypes.{group_count};
-ghost use Rattle.kx_resolve.specs.Keys.{type_names, type_names_if, type_of, type_with, types_used};
-ghost use Rattle.kx_symbols.specs.Keys.{key_at};
+ghost use Rattle.kx_resolve.specs.Keys.{type_of, type_with};
 ghost use Rattle.kx_types.specs.Types.{type_named};
 ghost use Rattle.kx_types.specs.declared.limits.TheConstants.{MOST_TYPES};
 
-use crate::group_types::{group_count, group_type};
 use crate::keys::refused;
 use crate::rows::TypeRows;
 use kx_builder::Builder;
-use kx_codes::Codes;
 use kx_lex::Fault;
 use kx_mods::Mods;
-use kx_symbols::{KeyRecord, Keys};
 use kx_types::{KeyType, Types};
 use kx_virtual_mods::Names;
 use std::alloc::Global;
-
-/// Takes up the types of a key's groups.
-fn use_key(alloc: Global, types: &Types, key: &KeyRecord, used: &mut Names) -> Result<(), Fault>
-    ensures used { OnOk result (used.new ≡ with_names used.old (type_names (type_named types.now) (given key.now) (group_count (given key.now)))) }
-    ensures err { IfErr result (λ e. e ≡ Memory) }
-{
-    'groups: for group in 0..group_count(key) {
-        used.add(alloc, group_type(types, key, group).name)?;
-    }
-    Ok(())
-}
-
-/// Takes up the types of the key of a code, where the code has a name.
-fn use_code(
-    alloc: Global,
-    codes: &Codes,
-    types: &Types,
-    keys: &Keys,
-    code: u16,
-    used: &mut Names,
-) -> Result<(), Fault>
-    ensures used { OnOk result (used.new ≡ with_names used.old (type_names_if (type_named types.now) (name_of codes.now code) (given_in (key_at keys.now code)))) }
-    ensures err { IfErr result (λ e. e ≡ Memory) }
-{
-    match (codes.name_of(code), keys.key(code)) {
-        (Some(_), Some(key)) => use_key(alloc, types, key, used),
-        (Some(_), None) => Ok(()),
-        (None, _) => Ok(()),
-    }
-}
-
-/// The names of the types that keys use, in the order of first use.
-pub(crate) fn types_used(
-    alloc: Global,
-    codes: &Codes,
-    types: &Types,
-    keys: &Keys,
-) -> Result<Names, Fault>
-    ensures used { IfOk result (λ used. used ≡ types_used (type_named types.now) (name_of codes.now) (λ c. given_in (key_at keys.now c))) }
-    ensures few { IfOk result (λ used. length used ≤ MOST_TYPES + 1) }
-    ensures err { IfErr result (λ e. e ≡ Memory) }
-{
-    let mut used = Names::new(alloc);
-    'codes: for code in 0..codes.end() {
-        use_code(alloc, codes, types, keys, code, &mut used)?;
-    }
-    prove!(used.len() <= types.len() + 1);
-    Ok(used)
-}
 
 /// Pushes a type under a name.
 #[tactic(auto, using(crate::proofs::Small::type_refused))]

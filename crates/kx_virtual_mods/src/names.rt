@@ -1,6 +1,5 @@
 //! Names by number.
-ghost use Rattle.std.specs.Prelude.{◌≡◌, ◌<◌, ◌^◌, [], length, position, slice_get, IfErr, IfSome, OnOk};
-ghost use Rattle.std.specs.List.{list_any};
+ghost use Rattle.std.specs.Prelude.{◌≡◌, ◌<◌, ◌^◌, [], length, position, slice_get, IfErr, IfOk, IfSome, OnOk, Some};
 ghost use Rattle.std.specs.Option.{option_map};
 ghost use Rattle.std.specs.Str.{bytes_eq};
 ghost use Rattle.kx_lex.specs.declared.fault.Fault.TheVariants.{Memory};
@@ -61,10 +60,24 @@ impl Names {
         }
     }
 
-    fn has(&self, name: &[u8]) -> bool
-        ensures { result ≡ list_any (bytes_eq name.now) self.now }
+    /// The number of a name, which is added after the others where it isn't among them.
+    ///
+    /// # Errors
+    /// `Memory`.
+    pub fn number(&mut self, alloc: Global, name: &[u8]) -> Result<usize, Fault>
+        ensures added { OnOk result (self.new ≡ with_name bytes_eq self.old name.now) }
+        ensures number { IfOk result (λ number. position (bytes_eq name.now) self.new ≡ Some number) }
+        ensures err { IfErr result (λ e. e ≡ Memory) }
     {
-        self.numbers.place_of_owned_name(name).is_some()
+        match self.numbers.place_of_owned_name(name) {
+            Some(number) => Ok(number),
+            None => {
+                let number = self.numbers.len();
+                let name = OwnedName::of(alloc, name)?;
+                self.numbers.push(name, ())?;
+                Ok(number)
+            }
+        }
     }
 
     /// Adds a name after the others, where it isn't among them.
@@ -75,11 +88,7 @@ impl Names {
         ensures added { OnOk result (self.new ≡ with_name bytes_eq self.old name.now) }
         ensures err { IfErr result (λ e. e ≡ Memory) }
     {
-        if self.has(name) {
-            return Ok(());
-        }
-        let name = OwnedName::of(alloc, name)?;
-        self.numbers.insert(name, ())?;
+        let _ = self.number(alloc, name)?;
         Ok(())
     }
 }

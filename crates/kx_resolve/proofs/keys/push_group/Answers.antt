@@ -10,9 +10,7 @@ use Rattle.kx_resolve.proofs.Growing.{group_then_cells, groups_grow, new_cells, 
 use Rattle.kx_resolve.specs.Bounds.{last_cells}
 use Rattle.kx_resolve.specs.Given.{given}
 use Rattle.kx_resolve.specs.LevelActions.{level_actions_of}
-use Rattle.kx_resolve.specs.Keys.{cells_of, type_place}
-use Rattle.kx_types.specs.Types.{type_named}
-use Rattle.kx_resolve.specs.GroupTypes.{type_definition}
+use Rattle.kx_resolve.specs.Keys.{cells_of}
 use Rattle.kx_resolve.proofs.keys.push_group.Goals as goal
 
 abbrev bare : ℕ → ResolvedGroup
@@ -23,25 +21,22 @@ bare_small place = record { few_cells = omega arith; small_cells = All-nil CellI
 
 pub push_levels-requires-clause-small : goal.push_levels-requires-clause-small
 push_levels-requires-clause-small c =
-    subst IsWithinLimits (sym c.in_ok-push_bare_group.ensures.pushed) (small_with_group c.args.builder.now (bare c.type_place.result) c.requires.small (bare_small c.type_place.result) c.requires.few)
+    subst IsWithinLimits (sym c.in_ok-push_bare_group.ensures.pushed) (small_with_group c.args.builder.now (bare c.place.result) c.requires.small (bare_small c.place.result) c.requires.few)
 
 pub push_levels-requires-clause-some : goal.push_levels-requires-clause-some
 push_levels-requires-clause-some c =
-    let grown : length (last_groups c.push_bare_group.new.builder.keys) ≡ length (last_groups c.args.builder.now.keys ++ bare c.type_place.result ∷ []) = ap (λ (r : Resolved). length (last_groups r.keys)) c.in_ok-push_bare_group.ensures.pushed ∙ ap length (groups_grow (bare c.type_place.result) c.args.builder.now.keys c.requires.some) in
-    omega (arith, grown, length-append (last_groups c.args.builder.now.keys) (bare c.type_place.result ∷ []))
+    let grown : length (last_groups c.push_bare_group.new.builder.keys) ≡ length (last_groups c.args.builder.now.keys ++ bare c.place.result ∷ []) = ap (λ (r : Resolved). length (last_groups r.keys)) c.in_ok-push_bare_group.ensures.pushed ∙ ap length (groups_grow (bare c.place.result) c.args.builder.now.keys c.requires.some) in
+    omega (arith, grown, length-append (last_groups c.args.builder.now.keys) (bare c.place.result ∷ []))
 
 pub push_levels-requires-clause-bare : goal.push_levels-requires-clause-bare
 push_levels-requires-clause-bare c =
-    ap (λ (r : Resolved). last_cells r.keys) c.in_ok-push_bare_group.ensures.pushed ∙ new_cells (bare c.type_place.result) c.args.builder.now.keys c.requires.some
+    ap (λ (r : Resolved). last_cells r.keys) c.in_ok-push_bare_group.ensures.pushed ∙ new_cells (bare c.place.result) c.args.builder.now.keys c.requires.some
 
 pub returns-clause-pushed : goal.returns-clause-pushed
 returns-clause-pushed c =
     let key = given c.args.key.key.now in
     let level_actions = level_actions_of (real_of (stands_for c.args.key.stands.now)) c.args.key.interpretations.now c.args.key.modmap (given c.args.key.key.now) in
-    let declared = type_named c.args.types.now in
-    let used = c.args.used.now in
-    let place = c.type_place.ensures ∙ ap (type_place used) c.group_type-group_type.ensures.name in
     c.in_ok-push_levels.ensures.pushed
-    ∙ ap (λ r. fold with_cell r (cells_of level_actions key c.content_group-content.result c.group_type-group_type.result.levels)) c.in_ok-push_bare_group.ensures.pushed
-    ∙ group_then_cells c.args.builder.now (bare c.type_place.result) (cells_of level_actions key c.content_group-content.result c.group_type-group_type.result.levels)
-    ∙ (λ i. with_group c.args.builder.now (record { key_type = place i; cells = cells_of level_actions key (c.content_group-content.ensures i) (c.group_type-group_type.ensures.levels i) }))
+    ∙ ap (λ r. fold with_cell r (cells_of level_actions key c.content_group-content.result c.levels.result)) c.in_ok-push_bare_group.ensures.pushed
+    ∙ group_then_cells c.args.builder.now (bare c.place.result) (cells_of level_actions key c.content_group-content.result c.levels.result)
+    ∙ (λ i. with_group c.args.builder.now (record { key_type = c.place.ensures i; cells = cells_of level_actions key (c.content_group-content.ensures i) (c.levels.ensures.value i) }))

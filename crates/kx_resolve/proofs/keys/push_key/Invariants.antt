@@ -3,17 +3,15 @@ use Rattle.kx_builder.specs.Pushes.{last_groups, with_group, with_key}
 use Rattle.kx_builder.specs.WithinLimits.{IsWithinLimits}
 use Rattle.kx_virtual_mods.specs.Sets.{real_of}
 use Rattle.kx_virtual_mods.specs.Standing.{stands_for}
-use Rattle.kx_resolve.specs.Bounds.{GroupsAreValid}
 use Rattle.kx_resolve.specs.Given.{given}
 use Rattle.kx_resolve.specs.LevelActions.{level_actions_of}
-use Rattle.kx_resolve.specs.Keys.{groups_of, key_of}
-use Rattle.kx_types.specs.Types.{type_named}
+use Rattle.kx_resolve.specs.PlacedTypes.{PlacedAreValid, placed_groups}
 use Rattle.kx_resolve.proofs.keys.push_key.Given as goal
 
 abbrev pub invariant-groups : goal.invariant-groups
 invariant-groups l =
-    (l.builder ≡ fold with_group (with_key l.fn.builder (record (key_of (type_named l.types) l.used (level_actions_of (real_of (stands_for l.key.stands.now)) l.key.interpretations.now l.key.modmap (given l.key.key.now)) (given l.key.key.now) l.code l.name l.key.modmap) { groups = [] })) (groups_of (type_named l.types) l.used (level_actions_of (real_of (stands_for l.key.stands.now)) l.key.interpretations.now l.key.modmap (given l.key.key.now)) (given l.key.key.now) l.group))
+    (l.builder ≡ fold with_group (with_key l.fn.builder (record { code = l.code; name = l.name; modmap = l.key.modmap; range = (given l.key.key.now).range; groups = [] })) (placed_groups (level_actions_of (real_of (stands_for l.key.stands.now)) l.key.interpretations.now l.key.modmap (given l.key.key.now)) (given l.key.key.now) l.placed l.group))
     × IsWithinLimits l.builder
     × (0 < length l.builder.keys)
     × (length (last_groups l.builder.keys) ≡ l.group)
-    × GroupsAreValid (type_named l.types) (level_actions_of (real_of (stands_for l.key.stands.now)) l.key.interpretations.now l.key.modmap (given l.key.key.now)) (given l.key.key.now) l.group
+    × PlacedAreValid (level_actions_of (real_of (stands_for l.key.stands.now)) l.key.interpretations.now l.key.modmap (given l.key.key.now)) (given l.key.key.now) l.placed l.group

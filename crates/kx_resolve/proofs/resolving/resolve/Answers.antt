@@ -36,15 +36,15 @@ push_keys-requires-clause-small c = c.in_ok-builder.ensures.small
 pub push_keys-requires-clause-keyless : goal.push_keys-requires-clause-keyless
 push_keys-requires-clause-keyless c = ap (λ (r : Resolved). r.keys) c.in_ok-builder.ensures.types
 
-pub push_keys-requires-clause-places : goal.push_keys-requires-clause-places
-push_keys-requires-clause-places c = omega (arith, c.in_ok-used.ensures.few)
+pub push_keys-requires-clause-placed : goal.push_keys-requires-clause-placed
+push_keys-requires-clause-placed c = c.in_ok-used.ensures.placed
 
 pub returns-clause-content : goal.returns-clause-content
 returns-clause-content c =
     let real : ℕ → RealSet = real_of (stands_for c.args.read.stands.now) in
     let declared : List ℕ → Option Definition = type_named c.args.read.types.now in
     let keyed : Keyed = keyed_of (real_of (stands_for c.args.read.stands.now)) c.args.read.codes.now c.args.read.keys.now (modmap_at c.args.read.modmaps.now) c.args.read.interpretations.now in
-    let built = tree_whole real declared c.in_ok-used.used keyed c.in_ok-used.ensures.used c.in_ok-builder.builder c.push_keys.new.builder c.in_ok-builder.ensures.types c.in_ok-push_keys.ensures.pushed in
+    let built = tree_whole real declared c.in_ok-used.used.names keyed c.in_ok-used.ensures.used c.in_ok-builder.builder c.push_keys.new.builder c.in_ok-builder.ensures.types c.in_ok-push_keys.ensures.pushed in
     c.in_ok-parts.ensures.content ∙ ap (λ r. with_indicator_maps (content_of_resolved r) (indicators_of real c.args.read.indicators.now) c.args.read.group_names.now) built
 
 pub returns-clause-agrees : goal.returns-clause-agrees
@@ -52,13 +52,13 @@ returns-clause-agrees c =
     let real : ℕ → RealSet = real_of (stands_for c.args.read.stands.now) in
     let declared : List ℕ → Option Definition = type_named c.args.read.types.now in
     let keyed : Keyed = keyed_of (real_of (stands_for c.args.read.stands.now)) c.args.read.codes.now c.args.read.keys.now (modmap_at c.args.read.modmaps.now) c.args.read.interpretations.now in
-    let built = tree_whole real declared c.in_ok-used.used keyed c.in_ok-used.ensures.used c.in_ok-builder.builder c.push_keys.new.builder c.in_ok-builder.ensures.types c.in_ok-push_keys.ensures.pushed in
-    built_agrees real declared keyed c.in_ok-used.used c.in_ok-used.ensures.used c.in_ok-used.ensures.few c.in_ok-builder.ensures.hold c.in_ok-push_keys.ensures.bounds c.push_keys.new.builder built (keymap_of (content_of c.in_ok-parts.parts)) (indicators_of real c.args.read.indicators.now) (c.in_ok-parts.ensures.agrees (built_whole real declared keyed c.in_ok-used.used c.in_ok-used.ensures.used c.in_ok-used.ensures.few c.in_ok-builder.ensures.hold c.in_ok-push_keys.ensures.bounds c.push_keys.new.builder built))
+    let built = tree_whole real declared c.in_ok-used.used.names keyed c.in_ok-used.ensures.used c.in_ok-builder.builder c.push_keys.new.builder c.in_ok-builder.ensures.types c.in_ok-push_keys.ensures.pushed in
+    built_agrees real declared keyed c.in_ok-used.used.names c.in_ok-used.ensures.used c.in_ok-used.ensures.few c.in_ok-builder.ensures.hold c.in_ok-push_keys.ensures.bounds c.push_keys.new.builder built (keymap_of (content_of c.in_ok-parts.parts)) (indicators_of real c.args.read.indicators.now) (c.in_ok-parts.ensures.agrees (built_whole real declared keyed c.in_ok-used.used.names c.in_ok-used.ensures.used c.in_ok-used.ensures.few c.in_ok-builder.ensures.hold c.in_ok-push_keys.ensures.bounds c.push_keys.new.builder built))
 
 pub returns-clause-sound : goal.returns-clause-sound
 returns-clause-sound c =
     let real : ℕ → RealSet = real_of (stands_for c.args.read.stands.now) in
     let declared : List ℕ → Option Definition = type_named c.args.read.types.now in
     let keyed : Keyed = keyed_of (real_of (stands_for c.args.read.stands.now)) c.args.read.codes.now c.args.read.keys.now (modmap_at c.args.read.modmaps.now) c.args.read.interpretations.now in
-    let built = tree_whole real declared c.in_ok-used.used keyed c.in_ok-used.ensures.used c.in_ok-builder.builder c.push_keys.new.builder c.in_ok-builder.ensures.types c.in_ok-push_keys.ensures.pushed in
-    λ one. c.in_ok-parts.ensures.sound (built_valid real declared keyed c.in_ok-used.used c.in_ok-used.ensures.used c.in_ok-used.ensures.few c.in_ok-builder.ensures.hold c.in_ok-push_keys.ensures.bounds c.push_keys.new.builder built one)
+    let built = tree_whole real declared c.in_ok-used.used.names keyed c.in_ok-used.ensures.used c.in_ok-builder.builder c.push_keys.new.builder c.in_ok-builder.ensures.types c.in_ok-push_keys.ensures.pushed in
+    λ one. c.in_ok-parts.ensures.sound (built_valid real declared keyed c.in_ok-used.used.names c.in_ok-used.ensures.used c.in_ok-used.ensures.few c.in_ok-builder.ensures.hold c.in_ok-push_keys.ensures.bounds c.push_keys.new.builder built one)

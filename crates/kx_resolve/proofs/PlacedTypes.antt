@@ -1,0 +1,207 @@
+-- The types of groups, made out one by one.
+use Rattle.std.proofs.Common.{ℕ, zero, suc, ◌+◌, ◌≡◌, ◌-◌, ◌<◌, ◌≤◌, ◌^◌, ◌%◌, ◌||◌, Bool, true, false, cond, All, List, [], ◌∷◌, ◌++◌, Option, None, Some, get_or, length, map, position, unwrap_or, take, drop, refl, sym, ap, ◌∙◌, subst, arith, append-nil, append_assoc, eq-or-lt_of_le, inl, inr, if◌then◌else◌}
+use Rattle.std.specs.List.{list_any}
+use Rattle.std.specs.Str.{bytes_eq}
+use Rattle.std.proofs.lemmas.Bool.{false≢true}
+use Rattle.std.proofs.lemmas.List.{append_cancel_left, get_or_append_left, length-append, length-map, map-append}
+use Rattle.std.proofs.lemmas.List.Elements.{All-head, All-nil, All-push, All-tail, All-weaker}
+use Rattle.std.proofs.lemmas.List.Folds.{list_any-append}
+use Rattle.std.proofs.lemmas.List.Quantifiers.{position-Some}
+use Rattle.std.proofs.Math.Seq.{drop-append_seam, get_or-append_seam, take-append_seam}
+use Rattle.kx_basics.specs.declared.limits.TheConstants.{CODES}
+use Rattle.kx_builder.specs.Resolved.{ResolvedGroup}
+use Rattle.kx_merge.specs.Offers.{with_name}
+use Rattle.kx_resolve.proofs.Order.{extends_one, place_in, place_kept, same_self, with_next}
+use Rattle.kx_resolve.proofs.Steps.{groups_next, groups_none, names_next, names_none, used_next}
+use Rattle.kx_resolve.specs.Bounds.{CellsAreValid, GroupsAreValid, levels_of_group}
+use Rattle.kx_resolve.specs.Given.{KeyGiven}
+use Rattle.kx_resolve.specs.GroupTypes.{content_group, group_count, group_type_name}
+use Rattle.kx_resolve.specs.Keys.{groups_of, type_names, type_names_below, type_names_if, type_place}
+use Rattle.kx_resolve.specs.LevelActions.{LevelActions}
+use Rattle.kx_resolve.specs.PlacedTypes.{AreUsed, PlacedAreValid, PlacedType, none_placed, placed_group, placed_groups, placed_type, type_at}
+use Rattle.kx_types.specs.KeyTypes.{Definition}
+use Rattle.kx_virtual_mods.specs.Counted.{with_names}
+
+-- ---- One type more
+
+abbrev IsIn : List (List ℕ) → List ℕ → Type 0
+IsIn used name = list_any (bytes_eq name) used ≡ true
+
+there_with : (used : List (List ℕ)) (x name : List ℕ) → IsIn used name → IsIn (with_name bytes_eq used x) name
+there_with used x name there = by (list_any (bytes_eq x) used)
+  where
+    by : (b : Bool) → IsIn (if b then used else used ++ x ∷ []) name
+    by true = there
+    by false = list_any-append (bytes_eq name) used (x ∷ []) ∙ ap (λ b. b || list_any (bytes_eq name) (x ∷ [])) there
+
+there_now : (used : List (List ℕ)) (x : List ℕ) → IsIn (with_name bytes_eq used x) x
+there_now used x = by (list_any (bytes_eq x) used) refl
+  where
+    or_true : (b : Bool) → (b || (true || false)) ≡ true
+    or_true true = refl
+    or_true false = refl
+
+    by : (b : Bool) → list_any (bytes_eq x) used ≡ b → IsIn (if b then used else used ++ x ∷ []) x
+    by true there = there
+    by false there = list_any-append (bytes_eq x) used (x ∷ []) ∙ ap (λ b. list_any (bytes_eq x) used || (b || false)) (same_self x) ∙ or_true (list_any (bytes_eq x) used)
+
+same_place : (used : List (List ℕ)) (x name : List ℕ) → IsIn used name → type_place (with_name bytes_eq used x) name ≡ type_place used name
+same_place used x name there = let more = extends_one used x in ap (λ ks. place_in ks name) more.is ∙ place_kept name used more.rest there
+
+-- ---- Groups by their types
+
+module _ (level_actions : LevelActions) (key : KeyGiven) where
+  pub placed_none : (placed : List PlacedType) → placed_groups level_actions key placed 0 ≡ []
+  unfolding placed_groups
+  placed_none placed = refl
+
+  pub placed_next : (placed : List PlacedType) (n : ℕ) → placed_groups level_actions key placed (n + 1) ≡ placed_groups level_actions key placed n ++ placed_group level_actions key n (get_or placed n none_placed) ∷ []
+  unfolding placed_groups
+  placed_next placed n = let one : suc n ≡ n + 1 = omega arith in subst (λ m. placed_groups level_actions key placed m ≡ placed_groups level_actions key placed n ++ placed_group level_actions key n (get_or placed n none_placed) ∷ []) one refl
+
+-- ---- What is made out
+
+module _ (declared : List ℕ → Option Definition) where
+  abbrev type_in : List (List ℕ) → List ℕ → PlacedType
+  type_in used name = type_at declared (type_place used name % 2 ^ 16) name
+
+  types_stay : (used : List (List ℕ)) (x : List ℕ) (names : List (List ℕ)) → All (IsIn used) names → map (type_in used) names ≡ map (type_in (with_name bytes_eq used x)) names
+  types_stay used x [] all = refl
+  types_stay used x (name ∷ names) all = λ i.
+      type_at declared (sym (same_place used x name (All-head (IsIn used) name names all)) i % 2 ^ 16) name
+      ∷ types_stay used x names (All-tail (IsIn used) name names all) i
+
+  pub one_used : (names used more : List (List ℕ)) (placed new : List PlacedType) (x : List ℕ) (place : ℕ) → more ≡ with_name bytes_eq used x → position (bytes_eq x) more ≡ Some place → new ≡ placed ++ type_at declared (place % 2 ^ 16) x ∷ [] → AreUsed declared names used placed → AreUsed declared (names ++ x ∷ []) more new
+  one_used names used more placed new x place is at pushed before = record {
+    used_are = is ∙ ap (λ ks. with_name bytes_eq ks x) before.used_are ∙ sym (with_next [] names x);
+    placed_are =
+        pushed
+        ∙ (λ i. (before.placed_are ∙ types_stay used x names before.there ∙ ap (λ ks. map (type_in ks) names) (sym is)) i ++ type_at declared (found i % 2 ^ 16) x ∷ [])
+        ∙ sym (map-append (type_in more) names (x ∷ []));
+    there = subst (λ ks. All (IsIn ks) (names ++ x ∷ [])) (sym is) (All-push (IsIn (with_name bytes_eq used x)) names x (All-weaker (IsIn used) (IsIn (with_name bytes_eq used x)) (there_with used x) names before.there) (there_now used x));
+  }
+    where
+      found : place ≡ type_place more x
+      found = sym (ap (λ o. unwrap_or o 0) at)
+
+  pub none_used : AreUsed declared [] [] []
+  none_used = record { used_are = refl; placed_are = refl; there = All-nil (IsIn []) }
+
+  -- ---- Places are small
+
+  place_upto : (used : List (List ℕ)) (name : List ℕ) → type_place used name ≤ length used
+  place_upto used name = by (position (bytes_eq name) used) refl
+    where
+      by : (o : Option ℕ) → position (bytes_eq name) used ≡ o → unwrap_or o 0 ≤ length used
+      by None is = omega arith
+      by (Some i) is = let at = position-Some (bytes_eq name) used i [] is in omega (arith, at.0)
+
+  pub places_whole : (used names : List (List ℕ)) → length used < 2 ^ 16 → map (type_in used) names ≡ map (placed_type declared used) names
+  places_whole used names few = λ i. map (λ name. type_at declared (small name i) name) names
+    where
+      small : (name : List ℕ) → type_place used name % 2 ^ 16 ≡ type_place used name
+      small name = let upto = place_upto used name in omega (arith, upto, few)
+
+  -- ---- The types of a key's groups
+
+  module _ (key : KeyGiven) where
+    pub names_count : (n : ℕ) → length (type_names declared key n) ≡ n
+    names_count zero = ap length (names_none key declared)
+    names_count (suc n) =
+        let one : suc n ≡ n + 1 = omega arith in
+        let more : length (type_names declared key (n + 1)) ≡ length (type_names declared key n) + 1 = ap length (names_next key declared n) ∙ length-append (type_names declared key n) (group_type_name declared key n ∷ []) in
+        let before = names_count n in
+        ap (λ m. length (type_names declared key m)) one ∙ omega (arith, more, before)
+
+    module _ (used : List (List ℕ)) where
+      abbrev types_of : ℕ → List PlacedType
+      types_of n = map (placed_type declared used) (type_names declared key n)
+
+      types_count : (n : ℕ) → length (types_of n) ≡ n
+      types_count n = length-map (type_names declared key n) (placed_type declared used) ∙ names_count n
+
+      types_next : (n : ℕ) → types_of (suc n) ≡ types_of n ++ placed_type declared used (group_type_name declared key n) ∷ []
+      types_next n =
+          let one : suc n ≡ n + 1 = omega arith in
+          ap types_of one ∙ ap (map (placed_type declared used)) (names_next key declared n) ∙ map-append (placed_type declared used) (type_names declared key n) (group_type_name declared key n ∷ [])
+
+      pub type_of_group : (n group : ℕ) → group < n → get_or (types_of n) group none_placed ≡ placed_type declared used (group_type_name declared key group)
+      type_of_group zero group less = absurd (omega (arith, less))
+      type_of_group (suc n) group less =
+          ap (λ ts. get_or ts group none_placed) (types_next n)
+          ∙ elim (eq-or-lt_of_le upto) [
+            | inl same ↦ ap (λ g. get_or (types_of n ++ placed_type declared used (group_type_name declared key n) ∷ []) g none_placed) (same ∙ sym (types_count n)) ∙ get_or-append_seam (types_of n) (placed_type declared used (group_type_name declared key n)) [] none_placed ∙ ap (λ g. placed_type declared used (group_type_name declared key g)) (sym same)
+            | inr earlier ↦ get_or_append_left (types_of n) (placed_type declared used (group_type_name declared key n) ∷ []) none_placed group (omega (arith, earlier, types_count n)) ∙ type_of_group n group earlier
+          ]
+        where
+          upto : group ≤ n
+          upto = omega (arith, less)
+
+      module _ (level_actions : LevelActions) where
+        pub groups_placed : (placed : List PlacedType) (n : ℕ) → ((group : ℕ) → group < n → get_or placed group none_placed ≡ placed_type declared used (group_type_name declared key group)) → placed_groups level_actions key placed n ≡ groups_of declared used level_actions key n
+        groups_placed placed zero each = placed_none level_actions key placed ∙ sym (groups_none key declared used level_actions)
+        groups_placed placed (suc n) each =
+            let one : suc n ≡ n + 1 = omega arith in
+            ap (placed_groups level_actions key placed) one ∙ placed_next level_actions key placed n
+            ∙ (λ i. groups_placed placed n (λ group less. each group (omega (arith, less))) i ++ placed_group level_actions key n (each n (omega arith) i) ∷ [])
+            ∙ sym (groups_next key declared used level_actions n) ∙ ap (groups_of declared used level_actions key) (sym one)
+
+        pub valid_placed : (placed : List PlacedType) (n : ℕ) → ((group : ℕ) → group < n → get_or placed group none_placed ≡ placed_type declared used (group_type_name declared key group)) → PlacedAreValid level_actions key placed n → GroupsAreValid declared level_actions key n
+        valid_placed placed n each valid = λ group less. subst (λ (t : PlacedType). CellsAreValid level_actions key (content_group key group) t.levels) (each group less) (valid group less)
+
+        -- the types of a key's groups, ahead of others
+        module _ (placed own : List PlacedType) (ns : List (List ℕ)) (count : ℕ) (is : count ≡ group_count key) (ahead : placed ≡ map (placed_type declared used) (type_names declared key (group_count key) ++ ns)) where
+          abbrev n : ℕ
+          n = group_count key
+
+          split : placed ≡ types_of n ++ map (placed_type declared used) ns
+          split = ahead ∙ map-append (placed_type declared used) (type_names declared key n) ns
+
+          own_types : own ≡ take count placed → own ≡ types_of n
+          own_types first =
+              first ∙ (λ i. take (is i) (split i))
+              ∙ subst (λ m. take m (types_of n ++ map (placed_type declared used) ns) ≡ types_of n) (types_count n) (take-append_seam (types_of n) (map (placed_type declared used) ns))
+
+          pub types_after : own ≡ drop count placed → own ≡ map (placed_type declared used) ns
+          types_after last =
+              last ∙ (λ i. drop (is i) (split i))
+              ∙ subst (λ m. drop m (types_of n ++ map (placed_type declared used) ns) ≡ map (placed_type declared used) ns) (types_count n) (drop-append_seam (types_of n) (map (placed_type declared used) ns))
+
+          pub groups_ahead : own ≡ take count placed → placed_groups level_actions key own (length own) ≡ groups_of declared used level_actions key n
+          groups_ahead first =
+              (λ i. placed_groups level_actions key (own_types first i) (length (own_types first i)))
+              ∙ ap (placed_groups level_actions key (types_of n)) (types_count n)
+              ∙ groups_placed (types_of n) n (type_of_group n)
+
+          pub valid_ahead : own ≡ take count placed → PlacedAreValid level_actions key own (length own) → GroupsAreValid declared level_actions key n
+          valid_ahead first valid =
+              valid_placed (types_of n) n (type_of_group n)
+              (subst (PlacedAreValid level_actions key (types_of n)) (types_count n) (subst (λ ts. PlacedAreValid level_actions key ts (length ts)) (own_types first) valid))
+
+-- ---- The names of the types of codes
+
+module _ (declared : List ℕ → Option Definition) (name : ℕ → Option (List ℕ)) (key : ℕ → KeyGiven) where
+  abbrev below : ℕ → List (List ℕ)
+  below = type_names_below declared name key
+
+  rest_after : (n more : ℕ) → (tail : List (List ℕ)) × (below (n + more) ≡ below n ++ tail)
+  rest_after n zero = let none : n + 0 ≡ n = omega arith in ([], ap below none ∙ sym (append-nil (below n)))
+  rest_after n (suc more) =
+      let one : n + suc more ≡ n + more + 1 = omega arith in
+      let before = rest_after n more in
+      let next = type_names_if declared (name (n + more)) (key (n + more)) in (
+        before.0 ++ next,
+        ap below one ∙ used_next declared name key (n + more) ∙ ap (λ ns. ns ++ next) before.1 ∙ append_assoc (below n) before.0 next,
+      )
+
+  -- those of a code, ahead of those after it
+  pub next_ahead : (code : ℕ) → code < CODES → (ns : List (List ℕ)) → below code ++ ns ≡ below CODES → (rest : List (List ℕ)) × (ns ≡ type_names_if declared (name code) (key code) ++ rest) × (below (code + 1) ++ rest ≡ below CODES)
+  next_ahead code less ns whole =
+      let upto : code + 1 + (CODES - (code + 1)) ≡ CODES = omega (arith, less) in
+      let after = rest_after (code + 1) (CODES - (code + 1)) in
+      let next = type_names_if declared (name code) (key code) in
+      let all : below CODES ≡ below (code + 1) ++ after.0 = ap below (sym upto) ∙ after.1 in (
+        after.0,
+        append_cancel_left (below code) ns (next ++ after.0) (whole ∙ all ∙ ap (λ xs. xs ++ after.0) (used_next declared name key code) ∙ append_assoc (below code) next after.0),
+        sym all,
+      )

@@ -1,0 +1,49 @@
+-- The types of groups as they are made out once: of each its place among the types in use, and how many levels it has.
+use Rattle.std.specs.Prelude.{◌≡◌, ◌<◌, ◌%◌, ◌^◌, ℕ, zero, suc, All, List, [], ◌∷◌, ◌++◌, Option, get_or, length, map, true}
+use Rattle.std.specs.List.{list_any}
+use Rattle.std.specs.Str.{bytes_eq}
+use Rattle.kx_builder.specs.Resolved.{ResolvedGroup}
+use Rattle.kx_resolve.specs.Bounds.{CellsAreValid}
+use Rattle.kx_resolve.specs.Given.{KeyGiven}
+use Rattle.kx_resolve.specs.GroupTypes.{content_group, type_definition}
+use Rattle.kx_resolve.specs.Keys.{cells_of, type_place}
+use Rattle.kx_resolve.specs.LevelActions.{LevelActions}
+use Rattle.kx_types.specs.KeyTypes.{Definition}
+use Rattle.kx_virtual_mods.specs.Counted.{with_names}
+
+pub record PlacedType : Type 0 where
+  pub place : ℕ
+  pub levels : ℕ
+
+-- `declared` are the types by name
+module _ (declared : List ℕ → Option Definition) where
+  -- a type of so many levels at a place
+  abbrev pub type_at : ℕ → List ℕ → PlacedType
+  type_at place name = record { place = place; levels = (type_definition declared name).levels }
+
+  -- `used` are the types by their places
+  abbrev pub placed_type : List (List ℕ) → List ℕ → PlacedType
+  placed_type used name = type_at (type_place used name) name
+
+  -- what is made out of the types that groups have in turn: those in use, each once in the order of first use, and the type
+  -- of each group; places are numbers of 16 bits
+  pub record AreUsed (names used : List (List ℕ)) (placed : List PlacedType) : Type 0 where
+    pub used_are : used ≡ with_names [] names
+    pub placed_are : placed ≡ map (λ name. type_at (type_place used name % 2 ^ 16) name) names
+    pub there : All (λ name. list_any (bytes_eq name) used ≡ true) names
+
+-- in place of a type that isn't there
+abbrev pub none_placed : PlacedType
+none_placed = record { place = 0; levels = 0 }
+
+module _ (level_actions : LevelActions) (key : KeyGiven) where
+  abbrev pub placed_group : ℕ → PlacedType → ResolvedGroup
+  placed_group group placed = record { key_type = placed.place; cells = cells_of level_actions key (content_group key group) placed.levels }
+
+  -- the groups of so many types, in order
+  unfoldable pub placed_groups : List PlacedType → ℕ → List ResolvedGroup
+  placed_groups placed zero = []
+  placed_groups placed (suc n) = placed_groups placed n ++ placed_group n (get_or placed n none_placed) ∷ []
+
+  abbrev pub PlacedAreValid : List PlacedType → ℕ → Type 0
+  PlacedAreValid placed n = (group : ℕ) → group < n → CellsAreValid level_actions key (content_group key group) (get_or placed group none_placed).levels

@@ -1,0 +1,152 @@
+//! The key types that groups have, made out once.
+ghost use Rattle.std.specs.Prelude.{◌≡◌, ◌≤◌, ◌+◌, ◌%◌, ◌^◌, ◌++◌, ◌∷◌, [], ℕ, IfErr, IfOk, List, OnOk, length, map};
+ghost use Rattle.kx_basics.specs.declared.limits.TheConstants.{CODES, MOST_LEVELS};
+ghost use Rattle.kx_codes.specs.Codes.{name_of};
+ghost use Rattle.kx_lex.specs.declared.fault.Fault.TheVariants.{Memory};
+ghost use Rattle.kx_resolve.specs.PlacedTypes.{AreUsed, placed_type};
+ghost use Rattle.kx_resolve.specs.Given.{given, given_in};
+ghost use Rattle.kx_resolve.specs.GroupTypes.{group_count, group_type_name};
+ghost use Rattle.kx_resolve.specs.Keys.{type_names, type_names_below, type_names_if, types_used};
+ghost use Rattle.kx_symbols.specs.Keys.{key_at};
+ghost use Rattle.kx_types.specs.Types.{type_named};
+ghost use Rattle.kx_types.specs.declared.limits.TheConstants.{MOST_TYPES};
+
+use crate::group_types::{GroupType, group_count, group_type};
+use kx_codes::Codes;
+use kx_lex::Fault;
+use kx_symbols::{KeyRecord, Keys};
+use kx_types::Types;
+use kx_virtual_mods::Names;
+use std::alloc::Global;
+use std::marker::Model;
+
+/// The type of a group, made out; seen as its place and its levels.
+#[derive(Drop)]
+pub(crate) struct PlacedType {
+    place: u16,
+    levels: u8,
+    falls_back: bool,
+}
+
+impl Model for PlacedType {
+    ghost use Rattle.std.specs.Prelude.{◌≤◌};
+    ghost use Rattle.kx_basics.specs.declared.limits.TheConstants.{MOST_LEVELS};
+    ghost use Rattle.kx_resolve.specs.PlacedTypes.{PlacedType};
+
+    ghost Value = { PlacedType };
+
+    ghost view = { λ c. record { place = c.place; levels = c.levels } };
+
+    ghost invariant = { λ c. c.levels ≤ MOST_LEVELS };
+}
+
+impl PlacedType {
+    /// A type at a place, which is a number of 16 bits.
+    fn of(place: usize, group_type: GroupType) -> PlacedType
+        requires { group_type.levels ≤ MOST_LEVELS }
+        ensures { result ≡ record { place = place % 2 ^ 16; levels = group_type.entry.levels } }
+    {
+        PlacedType {
+            place: (place % 0x1_0000) as u16,
+            levels: group_type.levels as u8,
+            falls_back: group_type.falls_back,
+        }
+    }
+
+    /// Its place among the types in use, counted from 0.
+    pub(crate) fn place(&self) -> u16
+        ensures { result ≡ self.now.place }
+    {
+        self.place
+    }
+
+    /// How many levels it has.
+    pub(crate) fn levels(&self) -> usize
+        ensures value { result ≡ self.now.levels }
+        ensures few { result ≤ MOST_LEVELS }
+    {
+        usize::from(self.levels)
+    }
+
+    /// Whether it stands in place of another that is wanted.
+    pub(crate) fn falls_back(&self) -> bool {
+        self.falls_back
+    }
+}
+
+/// The types in use, in the order of first use, and the type of each group by its place, in the order of keys.
+#[derive(Drop)]
+pub(crate) struct UsedTypes {
+    pub(crate) names: Names,
+    pub(crate) placed: Vec<PlacedType>,
+}
+
+/// Takes up the type of a group of a key.
+fn use_group(
+    alloc: Global,
+    types: &Types,
+    key: &KeyRecord,
+    group: usize,
+    used: &mut UsedTypes,
+) -> Result<(), Fault>
+    ensures used { OnOk result ((names : List (List ℕ)) → AreUsed (type_named types.now) names used.old.names used.old.placed.items → AreUsed (type_named types.now) (names ++ group_type_name (type_named types.now) (given key.now) group ∷ []) used.new.names used.new.placed.items) }
+    ensures err { IfErr result (λ e. e ≡ Memory) }
+{
+    let group_type = group_type(types, key, group);
+    let place = used.names.number(alloc, group_type.name)?;
+    used.placed.push(PlacedType::of(place, group_type))?;
+    Ok(())
+}
+
+/// Takes up the types of a key's groups.
+fn use_key(alloc: Global, types: &Types, key: &KeyRecord, used: &mut UsedTypes) -> Result<(), Fault>
+    ensures used { OnOk result ((names : List (List ℕ)) → AreUsed (type_named types.now) names used.old.names used.old.placed.items → AreUsed (type_named types.now) (names ++ type_names (type_named types.now) (given key.now) (group_count (given key.now))) used.new.names used.new.placed.items) }
+    ensures err { IfErr result (λ e. e ≡ Memory) }
+{
+    'groups: for group in 0..group_count(key) {
+        use_group(alloc, types, key, group, used)?;
+    }
+    Ok(())
+}
+
+/// Takes up the types of the key of a code, where the code has a name.
+fn use_code(
+    alloc: Global,
+    codes: &Codes,
+    types: &Types,
+    keys: &Keys,
+    code: u16,
+    used: &mut UsedTypes,
+) -> Result<(), Fault>
+    ensures used { OnOk result ((names : List (List ℕ)) → AreUsed (type_named types.now) names used.old.names used.old.placed.items → AreUsed (type_named types.now) (names ++ type_names_if (type_named types.now) (name_of codes.now code) (given_in (key_at keys.now code))) used.new.names used.new.placed.items) }
+    ensures err { IfErr result (λ e. e ≡ Memory) }
+{
+    match (codes.name_of(code), keys.key(code)) {
+        (Some(_), Some(key)) => use_key(alloc, types, key, used),
+        (Some(_), None) => Ok(()),
+        (None, _) => Ok(()),
+    }
+}
+
+/// The types that keys use.
+pub(crate) fn types_used(
+    alloc: Global,
+    codes: &Codes,
+    types: &Types,
+    keys: &Keys,
+) -> Result<UsedTypes, Fault>
+    ensures used { IfOk result (λ used. used.names ≡ types_used (type_named types.now) (name_of codes.now) (λ c. given_in (key_at keys.now c))) }
+    ensures placed { IfOk result (λ used. used.placed.items ≡ map (placed_type (type_named types.now) used.names) (type_names_below (type_named types.now) (name_of codes.now) (λ c. given_in (key_at keys.now c)) CODES)) }
+    ensures few { IfOk result (λ used. length used.names ≤ MOST_TYPES + 1) }
+    ensures err { IfErr result (λ e. e ≡ Memory) }
+{
+    let mut used = UsedTypes {
+        names: Names::new(alloc),
+        placed: Vec::new(alloc),
+    };
+    'codes: for code in 0..codes.end() {
+        use_code(alloc, codes, types, keys, code, &mut used)?;
+    }
+    prove!(used.names.len() <= types.len() + 1);
+    Ok(used)
+}
