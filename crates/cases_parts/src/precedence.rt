@@ -67,7 +67,8 @@ fn keycode_in(statement: &Statement) -> Option<(u8, u32)>
 impl Sheet {
     /// The values of the two groups where the map is moved to a group.
     fn moved(&self, group: Option<u8>) -> (Option<u32>, Option<u32>)
-        ensures { (c : ℕ) → sheet_cell result.0 result.1 c ≡ moved_value sheet_moves group (sheet_cell self.now.one self.now.two) c }
+        ensures { (c : ℕ) → sheet_cell result.0 result.1 c
+            ≡ moved_value sheet_moves group (sheet_cell self.now.one self.now.two) c }
     {
         match group {
             None => (self.one, self.two),
@@ -81,7 +82,9 @@ impl Sheet {
 /// The record that a keycode statement gives.
 #[tactic(auto, using(crate::proofs::Sheets::one_offered))]
 fn one_sheet(alloc: Global, key: u8, number: u32) -> Result<Vec<(u8, Sheet)>, Fault>
-    ensures given { (mode : ModeValue) → IfOk result (λ records. AreOffered mode (λ s c. sheet_cell s.one s.two c) (λ s g. 0) records.items (sheet_offer mode key number ∷ [])) }
+    ensures given { (mode : ModeValue)
+        → IfOk result (λ records. AreOffered mode (λ s c. sheet_cell s.one s.two c) (λ s g. 0)
+        records.items (sheet_offer mode key number ∷ [])) }
     ensures err { IfErr result (λ e. e ≡ Memory) }
 {
     let one = if number == 0 { None } else { Some(number) };
@@ -93,7 +96,8 @@ fn one_sheet(alloc: Global, key: u8, number: u32) -> Result<Vec<(u8, Sheet)>, Fa
 /// No records.
 #[tactic(auto, using(crate::proofs::Sheets::nothing_offered))]
 fn no_sheets(alloc: Global) -> Vec<(u8, Sheet)>
-    ensures { (mode : ModeValue) → AreOffered mode (λ s c. sheet_cell s.one s.two c) (λ s g. 0) result.items [] }
+    ensures { (mode : ModeValue) → AreOffered mode (λ s c. sheet_cell s.one s.two c) (λ s g. 0)
+        result.items [] }
 {
     Vec::new(alloc)
 }

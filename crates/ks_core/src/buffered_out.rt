@@ -116,7 +116,8 @@ impl BufferedOut {
     fn gather(&mut self, piece: &[u8])
         requires { length self.old.waiting + length piece.now ≤ 4096 }
         ensures still { self.old.failed ≡ true → self.new ≡ self.old }
-        ensures gathered { self.old.failed ≡ false → self.new ≡ record { waiting = self.old.waiting ++ piece.now; failed = false } }
+        ensures gathered { self.old.failed ≡ false
+            → self.new ≡ record { waiting = self.old.waiting ++ piece.now; failed = false } }
     {
         if self.fault.is_none() {
             let end = self.len + piece.len();

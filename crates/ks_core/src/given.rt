@@ -75,7 +75,8 @@ impl Given {
     ) -> Result<(), NameFault>
         ensures valid { OnOk result (fault_of_line self.old number line.now ≡ None) }
         ensures given { OnOk result (self.new ≡ given_after self.old line.now) }
-        ensures fault { IfErr result (λ fault. (fault ≡ NameFault.Memory) ⊎ (fault_of_line self.old number line.now ≡ Some fault)) }
+        ensures fault { IfErr result (λ fault. (fault ≡ NameFault.Memory)
+            ⊎ (fault_of_line self.old number line.now ≡ Some fault)) }
     {
         match read_line(line, number) {
             Ok(entry) => match entry {
@@ -98,7 +99,8 @@ impl Given {
         ensures valid { OnOk result (is_another (known_keysym self.old name.now) keysym ≡ false) }
         ensures given { OnOk result (self.new ≡ with_entry self.old (name.now, keysym)) }
         ensures fault { IfErr result (λ fault. (fault ≡ NameFault.Memory)
-            ⊎ ((is_another (known_keysym self.old name.now) keysym ≡ true) × (fault ≡ NameFault.Twice number))) }
+            ⊎ ((is_another (known_keysym self.old name.now) keysym ≡ true)
+            × (fault ≡ NameFault.Twice number))) }
     {
         match self.known(name) {
             Some(known) => {

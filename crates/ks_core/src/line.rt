@@ -19,7 +19,8 @@ const MOST_NAME: usize = 63;
 
 /// The first line of the text, and what is left after its line feed.
 pub(crate) fn first_line(text: &[u8]) -> (&[u8], Option<&[u8]>)
-    ensures lines { lines_of text.now ≡ result.0.now ∷ lines_left (option_map (λ rest. rest.now) result.1) }
+    ensures lines { lines_of text.now
+        ≡ result.0.now ∷ lines_left (option_map (λ rest. rest.now) result.1) }
     ensures shorter { IfSome result.1 (λ rest. length rest.now < length text.now) }
 {
     match line_end(text) {
@@ -42,7 +43,8 @@ pub(crate) fn read_line(line: &[u8], number: usize) -> Result<Option<(&str, u32)
     ensures fault { IfErr result (λ fault. own_fault number line.now ≡ Some fault) }
     ensures valid { OnOk result (own_fault number line.now ≡ None) }
     ensures skipped { IfOk result (λ entry. IfNone entry (is_skipped line.now ≡ true)) }
-    ensures read { IfOk result (λ entry. IfSome entry (λ e. (is_skipped line.now ≡ false) × ((e.0.now, e.1) ≡ entry_of line.now))) }
+    ensures read { IfOk result (λ entry.
+        IfSome entry (λ e. (is_skipped line.now ≡ false) × ((e.0.now, e.1) ≡ entry_of line.now))) }
 {
     if is_skipped(line) {
         return Ok(None);
@@ -114,7 +116,8 @@ fn is_blank(byte: u8) -> bool
 
 /// The name as text, where a line may give it.
 fn given_name(name: &[u8]) -> Option<&str>
-    ensures { option_map (λ text. text.now) result ≡ (if is_given_name name.now then Some name.now else None) }
+    ensures { option_map (λ text. text.now) result
+        ≡ (if is_given_name name.now then Some name.now else None) }
 {
     if !is_given_name(name) {
         return None;
@@ -168,7 +171,8 @@ fn is_word_start(byte: u8) -> bool
 pub(crate) fn u_digits(name: &[u8]) -> Option<&[u8]>
     ensures hex { IfSome result (λ digits. AllDigits 16 digits.now) }
     ensures few { IfSome result (λ digits. length digits.now ≤ 8) }
-    ensures found { option_map (λ digits. digits.now) result ≡ (if is_u_form name.now then Some (drop 1 name.now) else None) }
+    ensures found { option_map (λ digits. digits.now) result
+        ≡ (if is_u_form name.now then Some (drop 1 name.now) else None) }
 {
     if name.is_empty() || name[0] != b'U' {
         return None;
@@ -186,7 +190,8 @@ pub(crate) fn u_digits(name: &[u8]) -> Option<&[u8]>
 pub(crate) fn hex_digits(text: &[u8]) -> Option<&[u8]>
     ensures hex { IfSome result (λ digits. AllDigits 16 digits.now) }
     ensures few { IfSome result (λ digits. length digits.now ≤ 8) }
-    ensures found { option_map (λ digits. digits.now) result ≡ (if is_hex_form text.now then Some (drop 2 text.now) else None) }
+    ensures found { option_map (λ digits. digits.now) result
+        ≡ (if is_hex_form text.now then Some (drop 2 text.now) else None) }
 {
     if text.len() < 2 || text[0] != b'0' || text[1] != b'x' {
         return None;
@@ -223,7 +228,8 @@ fn are_digits(text: &[u8]) -> bool
 #[tactic(auto, unfolding(crate::specs::Digits::in_32_bits))]
 fn nameable_in(text: &[u8]) -> Option<u32>
     requires { is_number text.now ≡ true }
-    ensures { result ≡ (if is_keysym (number_in text.now) then Some (number_in text.now) else None) }
+    ensures { result ≡ (if is_keysym (number_in text.now) then Some (number_in text.now)
+        else None) }
 {
     match number_in(text) {
         Some(keysym) if is_keysym(keysym) => Some(keysym),

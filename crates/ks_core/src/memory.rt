@@ -47,11 +47,13 @@ impl Limits {
 
     /// How many of `len` bytes the device moves in this call. They count as moved.
     fn grant(&mut self, len: usize) -> io::Result<usize>
-        ensures count { MatchResult result (λ n. moved self.old len ≡ Some n) (λ _. moved self.old len ≡ None) }
+        ensures count { MatchResult result (λ n. moved self.old len ≡ Some n) (λ _.
+            moved self.old len ≡ None) }
         ensures within { IfOk result (λ n. n ≤ len) }
         ensures some { IfOk result (λ n. 0 < len → 0 < n) }
         ensures after { IfOk result (λ n. self.new ≡ after_move self.old n) }
-        ensures failed { OnErr result (self.new ≡ record self.old { failures = self.new.failures }) }
+        ensures failed { OnErr result (self.new
+            ≡ record self.old { failures = self.new.failures }) }
         ensures counted { Counts self.old.failures self.new.failures result }
         ensures for_good { OnErr result (FailsForGood (moved self.new)) }
     {
@@ -111,7 +113,8 @@ impl<'a> MemFeed<'a> {
 
     /// The same device, which gives at most `most` bytes a call. With a most of 0 it fails.
     pub fn with_most(self, most: usize) -> MemFeed<'a>
-        ensures { result ≡ record self.entry { limits = record self.entry.limits { most = Some most } } }
+        ensures { result
+            ≡ record self.entry { limits = record self.entry.limits { most = Some most } } }
     {
         MemFeed {
             left: self.left,
@@ -122,7 +125,8 @@ impl<'a> MemFeed<'a> {
 
     /// The same device, which fails once `bytes` more bytes are taken.
     pub fn failing_after(self, bytes: usize) -> MemFeed<'a>
-        ensures { result ≡ record self.entry { limits = record self.entry.limits { fails_in = Some bytes } } }
+        ensures { result
+            ≡ record self.entry { limits = record self.entry.limits { fails_in = Some bytes } } }
     {
         MemFeed {
             left: self.left,
@@ -184,7 +188,11 @@ impl<'a> Model for MemOut<'a> {
 
     ghost Value = { Sink };
 
-    ghost view = { λ s. record { written = take s.len s.slice.now; room = length s.slice.now - s.len; limits = s.limits } };
+    ghost view = { λ s. record {
+      written = take s.len s.slice.now;
+      room = length s.slice.now - s.len;
+      limits = s.limits;
+    } };
 
     ghost invariant = { λ s. s.len ≤ length s.slice.now };
 }
@@ -203,7 +211,8 @@ impl<'a> MemOut<'a> {
 
     /// The same device, which puts at most `most` bytes a call. With a most of 0 it fails.
     pub fn with_most(self, most: usize) -> MemOut<'a>
-        ensures { result ≡ record self.entry { limits = record self.entry.limits { most = Some most } } }
+        ensures { result
+            ≡ record self.entry { limits = record self.entry.limits { most = Some most } } }
     {
         MemOut {
             slice: self.slice,
@@ -214,7 +223,8 @@ impl<'a> MemOut<'a> {
 
     /// The same device, which fails once `bytes` more bytes are put.
     pub fn failing_after(self, bytes: usize) -> MemOut<'a>
-        ensures { result ≡ record self.entry { limits = record self.entry.limits { fails_in = Some bytes } } }
+        ensures { result
+            ≡ record self.entry { limits = record self.entry.limits { fails_in = Some bytes } } }
     {
         MemOut {
             slice: self.slice,
@@ -239,7 +249,8 @@ impl Out for MemOut<'_> {
     fn put(&mut self, piece: &[u8]) -> io::Result<usize>
         ensures within { IfOk result (λ n. n ≤ length piece.now) }
         ensures some { IfOk result (λ n. 0 < length piece.now → 0 < n) }
-        ensures bytes { WriteAppends (Some self.old.written) (Some self.new.written) result piece.now }
+        ensures bytes { WriteAppends (Some self.old.written) (Some self.new.written) result
+            piece.now }
         ensures counted { Counts self.old.limits.failures self.new.limits.failures result }
 
         ensures count { MatchResult result

@@ -54,7 +54,8 @@ impl NameTable {
     pub fn with_lines(alloc: Global, lines: &[u8]) -> Result<NameTable, NameFault>
         ensures faultless { OnOk result (AreFaultless (lines_of lines.now)) }
         ensures names { IfOk result (λ table. table ≡ given_by (lines_of lines.now)) }
-        ensures fault { IfErr result (λ fault. (fault ≡ NameFault.Memory) ⊎ IsFirstFault (lines_of lines.now) fault) }
+        ensures fault { IfErr result (λ fault. (fault ≡ NameFault.Memory)
+            ⊎ IsFirstFault (lines_of lines.now) fault) }
     {
         let given = read_lines(alloc, lines)?;
         Ok(NameTable { given: Some(given) })
@@ -99,7 +100,8 @@ impl NameTable {
     #[tactic(auto, unfolding(crate::specs::Names::name_of_keysym))]
     pub fn write_name(&self, keysym: Keysym, text: &mut ArrayString<64>)
         ensures written { text.new.bytes ≡ name_of_keysym self.now keysym.0 }
-        ensures read_back { is_written_back keysym.0 ≡ true → keysym_named self.now text.new.bytes ≡ Some keysym.0 }
+        ensures read_back { is_written_back keysym.0 ≡ true
+            → keysym_named self.now text.new.bytes ≡ Some keysym.0 }
         ensures lexical { is_word_or_number text.new.bytes ≡ true }
         ensures sound { list_all is_sound self.now ≡ true }
     {
@@ -114,7 +116,8 @@ impl NameTable {
     /// The first name of the keysym, a built-in one before those that lines gave.
     fn first_name(&self, keysym: u32) -> Option<&str>
         ensures sound { list_all is_sound self.now ≡ true }
-        ensures first { option_map (λ name. name.now) result ≡ option_or (name_in built_in keysym) (name_in self.now keysym) }
+        ensures first { option_map (λ name. name.now) result
+            ≡ option_or (name_in built_in keysym) (name_in self.now keysym) }
         ensures short { IfSome result (λ name. length name.now ≤ 64) }
         ensures back { IfSome result (λ name. keysym_named self.now name.now ≡ Some keysym) }
         ensures lexical { IfSome result (λ name. is_word_or_number name.now ≡ true) }
@@ -154,7 +157,8 @@ fn read_lines(alloc: Global, lines: &[u8]) -> Result<Given, NameFault>
     ensures faultless { OnOk result (AreFaultless (lines_of lines.now)) }
     ensures names { IfOk result (λ given. given ≡ given_by (lines_of lines.now)) }
     ensures sound { IfOk result (λ given. list_all is_sound given ≡ true) }
-    ensures fault { IfErr result (λ fault. (fault ≡ NameFault.Memory) ⊎ IsFirstFault (lines_of lines.now) fault) }
+    ensures fault { IfErr result (λ fault. (fault ≡ NameFault.Memory)
+        ⊎ IsFirstFault (lines_of lines.now) fault) }
 {
     let mut given = Given::new(alloc);
     let mut number = 0usize;

@@ -26,7 +26,8 @@ fn octal(byte: u8) -> [u8; 4]
 }
 
 fn write_printed_byte<O: Out>(buffered: &mut BufferedOut, out: &mut O, byte: u8)
-    ensures { Writes O.written O.failures out.old buffered.old out.new buffered.new (printed_byte byte) }
+    ensures { Writes O.written O.failures out.old buffered.old out.new buffered.new
+        (printed_byte byte) }
 {
     if is_plain(byte) {
         buffered.write(out, &[byte]);
@@ -38,7 +39,8 @@ fn write_printed_byte<O: Out>(buffered: &mut BufferedOut, out: &mut O, byte: u8)
 /// Writes a name as printed text writes it: the bytes 0x20 to 0x7e but `"` and `\` as they are, any other as `\` and
 /// three octal digits.
 pub fn write_printed_name<O: Out>(buffered: &mut BufferedOut, out: &mut O, name: &[u8])
-    ensures { Writes O.written O.failures out.old buffered.old out.new buffered.new (printed_name name.now) }
+    ensures { Writes O.written O.failures out.old buffered.old out.new buffered.new
+        (printed_name name.now) }
 {
     for byte in name {
         write_printed_byte(buffered, out, *byte);

@@ -24,7 +24,8 @@ fn read_argument(
 ) -> Result<Given, Fault>
     ensures value { result_ok result ≡ argument_given names.now.names kind placed.now }
     ensures faultless { OnOk result (argument_faults file names.now.names kind placed.now ≡ []) }
-    ensures fault { IfErr result (λ e. Contains (argument_faults file names.now.names kind placed.now) e) }
+    ensures fault { IfErr result (λ e.
+        Contains (argument_faults file names.now.names kind placed.now) e) }
 {
     match &placed.argument {
         Argument::Off(word) => {
@@ -53,9 +54,12 @@ fn read_arguments(
     defaults: Settings,
     arguments: &[PlacedArgument],
 ) -> Result<Settings, Fault>
-    ensures value { IfOk result (λ s. s ≡ last_settings (argument_given names.now.names kind) defaults arguments.now) }
-    ensures faultless { OnOk result (flat_map (argument_faults file names.now.names kind) arguments.now ≡ []) }
-    ensures fault { IfErr result (λ e. Contains (flat_map (argument_faults file names.now.names kind) arguments.now) e) }
+    ensures value { IfOk result (λ s.
+        s ≡ last_settings (argument_given names.now.names kind) defaults arguments.now) }
+    ensures faultless { OnOk result
+        (flat_map (argument_faults file names.now.names kind) arguments.now ≡ []) }
+    ensures fault { IfErr result (λ e.
+        Contains (flat_map (argument_faults file names.now.names kind) arguments.now) e) }
 {
     let mut settings = defaults;
     'arguments: for placed in arguments {

@@ -37,9 +37,14 @@ fn read_member(
     member: &Name,
     field: &Field,
 ) -> Result<Given, Fault>
-    ensures value { result_ok result ≡ member_given names.now.names kind member.now field.now.place.index field.now.setting }
-    ensures faultless { OnOk result (member_faults file names.now.names kind member.now field.now.place.index field.now.span field.now.setting ≡ []) }
-    ensures fault { IfErr result (λ e. Contains (member_faults file names.now.names kind member.now field.now.place.index field.now.span field.now.setting) e) }
+    ensures value { result_ok result
+        ≡ member_given names.now.names kind member.now field.now.place.index field.now.setting }
+    ensures faultless { OnOk result
+        (member_faults file names.now.names kind member.now field.now.place.index field.now.span
+        field.now.setting ≡ []) }
+    ensures fault { IfErr result (λ e.
+        Contains (member_faults file names.now.names kind member.now field.now.place.index
+        field.now.span field.now.setting) e) }
 {
     let known = known_field(file, kind, member, &field.place.index)?;
     match &field.setting {
@@ -112,9 +117,12 @@ impl ActionDefaults {
     pub fn behind(self, names: &ModNames, file: u32, field: &Field) -> Result<ActionDefaults, Fault>
         ensures value { IfOk result (λ d. d ≡ next_defaults names.now.names self field.now) }
         ensures none { OnErr result (next_defaults names.now.names self field.now ≡ self) }
-        ensures last { (statements : List FieldValue) (kind : Kind) → settings_for (defaults_behind names.now.names statements) kind ≡ defaulted names.now.names statements kind }
+        ensures last { (statements : List FieldValue) (kind : Kind)
+            → settings_for (defaults_behind names.now.names statements) kind
+            ≡ defaulted names.now.names statements kind }
         ensures faultless { OnOk result (default_faults file names.now.names field.now ≡ []) }
-        ensures fault { IfErr result (λ e. Contains (default_faults file names.now.names field.now) e) }
+        ensures fault { IfErr result (λ e.
+            Contains (default_faults file names.now.names field.now) e) }
     {
         let unknown = Fault::UnknownField(At {
             file,

@@ -58,8 +58,11 @@ fn mods_of(names: &ModNames, file: u32, value: &Expression) -> Result<ActionMods
 
 fn truth_of(file: u32, value: &Expression) -> Result<bool, Fault>
     ensures value { result_ok result ≡ meaning_among truth_words value.now }
-    ensures faultless { OnOk result (bad_unless file (is_some (meaning_among truth_words value.now)) value.now.span ≡ []) }
-    ensures fault { IfErr result (λ e. Contains (bad_unless file (is_some (meaning_among truth_words value.now)) value.now.span) e) }
+    ensures faultless { OnOk result
+        (bad_unless file (is_some (meaning_among truth_words value.now)) value.now.span ≡ []) }
+    ensures fault { IfErr result (λ e.
+        Contains (bad_unless file (is_some (meaning_among truth_words value.now)) value.now.span)
+        e) }
 {
     let word = lone_word(value).ok_or(bad_value(file, value.span))?;
     truth_named(word.bytes.as_slice()).ok_or(bad_value(file, value.span))
@@ -67,8 +70,11 @@ fn truth_of(file: u32, value: &Expression) -> Result<bool, Fault>
 
 fn affect_of(file: u32, value: &Expression) -> Result<Affect, Fault>
     ensures value { result_ok result ≡ meaning_among affect_words value.now }
-    ensures faultless { OnOk result (bad_unless file (is_some (meaning_among affect_words value.now)) value.now.span ≡ []) }
-    ensures fault { IfErr result (λ e. Contains (bad_unless file (is_some (meaning_among affect_words value.now)) value.now.span) e) }
+    ensures faultless { OnOk result
+        (bad_unless file (is_some (meaning_among affect_words value.now)) value.now.span ≡ []) }
+    ensures fault { IfErr result (λ e.
+        Contains (bad_unless file (is_some (meaning_among affect_words value.now)) value.now.span)
+        e) }
 {
     let word = lone_word(value).ok_or(bad_value(file, value.span))?;
     affect_named(word.bytes.as_slice()).ok_or(bad_value(file, value.span))
@@ -102,7 +108,8 @@ fn change_written(value: &Expression) -> Option<Option<ActionGroup>>
 fn read_action_group(file: u32, value: &Expression) -> Result<ActionGroup, Fault>
     ensures value { result_ok result ≡ option_and_then change_of (written value.now) }
     ensures faultless { OnOk result (written_faults file value.now.span (written value.now) ≡ []) }
-    ensures fault { IfErr result (λ e. Contains (written_faults file value.now.span (written value.now)) e) }
+    ensures fault { IfErr result (λ e.
+        Contains (written_faults file value.now.span (written value.now)) e) }
 {
     match change_written(value) {
         Some(Some(group)) => Ok(group),
@@ -123,7 +130,8 @@ pub(crate) fn value_given(
 ) -> Result<Given, Fault>
     ensures value { result_ok result ≡ value_given names.now.names field value.now }
     ensures faultless { OnOk result (value_faults file names.now.names field value.now ≡ []) }
-    ensures fault { IfErr result (λ e. Contains (value_faults file names.now.names field value.now) e) }
+    ensures fault { IfErr result (λ e.
+        Contains (value_faults file names.now.names field value.now) e) }
 {
     match field {
         ActionField::Modifiers => Ok(Given::Modifiers(mods_of(names, file, value)?)),
@@ -143,7 +151,8 @@ pub(crate) fn flag_given(
 ) -> Result<Given, Fault>
     ensures value { result_ok result ≡ flag_given field on }
     ensures faultless { OnOk result (bad_unless file (is_some (flag_given field on)) whole ≡ []) }
-    ensures fault { IfErr result (λ e. Contains (bad_unless file (is_some (flag_given field on)) whole) e) }
+    ensures fault { IfErr result (λ e.
+        Contains (bad_unless file (is_some (flag_given field on)) whole) e) }
 {
     match field {
         ActionField::ClearLocks => Ok(Given::ClearLocks(on)),

@@ -62,8 +62,17 @@ impl Builder {
         levels: u8,
         entries: &[EntryRow],
     ) -> Result<(), BuildFault>
-        ensures pushed { OnOk result (self.new ≡ with_type self.old (record { name = name.now; mods = mods; levels = levels; entries = entries.now })) }
-        ensures fault { IfErr result (λ e. IsCause e (TypeFits (content_of_resolved self.old) (record { name = name.now; mods = mods; levels = levels; entries = entries.now })) (self.old.keys ≡ [])) }
+        ensures pushed { OnOk result (self.new
+            ≡ with_type self.old (record {
+              name = name.now;
+              mods = mods;
+              levels = levels;
+              entries = entries.now;
+            })) }
+        ensures fault { IfErr result (λ e.
+            IsCause e (TypeFits (content_of_resolved self.old)
+            (record { name = name.now; mods = mods; levels = levels; entries = entries.now }))
+            (self.old.keys ≡ [])) }
         ensures unchanged { OnErr result (self.new ≡ self.old) }
     {
         if !self.parts.keys.is_empty() {
@@ -81,8 +90,18 @@ impl Builder {
         modmap: Mods,
         range: Range,
     ) -> Result<(), BuildFault>
-        ensures pushed { OnOk result (self.new ≡ with_key self.old (record { code = code; name = name.now; modmap = modmap; range = range; groups = [] })) }
-        ensures fault { IfErr result (λ e. IsCause e (KeyFits (content_of_resolved self.old) (record { code = code; name = name.now; modmap = modmap; range = range; groups = [] })) ⊤) }
+        ensures pushed { OnOk result (self.new
+            ≡ with_key self.old (record {
+              code = code;
+              name = name.now;
+              modmap = modmap;
+              range = range;
+              groups = [];
+            })) }
+        ensures fault { IfErr result (λ e.
+            IsCause e (KeyFits (content_of_resolved self.old)
+            (record { code = code; name = name.now; modmap = modmap; range = range; groups = [] }))
+            ⊤) }
         ensures unchanged { OnErr result (self.new ≡ self.old) }
     {
         let row = next_key(&self.parts, code, name, modmap, range)?;
@@ -91,8 +110,10 @@ impl Builder {
 
     /// Appends a group without cells to the last key. It is misplaced where there is no key.
     pub fn push_group(&mut self, key_type: u16) -> Result<(), BuildFault>
-        ensures pushed { OnOk result (self.new ≡ with_group self.old (record { key_type = key_type; cells = [] })) }
-        ensures fault { IfErr result (λ e. IsCause e (GroupFits (content_of_resolved self.old)) (0 < length self.old.keys)) }
+        ensures pushed { OnOk result (self.new
+            ≡ with_group self.old (record { key_type = key_type; cells = [] })) }
+        ensures fault { IfErr result (λ e.
+            IsCause e (GroupFits (content_of_resolved self.old)) (0 < length self.old.keys)) }
         ensures unchanged { OnErr result (self.new ≡ self.old) }
     {
         let row = GroupRow {
@@ -104,8 +125,12 @@ impl Builder {
 
     /// Appends a cell to the last group of the last key. It is misplaced where that key has no group.
     pub fn push_cell(&mut self, keysyms: &[u32], action: Action) -> Result<(), BuildFault>
-        ensures pushed { OnOk result (self.new ≡ with_cell self.old (record { syms = keysyms.now; action = action })) }
-        ensures fault { IfErr result (λ e. IsCause e (CellFits (content_of_resolved self.old) (record { syms = keysyms.now; action = action })) (0 < length (last_groups self.old.keys))) }
+        ensures pushed { OnOk result (self.new
+            ≡ with_cell self.old (record { syms = keysyms.now; action = action })) }
+        ensures fault { IfErr result (λ e.
+            IsCause e (CellFits (content_of_resolved self.old)
+            (record { syms = keysyms.now; action = action }))
+            (0 < length (last_groups self.old.keys))) }
         ensures unchanged { OnErr result (self.new ≡ self.old) }
     {
         if last_count(&self.parts) == 0 {
@@ -118,7 +143,8 @@ impl Builder {
     /// The tables. Where what is resolved is whole, their keymap is its keymap; where it is valid, they are sound.
     pub fn into_parts(self) -> RawTables
         ensures content { content_of result ≡ content_of_resolved self }
-        ensures agrees { IsWhole self → ShowsSame (keymap_of (content_of result)) (keymap_of_resolved self) }
+        ensures agrees { IsWhole self → ShowsSame (keymap_of (content_of result))
+            (keymap_of_resolved self) }
         ensures sound { IsValid self → Sound (content_of result) }
     {
         self.parts
@@ -131,10 +157,17 @@ impl Builder {
         indicators: &[Indicator<'_>],
         group_names: &[&[u8]],
     ) -> Result<RawTables, BuildFault>
-        ensures content { IfOk result (λ parts. content_of parts ≡ with_indicator_maps (content_of_resolved self) (map indicator_of indicators.now) (map (λ g. g.now) group_names.now)) }
-        ensures agrees { IsWhole self → IfOk result (λ parts. ShowsSame (keymap_of (content_of parts)) (keymap_with (keymap_of_resolved self) (map indicator_of indicators.now))) }
-        ensures sound { IsValid self → IndicatorMapsAreValid (map indicator_of indicators.now) (map (λ g. g.now) group_names.now) → IfOk result (λ parts. Sound (content_of parts)) }
-        ensures fault { IfErr result (λ e. IsCause e (IndicatorMapsFit (content_of_resolved self) (map indicator_of indicators.now) (map (λ g. g.now) group_names.now)) ⊤) }
+        ensures content { IfOk result (λ parts.
+            content_of parts ≡ with_indicator_maps (content_of_resolved self)
+            (map indicator_of indicators.now) (map (λ g. g.now) group_names.now)) }
+        ensures agrees { IsWhole self → IfOk result (λ parts.
+            ShowsSame (keymap_of (content_of parts))
+            (keymap_with (keymap_of_resolved self) (map indicator_of indicators.now))) }
+        ensures sound { IsValid self → IndicatorMapsAreValid (map indicator_of indicators.now)
+            (map (λ g. g.now) group_names.now) → IfOk result (λ parts. Sound (content_of parts)) }
+        ensures fault { IfErr result (λ e.
+            IsCause e (IndicatorMapsFit (content_of_resolved self) (map indicator_of indicators.now)
+            (map (λ g. g.now) group_names.now)) ⊤) }
     {
         let mut parts = self.parts;
         push_indicators(&mut parts, indicators)?;

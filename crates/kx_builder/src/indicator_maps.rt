@@ -26,8 +26,10 @@ pub struct Indicator<'n> {
 
 /// Appends an indicator's row and its name.
 fn push_indicator(parts: &mut RawTables, indicator: &Indicator<'_>) -> Result<(), BuildFault>
-    ensures added { OnOk result (content_of parts.new ≡ indicator_added (content_of parts.old) (indicator_of indicator.now)) }
-    ensures fault { IfErr result (λ e. IsCause e (NameFits (content_of parts.old) indicator.now.name.now) ⊤) }
+    ensures added { OnOk result (content_of parts.new
+        ≡ indicator_added (content_of parts.old) (indicator_of indicator.now)) }
+    ensures fault { IfErr result (λ e.
+        IsCause e (NameFits (content_of parts.old) indicator.now.name.now) ⊤) }
 {
     let row = IndicatorRow {
         mods: indicator.mods,
@@ -44,7 +46,8 @@ fn push_indicator(parts: &mut RawTables, indicator: &Indicator<'_>) -> Result<()
 
 /// Appends the row of a group's name and the name.
 fn push_group_name(parts: &mut RawTables, name: &[u8]) -> Result<(), BuildFault>
-    ensures added { OnOk result (content_of parts.new ≡ group_name_added (content_of parts.old) name.now) }
+    ensures added { OnOk result (content_of parts.new
+        ≡ group_name_added (content_of parts.old) name.now) }
     ensures fault { IfErr result (λ e. IsCause e (NameFits (content_of parts.old) name.now) ⊤) }
 {
     let row = GroupNameRow {
@@ -62,8 +65,10 @@ pub(crate) fn push_indicators(
     indicators: &[Indicator<'_>],
 ) -> Result<(), BuildFault>
     requires { (content_of parts.old).indicators ≡ [] }
-    ensures added { OnOk result (content_of parts.new ≡ with_indicators (content_of parts.old) (map indicator_of indicators.now)) }
-    ensures fault { IfErr result (λ e. IsCause e (NamesFit (content_of parts.old) (λ d. d.name.now) indicators.now) ⊤) }
+    ensures added { OnOk result (content_of parts.new
+        ≡ with_indicators (content_of parts.old) (map indicator_of indicators.now)) }
+    ensures fault { IfErr result (λ e.
+        IsCause e (NamesFit (content_of parts.old) (λ d. d.name.now) indicators.now) ⊤) }
 {
     'indicators: for indicator in indicators {
         push_indicator(parts, indicator)?;
@@ -74,8 +79,10 @@ pub(crate) fn push_indicators(
 /// Appends the names of groups in order, where there are none.
 pub(crate) fn push_group_names(parts: &mut RawTables, names: &[&[u8]]) -> Result<(), BuildFault>
     requires { (content_of parts.old).group_names ≡ [] }
-    ensures added { OnOk result (content_of parts.new ≡ with_group_names (content_of parts.old) (map (λ g. g.now) names.now)) }
-    ensures fault { IfErr result (λ e. IsCause e (NamesFit (content_of parts.old) (λ g. g.now) names.now) ⊤) }
+    ensures added { OnOk result (content_of parts.new
+        ≡ with_group_names (content_of parts.old) (map (λ g. g.now) names.now)) }
+    ensures fault { IfErr result (λ e.
+        IsCause e (NamesFit (content_of parts.old) (λ g. g.now) names.now) ⊤) }
 {
     'names: for name in names {
         push_group_name(parts, name)?;

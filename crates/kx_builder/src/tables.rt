@@ -35,7 +35,17 @@ pub(crate) fn small_count(number: usize) -> Result<u8, BuildFault>
 
 /// Tables with no rows.
 pub(crate) fn no_tables(alloc: Global) -> RawTables
-    ensures { content_of result ≡ record { types = []; entries = []; keys = []; groups = []; cells = []; keysyms = []; indicators = []; group_names = []; names = [] } }
+    ensures { content_of result ≡ record {
+      types = [];
+      entries = [];
+      keys = [];
+      groups = [];
+      cells = [];
+      keysyms = [];
+      indicators = [];
+      group_names = [];
+      names = [];
+    } }
 {
     RawTables {
         types: Vec::new(alloc),
@@ -58,8 +68,12 @@ pub(crate) fn next_type(
     levels: u8,
     entries: &[EntryRow],
 ) -> Result<TypeRow, BuildFault>
-    ensures value { IfOk result (λ row. row ≡ next_type (content_of parts.now) (record { name = name.now; mods = mods; levels = levels; entries = entries.now })) }
-    ensures fault { IfErr result (λ e. (e ≡ TooMany) × (TypeFits (content_of parts.now) (record { name = name.now; mods = mods; levels = levels; entries = entries.now }) → ⊥)) }
+    ensures value { IfOk result (λ row.
+        row ≡ next_type (content_of parts.now)
+        (record { name = name.now; mods = mods; levels = levels; entries = entries.now })) }
+    ensures fault { IfErr result (λ e. (e ≡ TooMany)
+        × (TypeFits (content_of parts.now)
+        (record { name = name.now; mods = mods; levels = levels; entries = entries.now }) → ⊥)) }
 {
     let row = TypeRow {
         mods,
@@ -80,8 +94,13 @@ pub(crate) fn next_key(
     modmap: Mods,
     range: Range,
 ) -> Result<KeyRow, BuildFault>
-    ensures value { IfOk result (λ row. row ≡ next_key (content_of parts.now) (record { code = code; name = name.now; modmap = modmap; range = range; groups = [] })) }
-    ensures fault { IfErr result (λ e. (e ≡ TooMany) × (KeyFits (content_of parts.now) (record { code = code; name = name.now; modmap = modmap; range = range; groups = [] }) → ⊥)) }
+    ensures value { IfOk result (λ row.
+        row ≡ next_key (content_of parts.now)
+        (record { code = code; name = name.now; modmap = modmap; range = range; groups = [] })) }
+    ensures fault { IfErr result (λ e. (e ≡ TooMany)
+        × (KeyFits (content_of parts.now)
+        (record { code = code; name = name.now; modmap = modmap; range = range; groups = [] })
+        → ⊥)) }
 {
     let row = KeyRow {
         code,
@@ -101,8 +120,10 @@ pub(crate) fn next_cell(
     keysyms: &[u32],
     action: Action,
 ) -> Result<CellRow, BuildFault>
-    ensures value { IfOk result (λ row. row ≡ next_cell (content_of parts.now) (record { syms = keysyms.now; action = action })) }
-    ensures fault { IfErr result (λ e. (e ≡ TooMany) × (CellFits (content_of parts.now) (record { syms = keysyms.now; action = action }) → ⊥)) }
+    ensures value { IfOk result (λ row.
+        row ≡ next_cell (content_of parts.now) (record { syms = keysyms.now; action = action })) }
+    ensures fault { IfErr result (λ e. (e ≡ TooMany)
+        × (CellFits (content_of parts.now) (record { syms = keysyms.now; action = action }) → ⊥)) }
 {
     let row = CellRow {
         keysyms: small_count(keysyms.len())?,
@@ -119,7 +140,8 @@ pub(crate) fn add_type(
     name: &[u8],
     entries: &[EntryRow],
 ) -> Result<(), BuildFault>
-    ensures added { OnOk result (content_of parts.new ≡ with_type_row (content_of parts.old) row entries.now name.now) }
+    ensures added { OnOk result (content_of parts.new
+        ≡ with_type_row (content_of parts.old) row entries.now name.now) }
     ensures fault { IfErr result (λ e. e ≡ Memory) }
     ensures unchanged { OnErr result (content_of parts.new ≡ content_of parts.old) }
 {
@@ -133,7 +155,8 @@ pub(crate) fn add_type(
 
 /// Appends a key's row and its name.
 pub(crate) fn add_key(parts: &mut RawTables, row: KeyRow, name: &[u8]) -> Result<(), BuildFault>
-    ensures added { OnOk result (content_of parts.new ≡ with_key_row (content_of parts.old) row name.now) }
+    ensures added { OnOk result (content_of parts.new
+        ≡ with_key_row (content_of parts.old) row name.now) }
     ensures fault { IfErr result (λ e. e ≡ Memory) }
     ensures unchanged { OnErr result (content_of parts.new ≡ content_of parts.old) }
 {
@@ -165,7 +188,9 @@ pub(crate) fn last_count(parts: &RawTables) -> u8
 pub(crate) fn add_group(parts: &mut RawTables, row: GroupRow) -> Result<(), BuildFault>
     ensures some_key { OnOk result (0 < length (content_of parts.old).keys) }
     ensures added { OnOk result (content_of parts.new ≡ with_group_row (content_of parts.old) row) }
-    ensures fault { IfErr result (λ e. IsCause e (last_count (content_of parts.old).keys + 1 < 2 ^ 8) (0 < length (content_of parts.old).keys)) }
+    ensures fault { IfErr result (λ e.
+        IsCause e (last_count (content_of parts.old).keys + 1 < 2 ^ 8)
+        (0 < length (content_of parts.old).keys)) }
     ensures unchanged { OnErr result (content_of parts.new ≡ content_of parts.old) }
 {
     let last = parts
@@ -185,7 +210,8 @@ pub(crate) fn add_cell(
     row: CellRow,
     keysyms: &[u32],
 ) -> Result<(), BuildFault>
-    ensures added { OnOk result (content_of parts.new ≡ with_cell_row (content_of parts.old) row keysyms.now) }
+    ensures added { OnOk result (content_of parts.new
+        ≡ with_cell_row (content_of parts.old) row keysyms.now) }
     ensures fault { IfErr result (λ e. e ≡ Memory) }
     ensures unchanged { OnErr result (content_of parts.new ≡ content_of parts.old) }
 {

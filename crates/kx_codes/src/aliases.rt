@@ -55,7 +55,9 @@ fn no_records(alloc: Global) -> Vec<(ShortName, Alias)>
 fn one_record(alloc: Global, name: &[u8], target: &[u8]) -> Result<Vec<(ShortName, Alias)>, Fault>
     requires name { IsKeyName name.now }
     requires target { IsKeyName target.now }
-    ensures records { (mode : ModeValue) → IfOk result (λ records. AreOffered mode alias_cell alias_width records.items (alias_offer mode name.now target.now ∷ [])) }
+    ensures records { (mode : ModeValue)
+        → IfOk result (λ records. AreOffered mode alias_cell alias_width records.items
+        (alias_offer mode name.now target.now ∷ [])) }
     ensures err { IfErr result (λ e. e ≡ Memory) }
 {
     let target = Some(StoredName::of(alloc, target)?);
@@ -66,7 +68,8 @@ fn one_record(alloc: Global, name: &[u8], target: &[u8]) -> Result<Vec<(ShortNam
 
 /// The alias that an item of a keycodes section gives.
 fn read_item(alloc: Global, file: u32, item: &Item) -> Result<Vec<(ShortName, Alias)>, Fault>
-    ensures records { IfOk result (λ records. AreOffered (mode_of item.now) alias_cell alias_width records.items (item_offers item.now)) }
+    ensures records { IfOk result (λ records.
+        AreOffered (mode_of item.now) alias_cell alias_width records.items (item_offers item.now)) }
     ensures faultless { OnOk result (item_name_faults file item.now ≡ []) }
     ensures fault { IfErr result (λ e. Contains (Memory ∷ item_name_faults file item.now) e) }
 {
@@ -154,8 +157,11 @@ impl Fields<()> for Alias {
     }
 
     fn absorb(&mut self, _alloc: Global, other: Alias, mode: Mode) -> Result<(), Fault>
-        ensures cells { OnOk result ((c : Unit {0}) → alias_cell self.new c ≡ taken mode (alias_cell self.old c) (alias_cell other c)) }
-        ensures widths { OnOk result ((g : ℕ) → alias_width self.new g ≡ widened mode (alias_width self.old g) (alias_width other g)) }
+        ensures cells { OnOk result ((c : Unit {0})
+            → alias_cell self.new c ≡ taken mode (alias_cell self.old c) (alias_cell other c)) }
+        ensures widths { OnOk result ((g : ℕ)
+            → alias_width self.new g ≡ widened mode (alias_width self.old g)
+            (alias_width other g)) }
         ensures err { IfErr result (λ e. e ≡ Memory) }
     {
         self.target = taken(mode, self.target.take(), other.target);
@@ -176,8 +182,12 @@ impl Fields<()> for Alias {
         _group: Option<u8>,
         mode: Mode,
     ) -> Result<(), Fault>
-        ensures cells { OnOk result ((c : Unit {0}) → alias_cell self.new c ≡ taken mode (alias_cell self.old c) (moved_value alias_moves _group (alias_cell other.now) c)) }
-        ensures widths { OnOk result ((g : ℕ) → alias_width self.new g ≡ widened mode (alias_width self.old g) (moved_width alias_moves _group (alias_width other.now) g)) }
+        ensures cells { OnOk result ((c : Unit {0})
+            → alias_cell self.new c ≡ taken mode (alias_cell self.old c)
+            (moved_value alias_moves _group (alias_cell other.now) c)) }
+        ensures widths { OnOk result ((g : ℕ)
+            → alias_width self.new g ≡ widened mode (alias_width self.old g)
+            (moved_width alias_moves _group (alias_width other.now) g)) }
         ensures err { IfErr result (λ e. e ≡ Memory) }
     {
         if is_same_target(&self.target, &other.target) {

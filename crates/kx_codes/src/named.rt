@@ -46,7 +46,9 @@ impl<'l> NamesByCode<'l> {
     /// Puts a pair that shares nothing with those that are there.
     fn put(&mut self, name: &'l [u8], code: u16) -> Result<(), Fault>
         requires { IsKeyName name.now }
-        ensures put { OnOk result ((ps : List PairValue) → Stands (both self.old) ps → list_any (shares (record { name = name.now; code = code })) ps ≡ false → Stands (both self.new) (ps ++ record { name = name.now; code = code } ∷ [])) }
+        ensures put { OnOk result ((ps : List PairValue) → Stands (both self.old) ps
+            → list_any (shares (record { name = name.now; code = code })) ps ≡ false
+            → Stands (both self.new) (ps ++ record { name = name.now; code = code } ∷ [])) }
         ensures err { IfErr result (λ e. e ≡ Memory) }
     {
         self.names.insert(code, LentName::of(name))?;
@@ -55,7 +57,11 @@ impl<'l> NamesByCode<'l> {
 
     /// Puts the pair that stands for the one at a place of those of numbers, which shares nothing with those that are there.
     fn put_at(&mut self, names: &Names<'l>, pairs: &Pairs, place: usize) -> Result<(), Fault>
-        ensures put { OnOk result ((n code : ℕ) (name : List ℕ) (ps : List PairValue) → slice_get pairs.now.by_code place ≡ Some (record { name = number n; code = code }) → slice_get names.now n ≡ Some name → Stands (both self.old) ps → list_any (shares (record { name = name; code = code })) ps ≡ false → Stands (both self.new) (ps ++ record { name = name; code = code } ∷ [])) }
+        ensures put { OnOk result ((n code : ℕ) (name : List ℕ) (ps : List PairValue)
+            → slice_get pairs.now.by_code place ≡ Some (record { name = number n; code = code })
+            → slice_get names.now n ≡ Some name → Stands (both self.old) ps
+            → list_any (shares (record { name = name; code = code })) ps ≡ false
+            → Stands (both self.new) (ps ++ record { name = name; code = code } ∷ [])) }
         ensures err { IfErr result (λ e. e ≡ Memory) }
     {
         let Some((code, number)) = pairs.at(place) else {
@@ -70,7 +76,8 @@ impl<'l> NamesByCode<'l> {
     /// The names of the keycodes of pairs of numbers.
     fn of(alloc: Global, names: &Names<'l>, pairs: &Pairs) -> Result<NamesByCode<'l>, Fault>
         requires once { IsOnce names.now }
-        ensures stand { IfOk result (λ by_code. (ps : List PairValue) → StandsIn names.now pairs.now ps → Stands (both by_code) ps) }
+        ensures stand { IfOk result (λ by_code. (ps : List PairValue)
+            → StandsIn names.now pairs.now ps → Stands (both by_code) ps) }
         ensures err { IfErr result (λ e. e ≡ Memory) }
     {
         let mut by_code = NamesByCode::new(alloc);
@@ -94,7 +101,8 @@ impl<'l> NamesByCode<'l> {
     /// One more than the keycode of the pair at a place, where it is a keycode, else 0.
     fn end_at(&self, place: usize) -> u16
         ensures within { result ≤ CODES }
-        ensures above { (p : PairValue) → slice_get self.now place ≡ Some p → p.code < CODES → p.code < result }
+        ensures above { (p : PairValue) → slice_get self.now place ≡ Some p → p.code < CODES
+            → p.code < result }
         ensures named { (code : ℕ) → result ≡ code + 1 → IsSome (name_in self.now code) }
     {
         match self.names.at(place) {
@@ -137,7 +145,8 @@ impl<'l> Model for NamedPairs<'l> {
 
     ghost view = { λ p. both p.by_code };
 
-    ghost invariant = { λ p. FindsCodes p.names p.pairs.by_name p.by_code × Agree p.by_code p.by_code };
+    ghost invariant = { λ p. FindsCodes p.names p.pairs.by_name p.by_code
+        × Agree p.by_code p.by_code };
 }
 
 impl<'l> NamedPairs<'l> {
@@ -145,7 +154,8 @@ impl<'l> NamedPairs<'l> {
     pub(crate) fn of(alloc: Global, names: Names<'l>, pairs: Pairs) -> Result<NamedPairs<'l>, Fault>
         requires once { IsOnce names }
         requires stand { (ps : List PairValue) × StandsIn names pairs ps }
-        ensures named { IfOk result (λ named. (ps : List PairValue) → StandsIn names.entry pairs ps → Stands named ps) }
+        ensures named { IfOk result (λ named. (ps : List PairValue) → StandsIn names.entry pairs ps
+            → Stands named ps) }
         ensures agree { IfOk result (λ named. Agree named.by_name named.by_code) }
         ensures err { IfErr result (λ e. e ≡ Memory) }
     {

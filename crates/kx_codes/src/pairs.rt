@@ -29,7 +29,10 @@ impl Model for Pairs {
 
     ghost Value = { Indexed };
 
-    ghost view = { λ p. record { by_name = named number p.codes.entries; by_code = coded (with_numbers p.names.entries) } };
+    ghost view = { λ p. record {
+      by_name = named number p.codes.entries;
+      by_code = coded (with_numbers p.names.entries);
+    } };
 }
 
 impl Pairs {
@@ -62,7 +65,8 @@ impl Pairs {
 
     /// Whether a pair has the name or the code.
     fn has_sharing(&self, name: usize, code: u16) -> bool
-        ensures { (ps : List PairValue) → Stands self.now ps → result ≡ list_any (shares (record { name = numbered name; code = code })) ps }
+        ensures { (ps : List PairValue) → Stands self.now ps
+            → result ≡ list_any (shares (record { name = numbered name; code = code })) ps }
     {
         self.codes.contains_key(&name) || self.names.contains_key(&code)
     }
@@ -70,7 +74,9 @@ impl Pairs {
     /// Gives a name this code; answers its code before.
     fn put_code(&mut self, name: usize, code: u16) -> Result<Option<u16>, Fault>
         ensures before { IfOk result (λ before. before ≡ code_in self.old.by_name (numbered name)) }
-        ensures put { OnOk result ((n : List ℕ) → code_in self.new.by_name n ≡ (if bytes_eq (numbered name) n then Some code else code_in self.old.by_name n)) }
+        ensures put { OnOk result ((n : List ℕ)
+            → code_in self.new.by_name n ≡ (if bytes_eq (numbered name) n then Some code
+            else code_in self.old.by_name n)) }
         ensures names { OnOk result (self.new.by_code ≡ self.old.by_code) }
         ensures err { IfErr result (λ e. e ≡ Memory) }
     {
@@ -79,8 +85,11 @@ impl Pairs {
 
     /// Gives a code this name; answers its name before.
     fn put_name(&mut self, code: u16, name: usize) -> Result<Option<usize>, Fault>
-        ensures before { IfOk result (λ before. option_map numbered before ≡ name_in self.old.by_code code) }
-        ensures put { OnOk result ((c : ℕ) → name_in self.new.by_code c ≡ (if nat_eq code c then Some (numbered name) else name_in self.old.by_code c)) }
+        ensures before { IfOk result (λ before.
+            option_map numbered before ≡ name_in self.old.by_code code) }
+        ensures put { OnOk result ((c : ℕ)
+            → name_in self.new.by_code c ≡ (if nat_eq code c then Some (numbered name)
+            else name_in self.old.by_code c)) }
         ensures codes { OnOk result (self.new.by_name ≡ self.old.by_name) }
         ensures err { IfErr result (λ e. e ≡ Memory) }
     {
@@ -89,7 +98,9 @@ impl Pairs {
 
     /// Leaves a name, if there is one, without a code.
     fn drop_code(&mut self, name: Option<usize>)
-        ensures dropped { IfSome name (λ m. (n : List ℕ) → code_in self.new.by_name n ≡ (if bytes_eq (numbered m) n then None else code_in self.old.by_name n)) }
+        ensures dropped { IfSome name (λ m. (n : List ℕ)
+            → code_in self.new.by_name n ≡ (if bytes_eq (numbered m) n then None
+            else code_in self.old.by_name n)) }
         ensures same { name ≡ None → self.new ≡ self.old }
         ensures names { self.new.by_code ≡ self.old.by_code }
     {
@@ -100,7 +111,9 @@ impl Pairs {
 
     /// Leaves a code, if there is one, without a name.
     fn drop_name(&mut self, code: Option<u16>)
-        ensures dropped { IfSome code (λ d. (c : ℕ) → name_in self.new.by_code c ≡ (if nat_eq d c then None else name_in self.old.by_code c)) }
+        ensures dropped { IfSome code (λ d. (c : ℕ)
+            → name_in self.new.by_code c ≡ (if nat_eq d c then None
+            else name_in self.old.by_code c)) }
         ensures same { code ≡ None → self.new ≡ self.old }
         ensures codes { self.new.by_name ≡ self.old.by_name }
     {
@@ -111,7 +124,8 @@ impl Pairs {
 
     /// Takes a pair under augment: it is dropped where one shares its name or its code.
     fn take_under(&mut self, name: usize, code: u16) -> Result<(), Fault>
-        ensures took { OnOk result ((ps : List PairValue) → Stands self.old ps → Stands self.new (taken Augment ps (record { name = numbered name; code = code }))) }
+        ensures took { OnOk result ((ps : List PairValue) → Stands self.old ps
+            → Stands self.new (taken Augment ps (record { name = numbered name; code = code }))) }
         ensures err { IfErr result (λ e. e ≡ Memory) }
     {
         if self.has_sharing(name, code) {
@@ -124,7 +138,8 @@ impl Pairs {
 
     /// Takes a pair under override or replace: those that share its name or its code are removed.
     fn take_over(&mut self, name: usize, code: u16) -> Result<(), Fault>
-        ensures took { OnOk result ((ps : List PairValue) → Stands self.old ps → Stands self.new (taken Override ps (record { name = numbered name; code = code }))) }
+        ensures took { OnOk result ((ps : List PairValue) → Stands self.old ps
+            → Stands self.new (taken Override ps (record { name = numbered name; code = code }))) }
         ensures err { IfErr result (λ e. e ≡ Memory) }
     {
         let before = self.put_code(name, code)?;
@@ -140,7 +155,8 @@ impl Pairs {
     /// Takes a pair. Under override and replace it removes every pair that shares its name or its code; under augment
     /// it is dropped where there is such a pair.
     pub(crate) fn take(&mut self, mode: Mode, name: usize, code: u16) -> Result<(), Fault>
-        ensures took { OnOk result ((ps : List PairValue) → Stands self.old ps → Stands self.new (taken mode ps (record { name = numbered name; code = code }))) }
+        ensures took { OnOk result ((ps : List PairValue) → Stands self.old ps
+            → Stands self.new (taken mode ps (record { name = numbered name; code = code }))) }
         ensures err { IfErr result (λ e. e ≡ Memory) }
     {
         match mode {
@@ -151,7 +167,8 @@ impl Pairs {
 
     /// Takes the pair at a place of others.
     fn take_at(&mut self, mode: Mode, given: &Pairs, place: usize) -> Result<(), Fault>
-        ensures took { OnOk result ((ps : List PairValue) (p : PairValue) → Stands self.old ps → slice_get given.now.by_code place ≡ Some p → Stands self.new (taken mode ps p)) }
+        ensures took { OnOk result ((ps : List PairValue) (p : PairValue) → Stands self.old ps
+            → slice_get given.now.by_code place ≡ Some p → Stands self.new (taken mode ps p)) }
         ensures err { IfErr result (λ e. e ≡ Memory) }
     {
         match given.names.get_index(place) {
@@ -165,7 +182,8 @@ impl Pairs {
 
     /// Takes others.
     pub(crate) fn take_all(&mut self, mode: Mode, given: &Pairs) -> Result<(), Fault>
-        ensures took { OnOk result ((ps qs : List PairValue) → Stands self.old ps → Stands given.now qs → Stands self.new (all_taken mode ps qs)) }
+        ensures took { OnOk result ((ps qs : List PairValue) → Stands self.old ps
+            → Stands given.now qs → Stands self.new (all_taken mode ps qs)) }
         ensures err { IfErr result (λ e. e ≡ Memory) }
     {
         let count = given.names.len();
@@ -178,14 +196,16 @@ impl Pairs {
     /// How many pairs there are.
     pub(crate) fn len(&self) -> usize
         ensures len { result ≡ length self.now.by_code }
-        ensures own { (ps : List PairValue) → Stands self.now ps → Stands self.now self.now.by_code }
+        ensures own { (ps : List PairValue) → Stands self.now ps
+            → Stands self.now self.now.by_code }
     {
         self.names.len()
     }
 
     /// The code and the number of the name of the pair at a place.
     pub(crate) fn at(&self, place: usize) -> Option<(u16, usize)>
-        ensures { option_map (λ found. record { name = numbered found.1; code = found.0 }) result ≡ slice_get self.now.by_code place }
+        ensures { option_map (λ found. record { name = numbered found.1; code = found.0 }) result
+            ≡ slice_get self.now.by_code place }
     {
         let (code, name) = self.names.get_index(place)?;
         Some((*code, *name))

@@ -21,9 +21,11 @@ use std::alloc::Global;
 /// statement that keycodes don't have; `Memory`.
 pub fn codes<'l>(alloc: Global, expansion: &Expansion<'l>) -> Result<Codes<'l>, Fault>
     ensures shows { IfOk result (λ c. CodesShow c (expanded_body expansion.now)) }
-    ensures joined { IfOk result (λ c. (code : ℕ) (name : List ℕ) → (name_of c code ≡ Some name) ↔ (paired c name ≡ Some code)) }
+    ensures joined { IfOk result (λ c. (code : ℕ) (name : List ℕ)
+        → (name_of c code ≡ Some name) ↔ (paired c name ≡ Some code)) }
     ensures faultless { OnOk result (faults_of (expanded_body expansion.now) ≡ []) }
-    ensures fault { IfErr result (λ e. Contains (Memory ∷ faults_of (expanded_body expansion.now)) e) }
+    ensures fault { IfErr result (λ e.
+        Contains (Memory ∷ faults_of (expanded_body expansion.now)) e) }
 {
     let mut names = Names::new(alloc);
     let gathered = gather(alloc, &mut names, expansion)?;

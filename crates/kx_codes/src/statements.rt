@@ -18,7 +18,8 @@ pub(crate) fn take_item<'l>(
     place: Place,
     item: &'l Item,
 ) -> Result<(), Fault>
-    ensures took { OnOk result ((ps : List Pair) → StandsIn names.old pairs.old ps → StandsIn names.new pairs.new (own_pairs item.now ps)) }
+    ensures took { OnOk result ((ps : List Pair) → StandsIn names.old pairs.old ps
+        → StandsIn names.new pairs.new (own_pairs item.now ps)) }
     ensures grows { IsOnce names.old → Grows names.old names.new }
     ensures faultless { OnOk result (own_faults place.file item.now ≡ []) }
     ensures fault { IfErr result (λ e. Contains (Memory ∷ own_faults place.file item.now) e) }
@@ -44,10 +45,12 @@ fn take_said<'l>(
     first: Span,
     whole: Span,
 ) -> Result<(), Fault>
-    ensures took { OnOk result ((ps : List Pair) → StandsIn names.old pairs.old ps → StandsIn names.new pairs.new (said_pairs mode statement.now ps)) }
+    ensures took { OnOk result ((ps : List Pair) → StandsIn names.old pairs.old ps
+        → StandsIn names.new pairs.new (said_pairs mode statement.now ps)) }
     ensures grows { IsOnce names.old → Grows names.old names.new }
     ensures faultless { OnOk result (said_faults file statement.now first whole ≡ []) }
-    ensures fault { IfErr result (λ e. Contains (Memory ∷ said_faults file statement.now first whole) e) }
+    ensures fault { IfErr result (λ e.
+        Contains (Memory ∷ said_faults file statement.now first whole) e) }
 {
     match statement {
         Statement::Keycode { name, code } => {

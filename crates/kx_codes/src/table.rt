@@ -27,7 +27,11 @@ impl<'l> Model for Codes<'l> {
 
     ghost Value = { Codes };
 
-    ghost view = { λ c. record { by_name = c.pairs.by_name; by_code = c.pairs.by_code; aliases = map shown_alias c.aliases.entries } };
+    ghost view = { λ c. record {
+      by_name = c.pairs.by_name;
+      by_code = c.pairs.by_code;
+      aliases = map shown_alias c.aliases.entries;
+    } };
 
     ghost invariant = { λ c. Agree c.pairs.by_name c.pairs.by_code };
 }
@@ -35,7 +39,11 @@ impl<'l> Model for Codes<'l> {
 impl<'l> Codes<'l> {
     pub(crate) fn of(pairs: NamedPairs<'l>, aliases: Ordered<ShortName, Alias>) -> Codes<'l>
         requires { Agree pairs.by_name pairs.by_code }
-        ensures { result ≡ record { by_name = pairs.entry.by_name; by_code = pairs.entry.by_code; aliases = map shown_alias aliases.entries } }
+        ensures { result ≡ record {
+          by_name = pairs.entry.by_name;
+          by_code = pairs.entry.by_code;
+          aliases = map shown_alias aliases.entries;
+        } }
     {
         Codes { pairs, aliases }
     }

@@ -18,7 +18,8 @@ pub(crate) fn gather<'l>(
     names: &mut Names<'l>,
     expansion: &Expansion<'l>,
 ) -> Result<Pairs, Fault>
-    ensures gathered { IsOnce names.old → IsGathered names.new (expanded_body expansion.now) result }
+    ensures gathered { IsOnce names.old
+        → IsGathered names.new (expanded_body expansion.now) result }
     ensures grows { IsOnce names.old → Grows names.old names.new }
 {
     // A fault in a map is one of the source only where the map is included, and is answered there.
@@ -37,7 +38,8 @@ fn gather_sections<'l>(
     names: &mut Names<'l>,
     sections: &[Map<'l>],
 ) -> Result<Pairs, Fault>
-    ensures gathered { (bodies : List Body) → AreGathered names.old done.now bodies → IsGathered names.new (shared_sections bodies sections.now) result }
+    ensures gathered { (bodies : List Body) → AreGathered names.old done.now bodies
+        → IsGathered names.new (shared_sections bodies sections.now) result }
     ensures grows { IsOnce names.old → Grows names.old names.new }
 {
     let count = sections.first().map_or(0, |section| section.entries.len());
@@ -55,7 +57,8 @@ fn gather_map<'l>(
     names: &mut Names<'l>,
     map: &Map<'l>,
 ) -> Result<Pairs, Fault>
-    ensures gathered { (bodies : List Body) → AreGathered names.old done.now bodies → IsGathered names.new (shared_body bodies map.now End) result }
+    ensures gathered { (bodies : List Body) → AreGathered names.old done.now bodies
+        → IsGathered names.new (shared_body bodies map.now End) result }
     ensures grows { IsOnce names.old → Grows names.old names.new }
 {
     let mut gathered = Pairs::with_room(alloc, map.entries.len())?;
@@ -71,8 +74,10 @@ fn gather_section<'l>(
     section: &Map<'l>,
     gathered: &mut Pairs,
 ) -> Result<(), Fault>
-    ensures took { OnOk result ((bodies : List Body) → AreGathered names.old done.now bodies → Took names.old names.new gathered.old gathered.new (shared_body bodies section.now End)) }
-    ensures fault { IfErr result (λ e. (bodies : List Body) → AreGathered names.old done.now bodies → Blames (shared_body bodies section.now End) e) }
+    ensures took { OnOk result ((bodies : List Body) → AreGathered names.old done.now bodies
+        → Took names.old names.new gathered.old gathered.new (shared_body bodies section.now End)) }
+    ensures fault { IfErr result (λ e. (bodies : List Body) → AreGathered names.old done.now bodies
+        → Blames (shared_body bodies section.now End) e) }
     ensures grows { IsOnce names.old → Grows names.old names.new }
 {
     'entries: for entry in section.entries.as_slice() {
@@ -90,8 +95,11 @@ fn gather_entry<'l>(
     entry: &Entry<'l>,
     gathered: &mut Pairs,
 ) -> Result<(), Fault>
-    ensures took { OnOk result ((bodies : List Body) → AreGathered names.old done.now bodies → Took names.old names.new gathered.old gathered.new (entries_body bodies place (entry.now ∷ []) End)) }
-    ensures fault { IfErr result (λ e. (bodies : List Body) → AreGathered names.old done.now bodies → Blames (entries_body bodies place (entry.now ∷ []) End) e) }
+    ensures took { OnOk result ((bodies : List Body) → AreGathered names.old done.now bodies
+        → Took names.old names.new gathered.old gathered.new
+        (entries_body bodies place (entry.now ∷ []) End)) }
+    ensures fault { IfErr result (λ e. (bodies : List Body) → AreGathered names.old done.now bodies
+        → Blames (entries_body bodies place (entry.now ∷ []) End) e) }
     ensures grows { IsOnce names.old → Grows names.old names.new }
 {
     match entry {
@@ -110,8 +118,13 @@ fn gather_include(
     links: &[Link],
     gathered: &mut Pairs,
 ) -> Result<(), Fault>
-    ensures took { OnOk result ((names : List (List ℕ)) (bodies : List Body) → AreGathered names done.now bodies → Took names names gathered.old gathered.new (Inc mode None (links_body bodies links.now) End)) }
-    ensures fault { IfErr result (λ e. (names : List (List ℕ)) (bodies : List Body) → AreGathered names done.now bodies → Blames (Inc mode None (links_body bodies links.now) End) e) }
+    ensures took { OnOk result ((names : List (List ℕ)) (bodies : List Body)
+        → AreGathered names done.now bodies
+        → Took names names gathered.old gathered.new
+        (Inc mode None (links_body bodies links.now) End)) }
+    ensures fault { IfErr result (λ e. (names : List (List ℕ)) (bodies : List Body)
+        → AreGathered names done.now bodies
+        → Blames (Inc mode None (links_body bodies links.now) End) e) }
 {
     // What a map leaves names nothing twice, so that a single part need not be joined first.
     if let [link] = links {
@@ -130,7 +143,8 @@ fn gather_links(
     done: &[Result<Pairs, Fault>],
     links: &[Link],
 ) -> Result<Pairs, Fault>
-    ensures { (names : List (List ℕ)) (bodies : List Body) → AreGathered names done.now bodies → IsGathered names (links_body bodies links.now) result }
+    ensures { (names : List (List ℕ)) (bodies : List Body) → AreGathered names done.now bodies
+        → IsGathered names (links_body bodies links.now) result }
 {
     let mut joined = Pairs::new(alloc);
     'links: for link in links {
@@ -141,8 +155,11 @@ fn gather_links(
 
 /// Takes what a part of an include's text brings; nothing where there is no such map.
 fn gather_link(done: &[Result<Pairs, Fault>], link: Link, gathered: &mut Pairs) -> Result<(), Fault>
-    ensures took { OnOk result ((names : List (List ℕ)) (bodies : List Body) → AreGathered names done.now bodies → Took names names gathered.old gathered.new (links_body bodies (link ∷ []))) }
-    ensures fault { IfErr result (λ e. (names : List (List ℕ)) (bodies : List Body) → AreGathered names done.now bodies → Blames (links_body bodies (link ∷ [])) e) }
+    ensures took { OnOk result ((names : List (List ℕ)) (bodies : List Body)
+        → AreGathered names done.now bodies
+        → Took names names gathered.old gathered.new (links_body bodies (link ∷ []))) }
+    ensures fault { IfErr result (λ e. (names : List (List ℕ)) (bodies : List Body)
+        → AreGathered names done.now bodies → Blames (links_body bodies (link ∷ [])) e) }
 {
     match done.get(link.map) {
         None => Ok(()),

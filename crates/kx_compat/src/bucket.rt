@@ -37,7 +37,8 @@ impl Choices {
     ghost use Rattle.kx_compat.specs.Interpretations.{Interpretation as InterpretationValue};
 
     fn of(alloc: Global, interpretations: &[Interpretation]) -> Result<Choices, Fault>
-        ensures choices { IfOk result (λ c. AreChoices interpretations.now true c.first.items × AreChoices interpretations.now false c.others.items) }
+        ensures choices { IfOk result (λ c. AreChoices interpretations.now true c.first.items
+            × AreChoices interpretations.now false c.others.items) }
         ensures err { IfErr result (λ e. e ≡ Memory) }
     {
         let first = choices_of(alloc, interpretations, true)?;
@@ -47,7 +48,10 @@ impl Choices {
 
     /// What is chosen at the first level, or at another, of a key with these modifiers.
     fn choose(&self, first_level: bool, modmap: Mods) -> Option<&Interpretation>
-        ensures { (is : List InterpretationValue) → AreChoices is true self.now.first.items → AreChoices is false self.now.others.items → option_map (λ i. i.now) result ≡ least (filter (allows first_level (mask modmap)) is) }
+        ensures { (is : List InterpretationValue) → AreChoices is true self.now.first.items
+            → AreChoices is false self.now.others.items
+            → option_map (λ i. i.now) result
+            ≡ least (filter (allows first_level (mask modmap)) is) }
     {
         if first_level {
             kept(&self.first, modmap)
@@ -74,7 +78,8 @@ impl Model for Bucket {
 
     ghost view = { λ b. b.all.items };
 
-    ghost invariant = { λ b. IfSome b.choices (λ c. AreChoices b.all.items true c.first.items × AreChoices b.all.items false c.others.items) };
+    ghost invariant = { λ b. IfSome b.choices (λ c. AreChoices b.all.items true c.first.items
+        × AreChoices b.all.items false c.others.items) };
 }
 
 impl Bucket {
@@ -115,7 +120,8 @@ impl Bucket {
 
     /// The one that is chosen at the first level, or at another, of a key with these modifiers.
     pub(crate) fn choose(&self, first_level: bool, modmap: Mods) -> Option<&Interpretation>
-        ensures { option_map (λ i. i.now) result ≡ least (filter (allows first_level (mask modmap)) self.now) }
+        ensures { option_map (λ i. i.now) result
+            ≡ least (filter (allows first_level (mask modmap)) self.now) }
     {
         match &self.choices {
             Some(choices) => choices.choose(first_level, modmap),
@@ -130,7 +136,8 @@ fn choices_of(
     interpretations: &[Interpretation],
     first_level: bool,
 ) -> Result<Vec<Option<Interpretation>>, Fault>
-    ensures choices { IfOk result (λ choices. AreChoices interpretations.now first_level choices.items) }
+    ensures choices { IfOk result (λ choices.
+        AreChoices interpretations.now first_level choices.items) }
     ensures err { IfErr result (λ e. e ≡ Memory) }
 {
     let mut choices = Vec::with_capacity(alloc, MASKS)?;
@@ -143,7 +150,9 @@ fn choices_of(
 
 /// What was kept for a set of modifiers.
 fn kept(choices: &Vec<Option<Interpretation>>, modmap: Mods) -> Option<&Interpretation>
-    ensures { (is : List InterpretationValue) (first_level : Bool) → AreChoices is first_level choices.now.items → option_map (λ i. i.now) result ≡ least (filter (allows first_level (mask modmap)) is) }
+    ensures { (is : List InterpretationValue) (first_level : Bool)
+        → AreChoices is first_level choices.now.items
+        → option_map (λ i. i.now) result ≡ least (filter (allows first_level (mask modmap)) is) }
 {
     match choices.get(usize::from(modmap.mask())) {
         Some(chosen) => chosen.as_ref(),
@@ -156,7 +165,9 @@ fn choices_of_many(
     alloc: Global,
     interpretations: &[Interpretation],
 ) -> Result<Option<Choices>, Fault>
-    ensures choices { IfOk result (λ choices. IfSome choices (λ c. AreChoices interpretations.now true c.first.items × AreChoices interpretations.now false c.others.items)) }
+    ensures choices { IfOk result (λ choices.
+        IfSome choices (λ c. AreChoices interpretations.now true c.first.items
+        × AreChoices interpretations.now false c.others.items)) }
     ensures err { IfErr result (λ e. e ≡ Memory) }
 {
     if interpretations.len() <= FEW {

@@ -79,7 +79,8 @@ fn earlier<'i>(
     least: Option<&'i Interpretation>,
     interpretation: &'i Interpretation,
 ) -> Option<&'i Interpretation>
-    ensures { option_map (λ i. i.now) result ≡ earlier (option_map (λ i. i.now) least.entry) interpretation.now }
+    ensures { option_map (λ i. i.now) result
+        ≡ earlier (option_map (λ i. i.now) least.entry) interpretation.now }
 {
     match least {
         None => Some(interpretation),
@@ -100,7 +101,10 @@ fn earlier_allowed<'i>(
     first_level: bool,
     modmap: Mods,
 ) -> Option<&'i Interpretation>
-    ensures { option_map (λ i. i.now) result ≡ (if allows first_level (mask modmap) interpretation.now then earlier (option_map (λ i. i.now) least.entry) interpretation.now else option_map (λ i. i.now) least.entry) }
+    ensures { option_map (λ i. i.now) result
+        ≡ (if allows first_level (mask modmap) interpretation.now
+        then earlier (option_map (λ i. i.now) least.entry) interpretation.now
+        else option_map (λ i. i.now) least.entry) }
 {
     if allows(interpretation, first_level, modmap) {
         earlier(least, interpretation)
@@ -115,7 +119,8 @@ pub(crate) fn least_allowed(
     first_level: bool,
     modmap: Mods,
 ) -> Option<&Interpretation>
-    ensures { option_map (λ i. i.now) result ≡ least (filter (allows first_level (mask modmap)) interpretations.now) }
+    ensures { option_map (λ i. i.now) result
+        ≡ least (filter (allows first_level (mask modmap)) interpretations.now) }
 {
     let mut least = None;
     'interpretations: for interpretation in interpretations {

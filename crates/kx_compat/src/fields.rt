@@ -94,7 +94,8 @@ fn read_action(
     call: &Call,
     notes: &mut Notes,
 ) -> Result<KeyAction, Fault>
-    ensures value { IfOk result (λ action. action ≡ action_of names.now.names actions.now call.now) }
+    ensures value { IfOk result (λ action.
+        action ≡ action_of names.now.names actions.now call.now) }
     ensures faultless { OnOk result (action_faults file names.now.names call.now ≡ []) }
     ensures fault { IfErr result (λ e. Contains (action_faults file names.now.names call.now) e) }
 {
@@ -113,7 +114,8 @@ fn read_word_modifier(
 ) -> Result<GivenModifier, Fault>
     ensures value { IfOk result (λ number. Some number ≡ word_modifier names.now.names word.now) }
     ensures faultless { OnOk result (word_faults file names.now.names whole (Some word.now) ≡ []) }
-    ensures fault { IfErr result (λ e. Contains (word_faults file names.now.names whole (Some word.now)) e) }
+    ensures fault { IfErr result (λ e.
+        Contains (word_faults file names.now.names whole (Some word.now)) e) }
 {
     let bytes = word.bytes.as_slice();
     if real_mask(bytes).is_some() {
@@ -134,9 +136,11 @@ fn read_modifier(
     file: u32,
     expression: &Expression,
 ) -> Result<GivenModifier, Fault>
-    ensures value { IfOk result (λ number. Some number ≡ modifier_of names.now.names expression.now) }
+    ensures value { IfOk result (λ number.
+        Some number ≡ modifier_of names.now.names expression.now) }
     ensures faultless { OnOk result (modifier_faults file names.now.names expression.now ≡ []) }
-    ensures fault { IfErr result (λ e. Contains (modifier_faults file names.now.names expression.now) e) }
+    ensures fault { IfErr result (λ e.
+        Contains (modifier_faults file names.now.names expression.now) e) }
 {
     match lone_word(expression) {
         Some(word) => read_word_modifier(names, file, expression.span, word),
@@ -163,9 +167,12 @@ fn action_setting(
     setting: &Setting,
     notes: &mut Notes,
 ) -> Result<FieldValue, Fault>
-    ensures value { IfOk result (λ value. Some value ≡ action_value names.now.names actions.now setting.now) }
-    ensures faultless { OnOk result (call_faults file (action_faults file names.now.names) whole setting.now ≡ []) }
-    ensures fault { IfErr result (λ e. Contains (call_faults file (action_faults file names.now.names) whole setting.now) e) }
+    ensures value { IfOk result (λ value.
+        Some value ≡ action_value names.now.names actions.now setting.now) }
+    ensures faultless { OnOk result
+        (call_faults file (action_faults file names.now.names) whole setting.now ≡ []) }
+    ensures fault { IfErr result (λ e.
+        Contains (call_faults file (action_faults file names.now.names) whole setting.now) e) }
 {
     match setting {
         Setting::To(Value::Call(call)) => {
@@ -186,8 +193,10 @@ fn modifier_setting(
     setting: &Setting,
 ) -> Result<FieldValue, Fault>
     ensures value { IfOk result (λ value. Some value ≡ modifier_value names.now.names setting.now) }
-    ensures faultless { OnOk result (value_faults file (modifier_faults file names.now.names) whole setting.now ≡ []) }
-    ensures fault { IfErr result (λ e. Contains (value_faults file (modifier_faults file names.now.names) whole setting.now) e) }
+    ensures faultless { OnOk result
+        (value_faults file (modifier_faults file names.now.names) whole setting.now ≡ []) }
+    ensures fault { IfErr result (λ e.
+        Contains (value_faults file (modifier_faults file names.now.names) whole setting.now) e) }
 {
     let expression = expression_of(file, whole, setting)?;
     let modifier = read_modifier(names, file, expression)?;
@@ -197,8 +206,10 @@ fn modifier_setting(
 /// Whether a field is set to the first level alone.
 fn levels_setting(file: u32, whole: Span, setting: &Setting) -> Result<FieldValue, Fault>
     ensures value { IfOk result (λ value. Some value ≡ levels_value setting.now) }
-    ensures faultless { OnOk result (value_faults file (levels_faults file) whole setting.now ≡ []) }
-    ensures fault { IfErr result (λ e. Contains (value_faults file (levels_faults file) whole setting.now) e) }
+    ensures faultless { OnOk result
+        (value_faults file (levels_faults file) whole setting.now ≡ []) }
+    ensures fault { IfErr result (λ e.
+        Contains (value_faults file (levels_faults file) whole setting.now) e) }
 {
     let expression = expression_of(file, whole, setting)?;
     let only = read_levels(file, expression)?;
@@ -215,9 +226,12 @@ fn known_setting(
     setting: &Setting,
     notes: &mut Notes,
 ) -> Result<Option<FieldValue>, Fault>
-    ensures value { IfOk result (λ value. value ≡ setting_value names.now.names actions.now setting.now known) }
-    ensures faultless { OnOk result (setting_faults file names.now.names whole setting.now known ≡ []) }
-    ensures fault { IfErr result (λ e. Contains (setting_faults file names.now.names whole setting.now known) e) }
+    ensures value { IfOk result (λ value.
+        value ≡ setting_value names.now.names actions.now setting.now known) }
+    ensures faultless { OnOk result
+        (setting_faults file names.now.names whole setting.now known ≡ []) }
+    ensures fault { IfErr result (λ e.
+        Contains (setting_faults file names.now.names whole setting.now known) e) }
 {
     match known {
         InterpretField::Action => Ok(Some(action_setting(
@@ -239,9 +253,11 @@ pub(crate) fn read_field(
     field: &Field,
     notes: &mut Notes,
 ) -> Result<Option<FieldValue>, Fault>
-    ensures value { IfOk result (λ value. value ≡ field_value names.now.names actions.now word.now field.now) }
+    ensures value { IfOk result (λ value.
+        value ≡ field_value names.now.names actions.now word.now field.now) }
     ensures faultless { OnOk result (field_faults file names.now.names word.now field.now ≡ []) }
-    ensures fault { IfErr result (λ e. Contains (field_faults file names.now.names word.now field.now) e) }
+    ensures fault { IfErr result (λ e.
+        Contains (field_faults file names.now.names word.now field.now) e) }
 {
     match field_named(word.bytes.as_slice(), &field.place.index) {
         None => Err(unknown_field(file, word)),

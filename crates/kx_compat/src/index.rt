@@ -73,8 +73,10 @@ impl Interpretations {
     /// to these modifiers: of those that are for it one of a named keysym, else one of any keysym, and of those the first
     /// in the order of [`Condition`](crate::Condition), then of the keymap. None where none is for it.
     pub fn choose(&self, keysym: u32, first_level: bool, modmap: Mods) -> Option<&Interpretation>
-        ensures value { option_map (λ i. i.now) result ≡ chosen self.now keysym first_level (mask modmap) }
-        ensures first { IsFirstOrNone (matches first_level (mask modmap) keysym) self.now (option_map (λ i. i.now) result) }
+        ensures value { option_map (λ i. i.now) result
+            ≡ chosen self.now keysym first_level (mask modmap) }
+        ensures first { IsFirstOrNone (matches first_level (mask modmap) keysym) self.now
+            (option_map (λ i. i.now) result) }
     {
         match self.choose_named(keysym, first_level, modmap) {
             Some(interpretation) => Some(interpretation),
@@ -84,7 +86,9 @@ impl Interpretations {
 
     /// The same of those of a named keysym alone.
     fn choose_named(&self, keysym: u32, first_level: bool, modmap: Mods) -> Option<&Interpretation>
-        ensures { option_map (λ i. i.now) result ≡ least (filter (allows first_level (mask modmap)) (filter (is_named keysym) self.now)) }
+        ensures { option_map (λ i. i.now) result
+            ≡ least (filter (allows first_level (mask modmap))
+            (filter (is_named keysym) self.now)) }
     {
         match self.named.get(keysym) {
             Some(bucket) => bucket.choose(first_level, modmap),
@@ -119,7 +123,8 @@ fn keep_choices(alloc: Global, named: &mut Ordered<u32, Bucket>) -> Result<(), F
 
 /// The same, sorted by keysym.
 fn sorted(named: Ordered<u32, Bucket>) -> Result<SortedNumbers<Bucket>, Fault>
-    ensures indexed { IfOk result (λ sorted. (any all : List InterpretationValue) → IsIndexed (λ b. b) named.entries any all → IsIndexed (λ b. b) sorted any all) }
+    ensures indexed { IfOk result (λ sorted. (any all : List InterpretationValue)
+        → IsIndexed (λ b. b) named.entries any all → IsIndexed (λ b. b) sorted any all) }
     ensures err { IfErr result (λ e. e ≡ Memory) }
 {
     Ok(SortedNumbers::of(named.into_entries())?)
@@ -132,7 +137,10 @@ fn add_named(
     keysym: u32,
     interpretation: Interpretation,
 ) -> Result<(), Fault>
-    ensures added { OnOk result ((k : ℕ) → bucket_in (λ b. b) named.new.entries k ≡ bucket_in (λ b. b) named.old.entries k ++ (if nat_eq keysym k then interpretation ∷ [] else [])) }
+    ensures added { OnOk result ((k : ℕ)
+        → bucket_in (λ b. b) named.new.entries k
+        ≡ bucket_in (λ b. b) named.old.entries k
+        ++ (if nat_eq keysym k then interpretation ∷ [] else [])) }
     ensures err { IfErr result (λ e. e ≡ Memory) }
 {
     if let Some(bucket) = named.get_mut(&keysym) {
@@ -152,7 +160,9 @@ fn add_indexed(
     any: &mut Bucket,
     interpretation: Interpretation,
 ) -> Result<(), Fault>
-    ensures added { (all : List InterpretationValue) → IsIndexed (λ b. b) named.old.entries any.old all → OnOk result (IsIndexed (λ b. b) named.new.entries any.new (all ++ interpretation ∷ [])) }
+    ensures added { (all : List InterpretationValue)
+        → IsIndexed (λ b. b) named.old.entries any.old all
+        → OnOk result (IsIndexed (λ b. b) named.new.entries any.new (all ++ interpretation ∷ [])) }
     ensures err { IfErr result (λ e. e ≡ Memory) }
 {
     match interpretation.interpretation_match().keysym {

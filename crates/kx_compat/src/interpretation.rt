@@ -20,9 +20,19 @@ impl Model for Interpretation {
 
     ghost Value = { Interpretation };
 
-    ghost view = { λ i. record { interpretation_match = i.interpretation_match; action = i.action; modifier = i.modifier; first_level_only = i.first_level_only } };
+    ghost view = { λ i. record {
+      interpretation_match = i.interpretation_match;
+      action = i.action;
+      modifier = i.modifier;
+      first_level_only = i.first_level_only;
+    } };
 
-    ghost inverse = { λ i. record { interpretation_match = i.interpretation_match; action = i.action; modifier = i.modifier; first_level_only = i.first_level_only } };
+    ghost inverse = { λ i. record {
+      interpretation_match = i.interpretation_match;
+      action = i.action;
+      modifier = i.modifier;
+      first_level_only = i.first_level_only;
+    } };
 }
 
 impl Interpretation {
@@ -35,7 +45,12 @@ impl Interpretation {
         modifier: Option<GivenModifier>,
         first_level_only: bool,
     ) -> Interpretation
-        ensures { result ≡ record { interpretation_match = interpretation_match; action = action; modifier = modifier; first_level_only = first_level_only } }
+        ensures { result ≡ record {
+          interpretation_match = interpretation_match;
+          action = action;
+          modifier = modifier;
+          first_level_only = first_level_only;
+        } }
     {
         Interpretation {
             interpretation_match,

@@ -57,7 +57,8 @@ fn listed(
     alloc: Global,
     records: &Ordered<InterpretationMatch, FieldValues>,
 ) -> Result<Vec<Interpretation>, Fault>
-    ensures value { IfOk result (λ all. all.items ≡ map (interpretation_recorded records.now) (keys records.now)) }
+    ensures value { IfOk result (λ all.
+        all.items ≡ map (interpretation_recorded records.now) (keys records.now)) }
     ensures err { IfErr result (λ e. e ≡ Memory) }
 {
     let mut all = Vec::new(alloc);
@@ -82,11 +83,15 @@ pub fn interpretations(
     names: &ModNames,
     table: &NameTable,
 ) -> Result<(Interpretations, Notes), Fault>
-    ensures shows { IfOk result (λ found. found.0 ≡ interpretations_of table.now names.now.names (expanded_body expansion.now)) }
+    ensures shows { IfOk result (λ found.
+        found.0 ≡ interpretations_of table.now names.now.names (expanded_body expansion.now)) }
     ensures defaults { DefaultsAreLast names.now.names }
     ensures once { OffersOnce same_match (compat_rules table.now names.now.names) }
-    ensures faultless { OnOk result (compat_faults table.now names.now.names (expanded_body expansion.now) ≡ []) }
-    ensures fault { IfErr result (λ e. Contains (Memory ∷ compat_faults table.now names.now.names (expanded_body expansion.now)) e) }
+    ensures faultless { OnOk result
+        (compat_faults table.now names.now.names (expanded_body expansion.now) ≡ []) }
+    ensures fault { IfErr result (λ e.
+        Contains (Memory ∷ compat_faults table.now names.now.names (expanded_body expansion.now))
+        e) }
 {
     let context = Context { table, names };
     let merged = merge::<Context, FieldValues>(alloc, &context, expansion)?;

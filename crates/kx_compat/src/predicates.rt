@@ -100,9 +100,13 @@ fn only_mask(arguments: &[PlacedArgument]) -> Option<&Expression>
 
 /// The modifiers that the call of a condition names.
 fn read_only_mask(names: &ModNames, file: u32, call: &Call) -> Result<Mods, Fault>
-    ensures value { IfOk result (λ mods. Some (mask mods) ≡ option_map (mask_set []) (only_mask call.now.arguments)) }
-    ensures faultless { OnOk result (only_mask_faults file names.now.names call.now (only_mask call.now.arguments) ≡ []) }
-    ensures fault { IfErr result (λ e. Contains (only_mask_faults file names.now.names call.now (only_mask call.now.arguments)) e) }
+    ensures value { IfOk result (λ mods.
+        Some (mask mods) ≡ option_map (mask_set []) (only_mask call.now.arguments)) }
+    ensures faultless { OnOk result
+        (only_mask_faults file names.now.names call.now (only_mask call.now.arguments) ≡ []) }
+    ensures fault { IfErr result (λ e.
+        Contains (only_mask_faults file names.now.names call.now (only_mask call.now.arguments))
+        e) }
 {
     match only_mask(call.arguments.as_slice()) {
         Some(expression) => names.real_mask_of(file, expression),
@@ -113,8 +117,12 @@ fn read_only_mask(names: &ModNames, file: u32, call: &Call) -> Result<Mods, Faul
 /// The condition and the modifiers of a call.
 fn read_call(names: &ModNames, file: u32, call: &Call) -> Result<(Condition, Mods), Fault>
     ensures value { IfOk result (λ wanted. Some (wanted.0, mask wanted.1) ≡ call_wants call.now) }
-    ensures faultless { OnOk result (condition_faults file names.now.names call.now (among condition_words call.now.word.bytes) ≡ []) }
-    ensures fault { IfErr result (λ e. Contains (condition_faults file names.now.names call.now (among condition_words call.now.word.bytes)) e) }
+    ensures faultless { OnOk result
+        (condition_faults file names.now.names call.now (among condition_words call.now.word.bytes)
+        ≡ []) }
+    ensures fault { IfErr result (λ e.
+        Contains (condition_faults file names.now.names call.now
+        (among condition_words call.now.word.bytes)) e) }
 {
     match condition_named(call.word.bytes.as_slice()) {
         Some(condition) => Ok((condition, read_only_mask(names, file, call)?)),
@@ -138,8 +146,10 @@ fn read_mask(
     expression: &Expression,
 ) -> Result<(Condition, Mods), Fault>
     ensures value { IfOk result (λ wanted. (wanted.0, mask wanted.1) ≡ mask_wants expression.now) }
-    ensures faultless { OnOk result (mask_predicate_faults file names.now.names expression.now ≡ []) }
-    ensures fault { IfErr result (λ e. Contains (mask_predicate_faults file names.now.names expression.now) e) }
+    ensures faultless { OnOk result
+        (mask_predicate_faults file names.now.names expression.now ≡ []) }
+    ensures fault { IfErr result (λ e.
+        Contains (mask_predicate_faults file names.now.names expression.now) e) }
 {
     if is_any_word(expression) {
         return Ok((Condition::AnyOf, Mods::from_mask(255)));
@@ -153,9 +163,11 @@ pub(crate) fn read_predicate(
     file: u32,
     predicate: &Option<Boxed<Predicate>>,
 ) -> Result<(Condition, Mods), Fault>
-    ensures value { IfOk result (λ wanted. Some (wanted.0, mask wanted.1) ≡ predicate_wants predicate.now) }
+    ensures value { IfOk result (λ wanted.
+        Some (wanted.0, mask wanted.1) ≡ predicate_wants predicate.now) }
     ensures faultless { OnOk result (predicate_faults file names.now.names predicate.now ≡ []) }
-    ensures fault { IfErr result (λ e. Contains (predicate_faults file names.now.names predicate.now) e) }
+    ensures fault { IfErr result (λ e.
+        Contains (predicate_faults file names.now.names predicate.now) e) }
 {
     match predicate {
         None => Ok((Condition::AnyOfOrNone, Mods::from_mask(255))),

@@ -78,8 +78,11 @@ impl<'a> Fields<Context<'a>> for FieldValues {
     }
 
     fn absorb(&mut self, _alloc: Global, other: FieldValues, mode: Mode) -> Result<(), Fault>
-        ensures cells { OnOk result ((c : Cell) → values_cell self.new c ≡ taken mode (values_cell self.old c) (values_cell other c)) }
-        ensures widths { OnOk result ((g : ℕ) → values_width self.new g ≡ widened mode (values_width self.old g) (values_width other g)) }
+        ensures cells { OnOk result ((c : Cell)
+            → values_cell self.new c ≡ taken mode (values_cell self.old c) (values_cell other c)) }
+        ensures widths { OnOk result ((g : ℕ)
+            → values_width self.new g ≡ widened mode (values_width self.old g)
+            (values_width other g)) }
         ensures err { IfErr result (λ e. e ≡ Memory) }
     {
         *self = self.joined(other, mode);
@@ -100,8 +103,12 @@ impl<'a> Fields<Context<'a>> for FieldValues {
         _group: Option<u8>,
         mode: Mode,
     ) -> Result<(), Fault>
-        ensures cells { OnOk result ((c : Cell) → values_cell self.new c ≡ taken mode (values_cell self.old c) (moved_value compat_moves _group (values_cell other.now) c)) }
-        ensures widths { OnOk result ((g : ℕ) → values_width self.new g ≡ widened mode (values_width self.old g) (moved_width compat_moves _group (values_width other.now) g)) }
+        ensures cells { OnOk result ((c : Cell)
+            → values_cell self.new c ≡ taken mode (values_cell self.old c)
+            (moved_value compat_moves _group (values_cell other.now) c)) }
+        ensures widths { OnOk result ((g : ℕ)
+            → values_width self.new g ≡ widened mode (values_width self.old g)
+            (moved_width compat_moves _group (values_width other.now) g)) }
         ensures err { IfErr result (λ e. e ≡ Memory) }
     {
         *self = self.joined(*other, mode);

@@ -31,7 +31,8 @@ use std::alloc::Global;
 fn interpretation_in(
     statement: &Statement,
 ) -> Option<(&Symbol, &Option<Boxed<Predicate>>, &Row<Field>)>
-    ensures { option_map (λ i. (i.0.now, i.1.now, i.2.now)) result ≡ interpretation_in statement.now }
+    ensures { option_map (λ i. (i.0.now, i.1.now, i.2.now)) result
+        ≡ interpretation_in statement.now }
 {
     match statement {
         Statement::Interpretation {
@@ -97,9 +98,14 @@ fn read_match(
     predicate: &Option<Boxed<Predicate>>,
     notes: &mut Notes,
 ) -> Result<Option<InterpretationMatch>, Fault>
-    ensures value { IfOk result (λ interpretation_match. interpretation_match ≡ match_of table.now symbol.now predicate.now) }
-    ensures faultless { OnOk result (symbol_faults file symbol.now ++ predicate_faults file names.now.names predicate.now ≡ []) }
-    ensures fault { IfErr result (λ e. Contains (Memory ∷ (symbol_faults file symbol.now ++ predicate_faults file names.now.names predicate.now)) e) }
+    ensures value { IfOk result (λ interpretation_match.
+        interpretation_match ≡ match_of table.now symbol.now predicate.now) }
+    ensures faultless { OnOk result
+        (symbol_faults file symbol.now ++ predicate_faults file names.now.names predicate.now
+        ≡ []) }
+    ensures fault { IfErr result (λ e.
+        Contains (Memory ∷ (symbol_faults file symbol.now
+        ++ predicate_faults file names.now.names predicate.now)) e) }
 {
     let keysym = read_keysym(table, file, symbol, notes)?;
     let (condition, mods) = read_predicate(names, file, predicate)?;
@@ -114,7 +120,8 @@ fn read_own(
     field: &Field,
     notes: &mut Notes,
 ) -> Result<Option<FieldValue>, Fault>
-    ensures value { IfOk result (λ value. value ≡ own_value names.now.names defaults.now field.now) }
+    ensures value { IfOk result (λ value.
+        value ≡ own_value names.now.names defaults.now field.now) }
     ensures faultless { OnOk result (own_faults file names.now.names field.now ≡ []) }
     ensures fault { IfErr result (λ e. Contains (own_faults file names.now.names field.now) e) }
 {
@@ -133,9 +140,11 @@ fn read_values(
     fields: &[Field],
     notes: &mut Notes,
 ) -> Result<FieldValues, Fault>
-    ensures value { IfOk result (λ values. values ≡ values_of names.now.names defaults.now fields.now) }
+    ensures value { IfOk result (λ values.
+        values ≡ values_of names.now.names defaults.now fields.now) }
     ensures faultless { OnOk result (flat_map (own_faults file names.now.names) fields.now ≡ []) }
-    ensures fault { IfErr result (λ e. Contains (flat_map (own_faults file names.now.names) fields.now) e) }
+    ensures fault { IfErr result (λ e.
+        Contains (flat_map (own_faults file names.now.names) fields.now) e) }
 {
     let mut values = defaults.values;
     'fields: for field in fields {
@@ -155,7 +164,9 @@ fn one_record(
     interpretation_match: InterpretationMatch,
     values: FieldValues,
 ) -> Result<Vec<(InterpretationMatch, FieldValues)>, Fault>
-    ensures records { (mode : ModeValue) → IfOk result (λ records. AreOffered mode (values_cell) (values_width) records.items (values_offer mode interpretation_match values ∷ [])) }
+    ensures records { (mode : ModeValue)
+        → IfOk result (λ records. AreOffered mode (values_cell) (values_width) records.items
+        (values_offer mode interpretation_match values ∷ [])) }
     ensures err { IfErr result (λ e. e ≡ Memory) }
 {
     let mut records = Vec::new(alloc);
@@ -169,7 +180,9 @@ fn records_for(
     interpretation_match: Option<InterpretationMatch>,
     values: FieldValues,
 ) -> Result<Vec<(InterpretationMatch, FieldValues)>, Fault>
-    ensures records { (mode : ModeValue) → IfOk result (λ records. AreOffered mode (values_cell) (values_width) records.items (offers_to mode values interpretation_match)) }
+    ensures records { (mode : ModeValue)
+        → IfOk result (λ records. AreOffered mode (values_cell) (values_width) records.items
+        (offers_to mode values interpretation_match)) }
     ensures err { IfErr result (λ e. e ≡ Memory) }
 {
     match interpretation_match {
@@ -190,9 +203,15 @@ fn read_interpretation(
     fields: &[Field],
     notes: &mut Notes,
 ) -> Result<Vec<(InterpretationMatch, FieldValues)>, Fault>
-    ensures records { (mode : ModeValue) → IfOk result (λ records. AreOffered mode (values_cell) (values_width) records.items (said_offers table.now names.now.names defaults.now mode (Some (symbol.now, predicate.now, fields.now)))) }
-    ensures faultless { OnOk result (interpretation_faults file names.now.names (symbol.now, predicate.now, fields.now) ≡ []) }
-    ensures fault { IfErr result (λ e. Contains (Memory ∷ interpretation_faults file names.now.names (symbol.now, predicate.now, fields.now)) e) }
+    ensures records { (mode : ModeValue)
+        → IfOk result (λ records. AreOffered mode (values_cell) (values_width) records.items
+        (said_offers table.now names.now.names defaults.now mode
+        (Some (symbol.now, predicate.now, fields.now)))) }
+    ensures faultless { OnOk result
+        (interpretation_faults file names.now.names (symbol.now, predicate.now, fields.now) ≡ []) }
+    ensures fault { IfErr result (λ e.
+        Contains (Memory ∷ interpretation_faults file names.now.names
+        (symbol.now, predicate.now, fields.now)) e) }
 {
     let interpretation_match = read_match(table, names, file, symbol, predicate, notes)?;
     let values = read_values(names, file, defaults, fields, notes)?;
@@ -213,8 +232,10 @@ fn check_member(
     field: &Field,
     notes: &mut Notes,
 ) -> Result<(), Fault>
-    ensures faultless { OnOk result (member_faults file names.now.names field.now field.now.place.member ≡ []) }
-    ensures fault { IfErr result (λ e. Contains (member_faults file names.now.names field.now field.now.place.member) e) }
+    ensures faultless { OnOk result
+        (member_faults file names.now.names field.now field.now.place.member ≡ []) }
+    ensures fault { IfErr result (λ e.
+        Contains (member_faults file names.now.names field.now field.now.place.member) e) }
 {
     match &field.place.member {
         None => Err(unknown_field(file, &field.place.word)),
@@ -227,8 +248,10 @@ fn check_member(
 
 /// Checks a default for a field of indicators.
 fn check_indicator_map(file: u32, field: &Field) -> Result<(), Fault>
-    ensures faultless { OnOk result (indicator_map_faults file [] field.now field.now.place.member ≡ []) }
-    ensures fault { IfErr result (λ e. Contains (indicator_map_faults file [] field.now field.now.place.member) e) }
+    ensures faultless { OnOk result
+        (indicator_map_faults file [] field.now field.now.place.member ≡ []) }
+    ensures fault { IfErr result (λ e.
+        Contains (indicator_map_faults file [] field.now field.now.place.member) e) }
 {
     if field.place.member.is_some() {
         Ok(())
@@ -270,8 +293,11 @@ fn check_other(
     statement: &Statement,
     notes: &mut Notes,
 ) -> Result<(), Fault>
-    ensures faultless { OnOk result (alone_faults file names.now.names statement.now word (field_in statement.now) ≡ []) }
-    ensures fault { IfErr result (λ e. Contains (alone_faults file names.now.names statement.now word (field_in statement.now)) e) }
+    ensures faultless { OnOk result
+        (alone_faults file names.now.names statement.now word (field_in statement.now) ≡ []) }
+    ensures fault { IfErr result (λ e.
+        Contains (alone_faults file names.now.names statement.now word (field_in statement.now))
+        e) }
 {
     match field_in(statement) {
         Some(field) => check_lone(names, file, actions, field, notes),
@@ -295,9 +321,16 @@ fn read_statement(
     statement: &Statement,
     notes: &mut Notes,
 ) -> Result<Vec<(InterpretationMatch, FieldValues)>, Fault>
-    ensures records { (mode : ModeValue) → IfOk result (λ records. AreOffered mode (values_cell) (values_width) records.items (said_offers table.now names.now.names defaults.now mode (interpretation_in statement.now))) }
-    ensures faultless { OnOk result (said_faults file names.now.names statement.now word (interpretation_in statement.now) ≡ []) }
-    ensures fault { IfErr result (λ e. Contains (Memory ∷ said_faults file names.now.names statement.now word (interpretation_in statement.now)) e) }
+    ensures records { (mode : ModeValue)
+        → IfOk result (λ records. AreOffered mode (values_cell) (values_width) records.items
+        (said_offers table.now names.now.names defaults.now mode
+        (interpretation_in statement.now))) }
+    ensures faultless { OnOk result
+        (said_faults file names.now.names statement.now word (interpretation_in statement.now)
+        ≡ []) }
+    ensures fault { IfErr result (λ e.
+        Contains (Memory ∷ said_faults file names.now.names statement.now word
+        (interpretation_in statement.now)) e) }
 {
     match interpretation_in(statement) {
         Some((symbol, predicate, fields)) => read_interpretation(
@@ -328,9 +361,12 @@ pub(crate) fn read_item(
     item: &Item,
     notes: &mut Notes,
 ) -> Result<Vec<(InterpretationMatch, FieldValues)>, Fault>
-    ensures records { IfOk result (λ records. AreOffered (mode_of item.now) (values_cell) (values_width) records.items (item_offers table.now names.now.names defaults.now item.now)) }
+    ensures records { IfOk result (λ records.
+        AreOffered (mode_of item.now) (values_cell) (values_width) records.items
+        (item_offers table.now names.now.names defaults.now item.now)) }
     ensures faultless { OnOk result (item_faults file names.now.names item.now ≡ []) }
-    ensures fault { IfErr result (λ e. Contains (Memory ∷ item_faults file names.now.names item.now) e) }
+    ensures fault { IfErr result (λ e.
+        Contains (Memory ∷ item_faults file names.now.names item.now) e) }
 {
     let word = item.word_span();
     match item {

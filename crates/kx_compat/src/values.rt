@@ -37,9 +37,17 @@ impl Model for FieldValues {
 
     ghost Value = { FieldValues };
 
-    ghost view = { λ v. record { action = v.action; modifier = v.modifier; first_level_only = v.first_level_only } };
+    ghost view = { λ v. record {
+      action = v.action;
+      modifier = v.modifier;
+      first_level_only = v.first_level_only;
+    } };
 
-    ghost inverse = { λ v. record { action = v.action; modifier = v.modifier; first_level_only = v.first_level_only } };
+    ghost inverse = { λ v. record {
+      action = v.action;
+      modifier = v.modifier;
+      first_level_only = v.first_level_only;
+    } };
 }
 
 /// What a value under a mode makes of the one before it.
@@ -125,7 +133,8 @@ impl FieldValues {
 
     /// What is given once more is given under a mode.
     pub(crate) fn joined(self, other: FieldValues, mode: Mode) -> FieldValues
-        ensures { (c : CellName) → values_cell result c ≡ taken mode (values_cell self c) (values_cell other c) }
+        ensures { (c : CellName) → values_cell result c
+            ≡ taken mode (values_cell self c) (values_cell other c) }
     {
         FieldValues {
             action: taken(mode, self.action, other.action),

@@ -80,8 +80,10 @@ fn expression_text<'a>(
 ) -> Result<&'a [u8], Fault>
     ensures value { IfOk result (λ text. Some text.now ≡ lone_text expression.now) }
     ensures short { IfOk result (λ text. length text.now ≤ MOST_NAME_BYTES) }
-    ensures faultless { OnOk result (text_faults file whole expression.now.span (lone_text expression.now) ≡ []) }
-    ensures fault { IfErr result (λ e. Contains (text_faults file whole expression.now.span (lone_text expression.now)) e) }
+    ensures faultless { OnOk result
+        (text_faults file whole expression.now.span (lone_text expression.now) ≡ []) }
+    ensures fault { IfErr result (λ e.
+        Contains (text_faults file whole expression.now.span (lone_text expression.now)) e) }
 {
     match text_of(expression) {
         None => Err(bad_value(file, expression.span)),
@@ -98,8 +100,11 @@ fn expression_text<'a>(
 fn read_text<'a>(file: u32, whole: Span, field: &'a Field) -> Result<&'a [u8], Fault>
     ensures value { IfOk result (λ text. Some text.now ≡ set_text field.now.setting) }
     ensures short { IfOk result (λ text. length text.now ≤ MOST_NAME_BYTES) }
-    ensures faultless { OnOk result (value_faults file (expression_faults file whole) field.now.span field.now.setting ≡ []) }
-    ensures fault { IfErr result (λ e. Contains (value_faults file (expression_faults file whole) field.now.span field.now.setting) e) }
+    ensures faultless { OnOk result
+        (value_faults file (expression_faults file whole) field.now.span field.now.setting ≡ []) }
+    ensures fault { IfErr result (λ e.
+        Contains (value_faults file (expression_faults file whole) field.now.span field.now.setting)
+        e) }
 {
     let expression = expression_of(file, field.span, &field.setting)?;
     expression_text(file, whole, expression)

@@ -83,7 +83,8 @@ fn name_among(
 
 /// The names that records have for all groups.
 fn all_names(alloc: Global, records: &Ordered<u8, GroupName>) -> Result<Vec<NameText>, AllocError>
-    ensures names { IfOk result (λ names. (group : ℕ) → group < GROUPS → name_at names.items group ≡ name_recorded records.now (group + 1)) }
+    ensures names { IfOk result (λ names. (group : ℕ) → group < GROUPS
+        → name_at names.items group ≡ name_recorded records.now (group + 1)) }
     ensures all { IfOk result (λ names. length names.items ≡ GROUPS) }
 {
     let mut names = Vec::new(alloc);
@@ -137,8 +138,11 @@ fn named(names: Vec<NameText>) -> Vec<NameText>
 /// 32; `TooMany` at a statement whose text has over 255 bytes; `Memory`.
 pub fn group_names(alloc: Global, expansion: &Expansion) -> Result<GroupNames, Fault>
     ensures names { IfOk result (λ names. AreGroupNames names (expanded_body expansion.now)) }
-    ensures faultless { OnOk result (faults_of nat_eq name_rules name_moves (expanded_body expansion.now) ≡ []) }
-    ensures fault { IfErr result (λ e. Contains (Memory ∷ faults_of nat_eq name_rules name_moves (expanded_body expansion.now)) e) }
+    ensures faultless { OnOk result
+        (faults_of nat_eq name_rules name_moves (expanded_body expansion.now) ≡ []) }
+    ensures fault { IfErr result (λ e.
+        Contains (Memory ∷ faults_of nat_eq name_rules name_moves (expanded_body expansion.now))
+        e) }
 {
     let merged = merge::<(), GroupName>(alloc, &(), expansion)?;
     let names = named(all_names(alloc, &merged.records)?);

@@ -33,7 +33,9 @@ fn no_records(alloc: Global) -> Vec<(u8, GroupName)>
 
 fn one_record(alloc: Global, group: u8, text: &[u8]) -> Result<Vec<(u8, GroupName)>, Fault>
     requires { length text.now ≤ MOST_NAME_BYTES }
-    ensures records { (mode : ModeValue) → IfOk result (λ records. AreOffered mode (name_cell) (name_width) records.items (name_offer mode group text.now ∷ [])) }
+    ensures records { (mode : ModeValue)
+        → IfOk result (λ records. AreOffered mode (name_cell) (name_width) records.items
+        (name_offer mode group text.now ∷ [])) }
     ensures err { IfErr result (λ e. e ≡ Memory) }
 {
     let text = Some(NameText::of(alloc, text)?);
@@ -49,7 +51,9 @@ fn read_field(
     whole: Span,
     field: &Field,
 ) -> Result<Vec<(u8, GroupName)>, Fault>
-    ensures records { (mode : ModeValue) → IfOk result (λ records. AreOffered mode (name_cell) (name_width) records.items (named_offers mode (Some field.now))) }
+    ensures records { (mode : ModeValue)
+        → IfOk result (λ records. AreOffered mode (name_cell) (name_width) records.items
+        (named_offers mode (Some field.now))) }
     ensures faultless { OnOk result (field_faults file whole field.now ≡ []) }
     ensures fault { IfErr result (λ e. Contains (Memory ∷ field_faults file whole field.now) e) }
 {
@@ -59,7 +63,9 @@ fn read_field(
 
 /// The name that an item gives a group.
 fn read_item(alloc: Global, file: u32, item: &Item) -> Result<Vec<(u8, GroupName)>, Fault>
-    ensures records { IfOk result (λ records. AreOffered (mode_of item.now) (name_cell) (name_width) records.items (item_offers item.now)) }
+    ensures records { IfOk result (λ records.
+        AreOffered (mode_of item.now) (name_cell) (name_width) records.items
+        (item_offers item.now)) }
     ensures faultless { OnOk result (item_faults file item.now ≡ []) }
     ensures fault { IfErr result (λ e. Contains (Memory ∷ item_faults file item.now) e) }
 {
@@ -133,8 +139,10 @@ impl Fields<()> for GroupName {
     }
 
     fn absorb(&mut self, _alloc: Global, other: GroupName, mode: Mode) -> Result<(), Fault>
-        ensures cells { OnOk result ((c : Unit {0}) → name_cell self.new c ≡ taken mode (name_cell self.old c) (name_cell other c)) }
-        ensures widths { OnOk result ((g : ℕ) → name_width self.new g ≡ widened mode (name_width self.old g) (name_width other g)) }
+        ensures cells { OnOk result ((c : Unit {0})
+            → name_cell self.new c ≡ taken mode (name_cell self.old c) (name_cell other c)) }
+        ensures widths { OnOk result ((g : ℕ)
+            → name_width self.new g ≡ widened mode (name_width self.old g) (name_width other g)) }
         ensures err { IfErr result (λ e. e ≡ Memory) }
     {
         self.text = taken(mode, self.text.take(), other.text);
@@ -155,8 +163,12 @@ impl Fields<()> for GroupName {
         _group: Option<u8>,
         mode: Mode,
     ) -> Result<(), Fault>
-        ensures cells { OnOk result ((c : Unit {0}) → name_cell self.new c ≡ taken mode (name_cell self.old c) (moved_value name_moves _group (name_cell other.now) c)) }
-        ensures widths { OnOk result ((g : ℕ) → name_width self.new g ≡ widened mode (name_width self.old g) (moved_width name_moves _group (name_width other.now) g)) }
+        ensures cells { OnOk result ((c : Unit {0})
+            → name_cell self.new c ≡ taken mode (name_cell self.old c)
+            (moved_value name_moves _group (name_cell other.now) c)) }
+        ensures widths { OnOk result ((g : ℕ)
+            → name_width self.new g ≡ widened mode (name_width self.old g)
+            (moved_width name_moves _group (name_width other.now) g)) }
         ensures err { IfErr result (λ e. e ≡ Memory) }
     {
         let text = copied(alloc, &other.text)?;
@@ -177,7 +189,8 @@ impl Fields<()> for GroupName {
 
     fn add_notes(_notes: &mut (), _other: &()) {}
 
-    ghost apart = { λ n j k to one two. eqb-true j 1 (cond_some (nat_eq j 1) n to one).0 ∙ sym (eqb-true k 1 (cond_some (nat_eq k 1) n to two).0) };
+    ghost apart = { λ n j k to one two. eqb-true j 1 (cond_some (nat_eq j 1) n to one).0 ∙ sym
+        (eqb-true k 1 (cond_some (nat_eq k 1) n to two).0) };
 
     ghost same = { λ j k e. eqb-true j k e };
 }

@@ -26,7 +26,8 @@ impl KeymapHandle {
     /// Takes what the handle has, and leaves it empty.
     pub fn take(&mut self, alloc: Global) -> Option<Box<SharedTables>>
         ensures empty { self.new.value ≡ None }
-        ensures taken { MatchOption result (self.old.value ≡ None) (λ b. self.old.value ≡ Some b.value) }
+        ensures taken { MatchOption result (self.old.value ≡ None) (λ b.
+            self.old.value ≡ Some b.value) }
     {
         let taken = replace(self, KeymapHandle::empty(alloc));
         match taken.into_raw() {

@@ -34,8 +34,12 @@ impl SharedKeyboard {
 
     /// Applies an event, and answers what the key gives in the state before it, and the state after it.
     pub fn event(&mut self, code: u16, direction: Direction) -> Reply
-        ensures world { self.new ≡ record self.old { world = step (keymap_of self.old.content) self.old.world code direction } }
-        ensures reply { answered result ≡ answer (keymap_of self.old.content) self.old.world code direction }
+        ensures world { self.new ≡ record self.old {
+          world = step (keymap_of self.old.content)
+              self.old.world code direction;
+        } }
+        ensures reply { answered result
+            ≡ answer (keymap_of self.old.content) self.old.world code direction }
         ensures bounded { IsBounded self.new.world }
     {
         self.player.event(code, direction)
@@ -50,7 +54,8 @@ impl SharedKeyboard {
 
     /// The indicators that are lit in the state.
     pub fn lit(&self) -> u32
-        ensures { result ≡ lit_in (keymap_of self.now.content) (status_in (keymap_of self.now.content) self.now.world) }
+        ensures { result ≡ lit_in (keymap_of self.now.content)
+            (status_in (keymap_of self.now.content) self.now.world) }
     {
         self.player.lit()
     }

@@ -13,8 +13,11 @@ use kx_parse::{one_stop, one_tree};
 
 /// A source means one content of tables at most, and its keyboard one list of answers to each list of events.
 pub fn one_meaning()
-    ensures content { (source : List ℕ) (files : Handed) (names : List Entry) (one other : Content) → Means source files names one → Means source files names other → one ≡ other }
-    ensures answers { (source : List ℕ) (files : Handed) (names : List Entry) (events : List Event) (one other : List Answer) → AnswersAs source files names events one → AnswersAs source files names events other → one ≡ other }
+    ensures content { (source : List ℕ) (files : Handed) (names : List Entry) (one other : Content)
+        → Means source files names one → Means source files names other → one ≡ other }
+    ensures answers { (source : List ℕ) (files : Handed) (names : List Entry) (events : List Event)
+        (one other : List Answer) → AnswersAs source files names events one
+        → AnswersAs source files names events other → one ≡ other }
 {
     one_reading();
     one_tree();
@@ -23,8 +26,12 @@ pub fn one_meaning()
 
 /// A source with a fault means no tables, and no answers.
 pub fn faults_mean_nothing()
-    ensures tables { (source : List ℕ) (files : Handed) (names : List Entry) (fault : Fault) (content : Content) → HasFault source files names fault → Means source files names content → ⊥ }
-    ensures answers { (source : List ℕ) (files : Handed) (names : List Entry) (fault : Fault) (events : List Event) (answers : List Answer) → HasFault source files names fault → AnswersAs source files names events answers → ⊥ }
+    ensures tables { (source : List ℕ) (files : Handed) (names : List Entry) (fault : Fault)
+        (content : Content) → HasFault source files names fault → Means source files names content
+        → ⊥ }
+    ensures answers { (source : List ℕ) (files : Handed) (names : List Entry) (fault : Fault)
+        (events : List Event) (answers : List Answer) → HasFault source files names fault
+        → AnswersAs source files names events answers → ⊥ }
 {
     one_reading();
     one_tree();

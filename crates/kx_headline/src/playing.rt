@@ -23,7 +23,8 @@ pub fn play(
     names: &NameTable,
     events: &[Event],
 ) -> Result<Vec<Reply>, Fault>
-    ensures replies { IfOk result (λ replies. AnswersAs source.now files.now names.now events.now (map answered replies.items)) }
+    ensures replies { IfOk result (λ replies.
+        AnswersAs source.now files.now names.now events.now (map answered replies.items)) }
     ensures fault { IfErr result (λ e. (e ≡ Memory) ⊎ HasFault source.now files.now names.now e) }
 {
     let (image, _notes) = compile(alloc, source, files, names)?;

@@ -136,7 +136,8 @@ fn check_table<R: Record>(
 
 fn check_types(bytes: &[u8], header: Header, groups: u32) -> Result<(), ImageFault>
     requires { IsShape bytes.now header groups }
-    ensures ok { OnOk result (IsCanonicalTable (IsCanonical spec.type_bytes spec.type_of) 16 (header_of bytes.now).types (header_size (header_of bytes.now).version) bytes.now) }
+    ensures ok { OnOk result (IsCanonicalTable (IsCanonical spec.type_bytes spec.type_of) 16
+        (header_of bytes.now).types (header_size (header_of bytes.now).version) bytes.now) }
     ensures fault { IfErr result (HasImageFault bytes.now) }
 {
     let start = Starts::of(header, groups).types;
@@ -151,7 +152,8 @@ fn check_types(bytes: &[u8], header: Header, groups: u32) -> Result<(), ImageFau
 
 fn check_entries(bytes: &[u8], header: Header, groups: u32) -> Result<(), ImageFault>
     requires { IsShape bytes.now header groups }
-    ensures ok { OnOk result (IsCanonicalTable (IsCanonical spec.entry_bytes spec.entry_of) 4 (header_of bytes.now).entries (entries_start (header_of bytes.now)) bytes.now) }
+    ensures ok { OnOk result (IsCanonicalTable (IsCanonical spec.entry_bytes spec.entry_of) 4
+        (header_of bytes.now).entries (entries_start (header_of bytes.now)) bytes.now) }
     ensures fault { IfErr result (HasImageFault bytes.now) }
 {
     let start = Starts::of(header, groups).entries;
@@ -160,7 +162,8 @@ fn check_entries(bytes: &[u8], header: Header, groups: u32) -> Result<(), ImageF
 
 fn check_keys(bytes: &[u8], header: Header, groups: u32) -> Result<(), ImageFault>
     requires { IsShape bytes.now header groups }
-    ensures ok { OnOk result (IsCanonicalTable (IsCanonical spec.key_bytes spec.key_of) 16 (header_of bytes.now).keys (keys_start (header_of bytes.now)) bytes.now) }
+    ensures ok { OnOk result (IsCanonicalTable (IsCanonical spec.key_bytes spec.key_of) 16
+        (header_of bytes.now).keys (keys_start (header_of bytes.now)) bytes.now) }
     ensures fault { IfErr result (HasImageFault bytes.now) }
 {
     let start = Starts::of(header, groups).keys;
@@ -175,7 +178,9 @@ fn check_keys(bytes: &[u8], header: Header, groups: u32) -> Result<(), ImageFaul
 
 fn check_groups(bytes: &[u8], header: Header, groups: u32) -> Result<(), ImageFault>
     requires { IsShape bytes.now header groups }
-    ensures ok { OnOk result (IsCanonicalTable (IsCanonical spec.group_bytes spec.group_of) 8 (group_count (header_of bytes.now) bytes.now) (groups_start (header_of bytes.now)) bytes.now) }
+    ensures ok { OnOk result (IsCanonicalTable (IsCanonical spec.group_bytes spec.group_of) 8
+        (group_count (header_of bytes.now) bytes.now) (groups_start (header_of bytes.now))
+        bytes.now) }
     ensures fault { IfErr result (HasImageFault bytes.now) }
 {
     let start = Starts::of(header, groups).groups;
@@ -184,7 +189,9 @@ fn check_groups(bytes: &[u8], header: Header, groups: u32) -> Result<(), ImageFa
 
 fn check_cells(bytes: &[u8], header: Header, groups: u32) -> Result<(), ImageFault>
     requires { IsShape bytes.now header groups }
-    ensures ok { OnOk result (IsCanonicalTable (IsCanonical spec.cell_bytes spec.cell_of) 12 (header_of bytes.now).cells (cells_start (header_of bytes.now) (group_count (header_of bytes.now) bytes.now)) bytes.now) }
+    ensures ok { OnOk result (IsCanonicalTable (IsCanonical spec.cell_bytes spec.cell_of) 12
+        (header_of bytes.now).cells (cells_start (header_of bytes.now)
+        (group_count (header_of bytes.now) bytes.now)) bytes.now) }
     ensures fault { IfErr result (HasImageFault bytes.now) }
 {
     let start = Starts::of(header, groups).cells;
@@ -193,7 +200,9 @@ fn check_cells(bytes: &[u8], header: Header, groups: u32) -> Result<(), ImageFau
 
 fn check_keysyms(bytes: &[u8], header: Header, groups: u32) -> Result<(), ImageFault>
     requires { IsShape bytes.now header groups }
-    ensures ok { OnOk result (IsCanonicalTable (IsCanonical spec.keysym_bytes spec.keysym_of) 4 (header_of bytes.now).keysyms (keysyms_start (header_of bytes.now) (group_count (header_of bytes.now) bytes.now)) bytes.now) }
+    ensures ok { OnOk result (IsCanonicalTable (IsCanonical spec.keysym_bytes spec.keysym_of) 4
+        (header_of bytes.now).keysyms (keysyms_start (header_of bytes.now)
+        (group_count (header_of bytes.now) bytes.now)) bytes.now) }
     ensures fault { IfErr result (HasImageFault bytes.now) }
 {
     let start = Starts::of(header, groups).keysyms;
@@ -208,7 +217,10 @@ fn check_keysyms(bytes: &[u8], header: Header, groups: u32) -> Result<(), ImageF
 
 fn check_indicators(bytes: &[u8], header: Header, groups: u32) -> Result<(), ImageFault>
     requires { IsShape bytes.now header groups }
-    ensures ok { OnOk result (IsCanonicalTable (IsCanonical spec.indicator_bytes spec.indicator_of) 16 (header_of bytes.now).indicators (indicators_start (header_of bytes.now) (group_count (header_of bytes.now) bytes.now)) bytes.now) }
+    ensures ok { OnOk result (IsCanonicalTable (IsCanonical spec.indicator_bytes spec.indicator_of)
+        16 (header_of bytes.now).indicators
+        (indicators_start (header_of bytes.now) (group_count (header_of bytes.now) bytes.now))
+        bytes.now) }
     ensures fault { IfErr result (HasImageFault bytes.now) }
 {
     let start = Starts::of(header, groups).indicators;
@@ -223,7 +235,10 @@ fn check_indicators(bytes: &[u8], header: Header, groups: u32) -> Result<(), Ima
 
 fn check_group_names(bytes: &[u8], header: Header, groups: u32) -> Result<(), ImageFault>
     requires { IsShape bytes.now header groups }
-    ensures ok { OnOk result (IsCanonicalTable (IsCanonical spec.group_name_bytes spec.group_name_of) 8 (header_of bytes.now).group_names (group_names_start (header_of bytes.now) (group_count (header_of bytes.now) bytes.now)) bytes.now) }
+    ensures ok { OnOk result (IsCanonicalTable
+        (IsCanonical spec.group_name_bytes spec.group_name_of) 8 (header_of bytes.now).group_names
+        (group_names_start (header_of bytes.now) (group_count (header_of bytes.now) bytes.now))
+        bytes.now) }
     ensures fault { IfErr result (HasImageFault bytes.now) }
 {
     let start = Starts::of(header, groups).group_names;

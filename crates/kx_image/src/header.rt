@@ -38,7 +38,8 @@ impl Header {
     /// The header that bytes begin with, or the first fault of its form.
     pub fn read(bytes: &[u8]) -> Result<Header, ImageFault>
         ensures { MatchResult result
-            (λ h. (spec.front_fault bytes.now ≡ None) × (h ≡ spec.header_of bytes.now) × (spec.header_size h.version ≤ length bytes.now))
+            (λ h. (spec.front_fault bytes.now ≡ None) × (h ≡ spec.header_of bytes.now)
+            × (spec.header_size h.version ≤ length bytes.now))
             (λ f. spec.front_fault bytes.now ≡ Some f) }
     {
         if bytes.len() < 28 {

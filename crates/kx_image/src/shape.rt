@@ -79,7 +79,8 @@ fn count_groups(bytes: &[u8], start: usize, keys: u16) -> u32
 
 /// The header and the places of the tables, or the first fault of form.
 pub fn shape(bytes: &[u8]) -> Result<(Header, u32), ImageFault>
-    ensures { MatchResult result (λ s. IsShape bytes.now s.0 s.1) (λ f. spec.shape_fault bytes.now ≡ Some f) }
+    ensures { MatchResult result (λ s. IsShape bytes.now s.0 s.1) (λ f.
+        spec.shape_fault bytes.now ≡ Some f) }
 {
     let header = Header::read(bytes)?;
     let none = Starts::of(header, 0);

@@ -36,7 +36,8 @@ fn header_of<T: Tables>(tables: &T) -> Header
 }
 
 fn write_types<T: Tables, O: Out>(tables: &T, buffered: &mut BufferedOut, out: &mut O)
-    ensures { Writes O.written O.failures out.old buffered.old out.new buffered.new (flat_map spec.type_bytes (T.content tables.now).types) }
+    ensures { Writes O.written O.failures out.old buffered.old out.new buffered.new
+        (flat_map spec.type_bytes (T.content tables.now).types) }
 {
     for index in 0..tables.counts().types {
         buffered.write(out, &type_bytes(tables.type_row(index)));
@@ -44,7 +45,8 @@ fn write_types<T: Tables, O: Out>(tables: &T, buffered: &mut BufferedOut, out: &
 }
 
 fn write_entries<T: Tables, O: Out>(tables: &T, buffered: &mut BufferedOut, out: &mut O)
-    ensures { Writes O.written O.failures out.old buffered.old out.new buffered.new (flat_map spec.entry_bytes (T.content tables.now).entries) }
+    ensures { Writes O.written O.failures out.old buffered.old out.new buffered.new
+        (flat_map spec.entry_bytes (T.content tables.now).entries) }
 {
     for index in 0..tables.counts().entries {
         buffered.write(out, &entry_bytes(tables.entry_row(index)));
@@ -52,7 +54,8 @@ fn write_entries<T: Tables, O: Out>(tables: &T, buffered: &mut BufferedOut, out:
 }
 
 fn write_keys<T: Tables, O: Out>(tables: &T, buffered: &mut BufferedOut, out: &mut O)
-    ensures { Writes O.written O.failures out.old buffered.old out.new buffered.new (flat_map spec.key_bytes (T.content tables.now).keys) }
+    ensures { Writes O.written O.failures out.old buffered.old out.new buffered.new
+        (flat_map spec.key_bytes (T.content tables.now).keys) }
 {
     for index in 0..tables.counts().keys {
         buffered.write(out, &key_bytes(tables.key_row(index)));
@@ -60,7 +63,8 @@ fn write_keys<T: Tables, O: Out>(tables: &T, buffered: &mut BufferedOut, out: &m
 }
 
 fn write_groups<T: Tables, O: Out>(tables: &T, buffered: &mut BufferedOut, out: &mut O)
-    ensures { Writes O.written O.failures out.old buffered.old out.new buffered.new (flat_map spec.group_bytes (T.content tables.now).groups) }
+    ensures { Writes O.written O.failures out.old buffered.old out.new buffered.new
+        (flat_map spec.group_bytes (T.content tables.now).groups) }
 {
     for index in 0..tables.counts().groups {
         buffered.write(out, &group_bytes(tables.group_row(index)));
@@ -68,7 +72,8 @@ fn write_groups<T: Tables, O: Out>(tables: &T, buffered: &mut BufferedOut, out: 
 }
 
 fn write_cells<T: Tables, O: Out>(tables: &T, buffered: &mut BufferedOut, out: &mut O)
-    ensures { Writes O.written O.failures out.old buffered.old out.new buffered.new (flat_map spec.cell_bytes (T.content tables.now).cells) }
+    ensures { Writes O.written O.failures out.old buffered.old out.new buffered.new
+        (flat_map spec.cell_bytes (T.content tables.now).cells) }
 {
     for index in 0..tables.counts().cells {
         buffered.write(out, &cell_bytes(tables.cell_row(index)));
@@ -76,7 +81,8 @@ fn write_cells<T: Tables, O: Out>(tables: &T, buffered: &mut BufferedOut, out: &
 }
 
 fn write_keysyms<T: Tables, O: Out>(tables: &T, buffered: &mut BufferedOut, out: &mut O)
-    ensures { Writes O.written O.failures out.old buffered.old out.new buffered.new (flat_map spec.keysym_bytes (T.content tables.now).keysyms) }
+    ensures { Writes O.written O.failures out.old buffered.old out.new buffered.new
+        (flat_map spec.keysym_bytes (T.content tables.now).keysyms) }
 {
     for index in 0..tables.counts().keysyms {
         buffered.write(out, &keysym_bytes(tables.keysym(index)));
@@ -84,7 +90,8 @@ fn write_keysyms<T: Tables, O: Out>(tables: &T, buffered: &mut BufferedOut, out:
 }
 
 fn write_indicators<T: Tables, O: Out>(tables: &T, buffered: &mut BufferedOut, out: &mut O)
-    ensures { Writes O.written O.failures out.old buffered.old out.new buffered.new (flat_map spec.indicator_bytes (T.content tables.now).indicators) }
+    ensures { Writes O.written O.failures out.old buffered.old out.new buffered.new
+        (flat_map spec.indicator_bytes (T.content tables.now).indicators) }
 {
     for index in 0..tables.counts().indicators {
         buffered.write(out, &indicator_bytes(tables.indicator_row(index)));
@@ -92,7 +99,8 @@ fn write_indicators<T: Tables, O: Out>(tables: &T, buffered: &mut BufferedOut, o
 }
 
 fn write_group_names<T: Tables, O: Out>(tables: &T, buffered: &mut BufferedOut, out: &mut O)
-    ensures { Writes O.written O.failures out.old buffered.old out.new buffered.new (flat_map spec.group_name_bytes (T.content tables.now).group_names) }
+    ensures { Writes O.written O.failures out.old buffered.old out.new buffered.new
+        (flat_map spec.group_name_bytes (T.content tables.now).group_names) }
 {
     for index in 0..tables.counts().group_names {
         buffered.write(out, &group_name_bytes(tables.group_name_row(index)));
@@ -101,7 +109,8 @@ fn write_group_names<T: Tables, O: Out>(tables: &T, buffered: &mut BufferedOut, 
 
 /// Writes the tables after the header, one after another, and the names.
 fn write_body<T: Tables, O: Out>(tables: &T, buffered: &mut BufferedOut, out: &mut O)
-    ensures { Writes O.written O.failures out.old buffered.old out.new buffered.new (body (T.content tables.now)) }
+    ensures { Writes O.written O.failures out.old buffered.old out.new buffered.new
+        (body (T.content tables.now)) }
 {
     write_types(tables, buffered, out);
     write_entries(tables, buffered, out);

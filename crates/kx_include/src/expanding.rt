@@ -88,8 +88,11 @@ impl<'a> Library<'a> {
     ) -> Result<u32, Fault>
         requires few { seen ≤ most_parts }
         requires known { (k : Kind) → AreKnown self.now k (expansion_of k bodies.old).maps.items }
-        ensures added { IfOk result (λ count. AddsSection self.now kind place seen (expansion_of kind bodies.old) (expansion_of kind bodies.new) count) }
-        ensures others { OnOk result ((other : Kind) → (other ≡ kind) ⊎ (expansion_of other bodies.new ≡ expansion_of other bodies.old)) }
+        ensures added { IfOk result (λ count.
+            AddsSection self.now kind place seen (expansion_of kind bodies.old)
+            (expansion_of kind bodies.new) count) }
+        ensures others { OnOk result ((other : Kind)
+            → (other ≡ kind) ⊎ (expansion_of other bodies.new ≡ expansion_of other bodies.old)) }
         ensures fault { IfErr result (λ e. Blames seen (in_map most_depth self.now kind place) e) }
     {
         match kind {
@@ -112,7 +115,8 @@ impl<'a> Library<'a> {
     ) -> Result<u32, Fault>
         requires few { seen ≤ most_parts }
         requires known { AreKnown self.now kind expansion.old.maps.items }
-        ensures added { IfOk result (λ count. AddsSection self.now kind place seen expansion.old expansion.new count) }
+        ensures added { IfOk result (λ count.
+            AddsSection self.now kind place seen expansion.old expansion.new count) }
         ensures fault { IfErr result (λ e. Blames seen (in_map most_depth self.now kind place) e) }
     {
         let map = self.expand_map(alloc, kind, MOST_DEPTH, place, seen, &mut expansion.maps)?;
@@ -135,7 +139,10 @@ impl<'a> Library<'a> {
     ) -> Result<Map<'l>, Fault>
         requires few { seen ≤ most_parts }
         requires known { AreKnown self.now kind maps.old.items }
-        ensures made { IfOk result (λ r. Expands self.now kind depth seen maps.old.items maps.new.items (λ d. in_map d self.now kind place) (IsMapOf self.now kind place r) r.depth (seen + r.parts)) }
+        ensures made { IfOk result (λ r.
+            Expands self.now kind depth seen maps.old.items maps.new.items (λ d.
+            in_map d self.now kind place) (IsMapOf self.now kind place r) r.depth
+            (seen + r.parts)) }
         ensures place { IfOk result (λ r. r.place ≡ place) }
         ensures fault { IfErr result (λ e. Blames seen (in_map depth self.now kind place) e) }
     {
@@ -161,7 +168,10 @@ impl<'a> Library<'a> {
     ) -> Result<(Vec<Entry<'l>>, Reach), Fault>
         requires few { seen ≤ most_parts }
         requires known { AreKnown self.now kind maps.old.items }
-        ensures made { IfOk result (λ r. Expands self.now kind depth seen maps.old.items maps.new.items (λ d. in_map d self.now kind place) (AreEntriesOf self.now kind place (items_in self.now place) r.0.items) r.1.depth r.1.count) }
+        ensures made { IfOk result (λ r.
+            Expands self.now kind depth seen maps.old.items maps.new.items (λ d.
+            in_map d self.now kind place) (AreEntriesOf self.now kind place
+            (items_in self.now place) r.0.items) r.1.depth r.1.count) }
         ensures fault { IfErr result (λ e. Blames seen (in_map depth self.now kind place) e) }
     {
         let mut entries = Vec::new(alloc);
@@ -196,8 +206,12 @@ impl<'a> Library<'a> {
     ) -> Result<(Entry<'l>, Reach), Fault>
         requires few { seen ≤ most_parts }
         requires known { AreKnown self.now kind maps.old.items }
-        ensures made { IfOk result (λ r. Expands self.now kind depth seen maps.old.items maps.new.items (λ d. in_item (in_depth d self.now kind) place.file item.now) (AreEntriesOf self.now kind place (item.now ∷ []) (r.0 ∷ [])) r.1.depth r.1.count) }
-        ensures fault { IfErr result (λ e. Blames seen (in_item (in_depth depth self.now kind) place.file item.now) e) }
+        ensures made { IfOk result (λ r.
+            Expands self.now kind depth seen maps.old.items maps.new.items (λ d.
+            in_item (in_depth d self.now kind) place.file item.now)
+            (AreEntriesOf self.now kind place (item.now ∷ []) (r.0 ∷ [])) r.1.depth r.1.count) }
+        ensures fault { IfErr result (λ e.
+            Blames seen (in_item (in_depth depth self.now kind) place.file item.now) e) }
     {
         match item {
             Item::Statement { .. } => Ok((
@@ -238,8 +252,13 @@ impl<'a> Library<'a> {
     ) -> Result<(Vec<Link>, Reach), Fault>
         requires few { seen ≤ most_parts }
         requires known { AreKnown self.now kind maps.old.items }
-        ensures made { IfOk result (λ r. Expands self.now kind depth seen maps.old.items maps.new.items (λ d. in_include (in_depth d self.now kind text) text whole (parts_of bytes.now)) (IsTextOf self.now kind (parts_of bytes.now) r.0.items) r.1.depth r.1.count) }
-        ensures fault { IfErr result (λ e. Blames seen (in_include (in_depth depth self.now kind text) text whole (parts_of bytes.now)) e) }
+        ensures made { IfOk result (λ r.
+            Expands self.now kind depth seen maps.old.items maps.new.items (λ d.
+            in_include (in_depth d self.now kind text) text whole (parts_of bytes.now))
+            (IsTextOf self.now kind (parts_of bytes.now) r.0.items) r.1.depth r.1.count) }
+        ensures fault { IfErr result (λ e.
+            Blames seen (in_include (in_depth depth self.now kind text) text whole
+            (parts_of bytes.now)) e) }
     {
         match include_parts(alloc, bytes)? {
             None => Err(Fault::BadInclude(text)),
@@ -265,8 +284,12 @@ impl<'a> Library<'a> {
     ) -> Result<(Vec<Link>, Reach), Fault>
         requires few { seen ≤ most_parts }
         requires known { AreKnown self.now kind maps.old.items }
-        ensures made { IfOk result (λ r. Expands self.now kind depth seen maps.old.items maps.new.items (λ d. all_of (in_part (in_depth d self.now kind text) whole) parts.now) (AreLinksOf self.now kind parts.now r.0.items) r.1.depth r.1.count) }
-        ensures fault { IfErr result (λ e. Blames seen (all_of (in_part (in_depth depth self.now kind text) whole) parts.now) e) }
+        ensures made { IfOk result (λ r.
+            Expands self.now kind depth seen maps.old.items maps.new.items (λ d.
+            all_of (in_part (in_depth d self.now kind text) whole) parts.now)
+            (AreLinksOf self.now kind parts.now r.0.items) r.1.depth r.1.count) }
+        ensures fault { IfErr result (λ e.
+            Blames seen (all_of (in_part (in_depth depth self.now kind text) whole) parts.now) e) }
     {
         let mut links = Vec::new(alloc);
         let mut deepest = 0;
@@ -301,8 +324,12 @@ impl<'a> Library<'a> {
     ) -> Result<(Link, Reach), Fault>
         requires few { seen ≤ most_parts }
         requires known { AreKnown self.now kind maps.old.items }
-        ensures made { IfOk result (λ r. Expands self.now kind depth seen maps.old.items maps.new.items (λ d. in_part (in_depth d self.now kind text) whole part.now) (IsLinkOf self.now kind part.now r.0) r.1.depth r.1.count) }
-        ensures fault { IfErr result (λ e. Blames seen (in_part (in_depth depth self.now kind text) whole part.now) e) }
+        ensures made { IfOk result (λ r.
+            Expands self.now kind depth seen maps.old.items maps.new.items (λ d.
+            in_part (in_depth d self.now kind text) whole part.now)
+            (IsLinkOf self.now kind part.now r.0) r.1.depth r.1.count) }
+        ensures fault { IfErr result (λ e.
+            Blames seen (in_part (in_depth depth self.now kind text) whole part.now) e) }
     {
         if seen == MOST_PARTS {
             return Err(Fault::TooMany(whole));
@@ -350,8 +377,15 @@ impl<'a> Library<'a> {
     ) -> Result<(usize, Reach), Fault>
         requires few { seen ≤ most_parts }
         requires known { AreKnown self.now kind maps.old.items }
-        ensures made { IfOk result (λ r. Expands self.now kind depth seen maps.old.items maps.new.items (λ d. in_file (in_map d self.now kind) self.now kind (option_map (λ m. m.now) map.entry) text (Some file)) (IsFound self.now kind (place_in self.now kind (option_map (λ m. m.now) map.entry) file) r.0) r.1.depth r.1.count) }
-        ensures fault { IfErr result (λ e. Blames seen (in_file (in_map depth self.now kind) self.now kind (option_map (λ m. m.now) map.entry) text (Some file)) e) }
+        ensures made { IfOk result (λ r.
+            Expands self.now kind depth seen maps.old.items maps.new.items (λ d.
+            in_file (in_map d self.now kind) self.now kind (option_map (λ m. m.now) map.entry) text
+            (Some file)) (IsFound self.now kind
+            (place_in self.now kind (option_map (λ m. m.now) map.entry) file) r.0) r.1.depth
+            r.1.count) }
+        ensures fault { IfErr result (λ e.
+            Blames seen (in_file (in_map depth self.now kind) self.now kind
+            (option_map (λ m. m.now) map.entry) text (Some file)) e) }
     {
         if let Some(fault) = self.fault_of(file) {
             return Err(fault);
@@ -375,7 +409,10 @@ impl<'a> Library<'a> {
     ) -> Result<(usize, Reach), Fault>
         requires few { seen ≤ most_parts }
         requires known { AreKnown self.now kind maps.old.items }
-        ensures made { IfOk result (λ r. Expands self.now kind depth seen maps.old.items maps.new.items (λ d. in_map d self.now kind place) (IsNumberOf self.now kind place r.0) r.1.depth r.1.count) }
+        ensures made { IfOk result (λ r.
+            Expands self.now kind depth seen maps.old.items maps.new.items (λ d.
+            in_map d self.now kind place) (IsNumberOf self.now kind place r.0) r.1.depth
+            r.1.count) }
         ensures fault { IfErr result (λ e. Blames seen (in_map depth self.now kind place) e) }
     {
         if let Some(known) = known_map(maps.as_slice(), place, depth, seen) {

@@ -68,7 +68,8 @@ impl IndexedText {
 
     /// Which of the sections is the map of a name, or without one the default map of a kind.
     pub(crate) fn map_of(&self, kind: Kind, name: Option<&[u8]>) -> Option<usize>
-        ensures { result ≡ map_of (sections_of (Some self.now)) kind (option_map (λ n. n.now) name.entry) }
+        ensures { result ≡ map_of (sections_of (Some self.now)) kind
+            (option_map (λ n. n.now) name.entry) }
     {
         self.index.number(kind, name)
     }

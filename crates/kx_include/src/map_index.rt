@@ -79,7 +79,10 @@ impl MapIndex {
         section: &Section,
         number: usize,
     ) -> Result<(), AllocError>
-        ensures named { OnOk result ((kind : Kind) (name : List ℕ) → found self.new kind (Some name) ≡ or_here (found self.old kind (Some name)) (is_of kind section.now && has_name name section.now.name) number) }
+        ensures named { OnOk result ((kind : Kind) (name : List ℕ)
+            → found self.new kind (Some name)
+            ≡ or_here (found self.old kind (Some name))
+            (is_of kind section.now && has_name name section.now.name) number) }
         ensures flagged { OnOk result (self.new.flagged ≡ self.old.flagged) }
         ensures first { OnOk result (self.new.first ≡ self.old.first) }
     {
@@ -94,7 +97,8 @@ impl MapIndex {
 
     /// Adds the section after those that were added; its number is how many those are.
     fn add(&mut self, alloc: Global, section: &Section, number: usize) -> Result<(), AllocError>
-        ensures { OnOk result ((seen : List Section) → length seen ≡ number → IsIndex self.old seen → IsIndex self.new (seen ++ section.now ∷ [])) }
+        ensures { OnOk result ((seen : List Section) → length seen ≡ number → IsIndex self.old seen
+            → IsIndex self.new (seen ++ section.now ∷ [])) }
     {
         self.add_named(alloc, section, number)?;
         self.flagged = with_flagged(self.flagged, section, number);

@@ -25,7 +25,12 @@ impl<'a> Model for Part<'a> {
 
     ghost Value = { Part };
 
-    ghost view = { λ p. record { mode = p.mode; file = p.file.now; map = option_map (λ m. m.now) p.map; group = p.group } };
+    ghost view = { λ p. record {
+      mode = p.mode;
+      file = p.file.now;
+      map = option_map (λ m. m.now) p.map;
+      group = p.group;
+    } };
 }
 
 impl<'a> Part<'a> {

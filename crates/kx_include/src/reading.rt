@@ -27,7 +27,8 @@ impl<'a> Library<'a> {
     /// `Memory`.
     pub fn of_source(alloc: Global, source: &[u8], files: &'a Files) -> Result<Library<'a>, Fault>
         ensures read { IfOk result (λ library. IsRead source.now files.now library) }
-        ensures fault { IfErr result (λ e. (e ≡ Memory) ⊎ (HasNoTree source.now e ⊎ HasTooManyFiles source.now files.now e)) }
+        ensures fault { IfErr result (λ e. (e ≡ Memory)
+            ⊎ (HasNoTree source.now e ⊎ HasTooManyFiles source.now files.now e)) }
     {
         let tokens = lex(alloc, source)?;
         let tree = parse(alloc, source, tokens.as_slice())?;

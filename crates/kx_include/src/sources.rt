@@ -68,7 +68,8 @@ impl<'a> Library<'a> {
     ) -> Result<Library<'a>, Fault>
         ensures texts { IfOk result (λ library. IsLibrary tree files.now library) }
         ensures few { OnOk result (length files.now ≤ MOST_FILES) }
-        ensures err { IfErr result (λ e. (e ≡ Memory) ⊎ ((MOST_FILES < length files.now) × (e ≡ TooMany (at 0 whole)))) }
+        ensures err { IfErr result (λ e. (e ≡ Memory)
+            ⊎ ((MOST_FILES < length files.now) × (e ≡ TooMany (at 0 whole)))) }
     {
         if files.len() > MOST_FILES {
             return Err(Fault::TooMany(At {

@@ -40,7 +40,8 @@ fn read_values(
 ) -> Result<IndicatorMapValues, Fault>
     ensures value { IfOk result (λ values. values ≡ values_of names.now.names defaults fields.now) }
     ensures faultless { OnOk result (flat_map (own_faults file names.now.names) fields.now ≡ []) }
-    ensures fault { IfErr result (λ e. Contains (flat_map (own_faults file names.now.names) fields.now) e) }
+    ensures fault { IfErr result (λ e.
+        Contains (flat_map (own_faults file names.now.names) fields.now) e) }
 {
     let mut values = defaults;
     'fields: for field in fields {
@@ -60,7 +61,9 @@ fn one_record(
     number: usize,
     values: IndicatorMapValues,
 ) -> Result<Vec<(usize, IndicatorMapValues)>, Fault>
-    ensures records { (mode : ModeValue) → IfOk result (λ records. AreOffered mode (values_cell) (values_width) records.items (values_offer mode values number ∷ [])) }
+    ensures records { (mode : ModeValue)
+        → IfOk result (λ records. AreOffered mode (values_cell) (values_width) records.items
+        (values_offer mode values number ∷ [])) }
     ensures err { IfErr result (λ e. e ≡ Memory) }
 {
     let mut records = Vec::new(alloc);
@@ -74,7 +77,9 @@ fn records_for(
     number: Option<usize>,
     values: IndicatorMapValues,
 ) -> Result<Vec<(usize, IndicatorMapValues)>, Fault>
-    ensures records { (mode : ModeValue) → IfOk result (λ records. AreOffered mode (values_cell) (values_width) records.items (offers_to mode values number)) }
+    ensures records { (mode : ModeValue)
+        → IfOk result (λ records. AreOffered mode (values_cell) (values_width) records.items
+        (offers_to mode values number)) }
     ensures err { IfErr result (λ e. e ≡ Memory) }
 {
     match number {
@@ -94,9 +99,16 @@ fn read_indicator(
     name: &Name,
     fields: &[Field],
 ) -> Result<Vec<(usize, IndicatorMapValues)>, Fault>
-    ensures records { (mode : ModeValue) → IfOk result (λ records. AreOffered mode (values_cell) (values_width) records.items (said_offers indicator_maps.now names.now.names defaults mode (Some (name.now, fields.now)))) }
-    ensures faultless { OnOk result (name_faults file whole name.now ++ flat_map (own_faults file names.now.names) fields.now ≡ []) }
-    ensures fault { IfErr result (λ e. Contains (Memory ∷ (name_faults file whole name.now ++ flat_map (own_faults file names.now.names) fields.now)) e) }
+    ensures records { (mode : ModeValue)
+        → IfOk result (λ records. AreOffered mode (values_cell) (values_width) records.items
+        (said_offers indicator_maps.now names.now.names defaults mode
+        (Some (name.now, fields.now)))) }
+    ensures faultless { OnOk result
+        (name_faults file whole name.now ++ flat_map (own_faults file names.now.names) fields.now
+        ≡ []) }
+    ensures fault { IfErr result (λ e.
+        Contains (Memory ∷ (name_faults file whole name.now
+        ++ flat_map (own_faults file names.now.names) fields.now)) e) }
 {
     let bytes = name.bytes.as_slice();
     if bytes.len() > MOST_NAME_BYTES {
@@ -108,8 +120,10 @@ fn read_indicator(
 
 /// Checks a statement that is no indicator.
 fn check_default(names: &ModNames, file: u32, statement: &Statement) -> Result<(), Fault>
-    ensures faultless { OnOk result (default_faults file names.now.names (default_in statement.now) ≡ []) }
-    ensures fault { IfErr result (λ e. Contains (default_faults file names.now.names (default_in statement.now)) e) }
+    ensures faultless { OnOk result
+        (default_faults file names.now.names (default_in statement.now) ≡ []) }
+    ensures fault { IfErr result (λ e.
+        Contains (default_faults file names.now.names (default_in statement.now)) e) }
 {
     match default_in(statement) {
         None => Ok(()),
@@ -130,9 +144,15 @@ fn read_statement(
     whole: Span,
     statement: &Statement,
 ) -> Result<Vec<(usize, IndicatorMapValues)>, Fault>
-    ensures records { (mode : ModeValue) → IfOk result (λ records. AreOffered mode (values_cell) (values_width) records.items (said_offers indicator_maps.now names.now.names defaults mode (indicator_in statement.now))) }
-    ensures faultless { OnOk result (said_faults file names.now.names statement.now whole (indicator_in statement.now) ≡ []) }
-    ensures fault { IfErr result (λ e. Contains (Memory ∷ said_faults file names.now.names statement.now whole (indicator_in statement.now)) e) }
+    ensures records { (mode : ModeValue)
+        → IfOk result (λ records. AreOffered mode (values_cell) (values_width) records.items
+        (said_offers indicator_maps.now names.now.names defaults mode
+        (indicator_in statement.now))) }
+    ensures faultless { OnOk result
+        (said_faults file names.now.names statement.now whole (indicator_in statement.now) ≡ []) }
+    ensures fault { IfErr result (λ e.
+        Contains (Memory ∷ said_faults file names.now.names statement.now whole
+        (indicator_in statement.now)) e) }
 {
     match indicator_in(statement) {
         Some((name, fields)) => read_indicator(
@@ -161,9 +181,12 @@ pub(crate) fn read_item(
     defaults: IndicatorMapValues,
     item: &Item,
 ) -> Result<Vec<(usize, IndicatorMapValues)>, Fault>
-    ensures records { IfOk result (λ records. AreOffered (mode_of item.now) (values_cell) (values_width) records.items (item_offers indicator_maps.now names.now.names defaults item.now)) }
+    ensures records { IfOk result (λ records.
+        AreOffered (mode_of item.now) (values_cell) (values_width) records.items
+        (item_offers indicator_maps.now names.now.names defaults item.now)) }
     ensures faultless { OnOk result (item_faults file names.now.names item.now ≡ []) }
-    ensures fault { IfErr result (λ e. Contains (Memory ∷ item_faults file names.now.names item.now) e) }
+    ensures fault { IfErr result (λ e.
+        Contains (Memory ∷ item_faults file names.now.names item.now) e) }
 {
     match item {
         Item::Include { .. } => Ok(no_records(alloc)),

@@ -29,7 +29,8 @@ fn member_of(field: &Field) -> Option<&Name>
 }
 
 fn with_member(field: &Field) -> Option<(&Name, &Field)>
-    ensures { option_map (λ d. (d.0.now, d.1.now)) result ≡ given_of field.now (member_of field.now) }
+    ensures { option_map (λ d. (d.0.now, d.1.now)) result
+        ≡ given_of field.now (member_of field.now) }
 {
     match member_of(field) {
         Some(member) => Some((member, field)),

@@ -37,9 +37,12 @@ fn read_expression(
     known: IndicatorMapField,
     expression: &Expression,
 ) -> Result<IndicatorMapValue, Fault>
-    ensures value { IfOk result (λ value. value ≡ expression_value names.now.names known expression.now) }
-    ensures faultless { OnOk result (expression_faults file names.now.names known expression.now ≡ []) }
-    ensures fault { IfErr result (λ e. Contains (expression_faults file names.now.names known expression.now) e) }
+    ensures value { IfOk result (λ value.
+        value ≡ expression_value names.now.names known expression.now) }
+    ensures faultless { OnOk result
+        (expression_faults file names.now.names known expression.now ≡ []) }
+    ensures fault { IfErr result (λ e.
+        Contains (expression_faults file names.now.names known expression.now) e) }
 {
     match known {
         IndicatorMapField::Modifiers => Ok(IndicatorMapValue::Modifiers(names.mask_of(
@@ -68,9 +71,14 @@ fn read_setting(
     known: IndicatorMapField,
     field: &Field,
 ) -> Result<IndicatorMapValue, Fault>
-    ensures value { IfOk result (λ value. Some value ≡ known_value names.now.names field.now.setting (Some known)) }
-    ensures faultless { OnOk result (value_faults file (expression_faults file names.now.names known) field.now.span field.now.setting ≡ []) }
-    ensures fault { IfErr result (λ e. Contains (value_faults file (expression_faults file names.now.names known) field.now.span field.now.setting) e) }
+    ensures value { IfOk result (λ value.
+        Some value ≡ known_value names.now.names field.now.setting (Some known)) }
+    ensures faultless { OnOk result
+        (value_faults file (expression_faults file names.now.names known) field.now.span
+        field.now.setting ≡ []) }
+    ensures fault { IfErr result (λ e.
+        Contains (value_faults file (expression_faults file names.now.names known) field.now.span
+        field.now.setting) e) }
 {
     let expression = expression_of(file, field.span, &field.setting)?;
     read_expression(names, file, known, expression)
@@ -84,9 +92,13 @@ fn read_known(
     known: IndicatorMapField,
     field: &Field,
 ) -> Result<IndicatorMapValue, Fault>
-    ensures value { IfOk result (λ value. Some value ≡ known_value names.now.names field.now.setting (Some known)) }
-    ensures faultless { OnOk result (placed_faults file names.now.names word.now field.now known field.now.place.index ≡ []) }
-    ensures fault { IfErr result (λ e. Contains (placed_faults file names.now.names word.now field.now known field.now.place.index) e) }
+    ensures value { IfOk result (λ value.
+        Some value ≡ known_value names.now.names field.now.setting (Some known)) }
+    ensures faultless { OnOk result
+        (placed_faults file names.now.names word.now field.now known field.now.place.index ≡ []) }
+    ensures fault { IfErr result (λ e.
+        Contains (placed_faults file names.now.names word.now field.now known field.now.place.index)
+        e) }
 {
     match &field.place.index {
         None => read_setting(names, file, known, field),
@@ -106,7 +118,8 @@ pub(crate) fn read_field(
 ) -> Result<Option<IndicatorMapValue>, Fault>
     ensures value { IfOk result (λ value. value ≡ field_value names.now.names word.now field.now) }
     ensures faultless { OnOk result (field_faults file names.now.names word.now field.now ≡ []) }
-    ensures fault { IfErr result (λ e. Contains (field_faults file names.now.names word.now field.now) e) }
+    ensures fault { IfErr result (λ e.
+        Contains (field_faults file names.now.names word.now field.now) e) }
 {
     match field_named(word.bytes.as_slice()) {
         None => Ok(None),

@@ -19,9 +19,19 @@ impl Model for IndicatorMap {
 
     ghost Value = { IndicatorMap };
 
-    ghost view = { λ l. record { modifiers = l.modifiers; mod_states = l.mod_states; group_states = l.group_states; groups = l.groups } };
+    ghost view = { λ l. record {
+      modifiers = l.modifiers;
+      mod_states = l.mod_states;
+      group_states = l.group_states;
+      groups = l.groups;
+    } };
 
-    ghost inverse = { λ l. record { modifiers = l.modifiers; mod_states = l.mod_states; group_states = l.group_states; groups = l.groups } };
+    ghost inverse = { λ l. record {
+      modifiers = l.modifiers;
+      mod_states = l.mod_states;
+      group_states = l.group_states;
+      groups = l.groups;
+    } };
 }
 
 impl IndicatorMap {

@@ -39,7 +39,9 @@ fn indicator_maps_below(
     limit: usize,
 ) -> Result<Vec<IndicatorMap>, Fault>
     ensures as_many { IfOk result (λ indicator_maps. length indicator_maps.items ≡ limit) }
-    ensures indicator_maps { IfOk result (λ indicator_maps. (number : ℕ) → number < limit → slice_get indicator_maps.items number ≡ Some (indicator_map_recorded records.now number)) }
+    ensures indicator_maps { IfOk result (λ indicator_maps. (number : ℕ) → number < limit
+        → slice_get indicator_maps.items number
+        ≡ Some (indicator_map_recorded records.now number)) }
     ensures err { IfErr result (λ e. e ≡ Memory) }
 {
     let mut indicator_maps = Vec::new(alloc);
@@ -61,12 +63,16 @@ pub fn indicators(
     expansion: &Expansion,
     names: &ModNames,
 ) -> Result<Indicators, Fault>
-    ensures shows { IfOk result (λ found. AreIndicators found names.now.names (expanded_body expansion.now)) }
+    ensures shows { IfOk result (λ found.
+        AreIndicators found names.now.names (expanded_body expansion.now)) }
     ensures valid { IfOk result (λ found. NamesAreValid found.names) }
     ensures defaults { DefaultsAreLast names.now.names }
-    ensures once { (indicator_maps : List (List ℕ)) → OffersOnce nat_eq (indicator_map_rules indicator_maps names.now.names) }
-    ensures faultless { OnOk result (indicator_maps_faults names.now.names (expanded_body expansion.now) ≡ []) }
-    ensures fault { IfErr result (λ e. Contains (Memory ∷ indicator_maps_faults names.now.names (expanded_body expansion.now)) e) }
+    ensures once { (indicator_maps : List (List ℕ))
+        → OffersOnce nat_eq (indicator_map_rules indicator_maps names.now.names) }
+    ensures faultless { OnOk result
+        (indicator_maps_faults names.now.names (expanded_body expansion.now) ≡ []) }
+    ensures fault { IfErr result (λ e.
+        Contains (Memory ∷ indicator_maps_faults names.now.names (expanded_body expansion.now)) e) }
 {
     list_indicators(alloc, expansion, names)
 }
@@ -76,10 +82,13 @@ fn list_indicators(
     expansion: &Expansion,
     names: &ModNames,
 ) -> Result<Indicators, Fault>
-    ensures shows { IfOk result (λ found. AreIndicators found names.now.names (expanded_body expansion.now)) }
+    ensures shows { IfOk result (λ found.
+        AreIndicators found names.now.names (expanded_body expansion.now)) }
     ensures valid { IfOk result (λ found. NamesAreValid found.names) }
-    ensures faultless { OnOk result (indicator_maps_faults names.now.names (expanded_body expansion.now) ≡ []) }
-    ensures fault { IfErr result (λ e. Contains (Memory ∷ indicator_maps_faults names.now.names (expanded_body expansion.now)) e) }
+    ensures faultless { OnOk result
+        (indicator_maps_faults names.now.names (expanded_body expansion.now) ≡ []) }
+    ensures fault { IfErr result (λ e.
+        Contains (Memory ∷ indicator_maps_faults names.now.names (expanded_body expansion.now)) e) }
 {
     let indicator_maps = count_names::<IndicatorMapNaming>(
         alloc,

@@ -201,7 +201,8 @@ fn read_operations(
     ensures value { IfOk result (λ mask. mask ≡ fold (operated kind) before operations.now) }
     ensures within { IfOk result (λ mask. mask < 2 ^ width kind) }
     ensures faultless { OnOk result (flat_map (operation_faults file kind) operations.now ≡ []) }
-    ensures fault { IfErr result (λ e. Contains (flat_map (operation_faults file kind) operations.now) e) }
+    ensures fault { IfErr result (λ e.
+        Contains (flat_map (operation_faults file kind) operations.now) e) }
 {
     let mut mask = before;
     'operations: for operation in operations {

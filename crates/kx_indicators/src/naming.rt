@@ -49,7 +49,8 @@ impl Naming for IndicatorMapNaming {
     ghost names = { indicator_map_names };
 
     fn add(alloc: Global, others: &mut Names, item: &Item) -> Result<(), Fault>
-        ensures added { OnOk result (others.new ≡ with_names others.old (indicator_map_names item.now)) }
+        ensures added { OnOk result (others.new
+            ≡ with_names others.old (indicator_map_names item.now)) }
         ensures err { IfErr result (λ e. e ≡ Memory) }
     {
         match written_name(item) {

@@ -36,7 +36,8 @@ impl<'a> Fields<Context<'a>> for IndicatorMapValues {
 
     type Notes = ();
 
-    ghost rules = { λ context. indicator_map_rules context.indicator_maps.now context.names.now.names };
+    ghost rules = { λ context. indicator_map_rules context.indicator_maps.now
+        context.names.now.names };
 
     ghost moves = { indicator_map_moves };
 
@@ -76,8 +77,11 @@ impl<'a> Fields<Context<'a>> for IndicatorMapValues {
     }
 
     fn absorb(&mut self, _alloc: Global, other: IndicatorMapValues, mode: Mode) -> Result<(), Fault>
-        ensures cells { OnOk result ((c : IndicatorMapField) → values_cell self.new c ≡ taken mode (values_cell self.old c) (values_cell other c)) }
-        ensures widths { OnOk result ((g : ℕ) → values_width self.new g ≡ widened mode (values_width self.old g) (values_width other g)) }
+        ensures cells { OnOk result ((c : IndicatorMapField)
+            → values_cell self.new c ≡ taken mode (values_cell self.old c) (values_cell other c)) }
+        ensures widths { OnOk result ((g : ℕ)
+            → values_width self.new g ≡ widened mode (values_width self.old g)
+            (values_width other g)) }
         ensures err { IfErr result (λ e. e ≡ Memory) }
     {
         *self = self.joined(other, mode);
@@ -98,8 +102,12 @@ impl<'a> Fields<Context<'a>> for IndicatorMapValues {
         _group: Option<u8>,
         mode: Mode,
     ) -> Result<(), Fault>
-        ensures cells { OnOk result ((c : IndicatorMapField) → values_cell self.new c ≡ taken mode (values_cell self.old c) (moved_value indicator_map_moves _group (values_cell other.now) c)) }
-        ensures widths { OnOk result ((g : ℕ) → values_width self.new g ≡ widened mode (values_width self.old g) (moved_width indicator_map_moves _group (values_width other.now) g)) }
+        ensures cells { OnOk result ((c : IndicatorMapField)
+            → values_cell self.new c ≡ taken mode (values_cell self.old c)
+            (moved_value indicator_map_moves _group (values_cell other.now) c)) }
+        ensures widths { OnOk result ((g : ℕ)
+            → values_width self.new g ≡ widened mode (values_width self.old g)
+            (moved_width indicator_map_moves _group (values_width other.now) g)) }
         ensures err { IfErr result (λ e. e ≡ Memory) }
     {
         *self = self.joined(*other, mode);

@@ -21,7 +21,8 @@ impl Model for Indicators {
 
     ghost view = { λ i. record { names = i.names; indicator_maps = i.indicator_maps.items } };
 
-    ghost invariant = { λ i. AreValid (record { names = i.names; indicator_maps = i.indicator_maps.items }) };
+    ghost invariant = { λ i. AreValid
+        (record { names = i.names; indicator_maps = i.indicator_maps.items }) };
 }
 
 impl Indicators {

@@ -40,9 +40,19 @@ impl Model for IndicatorMapValues {
 
     ghost Value = { IndicatorMapValues };
 
-    ghost view = { λ v. record { modifiers = v.modifiers; mod_states = v.mod_states; group_states = v.group_states; groups = v.groups } };
+    ghost view = { λ v. record {
+      modifiers = v.modifiers;
+      mod_states = v.mod_states;
+      group_states = v.group_states;
+      groups = v.groups;
+    } };
 
-    ghost inverse = { λ v. record { modifiers = v.modifiers; mod_states = v.mod_states; group_states = v.group_states; groups = v.groups } };
+    ghost inverse = { λ v. record {
+      modifiers = v.modifiers;
+      mod_states = v.mod_states;
+      group_states = v.group_states;
+      groups = v.groups;
+    } };
 }
 
 /// What a value under a mode makes of the one before it.
@@ -99,7 +109,8 @@ impl IndicatorMapValues {
 
     /// What is given once more is given under a mode.
     pub(crate) fn joined(self, other: IndicatorMapValues, mode: Mode) -> IndicatorMapValues
-        ensures { (c : FieldName) → values_cell result c ≡ taken mode (values_cell self c) (values_cell other c) }
+        ensures { (c : FieldName) → values_cell result c
+            ≡ taken mode (values_cell self c) (values_cell other c) }
     {
         IndicatorMapValues {
             modifiers: taken(mode, self.modifiers, other.modifiers),

@@ -15,7 +15,8 @@ fn joined<X: LevelValue>(
     mode: Mode,
 ) -> Result<Option<Levels<X>>, AllocError>
     requires { is_replace mode ≡ false }
-    ensures levels { IfOk result (λ list. (l : ℕ) → level_of list l ≡ taken mode (level_of old l) (level_of later l)) }
+    ensures levels { IfOk result (λ list. (l : ℕ)
+        → level_of list l ≡ taken mode (level_of old l) (level_of later l)) }
     ensures long { IfOk result (λ list. width_of list ≡ max (width_of old) (width_of later)) }
 {
     match (old, later) {
@@ -36,7 +37,8 @@ fn joined_copied<X: LevelValue>(
     mode: Mode,
 ) -> Result<Option<Levels<X>>, AllocError>
     requires { is_replace mode ≡ false }
-    ensures levels { IfOk result (λ list. (l : ℕ) → level_of list l ≡ taken mode (level_of old l) (level_of later.now l)) }
+    ensures levels { IfOk result (λ list. (l : ℕ)
+        → level_of list l ≡ taken mode (level_of old l) (level_of later.now l)) }
     ensures long { IfOk result (λ list. width_of list ≡ max (width_of old) (width_of later.now)) }
 {
     let Some(later) = later else {
@@ -60,8 +62,14 @@ fn absorb_list_copied<X: LevelValue>(
 ) -> Result<(), AllocError>
     requires mode { is_replace mode ≡ false }
     requires group { group < 2 ^ 63 }
-    ensures levels { OnOk result ((g l : ℕ) → level_in lists.new.items g l ≡ (if nat_eq g group then taken mode (level_in lists.old.items g l) (level_of later.now l) else level_in lists.old.items g l)) }
-    ensures widths { OnOk result ((g : ℕ) → width_in lists.new.items g ≡ (if nat_eq g group then max (width_in lists.old.items g) (width_of later.now) else width_in lists.old.items g)) }
+    ensures levels { OnOk result ((g l : ℕ)
+        → level_in lists.new.items g l
+        ≡ (if nat_eq g group then taken mode (level_in lists.old.items g l) (level_of later.now l)
+        else level_in lists.old.items g l)) }
+    ensures widths { OnOk result ((g : ℕ)
+        → width_in lists.new.items g ≡ (if nat_eq g group
+        then max (width_in lists.old.items g) (width_of later.now)
+        else width_in lists.old.items g)) }
 {
     widen(lists, group + 1)?;
     let old = lists[group].take();
@@ -79,8 +87,13 @@ pub(crate) fn absorb_lists_copied<X: LevelValue>(
 ) -> Result<(), AllocError>
     requires mode { is_replace mode ≡ false }
     requires from { from < 2 ^ 8 }
-    ensures levels { OnOk result ((g l : ℕ) → level_in lists.new.items g l ≡ taken mode (level_in lists.old.items g l) (if nat_lt g from then None else level_in later.now (g - from) l)) }
-    ensures widths { OnOk result ((g : ℕ) → width_in lists.new.items g ≡ max (width_in lists.old.items g) (if nat_lt g from then 0 else width_in later.now (g - from))) }
+    ensures levels { OnOk result ((g l : ℕ)
+        → level_in lists.new.items g l
+        ≡ taken mode (level_in lists.old.items g l) (if nat_lt g from then None
+        else level_in later.now (g - from) l)) }
+    ensures widths { OnOk result ((g : ℕ)
+        → width_in lists.new.items g ≡ max (width_in lists.old.items g) (if nat_lt g from then 0
+        else width_in later.now (g - from))) }
 {
     'lists: for place in 0..later.len() {
         absorb_list_copied(alloc, lists, from + place, &later[place], mode)?;
@@ -97,8 +110,13 @@ fn absorb_list<X: LevelValue>(
 ) -> Result<(), AllocError>
     requires mode { is_replace mode ≡ false }
     requires group { group < 2 ^ 63 }
-    ensures levels { OnOk result ((g l : ℕ) → level_in lists.new.items g l ≡ (if nat_eq g group then taken mode (level_in lists.old.items g l) (level_of later l) else level_in lists.old.items g l)) }
-    ensures widths { OnOk result ((g : ℕ) → width_in lists.new.items g ≡ (if nat_eq g group then max (width_in lists.old.items g) (width_of later) else width_in lists.old.items g)) }
+    ensures levels { OnOk result ((g l : ℕ)
+        → level_in lists.new.items g l
+        ≡ (if nat_eq g group then taken mode (level_in lists.old.items g l) (level_of later l)
+        else level_in lists.old.items g l)) }
+    ensures widths { OnOk result ((g : ℕ)
+        → width_in lists.new.items g ≡ (if nat_eq g group
+        then max (width_in lists.old.items g) (width_of later) else width_in lists.old.items g)) }
 {
     widen(lists, group + 1)?;
     let old = lists[group].take();
@@ -115,8 +133,13 @@ pub(crate) fn absorb_lists<X: LevelValue>(
 ) -> Result<(), AllocError>
     requires mode { is_replace mode ≡ false }
     requires from { from < 2 ^ 8 }
-    ensures levels { OnOk result ((g l : ℕ) → level_in lists.new.items g l ≡ taken mode (level_in lists.old.items g l) (if nat_lt g from then None else level_in later.items (g - from) l)) }
-    ensures widths { OnOk result ((g : ℕ) → width_in lists.new.items g ≡ max (width_in lists.old.items g) (if nat_lt g from then 0 else width_in later.items (g - from))) }
+    ensures levels { OnOk result ((g l : ℕ)
+        → level_in lists.new.items g l
+        ≡ taken mode (level_in lists.old.items g l) (if nat_lt g from then None
+        else level_in later.items (g - from) l)) }
+    ensures widths { OnOk result ((g : ℕ)
+        → width_in lists.new.items g ≡ max (width_in lists.old.items g) (if nat_lt g from then 0
+        else width_in later.items (g - from))) }
 {
     let mut later = later;
     'lists: for place in 0..later.len() {

@@ -31,7 +31,12 @@ impl Model for KeyAttributes {
 
     ghost Value = { Settings };
 
-    ghost view = { λ s. record { group_types = s.group_types; key_type = s.key_type; virtual_mods = s.virtual_mods; range = s.range } };
+    ghost view = { λ s. record {
+      group_types = s.group_types;
+      key_type = s.key_type;
+      virtual_mods = s.virtual_mods;
+      range = s.range;
+    } };
 }
 
 impl KeyAttributes {
@@ -116,7 +121,9 @@ impl KeyAttributes {
 
     /// The settings where the map of the key is moved to a group, counted from 1; as they are where it isn't moved.
     fn moved(&self, alloc: Global, group: Option<u8>) -> Result<KeyAttributes, AllocError>
-        ensures { IfOk result (λ settings. (cell : AttributeCell) → attribute_in settings cell ≡ moved_value attribute_moves group (attribute_in self.now) cell) }
+        ensures { IfOk result (λ settings. (cell : AttributeCell)
+            → attribute_in settings cell ≡ moved_value attribute_moves group (attribute_in self.now)
+            cell) }
     {
         Ok(KeyAttributes {
             group_types: self.group_types.moved(alloc, group)?,
@@ -129,7 +136,9 @@ impl KeyAttributes {
     /// Takes up what a later statement or include says under a mode that isn't replace.
     fn join_cells(&mut self, other: KeyAttributes, mode: Mode) -> Result<(), AllocError>
         requires { is_replace mode ≡ false }
-        ensures { OnOk result ((cell : AttributeCell) → attribute_in self.new cell ≡ taken mode (attribute_in self.old cell) (attribute_in other cell)) }
+        ensures { OnOk result ((cell : AttributeCell)
+            → attribute_in self.new cell ≡ taken mode (attribute_in self.old cell)
+            (attribute_in other cell)) }
     {
         self.group_types.absorb(other.group_types, mode)?;
         let key_type = self.key_type.take();
@@ -141,7 +150,9 @@ impl KeyAttributes {
 
     /// Takes up what a later statement or include says.
     pub fn join(&mut self, other: KeyAttributes, mode: Mode) -> Result<(), AllocError>
-        ensures { OnOk result ((cell : AttributeCell) → attribute_in self.new cell ≡ taken mode (attribute_in self.old cell) (attribute_in other cell)) }
+        ensures { OnOk result ((cell : AttributeCell)
+            → attribute_in self.new cell ≡ taken mode (attribute_in self.old cell)
+            (attribute_in other cell)) }
     {
         match mode {
             Mode::Replace => {
@@ -162,7 +173,9 @@ impl KeyAttributes {
         group: Option<u8>,
         mode: Mode,
     ) -> Result<(), AllocError>
-        ensures { OnOk result ((cell : AttributeCell) → attribute_in self.new cell ≡ taken mode (attribute_in self.old cell) (moved_value attribute_moves group (attribute_in other.now) cell)) }
+        ensures { OnOk result ((cell : AttributeCell)
+            → attribute_in self.new cell ≡ taken mode (attribute_in self.old cell)
+            (moved_value attribute_moves group (attribute_in other.now) cell)) }
     {
         let moved = other.moved(alloc, group)?;
         self.join(moved, mode)

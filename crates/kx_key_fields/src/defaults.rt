@@ -101,7 +101,9 @@ impl KeyDefaults {
     /// `Memory`.
     pub fn next(self, alloc: Global, names: &ModNames, field: &Field) -> Result<KeyDefaults, Fault>
         ensures next { IfOk result (λ d. d ≡ next_defaults names.now.names self field.now) }
-        ensures last { (statements : List FieldValue) (cell : AttributeCell) → attribute_in (defaults_behind names.now.names statements) cell ≡ last_given (cell_default names.now.names cell) statements }
+        ensures last { (statements : List FieldValue) (cell : AttributeCell)
+            → attribute_in (defaults_behind names.now.names statements) cell
+            ≡ last_given (cell_default names.now.names cell) statements }
         ensures err { IfErr result (λ e. e ≡ Memory) }
     {
         let mut settings = self.settings;

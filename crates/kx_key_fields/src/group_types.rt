@@ -95,7 +95,9 @@ impl GroupTypes {
         mode: Mode,
     ) -> Result<(), AllocError>
         requires { place ≤ length self.old }
-        ensures types { OnOk result ((g : ℕ) → type_at self.new g ≡ (if nat_eq g place then taken mode (type_at self.old place) name else type_at self.old g)) }
+        ensures types { OnOk result ((g : ℕ)
+            → type_at self.new g ≡ (if nat_eq g place then taken mode (type_at self.old place) name
+            else type_at self.old g)) }
         ensures long { OnOk result (length self.new ≡ max (length self.old) (place + 1)) }
     {
         if place < self.types.len() {
@@ -111,7 +113,8 @@ impl GroupTypes {
     /// Takes up later types under a mode that isn't replace.
     pub(crate) fn absorb(&mut self, other: GroupTypes, mode: Mode) -> Result<(), AllocError>
         requires { is_replace mode ≡ false }
-        ensures { OnOk result ((g : ℕ) → type_at self.new g ≡ taken mode (type_at self.old g) (type_at other g)) }
+        ensures { OnOk result ((g : ℕ)
+            → type_at self.new g ≡ taken mode (type_at self.old g) (type_at other g)) }
     {
         let mut later = other.types;
         'types: for place in 0..later.len() {
@@ -134,7 +137,8 @@ impl GroupTypes {
 
     /// The first group's type alone, as that of another group.
     fn first_at(&self, alloc: Global, group: u8) -> Result<GroupTypes, AllocError>
-        ensures { IfOk result (λ types. (g : ℕ) → type_at types g ≡ (if g == group then type_at self.now 0 else None)) }
+        ensures { IfOk result (λ types. (g : ℕ)
+            → type_at types g ≡ (if g == group then type_at self.now 0 else None)) }
     {
         let mut types = GroupTypes::none(alloc);
         if let Some(name) = self.of_group(0) {

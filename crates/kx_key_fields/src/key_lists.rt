@@ -106,8 +106,11 @@ impl<X: LevelValue> GroupLists<X> {
 
     /// Takes up what a later statement or include gives.
     pub fn join(&mut self, other: GroupLists<X>, mode: Mode) -> Result<(), AllocError>
-        ensures cells { OnOk result ((g l : ℕ) → value_in self.new g l ≡ taken mode (value_in self.old g l) (value_in other g l)) }
-        ensures widths { OnOk result ((g : ℕ) → width_in_key self.new g ≡ widened mode (width_in_key self.old g) (width_in_key other g)) }
+        ensures cells { OnOk result ((g l : ℕ)
+            → value_in self.new g l ≡ taken mode (value_in self.old g l) (value_in other g l)) }
+        ensures widths { OnOk result ((g : ℕ)
+            → width_in_key self.new g ≡ widened mode (width_in_key self.old g)
+            (width_in_key other g)) }
     {
         match mode {
             Mode::Replace => {
@@ -122,8 +125,10 @@ impl<X: LevelValue> GroupLists<X> {
     /// Takes up what a later statement or include gives under a mode that isn't replace.
     fn join_lists(&mut self, other: GroupLists<X>, mode: Mode) -> Result<(), AllocError>
         requires { is_replace mode ≡ false }
-        ensures cells { OnOk result ((g l : ℕ) → value_in self.new g l ≡ taken mode (value_in self.old g l) (value_in other g l)) }
-        ensures widths { OnOk result ((g : ℕ) → width_in_key self.new g ≡ max (width_in_key self.old g) (width_in_key other g)) }
+        ensures cells { OnOk result ((g l : ℕ)
+            → value_in self.new g l ≡ taken mode (value_in self.old g l) (value_in other g l)) }
+        ensures widths { OnOk result ((g : ℕ)
+            → width_in_key self.new g ≡ max (width_in_key self.old g) (width_in_key other g)) }
     {
         self.settle()?;
         absorb_lists(&mut self.lists, usize::from(other.from), other.lists, mode)?;
@@ -153,8 +158,10 @@ impl<X: LevelValue> GroupLists<X> {
     /// The lists where the map of the record is moved to a group, counted from 1, and the group of the first of them,
     /// counted from 0: the record's first group becomes that group, and the others go.
     fn placed(&self, group: Option<u8>) -> (u8, &[Option<Levels<X>>])
-        ensures cells { (g l : ℕ) → value_in (record { from = result.0; lists = result.1.now }) g l ≡ moved_in group self.now g l }
-        ensures widths { (g : ℕ) → width_in_key (record { from = result.0; lists = result.1.now }) g ≡ moved_width_in group self.now g }
+        ensures cells { (g l : ℕ) → value_in (record { from = result.0; lists = result.1.now }) g l
+            ≡ moved_in group self.now g l }
+        ensures widths { (g : ℕ) → width_in_key (record { from = result.0; lists = result.1.now }) g
+            ≡ moved_width_in group self.now g }
     {
         let Some(group) = group else {
             return (self.from, self.lists.as_slice());
@@ -175,8 +182,12 @@ impl<X: LevelValue> GroupLists<X> {
         group: Option<u8>,
         mode: Mode,
     ) -> Result<(), AllocError>
-        ensures cells { OnOk result ((g l : ℕ) → value_in self.new g l ≡ taken mode (value_in self.old g l) (moved_in group other.now g l)) }
-        ensures widths { OnOk result ((g : ℕ) → width_in_key self.new g ≡ widened mode (width_in_key self.old g) (moved_width_in group other.now g)) }
+        ensures cells { OnOk result ((g l : ℕ)
+            → value_in self.new g l ≡ taken mode (value_in self.old g l)
+            (moved_in group other.now g l)) }
+        ensures widths { OnOk result ((g : ℕ)
+            → width_in_key self.new g ≡ widened mode (width_in_key self.old g)
+            (moved_width_in group other.now g)) }
     {
         let (from, later) = other.placed(group);
         match mode {
@@ -198,8 +209,12 @@ impl<X: LevelValue> GroupLists<X> {
         mode: Mode,
     ) -> Result<(), AllocError>
         requires { is_replace mode ≡ false }
-        ensures cells { OnOk result ((g l : ℕ) → value_in self.new g l ≡ taken mode (value_in self.old g l) (value_in (record { from = from; lists = later.now }) g l)) }
-        ensures widths { OnOk result ((g : ℕ) → width_in_key self.new g ≡ max (width_in_key self.old g) (width_in_key (record { from = from; lists = later.now }) g)) }
+        ensures cells { OnOk result ((g l : ℕ)
+            → value_in self.new g l ≡ taken mode (value_in self.old g l)
+            (value_in (record { from = from; lists = later.now }) g l)) }
+        ensures widths { OnOk result ((g : ℕ)
+            → width_in_key self.new g ≡ max (width_in_key self.old g)
+            (width_in_key (record { from = from; lists = later.now }) g)) }
     {
         self.settle()?;
         absorb_lists_copied(alloc, &mut self.lists, usize::from(from), later, mode)?;

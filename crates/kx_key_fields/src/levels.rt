@@ -85,7 +85,9 @@ impl<X: LevelValue> Levels<X> {
     /// Takes up a later level at a place, the next at most.
     fn absorb_level(&mut self, place: usize, level: Option<X>, mode: Mode) -> Result<(), AllocError>
         requires { place ≤ length self.old }
-        ensures levels { OnOk result ((l : ℕ) → level_at self.new l ≡ (if nat_eq l place then taken mode (level_at self.old place) level else level_at self.old l)) }
+        ensures levels { OnOk result ((l : ℕ)
+            → level_at self.new l ≡ (if nat_eq l place
+            then taken mode (level_at self.old place) level else level_at self.old l)) }
         ensures long { OnOk result (length self.new ≡ max (length self.old) (place + 1)) }
     {
         if place < self.levels.len() {
@@ -110,7 +112,8 @@ impl<X: LevelValue> Levels<X> {
     /// Takes up later levels under a mode that isn't replace; those stay as they are.
     pub(crate) fn absorb_copied(&mut self, other: &Levels<X>, mode: Mode) -> Result<(), AllocError>
         requires { is_replace mode ≡ false }
-        ensures levels { OnOk result ((l : ℕ) → level_at self.new l ≡ taken mode (level_at self.old l) (level_at other.now l)) }
+        ensures levels { OnOk result ((l : ℕ)
+            → level_at self.new l ≡ taken mode (level_at self.old l) (level_at other.now l)) }
         ensures long { OnOk result (length self.new ≡ max (length self.old) (length other.now)) }
     {
         'levels: for place in 0..other.levels.len() {
@@ -123,7 +126,8 @@ impl<X: LevelValue> Levels<X> {
     /// Takes up later levels under a mode that isn't replace.
     pub(crate) fn absorb(&mut self, other: Levels<X>, mode: Mode) -> Result<(), AllocError>
         requires { is_replace mode ≡ false }
-        ensures levels { OnOk result ((l : ℕ) → level_at self.new l ≡ taken mode (level_at self.old l) (level_at other l)) }
+        ensures levels { OnOk result ((l : ℕ)
+            → level_at self.new l ≡ taken mode (level_at self.old l) (level_at other l)) }
         ensures long { OnOk result (length self.new ≡ max (length self.old) (length other)) }
     {
         let mut later = other.levels;

@@ -19,7 +19,8 @@ fn is_real(word: &[u8]) -> bool
 fn word_set(names: &ModNames, file: u32, word: &Name) -> Result<NameSet, Fault>
     ensures value { result_ok result ≡ word_virtual names.now.names word.now.bytes }
     ensures faultless { OnOk result (virtual_word_faults names.now.names file word.now ≡ []) }
-    ensures fault { IfErr result (λ e. Contains (virtual_word_faults names.now.names file word.now) e) }
+    ensures fault { IfErr result (λ e.
+        Contains (virtual_word_faults names.now.names file word.now) e) }
 {
     let bytes = word.bytes.as_slice();
     let at = At {
@@ -38,7 +39,8 @@ fn word_set(names: &ModNames, file: u32, word: &Name) -> Result<NameSet, Fault>
 fn term_set(names: &ModNames, file: u32, term: &Term) -> Result<NameSet, Fault>
     ensures value { result_ok result ≡ term_virtual names.now.names term.now }
     ensures faultless { OnOk result (virtual_term_faults names.now.names file term.now ≡ []) }
-    ensures fault { IfErr result (λ e. Contains (virtual_term_faults names.now.names file term.now) e) }
+    ensures fault { IfErr result (λ e.
+        Contains (virtual_term_faults names.now.names file term.now) e) }
 {
     let span = match term {
         Term::Word(word) => return word_set(names, file, word),
@@ -66,9 +68,12 @@ fn operations_set(
     before: NameSet,
     operations: &[Operation],
 ) -> Result<NameSet, Fault>
-    ensures value { result_ok result ≡ fold (with_term names.now.names) (Some before) operations.now }
-    ensures faultless { OnOk result (flat_map (virtual_operation_faults names.now.names file) operations.now ≡ []) }
-    ensures fault { IfErr result (λ e. Contains (flat_map (virtual_operation_faults names.now.names file) operations.now) e) }
+    ensures value { result_ok result
+        ≡ fold (with_term names.now.names) (Some before) operations.now }
+    ensures faultless { OnOk result
+        (flat_map (virtual_operation_faults names.now.names file) operations.now ≡ []) }
+    ensures fault { IfErr result (λ e.
+        Contains (flat_map (virtual_operation_faults names.now.names file) operations.now) e) }
 {
     let mut set = before;
     'operations: for operation in operations {
@@ -86,7 +91,8 @@ pub(crate) fn virtual_mask(
 ) -> Result<NameSet, Fault>
     ensures value { result_ok result ≡ virtual_mask names.now.names expression.now }
     ensures faultless { OnOk result (virtual_mask_faults names.now.names file expression.now ≡ []) }
-    ensures fault { IfErr result (λ e. Contains (virtual_mask_faults names.now.names file expression.now) e) }
+    ensures fault { IfErr result (λ e.
+        Contains (virtual_mask_faults names.now.names file expression.now) e) }
 {
     let first = term_set(names, file, &expression.first)?;
     operations_set(names, file, first, expression.rest.as_slice())

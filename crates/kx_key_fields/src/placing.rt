@@ -78,8 +78,12 @@ fn indexed_group<X: LevelValue>(
 ) -> Result<usize, Fault>
     ensures small { IfOk result (λ group. group < MOST_GROUPS) }
     ensures value { IfOk result (λ group. Some group ≡ open_group lists.now (group_at index.now)) }
-    ensures faultless { OnOk result (number_faults file Group index.now ++ second_faults file lists.now list.now (group_at index.now) ≡ []) }
-    ensures fault { IfErr result (λ e. Contains (number_faults file Group index.now ++ second_faults file lists.now list.now (group_at index.now)) e) }
+    ensures faultless { OnOk result
+        (number_faults file Group index.now
+        ++ second_faults file lists.now list.now (group_at index.now) ≡ []) }
+    ensures fault { IfErr result (λ e.
+        Contains (number_faults file Group index.now
+        ++ second_faults file lists.now list.now (group_at index.now)) e) }
 {
     let group = usize::from(read_group(file, index)?);
     if has_list(lists, group) {
@@ -106,7 +110,8 @@ pub fn group_for<X: LevelValue>(
     ensures small { IfOk result (λ group. group < MOST_GROUPS) }
     ensures value { IfOk result (λ group. Some group ≡ group_for lists.now (index.now)) }
     ensures faultless { OnOk result (place_faults file lists.now (index.now) list.now ≡ []) }
-    ensures fault { IfErr result (λ e. Contains (place_faults file lists.now (index.now) list.now) e) }
+    ensures fault { IfErr result (λ e.
+        Contains (place_faults file lists.now (index.now) list.now) e) }
 {
     match index {
         Some(index) => indexed_group(file, lists, list, &index.get().value),

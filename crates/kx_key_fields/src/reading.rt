@@ -52,8 +52,10 @@ fn expression_text(file: u32, expression: &Expression) -> Result<KeptName, Fault
 /// The name of a type that a field is set to.
 fn read_text(file: u32, field: &Field) -> Result<KeptName, Fault>
     ensures value { result_ok result ≡ name_in field.now.setting }
-    ensures faultless { OnOk result (value_faults file (text_faults file) field.now.span field.now.setting ≡ []) }
-    ensures fault { IfErr result (λ e. Contains (value_faults file (text_faults file) field.now.span field.now.setting) e) }
+    ensures faultless { OnOk result
+        (value_faults file (text_faults file) field.now.span field.now.setting ≡ []) }
+    ensures fault { IfErr result (λ e.
+        Contains (value_faults file (text_faults file) field.now.span field.now.setting) e) }
 {
     let expression = expression_of(file, field.span, &field.setting)?;
     expression_text(file, expression)
@@ -113,9 +115,12 @@ fn read_field(
     kind: AttributeField,
     field: &Field,
 ) -> Result<Option<Given>, Fault>
-    ensures value { given_any (result_ok result) ≡ field_given names.now.names (Some kind) field.now.place.index field.now.setting }
-    ensures faultless { OnOk result (field_faults file names.now.names word.now field.now (Some kind) ≡ []) }
-    ensures fault { IfErr result (λ e. Contains (field_faults file names.now.names word.now field.now (Some kind)) e) }
+    ensures value { given_any (result_ok result)
+        ≡ field_given names.now.names (Some kind) field.now.place.index field.now.setting }
+    ensures faultless { OnOk result
+        (field_faults file names.now.names word.now field.now (Some kind) ≡ []) }
+    ensures fault { IfErr result (λ e.
+        Contains (field_faults file names.now.names word.now field.now (Some kind)) e) }
 {
     let indexed = field.place.index.is_some();
     match kind {
@@ -145,7 +150,8 @@ pub(crate) fn read_named(
 ) -> Result<Option<Given>, Fault>
     ensures value { given_any (result_ok result) ≡ named_given names.now.names word.now field.now }
     ensures faultless { OnOk result (named_faults file names.now.names word.now field.now ≡ []) }
-    ensures fault { IfErr result (λ e. Contains (named_faults file names.now.names word.now field.now) e) }
+    ensures fault { IfErr result (λ e.
+        Contains (named_faults file names.now.names word.now field.now) e) }
 {
     match field_named(word.bytes.as_slice()) {
         Some(kind) => read_field(names, file, word, kind, field),

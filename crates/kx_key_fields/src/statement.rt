@@ -37,7 +37,8 @@ fn read_own(names: &ModNames, file: u32, field: &Field) -> Result<Option<Given>,
 fn read_key_field(names: &ModNames, file: u32, field: &KeyField) -> Result<Option<Given>, Fault>
     ensures value { given_any (result_ok result) ≡ key_given names.now.names field.now }
     ensures faultless { OnOk result (key_field_faults file names.now.names field.now ≡ []) }
-    ensures fault { IfErr result (λ e. Contains (key_field_faults file names.now.names field.now) e) }
+    ensures fault { IfErr result (λ e.
+        Contains (key_field_faults file names.now.names field.now) e) }
 {
     match field {
         KeyField::Field(field) => read_own(names, file, field.get()),
@@ -61,9 +62,11 @@ pub fn read_settings(
     fields: &[KeyField],
     defaults: &KeyDefaults,
 ) -> Result<KeyAttributes, Fault>
-    ensures cells { IfOk result (λ settings. (cell : AttributeCell) → attribute_in settings cell ≡ effective names.now.names defaults.now fields.now cell) }
+    ensures cells { IfOk result (λ settings. (cell : AttributeCell)
+        → attribute_in settings cell ≡ effective names.now.names defaults.now fields.now cell) }
     ensures faultless { OnOk result (setting_faults file names.now.names fields.now ≡ []) }
-    ensures fault { IfErr result (λ e. Contains (Memory ∷ setting_faults file names.now.names fields.now) e) }
+    ensures fault { IfErr result (λ e.
+        Contains (Memory ∷ setting_faults file names.now.names fields.now) e) }
 {
     let mut settings = defaults.settings(alloc)?;
     'fields: for field in fields {

@@ -21,7 +21,8 @@ fn truth_of(file: u32, value: &Expression) -> Result<bool, Fault>
 pub(crate) fn read_flag(file: u32, field: &Field) -> Result<bool, Fault>
     ensures value { result_ok result ≡ truth_in field.now.setting }
     ensures faultless { OnOk result (flag_faults file field.now.span field.now.setting ≡ []) }
-    ensures fault { IfErr result (λ e. Contains (flag_faults file field.now.span field.now.setting) e) }
+    ensures fault { IfErr result (λ e.
+        Contains (flag_faults file field.now.span field.now.setting) e) }
 {
     match &field.setting {
         Setting::Off => Ok(false),

@@ -43,7 +43,8 @@ fn read_behind<'a, R: Repeated>(
     text: &[u8],
     tokens: &'a [Token],
 ) -> Parsed<'a, Row<R::Value>>
-    ensures { Gives result (put_before start.items (many_read (R.test text.now) (R.reading text.now) (suc (length tokens.now)) tokens.now)) }
+    ensures { Gives result (put_before start.items
+        (many_read (R.test text.now) (R.reading text.now) (suc (length tokens.now)) tokens.now)) }
 {
     let mut items = start;
     let mut rest = tokens;
@@ -65,7 +66,8 @@ pub fn read_many<'a, R: Repeated>(
     text: &[u8],
     tokens: &'a [Token],
 ) -> Parsed<'a, Row<R::Value>>
-    ensures { Gives result (many_read (R.test text.now) (R.reading text.now) (suc (length tokens.now)) tokens.now) }
+    ensures { Gives result (many_read (R.test text.now) (R.reading text.now)
+        (suc (length tokens.now)) tokens.now) }
 {
     read_behind::<R>(Vec::new(alloc), alloc, text, tokens)
 }

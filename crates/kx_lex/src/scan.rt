@@ -297,8 +297,10 @@ fn whole(text: &[u8]) -> At
 pub fn lex(alloc: Global, text: &[u8]) -> Result<Vec<Token>, Fault>
     ensures long { MOST_TEXT_BYTES < length text.now → result ≡ Err (TooLong (whole_of text.now)) }
     ensures read { IfOk result (λ tokens. IsReading text.now tokens.items) }
-    ensures stopped { length text.now ≤ MOST_TEXT_BYTES → IfErr result (λ e. (e ≡ Memory) ⊎ StopsWith text.now e) }
-    ensures complete { (tokens : List TokenValue) → IsReading text.now tokens → length text.now ≤ MOST_TEXT_BYTES → IfErr result (λ e. e ≡ Memory) }
+    ensures stopped { length text.now ≤ MOST_TEXT_BYTES
+        → IfErr result (λ e. (e ≡ Memory) ⊎ StopsWith text.now e) }
+    ensures complete { (tokens : List TokenValue) → IsReading text.now tokens
+        → length text.now ≤ MOST_TEXT_BYTES → IfErr result (λ e. e ≡ Memory) }
 {
     if text.len() > MOST_TEXT_BYTES {
         return Err(Fault::TooLong(whole(text)));
@@ -331,13 +333,16 @@ pub fn lex(alloc: Global, text: &[u8]) -> Result<Vec<Token>, Fault>
 
 /// A text has one token reading at most, and one that has none stops.
 pub fn one_reading()
-    ensures one { (text : List ℕ) (ts us : List TokenValue) → IsReading text ts → IsReading text us → ts ≡ us }
-    ensures stopped { (text : List ℕ) (tokens : List TokenValue) (e : FaultValue) → StopsWith text e → IsReading text tokens → ⊥ }
+    ensures one { (text : List ℕ) (ts us : List TokenValue) → IsReading text ts → IsReading text us
+        → ts ≡ us }
+    ensures stopped { (text : List ℕ) (tokens : List TokenValue) (e : FaultValue) → StopsWith text e
+        → IsReading text tokens → ⊥ }
 {}
 
 /// In a token reading the bytes of each key's name are a key's, so that [`read_key_name`] refuses none.
 ///
 /// [`read_key_name`]: crate::tokens::read_key_name
 pub fn key_names_of_readings()
-    ensures { (text : List ℕ) (tokens : List TokenValue) → IsReading text tokens → All (λ t. is_key_name t ≡ true → list_all is_key_byte (inner_of text t) ≡ true) tokens }
+    ensures { (text : List ℕ) (tokens : List TokenValue) → IsReading text tokens
+        → All (λ t. is_key_name t ≡ true → list_all is_key_byte (inner_of text t) ≡ true) tokens }
 {}

@@ -43,7 +43,8 @@ fn octal_goes_on(value: u8, count: u8, byte: u8) -> bool
 }
 
 fn read_plain(out: &mut Vec<u8>, byte: u8) -> Result<EscapeState, AllocError>
-    ensures { IfOk result (λ next. (rest : List ℕ) → out.old.items ++ text_value Plain (byte ∷ rest) ≡ out.new.items ++ text_value next rest) }
+    ensures { IfOk result (λ next. (rest : List ℕ)
+        → out.old.items ++ text_value Plain (byte ∷ rest) ≡ out.new.items ++ text_value next rest) }
 {
     if byte == b'\\' {
         return Ok(EscapeState::Escaped);
@@ -53,7 +54,9 @@ fn read_plain(out: &mut Vec<u8>, byte: u8) -> Result<EscapeState, AllocError>
 }
 
 fn read_escaped(out: &mut Vec<u8>, byte: u8) -> Result<EscapeState, AllocError>
-    ensures { IfOk result (λ next. (rest : List ℕ) → out.old.items ++ text_value Escaped (byte ∷ rest) ≡ out.new.items ++ text_value next rest) }
+    ensures { IfOk result (λ next. (rest : List ℕ)
+        → out.old.items ++ text_value Escaped (byte ∷ rest)
+        ≡ out.new.items ++ text_value next rest) }
 {
     if is_octal(byte) {
         return Ok(EscapeState::Octal(byte - b'0', 1));
@@ -63,7 +66,9 @@ fn read_escaped(out: &mut Vec<u8>, byte: u8) -> Result<EscapeState, AllocError>
 }
 
 fn read_octal(out: &mut Vec<u8>, value: u8, count: u8, byte: u8) -> Result<EscapeState, AllocError>
-    ensures { IfOk result (λ next. (rest : List ℕ) → out.old.items ++ text_value (Octal value count) (byte ∷ rest) ≡ out.new.items ++ text_value next rest) }
+    ensures { IfOk result (λ next. (rest : List ℕ)
+        → out.old.items ++ text_value (Octal value count) (byte ∷ rest)
+        ≡ out.new.items ++ text_value next rest) }
 {
     if octal_goes_on(value, count, byte) {
         return Ok(EscapeState::Octal(value * 8 + (byte - b'0'), count + 1));
@@ -73,7 +78,8 @@ fn read_octal(out: &mut Vec<u8>, value: u8, count: u8, byte: u8) -> Result<Escap
 }
 
 fn read_byte(out: &mut Vec<u8>, state: EscapeState, byte: u8) -> Result<EscapeState, AllocError>
-    ensures { IfOk result (λ next. (rest : List ℕ) → out.old.items ++ text_value state (byte ∷ rest) ≡ out.new.items ++ text_value next rest) }
+    ensures { IfOk result (λ next. (rest : List ℕ)
+        → out.old.items ++ text_value state (byte ∷ rest) ≡ out.new.items ++ text_value next rest) }
 {
     match state {
         EscapeState::Plain => read_plain(out, byte),

@@ -157,7 +157,8 @@ fn bytes_between(alloc: Global, text: &[u8], start: usize, stop: usize) -> Resul
 
 #[inline(always)]
 fn word_of(alloc: Global, text: &[u8], token: &Token) -> Result<Name, AllocError>
-    ensures { IfOk result (λ name. name ≡ record { bytes = slice_of text.now token.now; span = token.now.span }) }
+    ensures { IfOk result (λ name.
+        name ≡ record { bytes = slice_of text.now token.now; span = token.now.span }) }
 {
     let start = token.span.start as usize;
     let stop = token.span.stop as usize;

@@ -125,11 +125,13 @@ pub fn modifier_maps(
     modifiers: &ModNames,
 ) -> Result<(ModifierMaps, Notes), Fault>
     ensures maps { IfOk result (λ found.
-        AreModifierMaps found.0 codes.now names.now modifiers.now.names (expanded_body expansion.now)) }
+        AreModifierMaps found.0 codes.now names.now modifiers.now.names
+        (expanded_body expansion.now)) }
     ensures faultless { OnOk result
         (map_faults_of codes.now names.now modifiers.now.names (expanded_body expansion.now) ≡ []) }
     ensures fault { IfErr result (λ e. Contains
-        (Memory ∷ map_faults_of codes.now names.now modifiers.now.names (expanded_body expansion.now))
+        (Memory ∷ map_faults_of codes.now names.now modifiers.now.names
+        (expanded_body expansion.now))
         e) }
 {
     let context = Context {

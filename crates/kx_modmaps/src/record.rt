@@ -194,7 +194,8 @@ impl<'a, 'l> Fields<Context<'a, 'l>> for Assigned {
 
     type Notes = Notes;
 
-    ghost rules = { λ context. map_rules context.codes.now context.names.now context.modifiers.now.names };
+    ghost rules = { λ context. map_rules context.codes.now context.names.now
+        context.modifiers.now.names };
 
     ghost moves = { map_moves };
 

@@ -25,7 +25,9 @@ impl Flags for Mods {
 
     ghost exact = { ⊤ };
 
-    ghost table = { (codes "SHIFT", 1) ∷ (codes "LOCK", 2) ∷ (codes "CONTROL", 4) ∷ (codes "MOD1", 8) ∷ (codes "MOD2", 16) ∷ (codes "MOD3", 32) ∷ (codes "MOD4", 64) ∷ (codes "MOD5", 128) ∷ [] };
+    ghost table = { (codes "SHIFT", 1) ∷ (codes "LOCK", 2) ∷ (codes "CONTROL", 4)
+        ∷ (codes "MOD1", 8) ∷ (codes "MOD2", 16) ∷ (codes "MOD3", 32) ∷ (codes "MOD4", 64)
+        ∷ (codes "MOD5", 128) ∷ [] };
 
     ghost set_of = { λ m. m.0 };
 

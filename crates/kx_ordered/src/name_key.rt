@@ -130,7 +130,8 @@ impl<'l> Eq for NameKey<'l> {
 impl<'l> PartialOrd for NameKey<'l> {
     ghost partial_cmp = { as_partial_cmp name_cmp };
 
-    ghost laws = { partial_order_from_own_ties (partial_order_from_total name_cmp_total) name_cmp_ties };
+    ghost laws = { partial_order_from_own_ties (partial_order_from_total name_cmp_total)
+        name_cmp_ties };
 
     fn partial_cmp(&self, other: &NameKey<'l>) -> Option<Ordering> {
         Some(self.cmp(other))

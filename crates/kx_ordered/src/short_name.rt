@@ -100,7 +100,8 @@ impl Eq for ShortName {
 impl PartialOrd for ShortName {
     ghost partial_cmp = { as_partial_cmp name_cmp };
 
-    ghost laws = { partial_order_from_own_ties (partial_order_from_total name_cmp_total) name_cmp_ties };
+    ghost laws = { partial_order_from_own_ties (partial_order_from_total name_cmp_total)
+        name_cmp_ties };
 
     fn partial_cmp(&self, other: &ShortName) -> Option<Ordering> {
         Some(self.cmp(other))

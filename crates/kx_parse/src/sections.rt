@@ -510,7 +510,8 @@ fn read_file<'a>(alloc: Global, text: &[u8], tokens: &'a [Token]) -> Parsed<'a, 
 pub fn parse(alloc: Global, text: &[u8], tokens: &[Token]) -> Result<Tree, Fault>
     ensures spelled { IfOk result (λ tree. Spells text.now tokens.now tree) }
     ensures stopped { IfErr result (λ e. (e ≡ Memory) ⊎ StopsWith text.now tokens.now e) }
-    ensures complete { (tree : TreeValue) → Spells text.now tokens.now tree → IfErr result (λ e. e ≡ Memory) }
+    ensures complete { (tree : TreeValue) → Spells text.now tokens.now tree
+        → IfErr result (λ e. e ≡ Memory) }
 {
     let (tree, _rest) = read_source(alloc, text, tokens)?;
     Ok(tree)
@@ -523,7 +524,8 @@ pub fn parse(alloc: Global, text: &[u8], tokens: &[Token]) -> Result<Tree, Fault
 pub fn parse_file(alloc: Global, text: &[u8], tokens: &[Token]) -> Result<Tree, Fault>
     ensures spelled { IfOk result (λ tree. SpellsFile text.now tokens.now tree) }
     ensures stopped { IfErr result (λ e. (e ≡ Memory) ⊎ FileStopsWith text.now tokens.now e) }
-    ensures complete { (tree : TreeValue) → SpellsFile text.now tokens.now tree → IfErr result (λ e. e ≡ Memory) }
+    ensures complete { (tree : TreeValue) → SpellsFile text.now tokens.now tree
+        → IfErr result (λ e. e ≡ Memory) }
 {
     let (tree, _rest) = read_file(alloc, text, tokens)?;
     Ok(tree)
@@ -534,22 +536,33 @@ pub fn parse_file(alloc: Global, text: &[u8], tokens: &[Token]) -> Result<Tree, 
 /// stands in a section that is not geometry: behind whole sections, and behind the flags of one
 /// more, where `xkb_geometry` does not stand.
 pub fn stops()
-    ensures source { (text : List ℕ) (tokens : List TokenValue) (e : FaultValue) → StopsWith text tokens e → StopsWithin text tokens e }
-    ensures file { (text : List ℕ) (tokens : List TokenValue) (e : FaultValue) → FileStopsWith text tokens e → StopsWithin text tokens e }
-    ensures source_number { (text : List ℕ) (tokens : List TokenValue) (at : AtValue) → StopsWith text tokens (NumberTooBig at) → InSourceSection text tokens (NumberTooBig at) }
-    ensures file_number { (text : List ℕ) (tokens : List TokenValue) (at : AtValue) → FileStopsWith text tokens (NumberTooBig at) → InPlainSection text tokens (NumberTooBig at) }
+    ensures source { (text : List ℕ) (tokens : List TokenValue) (e : FaultValue)
+        → StopsWith text tokens e → StopsWithin text tokens e }
+    ensures file { (text : List ℕ) (tokens : List TokenValue) (e : FaultValue)
+        → FileStopsWith text tokens e → StopsWithin text tokens e }
+    ensures source_number { (text : List ℕ) (tokens : List TokenValue) (at : AtValue)
+        → StopsWith text tokens (NumberTooBig at) → InSourceSection text tokens (NumberTooBig at) }
+    ensures file_number { (text : List ℕ) (tokens : List TokenValue) (at : AtValue)
+        → FileStopsWith text tokens (NumberTooBig at)
+        → InPlainSection text tokens (NumberTooBig at) }
 {}
 
 /// Tokens stop the reading with one fault at most, and those that do spell no tree.
 pub fn one_stop()
-    ensures source { (text : List ℕ) (tokens : List TokenValue) (e f : FaultValue) → StopsWith text tokens e → StopsWith text tokens f → e ≡ f }
-    ensures file { (text : List ℕ) (tokens : List TokenValue) (e f : FaultValue) → FileStopsWith text tokens e → FileStopsWith text tokens f → e ≡ f }
-    ensures source_spelled { (text : List ℕ) (tokens : List TokenValue) (e : FaultValue) (tree : TreeValue) → StopsWith text tokens e → Spells text tokens tree → ⊥ }
-    ensures file_spelled { (text : List ℕ) (tokens : List TokenValue) (e : FaultValue) (tree : TreeValue) → FileStopsWith text tokens e → SpellsFile text tokens tree → ⊥ }
+    ensures source { (text : List ℕ) (tokens : List TokenValue) (e f : FaultValue)
+        → StopsWith text tokens e → StopsWith text tokens f → e ≡ f }
+    ensures file { (text : List ℕ) (tokens : List TokenValue) (e f : FaultValue)
+        → FileStopsWith text tokens e → FileStopsWith text tokens f → e ≡ f }
+    ensures source_spelled { (text : List ℕ) (tokens : List TokenValue) (e : FaultValue)
+        (tree : TreeValue) → StopsWith text tokens e → Spells text tokens tree → ⊥ }
+    ensures file_spelled { (text : List ℕ) (tokens : List TokenValue) (e : FaultValue)
+        (tree : TreeValue) → FileStopsWith text tokens e → SpellsFile text tokens tree → ⊥ }
 {}
 
 /// Tokens spell one tree of a source at most, and one of a file.
 pub fn one_tree()
-    ensures source { (text : List ℕ) (tokens : List TokenValue) (s t : TreeValue) → Spells text tokens s → Spells text tokens t → s ≡ t }
-    ensures file { (text : List ℕ) (tokens : List TokenValue) (s t : TreeValue) → SpellsFile text tokens s → SpellsFile text tokens t → s ≡ t }
+    ensures source { (text : List ℕ) (tokens : List TokenValue) (s t : TreeValue)
+        → Spells text tokens s → Spells text tokens t → s ≡ t }
+    ensures file { (text : List ℕ) (tokens : List TokenValue) (s t : TreeValue)
+        → SpellsFile text tokens s → SpellsFile text tokens t → s ≡ t }
 {}

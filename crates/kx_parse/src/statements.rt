@@ -226,7 +226,8 @@ fn read_types_statement<'a>(
     text: &[u8],
     tokens: &'a [Token],
 ) -> Parsed<'a, Statement>
-    ensures { Gives result ((types_statement text.now (symbols_statement text.now)).read tokens.now) }
+    ensures { Gives result ((types_statement text.now (symbols_statement text.now)).read
+        tokens.now) }
 {
     let behind = behind_front(tokens);
     if begins(Keyword::VirtualModifiers, tokens, front_is_word(behind)) {

@@ -12,7 +12,8 @@ use kx_tables::{Action, GroupChange};
 
 /// Writes an action with its arguments.
 pub fn write_action<O: Out>(buffered: &mut BufferedOut, out: &mut O, action: Action)
-    ensures { Writes O.written O.failures out.old buffered.old out.new buffered.new (action_text action) }
+    ensures { Writes O.written O.failures out.old buffered.old out.new buffered.new
+        (action_text action) }
 {
     match action {
         Action::None => buffered.write(out, b"NoAction()"),
@@ -43,7 +44,8 @@ pub fn write_action<O: Out>(buffered: &mut BufferedOut, out: &mut O, action: Act
 }
 
 fn write_set_mods<O: Out>(buffered: &mut BufferedOut, out: &mut O, mods: Mods, clear_locks: bool)
-    ensures { Writes O.written O.failures out.old buffered.old out.new buffered.new (call (codes "SetMods") (mods_argument mods ++ flag (codes "clearLocks") clear_locks)) }
+    ensures { Writes O.written O.failures out.old buffered.old out.new buffered.new
+        (call (codes "SetMods") (mods_argument mods ++ flag (codes "clearLocks") clear_locks)) }
 {
     buffered.write(out, b"SetMods(modifiers=");
     write_mods(buffered, out, mods);
@@ -58,7 +60,9 @@ fn write_latch_mods<O: Out>(
     clear_locks: bool,
     latch_to_lock: bool,
 )
-    ensures { Writes O.written O.failures out.old buffered.old out.new buffered.new (call (codes "LatchMods") (mods_argument mods ++ (flag (codes "clearLocks") clear_locks ++ flag (codes "latchToLock") latch_to_lock))) }
+    ensures { Writes O.written O.failures out.old buffered.old out.new buffered.new
+        (call (codes "LatchMods") (mods_argument mods
+        ++ (flag (codes "clearLocks") clear_locks ++ flag (codes "latchToLock") latch_to_lock))) }
 {
     buffered.write(out, b"LatchMods(modifiers=");
     write_mods(buffered, out, mods);
@@ -74,7 +78,8 @@ fn write_lock_mods<O: Out>(
     locks: bool,
     unlocks: bool,
 )
-    ensures { Writes O.written O.failures out.old buffered.old out.new buffered.new (call (codes "LockMods") (mods_argument mods ++ affect locks unlocks)) }
+    ensures { Writes O.written O.failures out.old buffered.old out.new buffered.new
+        (call (codes "LockMods") (mods_argument mods ++ affect locks unlocks)) }
 {
     buffered.write(out, b"LockMods(modifiers=");
     write_mods(buffered, out, mods);
@@ -88,7 +93,8 @@ fn write_set_group<O: Out>(
     group: GroupChange,
     clear_locks: bool,
 )
-    ensures { Writes O.written O.failures out.old buffered.old out.new buffered.new (call (codes "SetGroup") (group_argument group ++ flag (codes "clearLocks") clear_locks)) }
+    ensures { Writes O.written O.failures out.old buffered.old out.new buffered.new
+        (call (codes "SetGroup") (group_argument group ++ flag (codes "clearLocks") clear_locks)) }
 {
     buffered.write(out, b"SetGroup(group=");
     write_change(buffered, out, group);
@@ -103,7 +109,9 @@ fn write_latch_group<O: Out>(
     clear_locks: bool,
     latch_to_lock: bool,
 )
-    ensures { Writes O.written O.failures out.old buffered.old out.new buffered.new (call (codes "LatchGroup") (group_argument group ++ (flag (codes "clearLocks") clear_locks ++ flag (codes "latchToLock") latch_to_lock))) }
+    ensures { Writes O.written O.failures out.old buffered.old out.new buffered.new
+        (call (codes "LatchGroup") (group_argument group
+        ++ (flag (codes "clearLocks") clear_locks ++ flag (codes "latchToLock") latch_to_lock))) }
 {
     buffered.write(out, b"LatchGroup(group=");
     write_change(buffered, out, group);
@@ -113,7 +121,8 @@ fn write_latch_group<O: Out>(
 }
 
 fn write_lock_group<O: Out>(buffered: &mut BufferedOut, out: &mut O, group: GroupChange)
-    ensures { Writes O.written O.failures out.old buffered.old out.new buffered.new (call (codes "LockGroup") (group_argument group)) }
+    ensures { Writes O.written O.failures out.old buffered.old out.new buffered.new
+        (call (codes "LockGroup") (group_argument group)) }
 {
     buffered.write(out, b"LockGroup(group=");
     write_change(buffered, out, group);
@@ -122,7 +131,8 @@ fn write_lock_group<O: Out>(buffered: &mut BufferedOut, out: &mut O, group: Grou
 
 /// An absolute group is counted from 1; a relative one has a sign.
 fn write_change<O: Out>(buffered: &mut BufferedOut, out: &mut O, change: GroupChange)
-    ensures { Writes O.written O.failures out.old buffered.old out.new buffered.new (change_text change) }
+    ensures { Writes O.written O.failures out.old buffered.old out.new buffered.new
+        (change_text change) }
 {
     match change {
         GroupChange::Absolute(group) => write_number(buffered, out, u16::from(group) + 1),
@@ -131,7 +141,8 @@ fn write_change<O: Out>(buffered: &mut BufferedOut, out: &mut O, change: GroupCh
 }
 
 fn write_signed<O: Out>(buffered: &mut BufferedOut, out: &mut O, by: i8)
-    ensures { Writes O.written O.failures out.old buffered.old out.new buffered.new (change_text (GroupChange.Relative by)) }
+    ensures { Writes O.written O.failures out.old buffered.old out.new buffered.new
+        (change_text (GroupChange.Relative by)) }
 {
     if by < 0 {
         buffered.write(out, b"-");
@@ -143,7 +154,8 @@ fn write_signed<O: Out>(buffered: &mut BufferedOut, out: &mut O, by: i8)
 }
 
 fn write_clear_locks<O: Out>(buffered: &mut BufferedOut, out: &mut O, is_set: bool)
-    ensures { Writes O.written O.failures out.old buffered.old out.new buffered.new (flag (codes "clearLocks") is_set) }
+    ensures { Writes O.written O.failures out.old buffered.old out.new buffered.new
+        (flag (codes "clearLocks") is_set) }
 {
     if is_set {
         buffered.write(out, b",clearLocks");
@@ -151,7 +163,8 @@ fn write_clear_locks<O: Out>(buffered: &mut BufferedOut, out: &mut O, is_set: bo
 }
 
 fn write_latch_to_lock<O: Out>(buffered: &mut BufferedOut, out: &mut O, is_set: bool)
-    ensures { Writes O.written O.failures out.old buffered.old out.new buffered.new (flag (codes "latchToLock") is_set) }
+    ensures { Writes O.written O.failures out.old buffered.old out.new buffered.new
+        (flag (codes "latchToLock") is_set) }
 {
     if is_set {
         buffered.write(out, b",latchToLock");
@@ -159,7 +172,8 @@ fn write_latch_to_lock<O: Out>(buffered: &mut BufferedOut, out: &mut O, is_set: 
 }
 
 fn write_affect<O: Out>(buffered: &mut BufferedOut, out: &mut O, locks: bool, unlocks: bool)
-    ensures { Writes O.written O.failures out.old buffered.old out.new buffered.new (affect locks unlocks) }
+    ensures { Writes O.written O.failures out.old buffered.old out.new buffered.new
+        (affect locks unlocks) }
 {
     match (locks, unlocks) {
         (true, true) => {}

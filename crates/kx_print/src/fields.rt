@@ -22,7 +22,8 @@ pub fn write_fields<T: Tables, O: Out>(
     requires sound { Sound (T.content tables.now) }
     requires within { key.first_group + key.groups ≤ length (T.content tables.now).groups }
     requires few { key.groups ≤ 32 }
-    ensures { Writes O.written O.failures out.old buffered.old out.new buffered.new (joined (codes ",") (map on_new_line (fields_of (T.content tables.now) key))) }
+    ensures { Writes O.written O.failures out.old buffered.old out.new buffered.new
+        (joined (codes ",") (map on_new_line (fields_of (T.content tables.now) key))) }
 {
     write_groups(tables, buffered, out, key);
     if key.groups == 0 {
@@ -37,7 +38,10 @@ fn write_groups<T: Tables, O: Out>(tables: &T, buffered: &mut BufferedOut, out: 
     requires sound { Sound (T.content tables.now) }
     requires within { key.first_group + key.groups ≤ length (T.content tables.now).groups }
     requires few { key.groups ≤ 32 }
-    ensures { Writes O.written O.failures out.old buffered.old out.new buffered.new (joined (codes ",") (map on_new_line (numbered (group_fields (T.content tables.now)) 1 (groups_of (T.content tables.now) key)))) }
+    ensures { Writes O.written O.failures out.old buffered.old out.new buffered.new
+        (joined (codes ",") (map on_new_line
+        (numbered (group_fields (T.content tables.now)) 1
+        (groups_of (T.content tables.now) key)))) }
 {
     let mut before: &[u8] = b"";
     for index in 0..key.groups {
@@ -58,8 +62,10 @@ fn write_group<T: Tables, O: Out>(
 )
     requires sound { Sound (T.content tables.now) }
     requires key_type { group.key_type < length (T.content tables.now).types }
-    requires within { group.first_cell + levels_of (T.content tables.now) group ≤ length (T.content tables.now).cells }
-    ensures { Writes O.written O.failures out.old buffered.old out.new buffered.new (joined (codes ",") (map on_new_line (group_fields (T.content tables.now) number group))) }
+    requires within { group.first_cell + levels_of (T.content tables.now) group
+        ≤ length (T.content tables.now).cells }
+    ensures { Writes O.written O.failures out.old buffered.old out.new buffered.new
+        (joined (codes ",") (map on_new_line (group_fields (T.content tables.now) number group))) }
 {
     let cells = Cells {
         first: group.first_cell,
@@ -74,7 +80,8 @@ fn write_group<T: Tables, O: Out>(
 }
 
 fn write_type_field<O: Out>(buffered: &mut BufferedOut, out: &mut O, number: u16, name: &[u8])
-    ensures { Writes O.written O.failures out.old buffered.old out.new buffered.new (field_at (codes "type") (decimal number) (quoted name.now)) }
+    ensures { Writes O.written O.failures out.old buffered.old out.new buffered.new
+        (field_at (codes "type") (decimal number) (quoted name.now)) }
 {
     buffered.write(out, b"type[");
     write_number(buffered, out, number);
@@ -91,7 +98,10 @@ fn write_symbols_field<T: Tables, O: Out>(
 )
     requires sound { Sound (T.content tables.now) }
     requires within { cells.first + cells.count ≤ length (T.content tables.now).cells }
-    ensures { Writes O.written O.failures out.old buffered.old out.new buffered.new (field_at (codes "symbols") (decimal number) (elements (map (cell_symbols (T.content tables.now)) (part (T.content tables.now).cells cells.first cells.count)))) }
+    ensures { Writes O.written O.failures out.old buffered.old out.new buffered.new
+        (field_at (codes "symbols") (decimal number)
+        (elements (map (cell_symbols (T.content tables.now))
+        (part (T.content tables.now).cells cells.first cells.count)))) }
 {
     buffered.write(out, b"symbols[");
     write_number(buffered, out, number);
@@ -108,7 +118,9 @@ fn write_actions_field<T: Tables, O: Out>(
 )
     requires sound { Sound (T.content tables.now) }
     requires within { cells.first + cells.count ≤ length (T.content tables.now).cells }
-    ensures { Writes O.written O.failures out.old buffered.old out.new buffered.new (field_at (codes "actions") (decimal number) (elements (map cell_action (part (T.content tables.now).cells cells.first cells.count)))) }
+    ensures { Writes O.written O.failures out.old buffered.old out.new buffered.new
+        (field_at (codes "actions") (decimal number)
+        (elements (map cell_action (part (T.content tables.now).cells cells.first cells.count)))) }
 {
     buffered.write(out, b"actions[");
     write_number(buffered, out, number);
@@ -118,7 +130,8 @@ fn write_actions_field<T: Tables, O: Out>(
 
 /// Writes the field of a range, after what stands before it; a key that wraps has none.
 fn write_range<O: Out>(buffered: &mut BufferedOut, out: &mut O, before: &[u8], range: Range)
-    ensures { Writes O.written O.failures out.old buffered.old out.new buffered.new (flat_map (λ field. before.now ++ on_new_line field) (range_fields range)) }
+    ensures { Writes O.written O.failures out.old buffered.old out.new buffered.new
+        (flat_map (λ field. before.now ++ on_new_line field) (range_fields range)) }
 {
     match range {
         Range::Wrap => {}

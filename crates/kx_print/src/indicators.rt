@@ -14,7 +14,8 @@ use kx_tables::{IndicatorRow, States, Tables};
 
 /// Writes the section of indicators, where there are any.
 pub fn write_indicators<T: Tables, O: Out>(tables: &T, buffered: &mut BufferedOut, out: &mut O)
-    ensures { Writes O.written O.failures out.old buffered.old out.new buffered.new (compat_section (T.content tables.now)) }
+    ensures { Writes O.written O.failures out.old buffered.old out.new buffered.new
+        (compat_section (T.content tables.now)) }
 {
     if tables.counts().indicators > 0 {
         buffered.write(out, b"xkb_compat {\n");
@@ -24,7 +25,8 @@ pub fn write_indicators<T: Tables, O: Out>(tables: &T, buffered: &mut BufferedOu
 }
 
 fn write_each_indicator<T: Tables, O: Out>(tables: &T, buffered: &mut BufferedOut, out: &mut O)
-    ensures { Writes O.written O.failures out.old buffered.old out.new buffered.new (flat_map (indicator_block (T.content tables.now)) (T.content tables.now).indicators) }
+    ensures { Writes O.written O.failures out.old buffered.old out.new buffered.new
+        (flat_map (indicator_block (T.content tables.now)) (T.content tables.now).indicators) }
 {
     for index in 0..tables.counts().indicators {
         let row = tables.indicator_row(index);
@@ -33,7 +35,8 @@ fn write_each_indicator<T: Tables, O: Out>(tables: &T, buffered: &mut BufferedOu
 }
 
 fn write_indicator<O: Out>(buffered: &mut BufferedOut, out: &mut O, name: &[u8], row: IndicatorRow)
-    ensures { Writes O.written O.failures out.old buffered.old out.new buffered.new (block (codes "indicator " ++ quoted name.now) (indicator_map_lines row)) }
+    ensures { Writes O.written O.failures out.old buffered.old out.new buffered.new
+        (block (codes "indicator " ++ quoted name.now) (indicator_map_lines row)) }
 {
     buffered.write(out, b"indicator ");
     write_quoted(buffered, out, name);
@@ -44,7 +47,8 @@ fn write_indicator<O: Out>(buffered: &mut BufferedOut, out: &mut O, name: &[u8],
 
 /// Writes what lights an indicator.
 fn write_indicator_map<O: Out>(buffered: &mut BufferedOut, out: &mut O, row: IndicatorRow)
-    ensures { Writes O.written O.failures out.old buffered.old out.new buffered.new (indicator_map_lines row) }
+    ensures { Writes O.written O.failures out.old buffered.old out.new buffered.new
+        (indicator_map_lines row) }
 {
     write_states_line(buffered, out, b"whichModState", row.mod_states);
     write_mods_line(buffered, out, row.mods);
@@ -53,7 +57,8 @@ fn write_indicator_map<O: Out>(buffered: &mut BufferedOut, out: &mut O, row: Ind
 }
 
 fn write_states_line<O: Out>(buffered: &mut BufferedOut, out: &mut O, word: &[u8], states: States)
-    ensures { Writes O.written O.failures out.old buffered.old out.new buffered.new (setting word.now (states_text states)) }
+    ensures { Writes O.written O.failures out.old buffered.old out.new buffered.new
+        (setting word.now (states_text states)) }
 {
     buffered.write(out, word);
     buffered.write(out, b"= ");
@@ -62,7 +67,8 @@ fn write_states_line<O: Out>(buffered: &mut BufferedOut, out: &mut O, word: &[u8
 }
 
 fn write_groups_line<O: Out>(buffered: &mut BufferedOut, out: &mut O, groups: u32)
-    ensures { Writes O.written O.failures out.old buffered.old out.new buffered.new (setting (codes "groups") (hexadecimal groups)) }
+    ensures { Writes O.written O.failures out.old buffered.old out.new buffered.new
+        (setting (codes "groups") (hexadecimal groups)) }
 {
     buffered.write(out, b"groups= ");
     write_hexadecimal(buffered, out, groups);
@@ -71,7 +77,8 @@ fn write_groups_line<O: Out>(buffered: &mut BufferedOut, out: &mut O, groups: u3
 
 /// Writes the lines of the groups that have names.
 pub fn write_group_names<T: Tables, O: Out>(tables: &T, buffered: &mut BufferedOut, out: &mut O)
-    ensures { Writes O.written O.failures out.old buffered.old out.new buffered.new (numbered (group_name_line (T.content tables.now)) 1 (T.content tables.now).group_names) }
+    ensures { Writes O.written O.failures out.old buffered.old out.new buffered.new
+        (numbered (group_name_line (T.content tables.now)) 1 (T.content tables.now).group_names) }
 {
     let _sound = tables.key_count();
     for index in 0..tables.counts().group_names {
@@ -81,7 +88,8 @@ pub fn write_group_names<T: Tables, O: Out>(tables: &T, buffered: &mut BufferedO
 
 /// Writes the name of a group, counted from 1, where it has one.
 fn write_group_name<O: Out>(buffered: &mut BufferedOut, out: &mut O, number: u16, name: &[u8])
-    ensures { Writes O.written O.failures out.old buffered.old out.new buffered.new (name_line number name.now) }
+    ensures { Writes O.written O.failures out.old buffered.old out.new buffered.new
+        (name_line number name.now) }
 {
     if name.is_empty() {
         return;

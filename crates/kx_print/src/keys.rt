@@ -19,7 +19,8 @@ use kx_tables::{KeyRow, Tables};
 
 /// Writes the section of keycodes.
 pub fn write_keycodes<T: Tables, O: Out>(tables: &T, buffered: &mut BufferedOut, out: &mut O)
-    ensures { Writes O.written O.failures out.old buffered.old out.new buffered.new (keycodes_section (T.content tables.now)) }
+    ensures { Writes O.written O.failures out.old buffered.old out.new buffered.new
+        (keycodes_section (T.content tables.now)) }
 {
     buffered.write(out, b"xkb_keycodes {\n");
     write_each_keycode(tables, buffered, out);
@@ -27,7 +28,8 @@ pub fn write_keycodes<T: Tables, O: Out>(tables: &T, buffered: &mut BufferedOut,
 }
 
 fn write_each_keycode<T: Tables, O: Out>(tables: &T, buffered: &mut BufferedOut, out: &mut O)
-    ensures { Writes O.written O.failures out.old buffered.old out.new buffered.new (flat_map (keycode_line (T.content tables.now)) (T.content tables.now).keys) }
+    ensures { Writes O.written O.failures out.old buffered.old out.new buffered.new
+        (flat_map (keycode_line (T.content tables.now)) (T.content tables.now).keys) }
 {
     for index in 0..tables.counts().keys {
         let code = tables.key_row(index).code;
@@ -36,7 +38,8 @@ fn write_each_keycode<T: Tables, O: Out>(tables: &T, buffered: &mut BufferedOut,
 }
 
 fn write_keycode<O: Out>(buffered: &mut BufferedOut, out: &mut O, name: &[u8], code: u16)
-    ensures { Writes O.written O.failures out.old buffered.old out.new buffered.new (setting (bracketed name.now) (decimal code)) }
+    ensures { Writes O.written O.failures out.old buffered.old out.new buffered.new
+        (setting (bracketed name.now) (decimal code)) }
 {
     write_key_word(buffered, out, name);
     buffered.write(out, b"= ");
@@ -46,7 +49,8 @@ fn write_keycode<O: Out>(buffered: &mut BufferedOut, out: &mut O, name: &[u8], c
 
 /// Writes the name of a key as texts name keys.
 fn write_key_word<O: Out>(buffered: &mut BufferedOut, out: &mut O, name: &[u8])
-    ensures { Writes O.written O.failures out.old buffered.old out.new buffered.new (bracketed name.now) }
+    ensures { Writes O.written O.failures out.old buffered.old out.new buffered.new
+        (bracketed name.now) }
 {
     buffered.write(out, b"<");
     buffered.write(out, name);
@@ -55,7 +59,8 @@ fn write_key_word<O: Out>(buffered: &mut BufferedOut, out: &mut O, name: &[u8])
 
 /// Writes the section of symbols: the names of groups, the keys, and the modifier maps.
 pub fn write_symbols<T: Tables, O: Out>(tables: &T, buffered: &mut BufferedOut, out: &mut O)
-    ensures { Writes O.written O.failures out.old buffered.old out.new buffered.new (symbols_section (T.content tables.now)) }
+    ensures { Writes O.written O.failures out.old buffered.old out.new buffered.new
+        (symbols_section (T.content tables.now)) }
 {
     buffered.write(out, b"xkb_symbols {\n");
     write_group_names(tables, buffered, out);
@@ -65,7 +70,8 @@ pub fn write_symbols<T: Tables, O: Out>(tables: &T, buffered: &mut BufferedOut, 
 }
 
 fn write_each_key<T: Tables, O: Out>(tables: &T, buffered: &mut BufferedOut, out: &mut O)
-    ensures { Writes O.written O.failures out.old buffered.old out.new buffered.new (flat_map (key_block (T.content tables.now)) (T.content tables.now).keys) }
+    ensures { Writes O.written O.failures out.old buffered.old out.new buffered.new
+        (flat_map (key_block (T.content tables.now)) (T.content tables.now).keys) }
 {
     let _sound = tables.key_count();
     for index in 0..tables.counts().keys {
@@ -86,7 +92,8 @@ fn write_key<T: Tables, O: Out>(
     requires name { name.now ≡ key_name (T.content tables.now) row }
     requires within { row.first_group + row.groups ≤ length (T.content tables.now).groups }
     requires few { row.groups ≤ 32 }
-    ensures { Writes O.written O.failures out.old buffered.old out.new buffered.new (key_block (T.content tables.now) row) }
+    ensures { Writes O.written O.failures out.old buffered.old out.new buffered.new
+        (key_block (T.content tables.now) row) }
 {
     buffered.write(out, b"key ");
     write_key_word(buffered, out, name);
@@ -96,7 +103,8 @@ fn write_key<T: Tables, O: Out>(
 }
 
 fn write_modifier_maps<T: Tables, O: Out>(tables: &T, buffered: &mut BufferedOut, out: &mut O)
-    ensures { Writes O.written O.failures out.old buffered.old out.new buffered.new (flat_map (modifier_map_lines (T.content tables.now)) (T.content tables.now).keys) }
+    ensures { Writes O.written O.failures out.old buffered.old out.new buffered.new
+        (flat_map (modifier_map_lines (T.content tables.now)) (T.content tables.now).keys) }
 {
     for index in 0..tables.counts().keys {
         let mods = tables.key_row(index).modmap;
@@ -106,7 +114,8 @@ fn write_modifier_maps<T: Tables, O: Out>(tables: &T, buffered: &mut BufferedOut
 
 /// Writes a line for each modifier that a key is mapped to.
 fn write_modifier_map<O: Out>(buffered: &mut BufferedOut, out: &mut O, name: &[u8], mods: Mods)
-    ensures { Writes O.written O.failures out.old buffered.old out.new buffered.new (flat_map (modifier_map_line name.now) (chosen (mask mods) mod_names)) }
+    ensures { Writes O.written O.failures out.old buffered.old out.new buffered.new
+        (flat_map (modifier_map_line name.now) (chosen (mask mods) mod_names)) }
 {
     let mut left = mods.mask();
     for bit in 0..Names::Modifiers.count() {
@@ -118,7 +127,8 @@ fn write_modifier_map<O: Out>(buffered: &mut BufferedOut, out: &mut O, name: &[u
 }
 
 fn write_mapped<O: Out>(buffered: &mut BufferedOut, out: &mut O, name: &[u8], modifier: &str)
-    ensures { Writes O.written O.failures out.old buffered.old out.new buffered.new (modifier_map_line name.now modifier.now) }
+    ensures { Writes O.written O.failures out.old buffered.old out.new buffered.new
+        (modifier_map_line name.now modifier.now) }
 {
     buffered.write(out, b"modifier_map ");
     buffered.write(out, modifier.as_bytes());

@@ -24,7 +24,8 @@ pub fn print<T: Tables, O: Out>(tables: &T, out: &mut O) -> io::Result<()>
 }
 
 fn write_keymap<T: Tables, O: Out>(tables: &T, buffered: &mut BufferedOut, out: &mut O)
-    ensures { Writes O.written O.failures out.old buffered.old out.new buffered.new (printed (T.content tables.now)) }
+    ensures { Writes O.written O.failures out.old buffered.old out.new buffered.new
+        (printed (T.content tables.now)) }
 {
     buffered.write(out, b"xkb_keymap {\n");
     write_keycodes(tables, buffered, out);

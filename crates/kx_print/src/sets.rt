@@ -73,20 +73,23 @@ fn state_name(bit: u8) -> &'static str
 
 /// Writes modifiers joined by `+`, or `none`.
 pub fn write_mods<O: Out>(buffered: &mut BufferedOut, out: &mut O, mods: Mods)
-    ensures { Writes O.written O.failures out.old buffered.old out.new buffered.new (mods_text mods) }
+    ensures { Writes O.written O.failures out.old buffered.old out.new buffered.new
+        (mods_text mods) }
 {
     write_set(buffered, out, Names::Modifiers, mods.mask());
 }
 
 /// Writes states joined by `+`, or `none`.
 pub fn write_states<O: Out>(buffered: &mut BufferedOut, out: &mut O, states: States)
-    ensures { Writes O.written O.failures out.old buffered.old out.new buffered.new (states_text states) }
+    ensures { Writes O.written O.failures out.old buffered.old out.new buffered.new
+        (states_text states) }
 {
     write_set(buffered, out, Names::States, states.mask());
 }
 
 fn write_set<O: Out>(buffered: &mut BufferedOut, out: &mut O, names: Names, bits: u8)
-    ensures { Writes O.written O.failures out.old buffered.old out.new buffered.new (set_text (names_of names) bits) }
+    ensures { Writes O.written O.failures out.old buffered.old out.new buffered.new
+        (set_text (names_of names) bits) }
 {
     if bits == 0 {
         buffered.write(out, b"none");
@@ -96,7 +99,8 @@ fn write_set<O: Out>(buffered: &mut BufferedOut, out: &mut O, names: Names, bits
 }
 
 fn write_members<O: Out>(buffered: &mut BufferedOut, out: &mut O, names: Names, bits: u8)
-    ensures { Writes O.written O.failures out.old buffered.old out.new buffered.new (joined (codes "+") (chosen bits (names_of names))) }
+    ensures { Writes O.written O.failures out.old buffered.old out.new buffered.new
+        (joined (codes "+") (chosen bits (names_of names))) }
 {
     let mut before: &[u8] = b"";
     let mut left = bits;
@@ -110,7 +114,8 @@ fn write_members<O: Out>(buffered: &mut BufferedOut, out: &mut O, names: Names, 
 }
 
 fn write_member<O: Out>(buffered: &mut BufferedOut, out: &mut O, before: &[u8], name: &str)
-    ensures { Writes O.written O.failures out.old buffered.old out.new buffered.new (before.now ++ name.now) }
+    ensures { Writes O.written O.failures out.old buffered.old out.new buffered.new
+        (before.now ++ name.now) }
 {
     buffered.write(out, before);
     buffered.write(out, name.as_bytes());

@@ -29,7 +29,9 @@ pub fn write_symbols<T: Tables, O: Out>(
 )
     requires sound { Sound (T.content tables.now) }
     requires within { cells.first + cells.count ≤ length (T.content tables.now).cells }
-    ensures { Writes O.written O.failures out.old buffered.old out.new buffered.new (elements (map (cell_symbols (T.content tables.now)) (part (T.content tables.now).cells cells.first cells.count))) }
+    ensures { Writes O.written O.failures out.old buffered.old out.new buffered.new
+        (elements (map (cell_symbols (T.content tables.now))
+        (part (T.content tables.now).cells cells.first cells.count))) }
 {
     buffered.write(out, b"[ ");
     write_each_symbol(tables, buffered, out, cells);
@@ -44,7 +46,9 @@ fn write_each_symbol<T: Tables, O: Out>(
 )
     requires sound { Sound (T.content tables.now) }
     requires within { cells.first + cells.count ≤ length (T.content tables.now).cells }
-    ensures { Writes O.written O.failures out.old buffered.old out.new buffered.new (joined (codes ", ") (map (cell_symbols (T.content tables.now)) (part (T.content tables.now).cells cells.first cells.count))) }
+    ensures { Writes O.written O.failures out.old buffered.old out.new buffered.new
+        (joined (codes ", ") (map (cell_symbols (T.content tables.now))
+        (part (T.content tables.now).cells cells.first cells.count))) }
 {
     let mut before: &[u8] = b"";
     for level in 0..cells.count {
@@ -59,7 +63,8 @@ fn write_each_symbol<T: Tables, O: Out>(
 fn write_cell<T: Tables, O: Out>(tables: &T, buffered: &mut BufferedOut, out: &mut O, cell: CellRow)
     requires sound { Sound (T.content tables.now) }
     requires within { cell.first_keysym + cell.keysyms ≤ length (T.content tables.now).keysyms }
-    ensures { Writes O.written O.failures out.old buffered.old out.new buffered.new (cell_symbols (T.content tables.now) cell) }
+    ensures { Writes O.written O.failures out.old buffered.old out.new buffered.new
+        (cell_symbols (T.content tables.now) cell) }
 {
     match cell.keysyms {
         0 => buffered.write(out, b"NoSymbol"),
@@ -81,7 +86,9 @@ fn write_keysyms<T: Tables, O: Out>(
 )
     requires sound { Sound (T.content tables.now) }
     requires within { cell.first_keysym + cell.keysyms ≤ length (T.content tables.now).keysyms }
-    ensures { Writes O.written O.failures out.old buffered.old out.new buffered.new (joined (codes ", ") (map keysym_text (part (T.content tables.now).keysyms cell.first_keysym cell.keysyms))) }
+    ensures { Writes O.written O.failures out.old buffered.old out.new buffered.new
+        (joined (codes ", ") (map keysym_text
+        (part (T.content tables.now).keysyms cell.first_keysym cell.keysyms))) }
 {
     let mut before: &[u8] = b"";
     for index in 0..cell.keysyms {
@@ -94,7 +101,8 @@ fn write_keysyms<T: Tables, O: Out>(
 
 /// Writes a keysym by its name among the built-in names.
 fn write_keysym<O: Out>(buffered: &mut BufferedOut, out: &mut O, keysym: u32)
-    ensures { Writes O.written O.failures out.old buffered.old out.new buffered.new (keysym_text keysym) }
+    ensures { Writes O.written O.failures out.old buffered.old out.new buffered.new
+        (keysym_text keysym) }
 {
     let mut name = ArrayString::new();
     NameTable::builtin().write_name(Keysym(keysym), &mut name);
@@ -110,7 +118,8 @@ pub fn write_actions<T: Tables, O: Out>(
 )
     requires sound { Sound (T.content tables.now) }
     requires within { cells.first + cells.count ≤ length (T.content tables.now).cells }
-    ensures { Writes O.written O.failures out.old buffered.old out.new buffered.new (elements (map cell_action (part (T.content tables.now).cells cells.first cells.count))) }
+    ensures { Writes O.written O.failures out.old buffered.old out.new buffered.new
+        (elements (map cell_action (part (T.content tables.now).cells cells.first cells.count))) }
 {
     buffered.write(out, b"[ ");
     write_each_action(tables, buffered, out, cells);
@@ -125,7 +134,9 @@ fn write_each_action<T: Tables, O: Out>(
 )
     requires sound { Sound (T.content tables.now) }
     requires within { cells.first + cells.count ≤ length (T.content tables.now).cells }
-    ensures { Writes O.written O.failures out.old buffered.old out.new buffered.new (joined (codes ", ") (map cell_action (part (T.content tables.now).cells cells.first cells.count))) }
+    ensures { Writes O.written O.failures out.old buffered.old out.new buffered.new
+        (joined (codes ", ") (map cell_action
+        (part (T.content tables.now).cells cells.first cells.count))) }
 {
     let mut before: &[u8] = b"";
     for level in 0..cells.count {

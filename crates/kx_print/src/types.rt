@@ -16,7 +16,8 @@ use kx_tables::{EntryRow, Tables, TypeRow};
 
 /// Writes the section of types.
 pub fn write_types<T: Tables, O: Out>(tables: &T, buffered: &mut BufferedOut, out: &mut O)
-    ensures { Writes O.written O.failures out.old buffered.old out.new buffered.new (types_section (T.content tables.now)) }
+    ensures { Writes O.written O.failures out.old buffered.old out.new buffered.new
+        (types_section (T.content tables.now)) }
 {
     buffered.write(out, b"xkb_types {\n");
     write_each_type(tables, buffered, out);
@@ -24,7 +25,8 @@ pub fn write_types<T: Tables, O: Out>(tables: &T, buffered: &mut BufferedOut, ou
 }
 
 fn write_each_type<T: Tables, O: Out>(tables: &T, buffered: &mut BufferedOut, out: &mut O)
-    ensures { Writes O.written O.failures out.old buffered.old out.new buffered.new (flat_map (type_block (T.content tables.now)) (T.content tables.now).types) }
+    ensures { Writes O.written O.failures out.old buffered.old out.new buffered.new
+        (flat_map (type_block (T.content tables.now)) (T.content tables.now).types) }
 {
     let _sound = tables.key_count();
     for index in 0..tables.counts().types {
@@ -44,7 +46,8 @@ fn write_type<T: Tables, O: Out>(
     requires sound { Sound (T.content tables.now) }
     requires name { name.now ≡ type_name (T.content tables.now) row }
     requires entries { row.first_entry + row.entries ≤ length (T.content tables.now).entries }
-    ensures { Writes O.written O.failures out.old buffered.old out.new buffered.new (type_block (T.content tables.now) row) }
+    ensures { Writes O.written O.failures out.old buffered.old out.new buffered.new
+        (type_block (T.content tables.now) row) }
 {
     buffered.write(out, b"type ");
     write_quoted(buffered, out, name);
@@ -57,7 +60,8 @@ fn write_type<T: Tables, O: Out>(
 
 /// Writes the line of a type's or an indicator's modifiers.
 pub fn write_mods_line<O: Out>(buffered: &mut BufferedOut, out: &mut O, mods: Mods)
-    ensures { Writes O.written O.failures out.old buffered.old out.new buffered.new (setting (codes "modifiers") (mods_text mods)) }
+    ensures { Writes O.written O.failures out.old buffered.old out.new buffered.new
+        (setting (codes "modifiers") (mods_text mods)) }
 {
     buffered.write(out, b"modifiers= ");
     write_mods(buffered, out, mods);
@@ -72,7 +76,8 @@ fn write_entries<T: Tables, O: Out>(
 )
     requires sound { Sound (T.content tables.now) }
     requires within { row.first_entry + row.entries ≤ length (T.content tables.now).entries }
-    ensures { Writes O.written O.failures out.old buffered.old out.new buffered.new (flat_map entry_lines (entries_of (T.content tables.now) row)) }
+    ensures { Writes O.written O.failures out.old buffered.old out.new buffered.new
+        (flat_map entry_lines (entries_of (T.content tables.now) row)) }
 {
     for index in 0..row.entries {
         let entry = tables.entry_row(row.first_entry + u32::from(index));
@@ -82,7 +87,8 @@ fn write_entries<T: Tables, O: Out>(
 
 /// Writes the level of an entry, and the modifiers that it preserves.
 fn write_entry<O: Out>(buffered: &mut BufferedOut, out: &mut O, entry: EntryRow)
-    ensures { Writes O.written O.failures out.old buffered.old out.new buffered.new (entry_lines entry) }
+    ensures { Writes O.written O.failures out.old buffered.old out.new buffered.new
+        (entry_lines entry) }
 {
     buffered.write(out, b"map[");
     write_mods(buffered, out, entry.mods);
@@ -93,7 +99,8 @@ fn write_entry<O: Out>(buffered: &mut BufferedOut, out: &mut O, entry: EntryRow)
 }
 
 fn write_preserved<O: Out>(buffered: &mut BufferedOut, out: &mut O, entry: EntryRow)
-    ensures { Writes O.written O.failures out.old buffered.old out.new buffered.new (preserve_line entry) }
+    ensures { Writes O.written O.failures out.old buffered.old out.new buffered.new
+        (preserve_line entry) }
 {
     if entry.preserve.is_none() {
         return;
@@ -107,7 +114,8 @@ fn write_preserved<O: Out>(buffered: &mut BufferedOut, out: &mut O, entry: Entry
 
 /// Writes how many levels a type has, by the name of the last.
 fn write_levels<O: Out>(buffered: &mut BufferedOut, out: &mut O, levels: u8)
-    ensures { Writes O.written O.failures out.old buffered.old out.new buffered.new (levels_line levels) }
+    ensures { Writes O.written O.failures out.old buffered.old out.new buffered.new
+        (levels_line levels) }
 {
     buffered.write(out, b"level_name[");
     write_number(buffered, out, u16::from(levels));

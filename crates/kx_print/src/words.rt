@@ -10,7 +10,8 @@ use ks_core::{BufferedOut, Out, write_printed_name};
 
 /// Writes a number in decimal.
 pub fn write_number<O: Out>(buffered: &mut BufferedOut, out: &mut O, number: u16)
-    ensures { Writes O.written O.failures out.old buffered.old out.new buffered.new (decimal number) }
+    ensures { Writes O.written O.failures out.old buffered.old out.new buffered.new
+        (decimal number) }
 {
     let mut buffer = Buffer::new();
     buffered.write(out, buffer.format(number).as_bytes());
@@ -18,7 +19,8 @@ pub fn write_number<O: Out>(buffered: &mut BufferedOut, out: &mut O, number: u16
 
 /// Writes a name between quotes, as printed text writes it.
 pub fn write_quoted<O: Out>(buffered: &mut BufferedOut, out: &mut O, name: &[u8])
-    ensures { Writes O.written O.failures out.old buffered.old out.new buffered.new (quoted name.now) }
+    ensures { Writes O.written O.failures out.old buffered.old out.new buffered.new
+        (quoted name.now) }
 {
     buffered.write(out, b"\"");
     write_printed_name(buffered, out, name);
@@ -27,7 +29,8 @@ pub fn write_quoted<O: Out>(buffered: &mut BufferedOut, out: &mut O, name: &[u8]
 
 /// Writes a number in hexadecimal, after `0x`.
 pub fn write_hexadecimal<O: Out>(buffered: &mut BufferedOut, out: &mut O, number: u32)
-    ensures { Writes O.written O.failures out.old buffered.old out.new buffered.new (hexadecimal number) }
+    ensures { Writes O.written O.failures out.old buffered.old out.new buffered.new
+        (hexadecimal number) }
 {
     buffered.write(out, b"0x");
     if number == 0 {
@@ -39,7 +42,8 @@ pub fn write_hexadecimal<O: Out>(buffered: &mut BufferedOut, out: &mut O, number
 
 /// Writes the hexadecimal digits of a number, none of 0.
 fn write_digits<O: Out>(buffered: &mut BufferedOut, out: &mut O, number: u32)
-    ensures { Writes O.written O.failures out.old buffered.old out.new buffered.new (hex_digits false number) }
+    ensures { Writes O.written O.failures out.old buffered.old out.new buffered.new
+        (hex_digits false number) }
 {
     if number > 0 {
         write_digits(buffered, out, number / 16);

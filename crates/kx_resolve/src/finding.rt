@@ -31,7 +31,8 @@ pub(crate) type FirstPlaces = Ordered<u32, Option<LevelPlace>>;
 
 /// Visits a place of a keysym, which counts where the keysym is looked for.
 fn visit_keysym(firsts: &mut FirstPlaces, keysym: u32, place: LevelPlace)
-    ensures { Visits (λ k. if nat_eq keysym k then place ∷ [] else []) (get nat_eq firsts.old) (get nat_eq firsts.new) }
+    ensures { Visits (λ k. if nat_eq keysym k then place ∷ [] else []) (get nat_eq firsts.old)
+        (get nat_eq firsts.new) }
 {
     if let Some(first) = firsts.get_mut(&keysym) {
         *first = Some(place.earlier(*first));
@@ -40,7 +41,8 @@ fn visit_keysym(firsts: &mut FirstPlaces, keysym: u32, place: LevelPlace)
 
 /// Visits the keysyms of a level, at its place.
 fn visit_level(firsts: &mut FirstPlaces, keysyms: &[u32], place: LevelPlace)
-    ensures { Visits (λ k. if is_member nat_eq keysyms.now k then place ∷ [] else []) (get nat_eq firsts.old) (get nat_eq firsts.new) }
+    ensures { Visits (λ k. if is_member nat_eq keysyms.now k then place ∷ [] else [])
+        (get nat_eq firsts.old) (get nat_eq firsts.new) }
 {
     'keysyms: for keysym in keysyms {
         visit_keysym(firsts, *keysym, place);
@@ -49,7 +51,8 @@ fn visit_level(firsts: &mut FirstPlaces, keysyms: &[u32], place: LevelPlace)
 
 /// Visits a number of levels of a group of a key.
 fn visit_group(firsts: &mut FirstPlaces, key: &KeyRecord, code: u16, group: usize, levels: usize)
-    ensures { Visits (λ k. level_places k (given key.now) code group levels) (get nat_eq firsts.old) (get nat_eq firsts.new) }
+    ensures { Visits (λ k. level_places k (given key.now) code group levels) (get nat_eq firsts.old)
+        (get nat_eq firsts.new) }
 {
     let content = content_group(key, group);
     'levels: for level in 0..levels {
@@ -60,7 +63,8 @@ fn visit_group(firsts: &mut FirstPlaces, key: &KeyRecord, code: u16, group: usiz
 
 /// Visits the groups of a key, each with the levels of its type.
 fn visit_key(firsts: &mut FirstPlaces, types: &Types, key: &KeyRecord, code: u16)
-    ensures { Visits (λ k. group_places k (type_named types.now) (given key.now) code (group_count (given key.now))) (get nat_eq firsts.old) (get nat_eq firsts.new) }
+    ensures { Visits (λ k. group_places k (type_named types.now) (given key.now) code
+        (group_count (given key.now))) (get nat_eq firsts.old) (get nat_eq firsts.new) }
 {
     'groups: for group in 0..group_count(key) {
         visit_group(
@@ -75,7 +79,8 @@ fn visit_key(firsts: &mut FirstPlaces, types: &Types, key: &KeyRecord, code: u16
 
 /// Visits the key of a code, where the code has a name.
 fn visit_code(firsts: &mut FirstPlaces, codes: &Codes, types: &Types, keys: &Keys, code: u16)
-    ensures { Visits (λ k. key_places k (type_named types.now) code (name_of codes.now code) (given_in (key_at keys.now code))) (get nat_eq firsts.old) (get nat_eq firsts.new) }
+    ensures { Visits (λ k. key_places k (type_named types.now) code (name_of codes.now code)
+        (given_in (key_at keys.now code))) (get nat_eq firsts.old) (get nat_eq firsts.new) }
 {
     match (codes.name_of(code), keys.key(code)) {
         (Some(_), Some(key)) => visit_key(firsts, types, key, code),
@@ -86,7 +91,9 @@ fn visit_code(firsts: &mut FirstPlaces, codes: &Codes, types: &Types, keys: &Key
 
 /// Visits the keys of all codes.
 fn visit_codes(firsts: &mut FirstPlaces, codes: &Codes, types: &Types, keys: &Keys)
-    ensures { (maps : Maps) → Visits (λ k. places_below k (mapping_of codes.now types.now keys.now maps) CODES) (get nat_eq firsts.old) (get nat_eq firsts.new) }
+    ensures { (maps : Maps) → Visits (λ k.
+        places_below k (mapping_of codes.now types.now keys.now maps) CODES) (get nat_eq firsts.old)
+        (get nat_eq firsts.new) }
 {
     let count = firsts.len();
     if count == 0 {
@@ -99,7 +106,9 @@ fn visit_codes(firsts: &mut FirstPlaces, codes: &Codes, types: &Types, keys: &Ke
 
 /// The keysyms of modifier maps, without places.
 fn unplaced_keysyms(alloc: Global, maps: &ModifierMaps) -> Result<FirstPlaces, Fault>
-    ensures named { IfOk result (λ firsts. (k : ℕ) → get nat_eq firsts k ≡ (if list_any (λ (e : ℕ × ℕ). e.0 == k) (map shown_entry maps.now.by_keysym) then Some None else None)) }
+    ensures named { IfOk result (λ firsts. (k : ℕ)
+        → get nat_eq firsts k ≡ (if list_any (λ (e : ℕ × ℕ). e.0 == k)
+        (map shown_entry maps.now.by_keysym) then Some None else None)) }
     ensures err { IfErr result (λ e. e ≡ Memory) }
 {
     let mut firsts = Ordered::new(alloc);
@@ -117,8 +126,13 @@ pub(crate) fn first_places(
     keys: &Keys,
     maps: &ModifierMaps,
 ) -> Result<FirstPlaces, Fault>
-    ensures firsts { IfOk result (λ firsts. let m = mapping_of codes.now types.now keys.now maps.now in (k : ℕ) → get nat_eq firsts k ≡ (if list_any (λ (e : ℕ × ℕ). e.0 == k) m.keysym_maps then Some (first_place k m) else None)) }
-    ensures least { IfOk result (λ firsts. (k : ℕ) → IfSome (get nat_eq firsts k) (IsFirstOrNone (places_below k (mapping_of codes.now types.now keys.now maps.now) CODES))) }
+    ensures firsts { IfOk result (λ firsts.
+        let m = mapping_of codes.now types.now keys.now maps.now in (k : ℕ)
+        → get nat_eq firsts k ≡ (if list_any (λ (e : ℕ × ℕ). e.0 == k) m.keysym_maps
+        then Some (first_place k m) else None)) }
+    ensures least { IfOk result (λ firsts. (k : ℕ)
+        → IfSome (get nat_eq firsts k)
+        (IsFirstOrNone (places_below k (mapping_of codes.now types.now keys.now maps.now) CODES))) }
     ensures err { IfErr result (λ e. e ≡ Memory) }
 {
     let mut firsts = unplaced_keysyms(alloc, maps)?;

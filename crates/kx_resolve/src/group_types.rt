@@ -69,7 +69,8 @@ fn four_levels(key: &KeyRecord, group: usize) -> &'static [u8]
 
 /// The type that a group wants by how many levels it has, and by their first keysyms.
 fn automatic(key: &KeyRecord, group: usize) -> Option<&'static [u8]>
-    ensures { option_map (λ n. n.now) result ≡ automatic (first_keysym (given key.now) group) ((given key.now).width group) }
+    ensures { option_map (λ n. n.now) result
+        ≡ automatic (first_keysym (given key.now) group) ((given key.now).width group) }
 {
     match key.width(group) {
         0 | 1 => Some(ONE_LEVEL.as_bytes()),
@@ -120,7 +121,8 @@ pub fn content_group(key: &KeyRecord, group: usize) -> usize
 /// Whether a level of a group has an action.
 #[tactic(auto, using(crate::proofs::Acting::any_none, crate::proofs::Acting::any_next))]
 fn group_has_action(key: &KeyRecord, group: usize) -> bool
-    ensures { result ≡ any_below ((given key.now).width group) (λ level. is_some ((given key.now).action group level)) }
+    ensures { result ≡ any_below ((given key.now).width group) (λ level.
+        is_some ((given key.now).action group level)) }
 {
     let mut found = false;
     'levels: for level in 0..key.width(group) {
@@ -158,7 +160,8 @@ pub struct GroupType<'a> {
 /// The built-in type, or the one that is declared under its name.
 fn one_level(types: &Types, falls_back: bool) -> GroupType<'static>
     ensures name { result.name.now ≡ one_level_name }
-    ensures levels { result.levels ≡ (type_definition (type_named types.now) one_level_name).levels }
+    ensures levels { result.levels
+        ≡ (type_definition (type_named types.now) one_level_name).levels }
     ensures few { result.levels ≤ MOST_LEVELS }
     ensures falls_back { result.falls_back ≡ falls_back }
 {
@@ -172,7 +175,10 @@ fn one_level(types: &Types, falls_back: bool) -> GroupType<'static>
 
 /// The type of a name, where a type has it.
 fn declared_type<'a>(types: &Types, name: &'a [u8]) -> Option<GroupType<'a>>
-    ensures some { IfSome result (λ t. IsTrue (is_type (type_named types.now) name.now) × (t.name.now ≡ name.now) × (t.levels ≡ (type_definition (type_named types.now) name.now).levels) × (t.levels ≤ MOST_LEVELS) × (t.falls_back ≡ false)) }
+    ensures some { IfSome result (λ t. IsTrue (is_type (type_named types.now) name.now)
+        × (t.name.now ≡ name.now) × (t.levels
+        ≡ (type_definition (type_named types.now) name.now).levels) × (t.levels ≤ MOST_LEVELS)
+        × (t.falls_back ≡ false)) }
     ensures none { IfNone result (is_type (type_named types.now) name.now ≡ false) }
 {
     if name.len() > MOST_NAME_BYTES {
@@ -188,10 +194,14 @@ fn declared_type<'a>(types: &Types, name: &'a [u8]) -> Option<GroupType<'a>>
 
 /// The type that stands for one that is wanted.
 fn type_for<'a>(types: &Types, wanted: Option<&'a [u8]>) -> GroupType<'a>
-    ensures name { result.name.now ≡ type_name (type_named types.now) (option_map (λ n. n.now) wanted.entry) }
-    ensures levels { result.levels ≡ (type_definition (type_named types.now) (type_name (type_named types.now) (option_map (λ n. n.now) wanted.entry))).levels }
+    ensures name { result.name.now
+        ≡ type_name (type_named types.now) (option_map (λ n. n.now) wanted.entry) }
+    ensures levels { result.levels
+        ≡ (type_definition (type_named types.now)
+        (type_name (type_named types.now) (option_map (λ n. n.now) wanted.entry))).levels }
     ensures few { result.levels ≤ MOST_LEVELS }
-    ensures falls_back { result.falls_back ≡ is_fallback (type_named types.now) (option_map (λ n. n.now) wanted.entry) }
+    ensures falls_back { result.falls_back
+        ≡ is_fallback (type_named types.now) (option_map (λ n. n.now) wanted.entry) }
 {
     match wanted {
         None => one_level(types, true),
@@ -207,7 +217,8 @@ pub fn group_type<'a>(types: &Types, key: &'a KeyRecord, group: usize) -> GroupT
     ensures name { result.name.now ≡ group_type_name (type_named types.now) (given key.now) group }
     ensures levels { result.levels ≡ group_levels (type_named types.now) (given key.now) group }
     ensures few { result.levels ≤ MOST_LEVELS }
-    ensures falls_back { result.falls_back ≡ falls_back (type_named types.now) (given key.now) (content_group (given key.now) group) }
+    ensures falls_back { result.falls_back
+        ≡ falls_back (type_named types.now) (given key.now) (content_group (given key.now) group) }
 {
     type_for(types, wanted_type(key, content_group(key, group)))
 }

@@ -62,7 +62,8 @@ impl KeyModmaps {
         keys: &Keys,
         maps: ModifierMaps,
     ) -> Result<KeyModmaps, Fault>
-        ensures mapped { IfOk result (λ made. (code : ℕ) → modmap_at made code ≡ modmap_of (mapping_of codes.now types.now keys.now maps) code) }
+        ensures mapped { IfOk result (λ made. (code : ℕ)
+            → modmap_at made code ≡ modmap_of (mapping_of codes.now types.now keys.now maps) code) }
         ensures err { IfErr result (λ e. e ≡ Memory) }
     {
         let firsts = first_places(alloc, codes, types, keys, &maps)?;
@@ -83,7 +84,10 @@ fn mods_at(by_code: &IndexMap<u16, Mods>, code: u16) -> Mods
 
 /// Adds modifiers to those of a code.
 fn add_mods(by_code: &mut IndexMap<u16, Mods>, code: u16, mods: Mods) -> Result<(), Fault>
-    ensures added { OnOk result ((c real : ℕ) → has (option_map_or mask (get nat_eq by_code.new c) 0) real ≡ (has (option_map_or mask (get nat_eq by_code.old c) 0) real || code == c && has (mask mods) real)) }
+    ensures added { OnOk result ((c real : ℕ)
+        → has (option_map_or mask (get nat_eq by_code.new c) 0) real
+        ≡ (has (option_map_or mask (get nat_eq by_code.old c) 0) real || code == c
+        && has (mask mods) real)) }
     ensures err { IfErr result (λ e. e ≡ Memory) }
 {
     let mods = mods_at(by_code, code).with(mods);
@@ -98,7 +102,10 @@ fn add_entry(
     keysym: u32,
     modifier: Mods,
 ) -> Result<(), Fault>
-    ensures added { OnOk result ((c real : ℕ) → has (option_map_or mask (get nat_eq by_code.new c) 0) real ≡ (has (option_map_or mask (get nat_eq by_code.old c) 0) real || is_at c (unwrap_or (get nat_eq firsts.now keysym) None) && has (mask modifier) real)) }
+    ensures added { OnOk result ((c real : ℕ)
+        → has (option_map_or mask (get nat_eq by_code.new c) 0) real
+        ≡ (has (option_map_or mask (get nat_eq by_code.old c) 0) real
+        || is_at c (unwrap_or (get nat_eq firsts.now keysym) None) && has (mask modifier) real)) }
     ensures err { IfErr result (λ e. e ≡ Memory) }
 {
     match firsts.get(&keysym) {
@@ -113,7 +120,10 @@ fn mods_by_code(
     firsts: &FirstPlaces,
     maps: &ModifierMaps,
 ) -> Result<IndexMap<u16, Mods>, Fault>
-    ensures mods { IfOk result (λ by_code. (c real : ℕ) → has (option_map_or mask (get nat_eq by_code c) 0) real ≡ list_any (λ (e : ℕ × ℕ). is_at c (unwrap_or (get nat_eq firsts.now e.0) None) && has e.1 real) (map shown_entry maps.now.by_keysym)) }
+    ensures mods { IfOk result (λ by_code. (c real : ℕ)
+        → has (option_map_or mask (get nat_eq by_code c) 0) real
+        ≡ list_any (λ (e : ℕ × ℕ). is_at c (unwrap_or (get nat_eq firsts.now e.0) None)
+        && has e.1 real) (map shown_entry maps.now.by_keysym)) }
     ensures err { IfErr result (λ e. e ≡ Memory) }
 {
     let mut by_code = IndexMap::new(alloc);

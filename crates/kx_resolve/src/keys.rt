@@ -52,7 +52,9 @@ impl KeyMeaning<'_> {
     /// What a level of a group does, both counted from 0.
     fn action(self, group: usize, level: usize) -> Action
         requires own { self.own ≡ has_action (given self.key.now) }
-        ensures value { result ≡ level_actions_of (real_of (stands_for self.entry.stands.now)) self.entry.interpretations.now self.entry.modmap (given self.entry.key.now) group level }
+        ensures value { result ≡ level_actions_of (real_of (stands_for self.entry.stands.now))
+            self.entry.interpretations.now self.entry.modmap (given self.entry.key.now) group
+            level }
         ensures holds { ActionHolds result }
     {
         level_action(
@@ -89,8 +91,13 @@ fn push_level(
     requires small { IsWithinLimits builder.old }
     requires some { 0 < length (last_groups builder.old.keys) }
     requires own { key.own ≡ has_action (given key.key.now) }
-    ensures pushed { OnOk result (builder.new ≡ with_cell builder.old (cell_of (level_actions_of (real_of (stands_for key.entry.stands.now)) key.entry.interpretations.now key.entry.modmap (given key.entry.key.now)) (given key.entry.key.now) group level)) }
-    ensures valid { CellIsValid (cell_of (level_actions_of (real_of (stands_for key.entry.stands.now)) key.entry.interpretations.now key.entry.modmap (given key.entry.key.now)) (given key.entry.key.now) group level) }
+    ensures pushed { OnOk result (builder.new
+        ≡ with_cell builder.old (cell_of
+        (level_actions_of (real_of (stands_for key.entry.stands.now)) key.entry.interpretations.now
+        key.entry.modmap (given key.entry.key.now)) (given key.entry.key.now) group level)) }
+    ensures valid { CellIsValid (cell_of
+        (level_actions_of (real_of (stands_for key.entry.stands.now)) key.entry.interpretations.now
+        key.entry.modmap (given key.entry.key.now)) (given key.entry.key.now) group level) }
     ensures err { IfErr result (λ e. e ≡ Memory) }
 {
     builder
@@ -111,8 +118,13 @@ fn push_levels(
     requires bare { last_cells builder.old.keys ≡ [] }
     requires few { levels ≤ MOST_LEVELS }
     requires own { key.own ≡ has_action (given key.key.now) }
-    ensures pushed { OnOk result (builder.new ≡ fold with_cell builder.old (cells_of (level_actions_of (real_of (stands_for key.entry.stands.now)) key.entry.interpretations.now key.entry.modmap (given key.entry.key.now)) (given key.entry.key.now) group levels)) }
-    ensures valid { OnOk result (CellsAreValid (level_actions_of (real_of (stands_for key.entry.stands.now)) key.entry.interpretations.now key.entry.modmap (given key.entry.key.now)) (given key.entry.key.now) group levels) }
+    ensures pushed { OnOk result (builder.new
+        ≡ fold with_cell builder.old (cells_of
+        (level_actions_of (real_of (stands_for key.entry.stands.now)) key.entry.interpretations.now
+        key.entry.modmap (given key.entry.key.now)) (given key.entry.key.now) group levels)) }
+    ensures valid { OnOk result (CellsAreValid
+        (level_actions_of (real_of (stands_for key.entry.stands.now)) key.entry.interpretations.now
+        key.entry.modmap (given key.entry.key.now)) (given key.entry.key.now) group levels) }
     ensures small { OnOk result (IsWithinLimits builder.new) }
     ensures err { IfErr result (λ e. e ≡ Memory) }
 {
@@ -128,7 +140,8 @@ fn push_bare_group(builder: &mut Builder, key_type: u16) -> Result<(), Fault>
     requires small { IsWithinLimits builder.old }
     requires some { 0 < length builder.old.keys }
     requires few { length (last_groups builder.old.keys) < MOST_GROUPS }
-    ensures pushed { OnOk result (builder.new ≡ with_group builder.old (record { key_type = key_type; cells = [] })) }
+    ensures pushed { OnOk result (builder.new
+        ≡ with_group builder.old (record { key_type = key_type; cells = [] })) }
     ensures err { IfErr result (λ e. e ≡ Memory) }
 {
     builder.push_group(key_type).map_err(refused)
@@ -158,8 +171,14 @@ fn push_group(
     requires some { 0 < length builder.old.keys }
     requires few { length (last_groups builder.old.keys) < MOST_GROUPS }
     requires own { key.own ≡ has_action (given key.key.now) }
-    ensures pushed { OnOk result (builder.new ≡ with_group builder.old (placed_group (level_actions_of (real_of (stands_for key.entry.stands.now)) key.entry.interpretations.now key.entry.modmap (given key.entry.key.now)) (given key.entry.key.now) group placed.now)) }
-    ensures valid { OnOk result (CellsAreValid (level_actions_of (real_of (stands_for key.entry.stands.now)) key.entry.interpretations.now key.entry.modmap (given key.entry.key.now)) (given key.entry.key.now) (content_group (given key.entry.key.now) group) placed.now.levels) }
+    ensures pushed { OnOk result (builder.new
+        ≡ with_group builder.old (placed_group
+        (level_actions_of (real_of (stands_for key.entry.stands.now)) key.entry.interpretations.now
+        key.entry.modmap (given key.entry.key.now)) (given key.entry.key.now) group placed.now)) }
+    ensures valid { OnOk result (CellsAreValid
+        (level_actions_of (real_of (stands_for key.entry.stands.now)) key.entry.interpretations.now
+        key.entry.modmap (given key.entry.key.now)) (given key.entry.key.now)
+        (content_group (given key.entry.key.now) group) placed.now.levels) }
     ensures small { OnOk result (IsWithinLimits builder.new) }
     ensures err { IfErr result (λ e. e ≡ Memory) }
 {
@@ -181,7 +200,14 @@ fn push_bare_key(
 ) -> Result<(), Fault>
     requires small { IsWithinLimits builder.old }
     requires short { length name.now ≤ MOST_NAME_BYTES }
-    ensures pushed { OnOk result (builder.new ≡ with_key builder.old (record { code = code; name = name.now; modmap = modmap; range = range; groups = [] })) }
+    ensures pushed { OnOk result (builder.new
+        ≡ with_key builder.old (record {
+          code = code;
+          name = name.now;
+          modmap = modmap;
+          range = range;
+          groups = [];
+        })) }
     ensures err { IfErr result (λ e. e ≡ Memory) }
 {
     builder.push_key(code, name, modmap, range).map_err(refused)
@@ -201,8 +227,20 @@ fn push_key(
     requires groups { length placed.now ≤ MOST_GROUPS }
     requires short { length name.now ≤ MOST_NAME_BYTES }
     requires own { key.own ≡ has_action (given key.key.now) }
-    ensures pushed { OnOk result (builder.new ≡ with_key builder.old (record { code = code; name = name.now; modmap = key.entry.modmap; range = (given key.entry.key.now).range; groups = placed_groups (level_actions_of (real_of (stands_for key.entry.stands.now)) key.entry.interpretations.now key.entry.modmap (given key.entry.key.now)) (given key.entry.key.now) placed.now (length placed.now) })) }
-    ensures valid { OnOk result (PlacedAreValid (level_actions_of (real_of (stands_for key.entry.stands.now)) key.entry.interpretations.now key.entry.modmap (given key.entry.key.now)) (given key.entry.key.now) placed.now (length placed.now)) }
+    ensures pushed { OnOk result (builder.new
+        ≡ with_key builder.old (record {
+          code = code;
+          name = name.now;
+          modmap = key.entry.modmap;
+          range = (given key.entry.key.now).range;
+          groups = placed_groups (level_actions_of (real_of (stands_for key.entry.stands.now))
+              key.entry.interpretations.now key.entry.modmap (given key.entry.key.now))
+              (given key.entry.key.now) placed.now (length placed.now);
+        })) }
+    ensures valid { OnOk result (PlacedAreValid
+        (level_actions_of (real_of (stands_for key.entry.stands.now)) key.entry.interpretations.now
+        key.entry.modmap (given key.entry.key.now)) (given key.entry.key.now) placed.now
+        (length placed.now)) }
     ensures range { RangeHolds (given key.entry.key.now).range }
     ensures small { OnOk result (IsWithinLimits builder.new) }
     ensures err { IfErr result (λ e. e ≡ Memory) }
@@ -244,9 +282,34 @@ fn push_code<'p>(
 ) -> Result<&'p [PlacedType], Fault>
     requires small { IsWithinLimits builder.old }
     requires few { length builder.old.keys < CODES }
-    ensures pushed { OnOk result ((used ns : List (List ℕ)) → placed.now ≡ map (placed_type (type_named read.entry.types.now) used) (type_names_if (type_named read.entry.types.now) (name_of read.entry.codes.now code) (given_in (key_at read.entry.keys.now code)) ++ ns) → builder.new ≡ record builder.old { keys = builder.old.keys ++ key_if_named (type_named read.entry.types.now) used (level_actions_of (real_of (stands_for read.entry.stands.now)) read.entry.interpretations.now (modmap_at read.entry.modmaps.now code) (given_in (key_at read.entry.keys.now code))) (given_in (key_at read.entry.keys.now code)) code (name_of read.entry.codes.now code) (modmap_at read.entry.modmaps.now code) }) }
-    ensures bounds { OnOk result ((used ns : List (List ℕ)) → placed.now ≡ map (placed_type (type_named read.entry.types.now) used) (type_names_if (type_named read.entry.types.now) (name_of read.entry.codes.now code) (given_in (key_at read.entry.keys.now code)) ++ ns) → (name : List ℕ) → name_of read.entry.codes.now code ≡ Some name → KeepsBounds (type_named read.entry.types.now) name (modmap_at read.entry.modmaps.now code) (level_actions_of (real_of (stands_for read.entry.stands.now)) read.entry.interpretations.now (modmap_at read.entry.modmaps.now code) (given_in (key_at read.entry.keys.now code))) (given_in (key_at read.entry.keys.now code))) }
-    ensures rest { IfOk result (λ rest. (used ns : List (List ℕ)) → placed.now ≡ map (placed_type (type_named read.entry.types.now) used) (type_names_if (type_named read.entry.types.now) (name_of read.entry.codes.now code) (given_in (key_at read.entry.keys.now code)) ++ ns) → rest.now ≡ map (placed_type (type_named read.entry.types.now) used) ns) }
+    ensures pushed { OnOk result ((used ns : List (List ℕ))
+        → placed.now ≡ map (placed_type (type_named read.entry.types.now) used)
+        (type_names_if (type_named read.entry.types.now) (name_of read.entry.codes.now code)
+        (given_in (key_at read.entry.keys.now code)) ++ ns)
+        → builder.new ≡ record builder.old {
+          keys = builder.old.keys
+              ++ key_if_named (type_named read.entry.types.now) used
+              (level_actions_of (real_of (stands_for read.entry.stands.now))
+              read.entry.interpretations.now (modmap_at read.entry.modmaps.now code)
+              (given_in (key_at read.entry.keys.now code)))
+              (given_in (key_at read.entry.keys.now code))
+              code (name_of read.entry.codes.now code) (modmap_at read.entry.modmaps.now code);
+        }) }
+    ensures bounds { OnOk result ((used ns : List (List ℕ))
+        → placed.now ≡ map (placed_type (type_named read.entry.types.now) used)
+        (type_names_if (type_named read.entry.types.now) (name_of read.entry.codes.now code)
+        (given_in (key_at read.entry.keys.now code)) ++ ns) → (name : List ℕ)
+        → name_of read.entry.codes.now code ≡ Some name
+        → KeepsBounds (type_named read.entry.types.now) name (modmap_at read.entry.modmaps.now code)
+        (level_actions_of (real_of (stands_for read.entry.stands.now))
+        read.entry.interpretations.now (modmap_at read.entry.modmaps.now code)
+        (given_in (key_at read.entry.keys.now code)))
+        (given_in (key_at read.entry.keys.now code))) }
+    ensures rest { IfOk result (λ rest. (used ns : List (List ℕ))
+        → placed.now ≡ map (placed_type (type_named read.entry.types.now) used)
+        (type_names_if (type_named read.entry.types.now) (name_of read.entry.codes.now code)
+        (given_in (key_at read.entry.keys.now code)) ++ ns)
+        → rest.now ≡ map (placed_type (type_named read.entry.types.now) used) ns) }
     ensures small { OnOk result (IsWithinLimits builder.new) }
     ensures err { IfErr result (λ e. e ≡ Memory) }
 {
@@ -281,9 +344,21 @@ pub(crate) fn push_keys(
 ) -> Result<(), Fault>
     requires small { IsWithinLimits builder.old }
     requires keyless { builder.old.keys ≡ [] }
-    requires placed { used.now.placed.items ≡ map (placed_type (type_named read.types.now) used.now.names) (type_names_below (type_named read.types.now) (name_of read.codes.now) (λ c. given_in (key_at read.keys.now c)) CODES) }
-    ensures pushed { OnOk result (builder.new ≡ record builder.old { keys = keys_below (type_named read.entry.types.now) used.now.names (keyed_of (real_of (stands_for read.entry.stands.now)) read.entry.codes.now read.entry.keys.now (modmap_at read.entry.modmaps.now) read.entry.interpretations.now) CODES }) }
-    ensures bounds { OnOk result (BoundsBelow (type_named read.entry.types.now) (keyed_of (real_of (stands_for read.entry.stands.now)) read.entry.codes.now read.entry.keys.now (modmap_at read.entry.modmaps.now) read.entry.interpretations.now) CODES) }
+    requires placed { used.now.placed.items
+        ≡ map (placed_type (type_named read.types.now) used.now.names)
+        (type_names_below (type_named read.types.now) (name_of read.codes.now) (λ c.
+        given_in (key_at read.keys.now c)) CODES) }
+    ensures pushed { OnOk result (builder.new
+        ≡ record builder.old {
+          keys = keys_below (type_named read.entry.types.now) used.now.names
+              (keyed_of (real_of (stands_for read.entry.stands.now)) read.entry.codes.now
+              read.entry.keys.now (modmap_at read.entry.modmaps.now) read.entry.interpretations.now)
+              CODES;
+        }) }
+    ensures bounds { OnOk result (BoundsBelow (type_named read.entry.types.now)
+        (keyed_of (real_of (stands_for read.entry.stands.now)) read.entry.codes.now
+        read.entry.keys.now (modmap_at read.entry.modmaps.now) read.entry.interpretations.now)
+        CODES) }
     ensures small { OnOk result (IsWithinLimits builder.new) }
     ensures err { IfErr result (λ e. e ≡ Memory) }
 {

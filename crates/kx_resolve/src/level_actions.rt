@@ -46,7 +46,9 @@ impl<'a> InterpretedKey<'a> {
     /// The interpretation of a level of a group, both counted from 0.
     pub(crate) fn interpretation(self, group: usize, level: usize) -> Option<&'a Interpretation>
         requires { self.own ≡ has_action (given self.key.now) }
-        ensures { option_map (λ i. i.now) result ≡ interpretation_at self.entry.interpretations.now self.entry.modmap (given self.entry.key.now) group level }
+        ensures { option_map (λ i. i.now) result
+            ≡ interpretation_at self.entry.interpretations.now self.entry.modmap
+            (given self.entry.key.now) group level }
     {
         if self.own {
             return None;
@@ -60,7 +62,8 @@ impl<'a> InterpretedKey<'a> {
     /// The action of a level of a group, both counted from 0: the key's, or that of the level's interpretation.
     fn action(self, group: usize, level: usize) -> Option<KeyAction>
         requires { self.own ≡ has_action (given self.key.now) }
-        ensures { result ≡ level_action_at self.entry.interpretations.now self.entry.modmap (given self.entry.key.now) group level }
+        ensures { result ≡ level_action_at self.entry.interpretations.now self.entry.modmap
+            (given self.entry.key.now) group level }
     {
         if self.own {
             return action_at(self.key, group, level);
@@ -86,7 +89,8 @@ pub fn level_action(
     level: usize,
 ) -> Action
     requires own { own ≡ has_action (given key.now) }
-    ensures value { result ≡ level_actions_of (real_of (stands_for stands.now)) interpretations.now modmap (given key.now) group level }
+    ensures value { result ≡ level_actions_of (real_of (stands_for stands.now)) interpretations.now
+        modmap (given key.now) group level }
     ensures holds { ActionHolds result }
 {
     let key = InterpretedKey {

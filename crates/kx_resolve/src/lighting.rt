@@ -42,7 +42,8 @@ fn real_mods(set: NameSet, stands: &[Mods]) -> Mods
 /// An indicator of a name.
 fn indicator<'n>(name: &'n [u8], indicator_map: &IndicatorMap, stands: &[Mods]) -> Indicator<'n>
     requires { length name.now ≤ MOST_NAME_BYTES }
-    ensures lit { indicator_of result ≡ indicator_lit (real_of (stands_for stands.now)) name.now indicator_map.now }
+    ensures lit { indicator_of result
+        ≡ indicator_lit (real_of (stands_for stands.now)) name.now indicator_map.now }
     ensures valid { IndicatorIsValid (indicator_of result) }
 {
     Indicator {
@@ -62,8 +63,14 @@ fn push_indicator<'a>(
     number: usize,
 ) -> Result<(), Fault>
     requires { All (λ name. length name ≤ MOST_NAME_BYTES) indicators.now.names }
-    ensures lit { OnOk result ((name : List ℕ) (indicator_map : IndicatorMapValue) → slice_get indicators.now.names number ≡ Some name → slice_get indicators.now.indicator_maps number ≡ Some indicator_map → map indicator_of lit.new.items ≡ map indicator_of lit.old.items ++ indicator_lit (real_of (stands_for stands.now)) name indicator_map ∷ []) }
-    ensures valid { OnOk result (All IndicatorIsValid (map indicator_of lit.old.items) → All IndicatorIsValid (map indicator_of lit.new.items)) }
+    ensures lit { OnOk result ((name : List ℕ) (indicator_map : IndicatorMapValue)
+        → slice_get indicators.now.names number ≡ Some name
+        → slice_get indicators.now.indicator_maps number ≡ Some indicator_map
+        → map indicator_of lit.new.items
+        ≡ map indicator_of lit.old.items
+        ++ indicator_lit (real_of (stands_for stands.now)) name indicator_map ∷ []) }
+    ensures valid { OnOk result (All IndicatorIsValid (map indicator_of lit.old.items)
+        → All IndicatorIsValid (map indicator_of lit.new.items)) }
     ensures err { IfErr result (λ e. e ≡ Memory) }
 {
     match (indicators.name(number), indicators.indicator_map(number)) {
@@ -82,7 +89,9 @@ fn indicators_lit<'a>(
     indicators: &'a Indicators,
     stands: &[Mods],
 ) -> Result<Vec<Indicator<'a>>, Fault>
-    ensures lit { IfOk result (λ lit. map indicator_of lit.items ≡ indicators_of (real_of (stands_for stands.now)) indicators.now) }
+    ensures lit { IfOk result (λ lit.
+        map indicator_of lit.items ≡ indicators_of (real_of (stands_for stands.now))
+        indicators.now) }
     ensures valid { IfOk result (λ lit. All IndicatorIsValid (map indicator_of lit.items)) }
     ensures numbered { AreValid indicators.now }
     ensures err { IfErr result (λ e. e ≡ Memory) }
@@ -97,7 +106,8 @@ fn indicators_lit<'a>(
 /// Takes up the name of a group after others.
 fn push_name<'a>(names: &mut Vec<&'a [u8]>, name: &'a [u8]) -> Result<(), Fault>
     requires { length name.now ≤ MOST_NAME_BYTES }
-    ensures pushed { OnOk result (map (λ g. g.now) names.new.items ≡ map (λ g. g.now) names.old.items ++ name.now ∷ []) }
+    ensures pushed { OnOk result (map (λ g. g.now) names.new.items
+        ≡ map (λ g. g.now) names.old.items ++ name.now ∷ []) }
     ensures valid { GroupNameIsValid name.now }
     ensures err { IfErr result (λ e. e ≡ Memory) }
 {
@@ -124,8 +134,12 @@ fn names_in_order<'a>(alloc: Global, group_names: &'a GroupNames) -> Result<Vec<
 fn with_these(builder: Builder, lit: &[Indicator<'_>], names: &[&[u8]]) -> Result<RawTables, Fault>
     requires small { IsWithinLimits builder }
     requires valid { IndicatorMapsAreValid (map indicator_of lit.now) (map (λ g. g.now) names.now) }
-    ensures content { IfOk result (λ parts. content_of parts ≡ with_indicator_maps (content_of_resolved builder) (map indicator_of lit.now) (map (λ g. g.now) names.now)) }
-    ensures agrees { IsWhole builder → IfOk result (λ parts. ShowsSame (keymap_of (content_of parts)) (keymap_with (keymap_of_resolved builder) (map indicator_of lit.now))) }
+    ensures content { IfOk result (λ parts.
+        content_of parts ≡ with_indicator_maps (content_of_resolved builder)
+        (map indicator_of lit.now) (map (λ g. g.now) names.now)) }
+    ensures agrees { IsWhole builder
+        → IfOk result (λ parts. ShowsSame (keymap_of (content_of parts))
+        (keymap_with (keymap_of_resolved builder) (map indicator_of lit.now))) }
     ensures sound { IsValid builder → IfOk result (λ parts. Sound (content_of parts)) }
     ensures err { IfErr result (λ e. e ≡ Memory) }
 {
@@ -141,8 +155,13 @@ pub(crate) fn with_indicator_maps(
     stands: &[Mods],
 ) -> Result<RawTables, Fault>
     requires small { IsWithinLimits builder }
-    ensures content { IfOk result (λ parts. content_of parts ≡ with_indicator_maps (content_of_resolved builder) (indicators_of (real_of (stands_for stands.now)) indicators.now) group_names.now) }
-    ensures agrees { IsWhole builder → IfOk result (λ parts. ShowsSame (keymap_of (content_of parts)) (keymap_with (keymap_of_resolved builder) (indicators_of (real_of (stands_for stands.now)) indicators.now))) }
+    ensures content { IfOk result (λ parts.
+        content_of parts ≡ with_indicator_maps (content_of_resolved builder)
+        (indicators_of (real_of (stands_for stands.now)) indicators.now) group_names.now) }
+    ensures agrees { IsWhole builder
+        → IfOk result (λ parts. ShowsSame (keymap_of (content_of parts))
+        (keymap_with (keymap_of_resolved builder)
+        (indicators_of (real_of (stands_for stands.now)) indicators.now))) }
     ensures sound { IsValid builder → IfOk result (λ parts. Sound (content_of parts)) }
     ensures err { IfErr result (λ e. e ≡ Memory) }
 {

@@ -89,7 +89,11 @@ fn use_group(
     group: usize,
     used: &mut UsedTypes,
 ) -> Result<(), Fault>
-    ensures used { OnOk result ((names : List (List ℕ)) → AreUsed (type_named types.now) names used.old.names used.old.placed.items → AreUsed (type_named types.now) (names ++ group_type_name (type_named types.now) (given key.now) group ∷ []) used.new.names used.new.placed.items) }
+    ensures used { OnOk result ((names : List (List ℕ))
+        → AreUsed (type_named types.now) names used.old.names used.old.placed.items
+        → AreUsed (type_named types.now)
+        (names ++ group_type_name (type_named types.now) (given key.now) group ∷ []) used.new.names
+        used.new.placed.items) }
     ensures err { IfErr result (λ e. e ≡ Memory) }
 {
     let group_type = group_type(types, key, group);
@@ -100,7 +104,11 @@ fn use_group(
 
 /// Takes up the types of a key's groups.
 fn use_key(alloc: Global, types: &Types, key: &KeyRecord, used: &mut UsedTypes) -> Result<(), Fault>
-    ensures used { OnOk result ((names : List (List ℕ)) → AreUsed (type_named types.now) names used.old.names used.old.placed.items → AreUsed (type_named types.now) (names ++ type_names (type_named types.now) (given key.now) (group_count (given key.now))) used.new.names used.new.placed.items) }
+    ensures used { OnOk result ((names : List (List ℕ))
+        → AreUsed (type_named types.now) names used.old.names used.old.placed.items
+        → AreUsed (type_named types.now)
+        (names ++ type_names (type_named types.now) (given key.now) (group_count (given key.now)))
+        used.new.names used.new.placed.items) }
     ensures err { IfErr result (λ e. e ≡ Memory) }
 {
     'groups: for group in 0..group_count(key) {
@@ -118,7 +126,11 @@ fn use_code(
     code: u16,
     used: &mut UsedTypes,
 ) -> Result<(), Fault>
-    ensures used { OnOk result ((names : List (List ℕ)) → AreUsed (type_named types.now) names used.old.names used.old.placed.items → AreUsed (type_named types.now) (names ++ type_names_if (type_named types.now) (name_of codes.now code) (given_in (key_at keys.now code))) used.new.names used.new.placed.items) }
+    ensures used { OnOk result ((names : List (List ℕ))
+        → AreUsed (type_named types.now) names used.old.names used.old.placed.items
+        → AreUsed (type_named types.now)
+        (names ++ type_names_if (type_named types.now) (name_of codes.now code)
+        (given_in (key_at keys.now code))) used.new.names used.new.placed.items) }
     ensures err { IfErr result (λ e. e ≡ Memory) }
 {
     match (codes.name_of(code), keys.key(code)) {
@@ -135,8 +147,13 @@ pub(crate) fn types_used(
     types: &Types,
     keys: &Keys,
 ) -> Result<UsedTypes, Fault>
-    ensures used { IfOk result (λ used. used.names ≡ types_used (type_named types.now) (name_of codes.now) (λ c. given_in (key_at keys.now c))) }
-    ensures placed { IfOk result (λ used. used.placed.items ≡ map (placed_type (type_named types.now) used.names) (type_names_below (type_named types.now) (name_of codes.now) (λ c. given_in (key_at keys.now c)) CODES)) }
+    ensures used { IfOk result (λ used.
+        used.names ≡ types_used (type_named types.now) (name_of codes.now) (λ c.
+        given_in (key_at keys.now c))) }
+    ensures placed { IfOk result (λ used.
+        used.placed.items ≡ map (placed_type (type_named types.now) used.names)
+        (type_names_below (type_named types.now) (name_of codes.now) (λ c.
+        given_in (key_at keys.now c)) CODES)) }
     ensures few { IfOk result (λ used. length used.names ≤ MOST_TYPES + 1) }
     ensures err { IfErr result (λ e. e ≡ Memory) }
 {

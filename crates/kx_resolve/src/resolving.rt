@@ -33,9 +33,23 @@ use std::alloc::Global;
 /// # Errors
 /// `Memory`.
 pub fn resolve(alloc: Global, read: Read) -> Result<(RawTables, Notes), Fault>
-    ensures content { IfOk result (λ made. content_of made.0 ≡ with_indicator_maps (content_of_resolved (resolved_of (real_of (stands_for read.entry.stands.now)) (type_named read.entry.types.now) (keyed_of (real_of (stands_for read.entry.stands.now)) read.entry.codes.now read.entry.keys.now (modmap_at read.entry.modmaps.now) read.entry.interpretations.now))) (indicators_of (real_of (stands_for read.entry.stands.now)) read.entry.indicators.now) read.entry.group_names.now) }
-    ensures sound { OneCode (name_of read.entry.codes.now) → IfOk result (λ made. Sound (content_of made.0)) }
-    ensures agrees { IfOk result (λ made. ShowsSame (keymap_of (content_of made.0)) (keymap_with (keymap_meant (real_of (stands_for read.entry.stands.now)) (type_named read.entry.types.now) (keyed_of (real_of (stands_for read.entry.stands.now)) read.entry.codes.now read.entry.keys.now (modmap_at read.entry.modmaps.now) read.entry.interpretations.now)) (indicators_of (real_of (stands_for read.entry.stands.now)) read.entry.indicators.now))) }
+    ensures content { IfOk result (λ made.
+        content_of made.0 ≡ with_indicator_maps
+        (content_of_resolved (resolved_of (real_of (stands_for read.entry.stands.now))
+        (type_named read.entry.types.now)
+        (keyed_of (real_of (stands_for read.entry.stands.now)) read.entry.codes.now
+        read.entry.keys.now (modmap_at read.entry.modmaps.now) read.entry.interpretations.now)))
+        (indicators_of (real_of (stands_for read.entry.stands.now)) read.entry.indicators.now)
+        read.entry.group_names.now) }
+    ensures sound { OneCode (name_of read.entry.codes.now)
+        → IfOk result (λ made. Sound (content_of made.0)) }
+    ensures agrees { IfOk result (λ made.
+        ShowsSame (keymap_of (content_of made.0))
+        (keymap_with (keymap_meant (real_of (stands_for read.entry.stands.now))
+        (type_named read.entry.types.now)
+        (keyed_of (real_of (stands_for read.entry.stands.now)) read.entry.codes.now
+        read.entry.keys.now (modmap_at read.entry.modmaps.now) read.entry.interpretations.now))
+        (indicators_of (real_of (stands_for read.entry.stands.now)) read.entry.indicators.now))) }
     ensures err { IfErr result (λ e. e ≡ Memory) }
 {
     let used = types_used(alloc, read.codes, read.types, read.keys)?;

@@ -27,7 +27,8 @@ pub struct TypeRows {
 #[tactic(auto, using(crate::proofs::Bits::some_bits))]
 fn is_live(names: NameSet, mods: Mods) -> bool
     requires { mask mods < 2 ^ 8 }
-    ensures { (real : ℕ → ℕ → Bool) → ((r : ℕ) → has (mask mods) r ≡ real names r) → result ≡ is_live real names }
+    ensures { (real : ℕ → ℕ → Bool) → ((r : ℕ) → has (mask mods) r ≡ real names r)
+        → result ≡ is_live real names }
 {
     names.is_none() || !mods.is_none()
 }
@@ -50,7 +51,8 @@ fn real_mods(set: NameSet, stands: &[Mods]) -> Mods
 
 /// Takes up an entry after others.
 fn add_row(rows: &mut Vec<EntryRow>, entry: TypeEntry, stands: &[Mods]) -> Result<(), AllocError>
-    ensures { OnOk result (rows.new.items ≡ with_entry (stood_for (stands_for stands.now)) rows.old.items entry) }
+    ensures { OnOk result (rows.new.items
+        ≡ with_entry (stood_for (stands_for stands.now)) rows.old.items entry) }
 {
     let mods = real_mods(entry.mask, stands);
     if !is_live(entry.mask, mods) {
@@ -73,7 +75,8 @@ fn entry_rows(
     entries: &[TypeEntry],
     stands: &[Mods],
 ) -> Result<Vec<EntryRow>, AllocError>
-    ensures { IfOk result (λ rows. rows.items ≡ entry_rows (stood_for (stands_for stands.now)) entries.now) }
+    ensures { IfOk result (λ rows.
+        rows.items ≡ entry_rows (stood_for (stands_for stands.now)) entries.now) }
 {
     let mut rows = Vec::new(alloc);
     'entries: for entry in entries {
@@ -89,10 +92,16 @@ impl TypeRows {
     /// # Errors
     /// Where a growth is refused.
     pub fn of(alloc: Global, key_type: &KeyType, stands: &[Mods]) -> Result<TypeRows, AllocError>
-        ensures mods { IfOk result (λ rows. rows.mods ≡ mods_of (stood_for (stands_for stands.now) key_type.now.modifiers)) }
-        ensures entries { IfOk result (λ rows. rows.entries.items ≡ entry_rows (stood_for (stands_for stands.now)) key_type.now.entries) }
-        ensures shows { IfOk result (λ rows. RowsShow (stood_for (stands_for stands.now)) key_type.now rows.mods rows.entries.items) }
-        ensures valid { IfOk result (λ rows. RowsAreValid key_type.now rows.mods rows.entries.items) }
+        ensures mods { IfOk result (λ rows.
+            rows.mods ≡ mods_of (stood_for (stands_for stands.now) key_type.now.modifiers)) }
+        ensures entries { IfOk result (λ rows.
+            rows.entries.items ≡ entry_rows (stood_for (stands_for stands.now))
+            key_type.now.entries) }
+        ensures shows { IfOk result (λ rows.
+            RowsShow (stood_for (stands_for stands.now)) key_type.now rows.mods
+            rows.entries.items) }
+        ensures valid { IfOk result (λ rows.
+            RowsAreValid key_type.now rows.mods rows.entries.items) }
     {
         let entries = entry_rows(alloc, key_type.entries(), stands)?;
         let mods = real_mods(key_type.modifiers(), stands);

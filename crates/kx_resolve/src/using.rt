@@ -34,9 +34,14 @@ fn push_with(
     requires small { IsWithinLimits builder.old }
     requires keyless { builder.old.keys ≡ [] }
     requires short { length name.now ≤ MOST_NAME_BYTES }
-    ensures pushed { OnOk result (builder.new ≡ with_type builder.old (type_with (real_of (stands_for stands.now)) name.now key_type.now)) }
-    ensures shows { OnOk result (RowsShow (real_of (stands_for stands.now)) key_type.now (mods_of (real_of (stands_for stands.now) key_type.now.modifiers)) (entry_rows (real_of (stands_for stands.now)) key_type.now.entries)) }
-    ensures valid { OnOk result (TypeIsValid (type_with (real_of (stands_for stands.now)) name.now key_type.now)) }
+    ensures pushed { OnOk result (builder.new
+        ≡ with_type builder.old (type_with (real_of (stands_for stands.now)) name.now
+        key_type.now)) }
+    ensures shows { OnOk result (RowsShow (real_of (stands_for stands.now)) key_type.now
+        (mods_of (real_of (stands_for stands.now) key_type.now.modifiers))
+        (entry_rows (real_of (stands_for stands.now)) key_type.now.entries)) }
+    ensures valid { OnOk result (TypeIsValid
+        (type_with (real_of (stands_for stands.now)) name.now key_type.now)) }
     ensures err { IfErr result (λ e. e ≡ Memory) }
 {
     let rows = TypeRows::of(alloc, key_type, stands)?;
@@ -56,8 +61,11 @@ fn push_type(
     requires small { IsWithinLimits builder.old }
     requires keyless { builder.old.keys ≡ [] }
     requires short { length name.now ≤ MOST_NAME_BYTES }
-    ensures pushed { OnOk result (builder.new ≡ with_type builder.old (type_of (real_of (stands_for stands.now)) (type_named types.now) name.now)) }
-    ensures holds { OnOk result (TypeHolds (real_of (stands_for stands.now)) (type_named types.now) name.now) }
+    ensures pushed { OnOk result (builder.new
+        ≡ with_type builder.old (type_of (real_of (stands_for stands.now)) (type_named types.now)
+        name.now)) }
+    ensures holds { OnOk result (TypeHolds (real_of (stands_for stands.now)) (type_named types.now)
+        name.now) }
     ensures err { IfErr result (λ e. e ≡ Memory) }
 {
     match types.named(name) {
@@ -78,8 +86,11 @@ fn push_numbered(
     requires small { IsWithinLimits builder.old }
     requires keyless { builder.old.keys ≡ [] }
     requires short { All (λ name. length name ≤ MOST_NAME_BYTES) used.now }
-    ensures pushed { OnOk result ((name : List ℕ) → slice_get used.now number ≡ Some name → builder.new ≡ with_type builder.old (type_of (real_of (stands_for stands.now)) (type_named types.now) name)) }
-    ensures holds { OnOk result ((name : List ℕ) → slice_get used.now number ≡ Some name → TypeHolds (real_of (stands_for stands.now)) (type_named types.now) name) }
+    ensures pushed { OnOk result ((name : List ℕ) → slice_get used.now number ≡ Some name
+        → builder.new ≡ with_type builder.old
+        (type_of (real_of (stands_for stands.now)) (type_named types.now) name)) }
+    ensures holds { OnOk result ((name : List ℕ) → slice_get used.now number ≡ Some name
+        → TypeHolds (real_of (stands_for stands.now)) (type_named types.now) name) }
     ensures err { IfErr result (λ e. e ≡ Memory) }
 {
     match used.name(number) {
@@ -97,8 +108,14 @@ pub(crate) fn with_types(
 ) -> Result<Builder, Fault>
     requires few { length used.now ≤ MOST_TYPES + 1 }
     requires short { All (λ name. length name ≤ MOST_NAME_BYTES) used.now }
-    ensures types { IfOk result (λ builder. builder ≡ record { types = map (type_of (real_of (stands_for stands.now)) (type_named types.now)) used.now; keys = [] }) }
-    ensures hold { OnOk result (All (TypeHolds (real_of (stands_for stands.now)) (type_named types.now)) used.now) }
+    ensures types { IfOk result (λ builder.
+        builder ≡ record {
+          types = map
+              (type_of (real_of (stands_for stands.now)) (type_named types.now)) used.now;
+          keys = [];
+        }) }
+    ensures hold { OnOk result (All
+        (TypeHolds (real_of (stands_for stands.now)) (type_named types.now)) used.now) }
     ensures small { IfOk result (λ builder. IsWithinLimits builder) }
     ensures err { IfErr result (λ e. e ≡ Memory) }
 {

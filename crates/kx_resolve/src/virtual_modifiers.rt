@@ -44,7 +44,11 @@ fn push_mapped_key(
     key: InterpretedKey,
 ) -> Result<(), Fault>
     requires { key.own ≡ has_action (given key.key.now) }
-    ensures added { OnOk result ((number real : ℕ) → is_brought mapped_keys.new.items number real ≡ (is_brought mapped_keys.old.items number real || (is_in_vmodmap key.entry.interpretations.now key.entry.modmap (given key.entry.key.now) (type_named types.now) number && has (mask key.entry.modmap) real))) }
+    ensures added { OnOk result ((number real : ℕ)
+        → is_brought mapped_keys.new.items number real
+        ≡ (is_brought mapped_keys.old.items number real
+        || (is_in_vmodmap key.entry.interpretations.now key.entry.modmap (given key.entry.key.now)
+        (type_named types.now) number && has (mask key.entry.modmap) real))) }
     ensures err { IfErr result (λ e. e ≡ Memory) }
 {
     mapped_keys.push(MappedKey {
@@ -62,7 +66,11 @@ fn add_key(
     key: &KeyRecord,
     modmap: Mods,
 ) -> Result<(), Fault>
-    ensures added { OnOk result ((number real : ℕ) → is_brought mapped_keys.new.items number real ≡ (is_brought mapped_keys.old.items number real || (is_in_vmodmap interpretations.now modmap (given key.now) (type_named types.now) number && has (mask modmap) real))) }
+    ensures added { OnOk result ((number real : ℕ)
+        → is_brought mapped_keys.new.items number real
+        ≡ (is_brought mapped_keys.old.items number real
+        || (is_in_vmodmap interpretations.now modmap (given key.now) (type_named types.now) number
+        && has (mask modmap) real))) }
     ensures err { IfErr result (λ e. e ≡ Memory) }
 {
     if modmap.is_none() {
@@ -88,7 +96,11 @@ fn add_code(
     interpretations: &Interpretations,
     code: u16,
 ) -> Result<(), Fault>
-    ensures added { OnOk result ((number real : ℕ) → is_brought mapped_keys.new.items number real ≡ (is_brought mapped_keys.old.items number real || brings (read_keymap_of codes.now types.now keys.now (modmap_at modmaps.now) interpretations.now []) number real code)) }
+    ensures added { OnOk result ((number real : ℕ)
+        → is_brought mapped_keys.new.items number real
+        ≡ (is_brought mapped_keys.old.items number real
+        || brings (read_keymap_of codes.now types.now keys.now (modmap_at modmaps.now)
+        interpretations.now []) number real code)) }
     ensures err { IfErr result (λ e. e ≡ Memory) }
 {
     match (codes.name_of(code), keys.key(code)) {
@@ -110,7 +122,10 @@ fn mapped_keys_of(
     modmaps: &KeyModmaps,
     interpretations: &Interpretations,
 ) -> Result<Vec<MappedKey>, Fault>
-    ensures all { IfOk result (λ mapped_keys. (number real : ℕ) → is_brought mapped_keys.items number real ≡ any_below CODES (brings (read_keymap_of codes.now types.now keys.now (modmap_at modmaps.now) interpretations.now []) number real)) }
+    ensures all { IfOk result (λ mapped_keys. (number real : ℕ)
+        → is_brought mapped_keys.items number real
+        ≡ any_below CODES (brings (read_keymap_of codes.now types.now keys.now
+        (modmap_at modmaps.now) interpretations.now []) number real)) }
     ensures err { IfErr result (λ e. e ≡ Memory) }
 {
     let mut mapped_keys = Vec::new(alloc);
@@ -133,7 +148,8 @@ fn mapped_keys_of(
 /// What a key is mapped to, where it bears a virtual modifier.
 fn brought_by(mapped_key: MappedKey, number: u8) -> Mods
     requires { number < MOST_VIRTUAL_MODIFIERS }
-    ensures { (real : ℕ) → has (mask result) real ≡ (has_virtual mapped_key.vmodmap number && has (mask mapped_key.mods) real) }
+    ensures { (real : ℕ) → has (mask result) real
+        ≡ (has_virtual mapped_key.vmodmap number && has (mask mapped_key.mods) real) }
 {
     if mapped_key.vmodmap.has_virtual(number) {
         mapped_key.mods
@@ -145,7 +161,8 @@ fn brought_by(mapped_key: MappedKey, number: u8) -> Mods
 /// What a virtual modifier stands for that is declared with a mask.
 fn standing(mapped_keys: &[MappedKey], declared: Mods, number: u8) -> Mods
     requires { number < MOST_VIRTUAL_MODIFIERS }
-    ensures { (real : ℕ) → has (mask result) real ≡ (has (mask declared) real || is_brought mapped_keys.now number real) }
+    ensures { (real : ℕ) → has (mask result) real
+        ≡ (has (mask declared) real || is_brought mapped_keys.now number real) }
 {
     let mut mods = declared;
     'mapped_keys: for mapped_key in mapped_keys {
@@ -170,7 +187,9 @@ fn stands_of(
     mapped_keys: &[MappedKey],
     declared: &[Mods],
 ) -> Result<Vec<Mods>, Fault>
-    ensures made { IfOk result (λ made. (number real : ℕ) → number < MOST_VIRTUAL_MODIFIERS → stands_for made.items number real ≡ (stands_for declared.now number real || is_brought mapped_keys.now number real)) }
+    ensures made { IfOk result (λ made. (number real : ℕ) → number < MOST_VIRTUAL_MODIFIERS
+        → stands_for made.items number real
+        ≡ (stands_for declared.now number real || is_brought mapped_keys.now number real)) }
     ensures err { IfErr result (λ e. e ≡ Memory) }
 {
     let mut stands = Vec::new(alloc);
@@ -194,7 +213,10 @@ pub fn virtual_modifier_masks(
     interpretations: &Interpretations,
     declared: &[Mods],
 ) -> Result<Vec<Mods>, Fault>
-    ensures stands { IfOk result (λ made. (number real : ℕ) → number < MOST_VIRTUAL_MODIFIERS → stands_for made.items number real ≡ stands (read_keymap_of codes.now types.now keys.now (modmap_at modmaps.now) interpretations.now declared.now) number real) }
+    ensures stands { IfOk result (λ made. (number real : ℕ) → number < MOST_VIRTUAL_MODIFIERS
+        → stands_for made.items number real
+        ≡ stands (read_keymap_of codes.now types.now keys.now (modmap_at modmaps.now)
+        interpretations.now declared.now) number real) }
     ensures err { IfErr result (λ e. e ≡ Memory) }
 {
     let mapped_keys = mapped_keys_of(alloc, codes, types, keys, modmaps, interpretations)?;

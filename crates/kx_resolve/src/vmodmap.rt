@@ -15,7 +15,8 @@ use kx_virtual_mods::{MOST_VIRTUAL_MODIFIERS, NameSet};
 #[tactic(auto, using(crate::proofs::NameBits::has_none, crate::proofs::NameBits::has_one))]
 fn set_of(modifier: Option<u8>) -> NameSet
     requires { IfSome modifier (λ number. number < MOST_VIRTUAL_MODIFIERS) }
-    ensures { (number : ℕ) → has_virtual result number ≡ option_map_or (nat_eq number) modifier false }
+    ensures { (number : ℕ) → has_virtual result number
+        ≡ option_map_or (nat_eq number) modifier false }
 {
     match modifier {
         None => NameSet::none(),
@@ -26,7 +27,8 @@ fn set_of(modifier: Option<u8>) -> NameSet
 /// What an interpretation gives a key at a level of a group, both counted from 0.
 #[tactic(auto, using(crate::proofs::NameBits::has_none))]
 fn set_given(interpretation: &Interpretation, group: usize, level: usize) -> NameSet
-    ensures { (number : ℕ) → has_virtual result number ≡ gives number group level (Some interpretation.now) }
+    ensures { (number : ℕ) → has_virtual result number
+        ≡ gives number group level (Some interpretation.now) }
 {
     if interpretation.first_level_only() && !(group == 0 && level == 0) {
         return NameSet::none();
@@ -37,7 +39,8 @@ fn set_given(interpretation: &Interpretation, group: usize, level: usize) -> Nam
 /// The same, where there is an interpretation.
 #[tactic(auto, using(crate::proofs::NameBits::has_none))]
 fn given_by(interpretation: Option<&Interpretation>, group: usize, level: usize) -> NameSet
-    ensures { (number : ℕ) → has_virtual result number ≡ gives number group level (option_map (λ i. i.now) interpretation.entry) }
+    ensures { (number : ℕ) → has_virtual result number
+        ≡ gives number group level (option_map (λ i. i.now) interpretation.entry) }
 {
     match interpretation {
         None => NameSet::none(),
@@ -56,7 +59,10 @@ impl InterpretedKey<'_> {
     /// The virtual modifiers that the levels of a group below a number are given.
     fn given_levels(self, group: usize, levels: usize) -> NameSet
         requires { self.own ≡ has_action (given self.key.now) }
-        ensures { (number : ℕ) → has_virtual result number ≡ any_below levels (λ level. gives number group level (interpretation_at self.entry.interpretations.now self.entry.modmap (given self.entry.key.now) (content_group (given self.entry.key.now) group) level)) }
+        ensures { (number : ℕ) → has_virtual result number
+            ≡ any_below levels (λ level. gives number group level
+            (interpretation_at self.entry.interpretations.now self.entry.modmap
+            (given self.entry.key.now) (content_group (given self.entry.key.now) group) level)) }
     {
         let content = content_group(self.key, group);
         let mut set = NameSet::none();
@@ -69,7 +75,9 @@ impl InterpretedKey<'_> {
     /// The virtual modifiers that interpretations give the key.
     fn given(self, types: &Types) -> NameSet
         requires { self.own ≡ has_action (given self.key.now) }
-        ensures { (number : ℕ) → has_virtual result number ≡ is_given self.entry.interpretations.now self.entry.modmap (given self.entry.key.now) (type_named types.now) number }
+        ensures { (number : ℕ) → has_virtual result number
+            ≡ is_given self.entry.interpretations.now self.entry.modmap (given self.entry.key.now)
+            (type_named types.now) number }
     {
         let mut set = NameSet::none();
         'groups: for group in 0..group_count(self.key) {
@@ -82,7 +90,9 @@ impl InterpretedKey<'_> {
     /// The virtual modifiers that the key bears.
     pub(crate) fn vmodmap(self, types: &Types) -> NameSet
         requires { self.own ≡ has_action (given self.key.now) }
-        ensures { (number : ℕ) → has_virtual result number ≡ is_in_vmodmap self.entry.interpretations.now self.entry.modmap (given self.entry.key.now) (type_named types.now) number }
+        ensures { (number : ℕ) → has_virtual result number
+            ≡ is_in_vmodmap self.entry.interpretations.now self.entry.modmap
+            (given self.entry.key.now) (type_named types.now) number }
     {
         match virtual_mods(self.key) {
             Some(set) => set,

@@ -11,8 +11,10 @@ use kx_parse::{one_stop, one_tree};
 
 /// The printed text of tables has no fault, and means these tables and no others, whatever names of keysyms a table gives.
 pub fn printed_means_itself()
-    ensures faultless { (c : Content) (names : List Entry) (e : Fault) → CanBePrinted c → AreNames names → HasFault (printed c) [] names e → ⊥ }
-    ensures content { (c : Content) (d : Content) (names : List Entry) → CanBePrinted c → AreNames names → Means (printed c) [] names d → d ≡ c }
+    ensures faultless { (c : Content) (names : List Entry) (e : Fault) → CanBePrinted c
+        → AreNames names → HasFault (printed c) [] names e → ⊥ }
+    ensures content { (c : Content) (d : Content) (names : List Entry) → CanBePrinted c
+        → AreNames names → Means (printed c) [] names d → d ≡ c }
 {
     one_reading();
     one_tree();

@@ -43,7 +43,8 @@ pub fn uncounted(old: Counts, mods: Mods) -> Counts
 /// The modifiers that some key sets.
 pub fn counted_mods(counts: &Counts) -> Mods
     ensures in_range { mask result < 2 ^ 8 }
-    ensures some { (i : ℕ) → i < 8 → bit_at (mask result) i ≡ (if slice_index counts.now i == 0 then 0 else 1) }
+    ensures some { (i : ℕ) → i < 8
+        → bit_at (mask result) i ≡ (if slice_index counts.now i == 0 then 0 else 1) }
 {
     let mut bits = 0u8;
     for i in 0..8 {

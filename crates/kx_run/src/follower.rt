@@ -69,7 +69,8 @@ impl<T: Tables + Drop> Follower<T> {
         ensures value { looked result ≡ look_at (keymap_of self.now.content) self.now.status code }
 
         // Where the state is a player's, this is what its next reply has.
-        ensures follows { (world : World) (direction : Direction) → self.now.status ≡ status_in (keymap_of self.now.content) world
+        ensures follows { (world : World) (direction : Direction)
+            → self.now.status ≡ status_in (keymap_of self.now.content) world
             → looked result ≡ (answer (keymap_of self.now.content) world code direction).look }
     {
         let group = effective(

@@ -34,7 +34,13 @@ impl Model for Keyboard {
 
     ghost Value = { World };
 
-    ghost view = { λ k. record { held = k.held; latched = mask k.latched; locked = mask k.locked; latched_group = k.latched_group; locked_group = k.locked_group } };
+    ghost view = { λ k. record {
+      held = k.held;
+      latched = mask k.latched;
+      locked = mask k.locked;
+      latched_group = k.latched_group;
+      locked_group = k.locked_group;
+    } };
 }
 
 impl Keyboard {
@@ -216,7 +222,8 @@ impl Keyboard {
     /// What a release does beyond letting go of its key.
     fn end(&mut self, key: HeldKey, groups: u8)
         requires { 1 ≤ groups }
-        ensures { self.new ≡ release_effect groups key.action (mask key.recorded) key.disturbed self.old }
+        ensures { self.new ≡ release_effect groups key.action (mask key.recorded) key.disturbed
+            self.old }
     {
         match key.action {
             Action::SetMods { mods, clear_locks } => {

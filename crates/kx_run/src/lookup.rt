@@ -45,7 +45,8 @@ pub fn key_of<T: Tables>(tables: &T, code: u16) -> Option<KeyRow>
 /// What a key of the tables gives at an effective group, from 0, and effective modifiers.
 pub fn look_up<T: Tables>(tables: &T, key: KeyRow, group: u8, mods: Mods) -> Found
     requires { key.first_group + key.groups ≤ length (T.content tables.now).groups }
-    ensures value { found_shows (T.content tables.now) result ≡ key_shows (T.content tables.now) group (mask mods) (Some key) }
+    ensures value { found_shows (T.content tables.now) result
+        ≡ key_shows (T.content tables.now) group (mask mods) (Some key) }
     ensures readable { IsReadable (T.content tables.now) result }
 {
     let _sound = tables.key_count();
@@ -66,7 +67,8 @@ pub fn look_up_chosen<T: Tables>(
 ) -> Found
     requires within { key.first_group + key.groups ≤ length (T.content tables.now).groups }
     requires choices { TellsChoices choices.old (T.content tables.now) }
-    ensures value { found_shows (T.content tables.now) result ≡ key_shows (T.content tables.now) group (mask mods) (Some key) }
+    ensures value { found_shows (T.content tables.now) result
+        ≡ key_shows (T.content tables.now) group (mask mods) (Some key) }
     ensures readable { IsReadable (T.content tables.now) result }
     ensures choices { TellsChoices choices.new (T.content tables.now) }
 {
@@ -82,7 +84,9 @@ pub fn look_up_chosen<T: Tables>(
 fn look_up_group<T: Tables>(tables: &T, place: u32, mods: Mods) -> Found
     requires sound { Sound (T.content tables.now) }
     requires within { place < length (T.content tables.now).groups }
-    ensures value { found_shows (T.content tables.now) result ≡ group_shows (T.content tables.now) (mask mods) (slice_get (T.content tables.now).groups place) }
+    ensures value { found_shows (T.content tables.now) result
+        ≡ group_shows (T.content tables.now) (mask mods)
+        (slice_get (T.content tables.now).groups place) }
     ensures readable { IsReadable (T.content tables.now) result }
 {
     let group = tables.group_row(place);
@@ -100,7 +104,8 @@ fn look_up_group_chosen<T: Tables>(
     requires sound { Sound (T.content tables.now) }
     requires within { place < length (T.content tables.now).groups }
     requires choices { TellsChoices choices.old (T.content tables.now) }
-    ensures value { let c = T.content tables.now in found_shows c result ≡ shown_in c place (mask mods) }
+    ensures value { let c = T.content tables.now in found_shows c result
+        ≡ shown_in c place (mask mods) }
     ensures readable { IsReadable (T.content tables.now) result }
     ensures choices { TellsChoices choices.new (T.content tables.now) }
 {

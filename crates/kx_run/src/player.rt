@@ -41,14 +41,16 @@ impl<T: Tables> Model for Player<T> {
 
     ghost view = { λ p. record { content = T.content p.tables; world = p.keyboard } };
 
-    ghost invariant = { λ p. IsKept (T.content p.tables) p.keys p.choices p.keyboard p.groups p.state p.lit };
+    ghost invariant = { λ p. IsKept (T.content p.tables) p.keys p.choices p.keyboard p.groups
+        p.state p.lit };
 }
 
 impl<T: Tables + Drop> Player<T> {
     /// A keyboard with nothing held, latched or locked. No later call takes memory; where there is none for this
     /// one, the tables are dropped.
     pub fn start(alloc: Global, tables: T) -> Result<Player<T>, AllocError>
-        ensures { IfOk result (λ player. player ≡ record { content = T.content tables; world = opening }) }
+        ensures { IfOk result (λ player.
+            player ≡ record { content = T.content tables; world = opening }) }
     {
         let keys = KeyIndex::new(alloc, &tables)?;
         let choices = Choices::new(alloc, &tables)?;
@@ -70,8 +72,12 @@ impl<T: Tables + Drop> Player<T> {
     /// Applies an event, and answers what the key gives in the state before it, and the state after it.
     #[inline(always)]
     pub fn event(&mut self, code: u16, direction: Direction) -> Reply
-        ensures world { self.new ≡ record self.old { world = step (keymap_of self.old.content) self.old.world code direction } }
-        ensures reply { answered result ≡ answer (keymap_of self.old.content) self.old.world code direction }
+        ensures world { self.new ≡ record self.old {
+          world = step (keymap_of self.old.content)
+              self.old.world code direction;
+        } }
+        ensures reply { answered result
+            ≡ answer (keymap_of self.old.content) self.old.world code direction }
         ensures bounded { IsBounded self.new.world }
     {
         let mut reply = Reply {
@@ -88,16 +94,24 @@ impl<T: Tables + Drop> Player<T> {
     /// Applies events in order, and answers the reply to each. Where there is no memory for the replies, no event
     /// is applied.
     pub fn run(&mut self, alloc: Global, events: &[Event]) -> Result<Vec<Reply>, AllocError>
-        ensures world { OnOk result (self.new ≡ record self.old { world = world_after (keymap_of self.old.content) self.old.world events.now }) }
-        ensures replies { IfOk result (λ replies. map answered replies.items ≡ run (keymap_of self.old.content) self.old.world events.now) }
+        ensures world { OnOk result (self.new
+            ≡ record self.old {
+              world = world_after (keymap_of self.old.content) self.old.world
+                  events.now;
+            }) }
+        ensures replies { IfOk result (λ replies.
+            map answered replies.items ≡ run (keymap_of self.old.content) self.old.world
+            events.now) }
         ensures err { OnErr result (self.new ≡ self.old) }
 
         // Any keymap that agrees with the tables' has the same run.
         ensures agrees { (keymap : Keymap) → Agree (keymap_of self.old.content) keymap
-            → IfOk result (λ replies. map answered replies.items ≡ run keymap self.old.world events.now) }
+            → IfOk result (λ replies. map answered replies.items
+            ≡ run keymap self.old.world events.now) }
 
         // From a state with nothing held, once each key that was pressed is released, nothing is held.
-        ensures released { self.old.world.held ≡ [] → ReleasesAll events.now → OnOk result (IsLetGo self.new.world) }
+        ensures released { self.old.world.held ≡ [] → ReleasesAll events.now
+            → OnOk result (IsLetGo self.new.world) }
     {
         let mut replies = Vec::with_capacity(alloc, events.len())?;
         for event in events {
@@ -123,7 +137,8 @@ impl<T: Tables + Drop> Player<T> {
 
     /// The indicators that are lit in the state: bit i is indicator i of the tables, from 0.
     pub fn lit(&self) -> u32
-        ensures { result ≡ lit_in (keymap_of self.now.content) (status_in (keymap_of self.now.content) self.now.world) }
+        ensures { result ≡ lit_in (keymap_of self.now.content)
+            (status_in (keymap_of self.now.content) self.now.world) }
     {
         self.lit
     }
@@ -131,9 +146,18 @@ impl<T: Tables + Drop> Player<T> {
     /// Applies an event, and completes its reply, which has no keysyms yet, and the state before the event.
     #[inline(never)]
     fn answer(&mut self, code: u16, direction: Direction, reply: &mut Reply)
-        requires { answered reply.old ≡ record { look = unknown; state = status_in (keymap_of self.old.content) self.old.world; lit = lit_in (keymap_of self.old.content) (status_in (keymap_of self.old.content) self.old.world) } }
-        ensures world { self.new ≡ record self.old { world = step (keymap_of self.old.content) self.old.world code direction } }
-        ensures reply { answered reply.new ≡ answer (keymap_of self.old.content) self.old.world code direction }
+        requires { answered reply.old ≡ record {
+          look = unknown;
+          state = status_in (keymap_of self.old.content) self.old.world;
+          lit = lit_in (keymap_of self.old.content)
+              (status_in (keymap_of self.old.content) self.old.world);
+        } }
+        ensures world { self.new ≡ record self.old {
+          world = step (keymap_of self.old.content)
+              self.old.world code direction;
+        } }
+        ensures reply { answered reply.new
+            ≡ answer (keymap_of self.old.content) self.old.world code direction }
         ensures bounded { IsBounded self.new.world }
     {
         let _sound = self.tables.key_count();
@@ -159,7 +183,10 @@ impl<T: Tables + Drop> Player<T> {
     fn apply(&mut self, code: u16, direction: Direction, action: Action) -> bool
         requires code { code < CODES }
         requires size { action_size action ≤ MOST_GROUPS }
-        ensures world { self.new ≡ record self.old { world = moved (keymap_of self.old.content).groups self.old.world code direction action } }
+        ensures world { self.new ≡ record self.old {
+          world = moved
+              (keymap_of self.old.content).groups self.old.world code direction action;
+        } }
         ensures still { result ≡ false → IsShownAs self.old self.new }
     {
         if !self.keyboard.apply(code, direction, action, self.groups) {

@@ -195,7 +195,9 @@ fn place_all(entries: &[Option<HeldKey>], places: &mut [Option<u16>])
     requires few { length entries.now ≤ CODES }
     requires codes { All (λ key. key.code < length places.old) (keys_of entries.now) }
     ensures long { length places.new ≡ length places.old }
-    ensures each { (code : ℕ) (d : Option ℕ) → get_or places.new code d ≡ option_or (entry_index code entries.now) (get_or places.old code d) }
+    ensures each { (code : ℕ) (d : Option ℕ)
+        → get_or places.new code d ≡ option_or (entry_index code entries.now)
+        (get_or places.old code d) }
 {
     let mut place = entries.len();
     while place > 0 {
@@ -208,7 +210,9 @@ fn place_all(entries: &[Option<HeldKey>], places: &mut [Option<u16>])
 fn place_one(entry: Option<HeldKey>, place: u16, places: &mut [Option<u16>])
     requires { IfSome entry (λ key. key.code < length places.old) }
     ensures long { length places.new ≡ length places.old }
-    ensures each { (code : ℕ) (d : Option ℕ) → get_or places.new code d ≡ (if is_entry_of code entry then Some place else get_or places.old code d) }
+    ensures each { (code : ℕ) (d : Option ℕ)
+        → get_or places.new code d ≡ (if is_entry_of code entry then Some place
+        else get_or places.old code d) }
 {
     if let Some(key) = entry {
         places[usize::from(key.code)] = Some(place);

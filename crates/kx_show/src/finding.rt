@@ -110,9 +110,14 @@ fn add_levels<T: Tables>(
 ) -> Result<(), AllocError>
     requires sound { Sound (T.content tables.now) }
     requires levels { row.first_cell + levels ≤ length (T.content tables.now).cells }
-    ensures kept { OnOk result ((s : Spot) → Contains found.old.items s → Contains found.new.items s) }
-    ensures each { OnOk result ((s : Spot) → Contains found.new.items s → Contains found.old.items s ⊎ IsLevelOf (T.content tables.now) keysym row levels key group s) }
-    ensures all { OnOk result ((s : Spot) → IsLevelOf (T.content tables.now) keysym row levels key group s → Contains found.new.items s) }
+    ensures kept { OnOk result ((s : Spot) → Contains found.old.items s
+        → Contains found.new.items s) }
+    ensures each { OnOk result ((s : Spot) → Contains found.new.items s
+        → Contains found.old.items s ⊎ IsLevelOf (T.content tables.now) keysym row levels key group
+        s) }
+    ensures all { OnOk result ((s : Spot)
+        → IsLevelOf (T.content tables.now) keysym row levels key group s
+        → Contains found.new.items s) }
 {
     for level in 0..levels {
         if level_gives(tables, row, level, keysym) {
@@ -130,9 +135,12 @@ fn add_groups<T: Tables>(
     found: &mut Vec<Spot>,
 ) -> Result<(), AllocError>
     requires within { key < length (T.content tables.now).keys }
-    ensures kept { OnOk result ((s : Spot) → Contains found.old.items s → Contains found.new.items s) }
-    ensures each { OnOk result ((s : Spot) → Contains found.new.items s → Contains found.old.items s ⊎ Gives (T.content tables.now) keysym s) }
-    ensures all { OnOk result ((s : Spot) → s.key ≡ key → Gives (T.content tables.now) keysym s → Contains found.new.items s) }
+    ensures kept { OnOk result ((s : Spot) → Contains found.old.items s
+        → Contains found.new.items s) }
+    ensures each { OnOk result ((s : Spot) → Contains found.new.items s
+        → Contains found.old.items s ⊎ Gives (T.content tables.now) keysym s) }
+    ensures all { OnOk result ((s : Spot) → s.key ≡ key → Gives (T.content tables.now) keysym s
+        → Contains found.new.items s) }
 {
     let _sound = tables.key_count();
     let row = tables.key_row(key);
@@ -149,8 +157,10 @@ fn add_groups<T: Tables>(
 /// # Errors
 /// Where a growth is refused.
 pub fn spots<T: Tables>(alloc: Global, tables: &T, keysym: u32) -> Result<Vec<Spot>, AllocError>
-    ensures each { IfOk result (λ found. (s : Spot) → Contains found.items s → Gives (T.content tables.now) keysym s) }
-    ensures all { IfOk result (λ found. (s : Spot) → Gives (T.content tables.now) keysym s → Contains found.items s) }
+    ensures each { IfOk result (λ found. (s : Spot) → Contains found.items s
+        → Gives (T.content tables.now) keysym s) }
+    ensures all { IfOk result (λ found. (s : Spot) → Gives (T.content tables.now) keysym s
+        → Contains found.items s) }
 {
     let mut found = Vec::new(alloc);
     for key in 0..tables.key_count() {

@@ -40,11 +40,21 @@ pub(crate) fn read_keys(
     modifiers: &ModNames,
     types: &Types,
 ) -> Result<MappedKeys, Fault>
-    ensures keys { IfOk result (λ found. KeysShow found.keys codes.now names.now modifiers.now.names (expanded_body expansion.now)) }
-    ensures mapped { IfOk result (λ found. (code : ℕ) → modmap_at found.modmaps code ≡ modmap_of (mapping_by (name_of codes.now) (λ c. given_in (key_at found.keys c)) (type_named types.now) (map_offers_of codes.now names.now modifiers.now.names (expanded_body expansion.now))) code) }
-    ensures faultless_keys { OnOk result (keys_faults codes.now names.now modifiers.now.names (expanded_body expansion.now) ≡ []) }
-    ensures faultless_maps { OnOk result (maps_faults codes.now names.now modifiers.now.names (expanded_body expansion.now) ≡ []) }
-    ensures fault { IfErr result (λ e. Contains (Memory ∷ (keys_faults codes.now names.now modifiers.now.names (expanded_body expansion.now) ++ maps_faults codes.now names.now modifiers.now.names (expanded_body expansion.now))) e) }
+    ensures keys { IfOk result (λ found.
+        KeysShow found.keys codes.now names.now modifiers.now.names (expanded_body expansion.now)) }
+    ensures mapped { IfOk result (λ found. (code : ℕ)
+        → modmap_at found.modmaps code
+        ≡ modmap_of (mapping_by (name_of codes.now) (λ c. given_in (key_at found.keys c))
+        (type_named types.now) (map_offers_of codes.now names.now modifiers.now.names
+        (expanded_body expansion.now))) code) }
+    ensures faultless_keys { OnOk result
+        (keys_faults codes.now names.now modifiers.now.names (expanded_body expansion.now) ≡ []) }
+    ensures faultless_maps { OnOk result
+        (maps_faults codes.now names.now modifiers.now.names (expanded_body expansion.now) ≡ []) }
+    ensures fault { IfErr result (λ e.
+        Contains (Memory ∷ (keys_faults codes.now names.now modifiers.now.names
+        (expanded_body expansion.now) ++ maps_faults codes.now names.now modifiers.now.names
+        (expanded_body expansion.now))) e) }
 {
     let (keys, unknown) = symbols(alloc, expansion, codes, names, modifiers)?;
     let (maps, unmapped) = modifier_maps(alloc, expansion, codes, names, modifiers)?;

@@ -43,11 +43,18 @@ fn lit_parts(
     interpretations: &Interpretations,
     stands: &[Mods],
 ) -> Result<(RawTables, Notes), Fault>
-    ensures lit { IfOk result (λ made. IsLit modifiers.now.names (expanded_body bodies.now.compat) (expanded_body bodies.now.symbols) (real_of (stands_for stands.now)) types.now (keyed_of (real_of (stands_for stands.now)) codes.now mapped.now.keys (modmap_at mapped.now.modmaps) interpretations.now) (content_of made.0)) }
+    ensures lit { IfOk result (λ made.
+        IsLit modifiers.now.names (expanded_body bodies.now.compat)
+        (expanded_body bodies.now.symbols) (real_of (stands_for stands.now)) types.now
+        (keyed_of (real_of (stands_for stands.now)) codes.now mapped.now.keys
+        (modmap_at mapped.now.modmaps) interpretations.now) (content_of made.0)) }
     ensures sound { OneCode (name_of codes.now) → IfOk result (λ made. Sound (content_of made.0)) }
     ensures faultless_names { OnOk result (names_faults (expanded_body bodies.now.symbols) ≡ []) }
-    ensures faultless_indicator_maps { OnOk result (indicator_maps_faults modifiers.now.names (expanded_body bodies.now.compat) ≡ []) }
-    ensures fault { IfErr result (λ e. Contains (Memory ∷ (names_faults (expanded_body bodies.now.symbols) ++ indicator_maps_faults modifiers.now.names (expanded_body bodies.now.compat))) e) }
+    ensures faultless_indicator_maps { OnOk result
+        (indicator_maps_faults modifiers.now.names (expanded_body bodies.now.compat) ≡ []) }
+    ensures fault { IfErr result (λ e.
+        Contains (Memory ∷ (names_faults (expanded_body bodies.now.symbols)
+        ++ indicator_maps_faults modifiers.now.names (expanded_body bodies.now.compat))) e) }
 {
     let groups = group_names(alloc, &bodies.symbols)?;
     let indicators = indicators(alloc, &bodies.compat, modifiers)?;
@@ -77,11 +84,19 @@ fn standing_parts(
     interpretations: &Interpretations,
     passed: Notes,
 ) -> Result<(RawTables, Notes), Fault>
-    ensures interpreted { (names : List Entry) → interpretations.now ≡ interpretations_of names modifiers.now.names (expanded_body bodies.now.compat) → IfOk result (λ made. IsInterpreted names modifiers.now (expanded_body bodies.now.compat) (expanded_body bodies.now.symbols) codes.now types.now mapped.now.keys (modmap_at mapped.now.modmaps) (content_of made.0)) }
+    ensures interpreted { (names : List Entry)
+        → interpretations.now ≡ interpretations_of names modifiers.now.names
+        (expanded_body bodies.now.compat)
+        → IfOk result (λ made. IsInterpreted names modifiers.now (expanded_body bodies.now.compat)
+        (expanded_body bodies.now.symbols) codes.now types.now mapped.now.keys
+        (modmap_at mapped.now.modmaps) (content_of made.0)) }
     ensures sound { OneCode (name_of codes.now) → IfOk result (λ made. Sound (content_of made.0)) }
     ensures faultless_names { OnOk result (names_faults (expanded_body bodies.now.symbols) ≡ []) }
-    ensures faultless_indicator_maps { OnOk result (indicator_maps_faults modifiers.now.names (expanded_body bodies.now.compat) ≡ []) }
-    ensures fault { IfErr result (λ e. Contains (Memory ∷ (names_faults (expanded_body bodies.now.symbols) ++ indicator_maps_faults modifiers.now.names (expanded_body bodies.now.compat))) e) }
+    ensures faultless_indicator_maps { OnOk result
+        (indicator_maps_faults modifiers.now.names (expanded_body bodies.now.compat) ≡ []) }
+    ensures fault { IfErr result (λ e.
+        Contains (Memory ∷ (names_faults (expanded_body bodies.now.symbols)
+        ++ indicator_maps_faults modifiers.now.names (expanded_body bodies.now.compat))) e) }
 {
     let declared = modifiers.declared_masks();
     let (keys, modmaps) = (&mapped.keys, &mapped.modmaps);
@@ -117,12 +132,21 @@ fn interpreted_parts(
     types: &Types,
     mapped: &MappedKeys,
 ) -> Result<(RawTables, Notes), Fault>
-    ensures interpreted { IfOk result (λ made. IsInterpreted names.now modifiers.now (expanded_body bodies.now.compat) (expanded_body bodies.now.symbols) codes.now types.now mapped.now.keys (modmap_at mapped.now.modmaps) (content_of made.0)) }
+    ensures interpreted { IfOk result (λ made.
+        IsInterpreted names.now modifiers.now (expanded_body bodies.now.compat)
+        (expanded_body bodies.now.symbols) codes.now types.now mapped.now.keys
+        (modmap_at mapped.now.modmaps) (content_of made.0)) }
     ensures sound { OneCode (name_of codes.now) → IfOk result (λ made. Sound (content_of made.0)) }
-    ensures faultless_compat { OnOk result (compat_faults names.now modifiers.now.names (expanded_body bodies.now.compat) ≡ []) }
+    ensures faultless_compat { OnOk result
+        (compat_faults names.now modifiers.now.names (expanded_body bodies.now.compat) ≡ []) }
     ensures faultless_names { OnOk result (names_faults (expanded_body bodies.now.symbols) ≡ []) }
-    ensures faultless_indicator_maps { OnOk result (indicator_maps_faults modifiers.now.names (expanded_body bodies.now.compat) ≡ []) }
-    ensures fault { IfErr result (λ e. Contains (Memory ∷ (compat_faults names.now modifiers.now.names (expanded_body bodies.now.compat) ++ (names_faults (expanded_body bodies.now.symbols) ++ indicator_maps_faults modifiers.now.names (expanded_body bodies.now.compat)))) e) }
+    ensures faultless_indicator_maps { OnOk result
+        (indicator_maps_faults modifiers.now.names (expanded_body bodies.now.compat) ≡ []) }
+    ensures fault { IfErr result (λ e.
+        Contains (Memory ∷ (compat_faults names.now modifiers.now.names
+        (expanded_body bodies.now.compat)
+        ++ (names_faults (expanded_body bodies.now.symbols)
+        ++ indicator_maps_faults modifiers.now.names (expanded_body bodies.now.compat)))) e) }
 {
     let (interpretations, passed) = interpretations(alloc, &bodies.compat, modifiers, names)?;
     standing_parts(
@@ -146,14 +170,28 @@ pub(crate) fn parts_of(
     codes: &Codes,
     types: &Types,
 ) -> Result<(RawTables, Notes), Fault>
-    ensures made { IfOk result (λ made. IsMade names.now modifiers.now (expanded_body bodies.now.compat) (expanded_body bodies.now.symbols) codes.now types.now (content_of made.0)) }
+    ensures made { IfOk result (λ made.
+        IsMade names.now modifiers.now (expanded_body bodies.now.compat)
+        (expanded_body bodies.now.symbols) codes.now types.now (content_of made.0)) }
     ensures sound { OneCode (name_of codes.now) → IfOk result (λ made. Sound (content_of made.0)) }
-    ensures faultless_keys { OnOk result (keys_faults codes.now names.now modifiers.now.names (expanded_body bodies.now.symbols) ≡ []) }
-    ensures faultless_maps { OnOk result (maps_faults codes.now names.now modifiers.now.names (expanded_body bodies.now.symbols) ≡ []) }
-    ensures faultless_compat { OnOk result (compat_faults names.now modifiers.now.names (expanded_body bodies.now.compat) ≡ []) }
+    ensures faultless_keys { OnOk result
+        (keys_faults codes.now names.now modifiers.now.names (expanded_body bodies.now.symbols)
+        ≡ []) }
+    ensures faultless_maps { OnOk result
+        (maps_faults codes.now names.now modifiers.now.names (expanded_body bodies.now.symbols)
+        ≡ []) }
+    ensures faultless_compat { OnOk result
+        (compat_faults names.now modifiers.now.names (expanded_body bodies.now.compat) ≡ []) }
     ensures faultless_names { OnOk result (names_faults (expanded_body bodies.now.symbols) ≡ []) }
-    ensures faultless_indicator_maps { OnOk result (indicator_maps_faults modifiers.now.names (expanded_body bodies.now.compat) ≡ []) }
-    ensures fault { IfErr result (λ e. Contains (Memory ∷ ((keys_faults codes.now names.now modifiers.now.names (expanded_body bodies.now.symbols) ++ maps_faults codes.now names.now modifiers.now.names (expanded_body bodies.now.symbols)) ++ (compat_faults names.now modifiers.now.names (expanded_body bodies.now.compat) ++ (names_faults (expanded_body bodies.now.symbols) ++ indicator_maps_faults modifiers.now.names (expanded_body bodies.now.compat))))) e) }
+    ensures faultless_indicator_maps { OnOk result
+        (indicator_maps_faults modifiers.now.names (expanded_body bodies.now.compat) ≡ []) }
+    ensures fault { IfErr result (λ e.
+        Contains (Memory ∷ ((keys_faults codes.now names.now modifiers.now.names
+        (expanded_body bodies.now.symbols)
+        ++ maps_faults codes.now names.now modifiers.now.names (expanded_body bodies.now.symbols))
+        ++ (compat_faults names.now modifiers.now.names (expanded_body bodies.now.compat)
+        ++ (names_faults (expanded_body bodies.now.symbols)
+        ++ indicator_maps_faults modifiers.now.names (expanded_body bodies.now.compat))))) e) }
 {
     let mapped = read_keys(alloc, &bodies.symbols, codes, names, modifiers, types)?;
     let (parts, lost) = interpreted_parts(alloc, bodies, names, modifiers, codes, types, &mapped)?;

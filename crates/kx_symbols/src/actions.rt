@@ -77,7 +77,8 @@ fn call_action(
 ) -> Result<Option<LevelAction>, Fault>
     ensures value { IfOk result (λ level. level ≡ call_action known.now call.now) }
     ensures faultless { OnOk result (action_faults file known.now.modifiers call.now ≡ []) }
-    ensures fault { IfErr result (λ e. Contains (action_faults file known.now.modifiers call.now) e) }
+    ensures fault { IfErr result (λ e.
+        Contains (action_faults file known.now.modifiers call.now) e) }
 {
     let action = read(known.modifiers, file, call, &known.defaults.actions())?;
     Ok(defined(action, notes))
@@ -100,9 +101,11 @@ fn part_action(
     part: &BracePart,
     notes: &mut Notes,
 ) -> Result<Option<LevelAction>, Fault>
-    ensures value { IfOk result (λ level. level ≡ only_action known.now (calls_in (part.now ∷ []))) }
+    ensures value { IfOk result (λ level.
+        level ≡ only_action known.now (calls_in (part.now ∷ []))) }
     ensures faultless { OnOk result (action_part_faults file known.now.modifiers part.now ≡ []) }
-    ensures fault { IfErr result (λ e. Contains (action_part_faults file known.now.modifiers part.now) e) }
+    ensures fault { IfErr result (λ e.
+        Contains (action_part_faults file known.now.modifiers part.now) e) }
 {
     match part {
         BracePart::Symbol(symbol) => Err(symbol_fault(file, symbol)),
@@ -113,7 +116,8 @@ fn part_action(
 /// The fault of several parts in braces: that of a keysym, or else of several actions.
 fn several_fault(known: &Known, file: u32, braces: &Braces) -> Fault
     requires { 1 < length braces.now.parts }
-    ensures { Contains (several_faults file braces.now ++ flat_map (action_part_faults file known.now.modifiers) braces.now.parts) result }
+    ensures { Contains (several_faults file braces.now
+        ++ flat_map (action_part_faults file known.now.modifiers) braces.now.parts) result }
 {
     let parts = braces.parts.as_slice();
     'parts: for part in parts {
@@ -134,9 +138,14 @@ fn braces_action(
     braces: &Braces,
     notes: &mut Notes,
 ) -> Result<Option<LevelAction>, Fault>
-    ensures value { IfOk result (λ level. level ≡ only_action known.now (calls_in braces.now.parts)) }
-    ensures faultless { OnOk result (several_faults file braces.now ++ flat_map (action_part_faults file known.now.modifiers) braces.now.parts ≡ []) }
-    ensures fault { IfErr result (λ e. Contains (several_faults file braces.now ++ flat_map (action_part_faults file known.now.modifiers) braces.now.parts) e) }
+    ensures value { IfOk result (λ level.
+        level ≡ only_action known.now (calls_in braces.now.parts)) }
+    ensures faultless { OnOk result
+        (several_faults file braces.now
+        ++ flat_map (action_part_faults file known.now.modifiers) braces.now.parts ≡ []) }
+    ensures fault { IfErr result (λ e.
+        Contains (several_faults file braces.now
+        ++ flat_map (action_part_faults file known.now.modifiers) braces.now.parts) e) }
 {
     match braces.parts.as_slice() {
         [] => Ok(None),
@@ -153,8 +162,10 @@ fn element_action(
     notes: &mut Notes,
 ) -> Result<Option<LevelAction>, Fault>
     ensures value { IfOk result (λ level. level ≡ element_action known.now element.now) }
-    ensures faultless { OnOk result (action_element_faults file known.now.modifiers element.now ≡ []) }
-    ensures fault { IfErr result (λ e. Contains (action_element_faults file known.now.modifiers element.now) e) }
+    ensures faultless { OnOk result
+        (action_element_faults file known.now.modifiers element.now ≡ []) }
+    ensures fault { IfErr result (λ e.
+        Contains (action_element_faults file known.now.modifiers element.now) e) }
 {
     match element {
         Element::Symbol(symbol) => Err(symbol_fault(file, symbol)),
@@ -173,7 +184,8 @@ pub(crate) fn read_actions(
 ) -> Result<Levels<LevelAction>, Fault>
     ensures value { IfOk result (λ levels. levels ≡ actions_of known.now list.now) }
     ensures faultless { OnOk result (actions_faults file known.now.modifiers list.now ≡ []) }
-    ensures fault { IfErr result (λ e. Contains (Memory ∷ actions_faults file known.now.modifiers list.now) e) }
+    ensures fault { IfErr result (λ e.
+        Contains (Memory ∷ actions_faults file known.now.modifiers list.now) e) }
 {
     let elements = list.elements.as_slice();
     let mut levels = Vec::with_capacity(alloc, elements.len())?;

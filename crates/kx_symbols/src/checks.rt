@@ -11,8 +11,10 @@ use kx_virtual_mods::ModNames;
 
 /// Checks a field as a default for actions.
 fn check_action_default(modifiers: &ModNames, file: u32, field: &Field) -> Result<(), Fault>
-    ensures faultless { OnOk result (action_default_faults file modifiers.now.names field.now ≡ []) }
-    ensures fault { IfErr result (λ e. Contains (action_default_faults file modifiers.now.names field.now) e) }
+    ensures faultless { OnOk result
+        (action_default_faults file modifiers.now.names field.now ≡ []) }
+    ensures fault { IfErr result (λ e.
+        Contains (action_default_faults file modifiers.now.names field.now) e) }
 {
     match ActionDefaults::none().behind(modifiers, file, field) {
         Ok(_) => Ok(()),
@@ -23,7 +25,8 @@ fn check_action_default(modifiers: &ModNames, file: u32, field: &Field) -> Resul
 /// Checks a field that stands by itself in a section.
 fn check_field(modifiers: &ModNames, file: u32, field: &Field) -> Result<(), Fault>
     ensures faultless { OnOk result (section_field_faults file modifiers.now.names field.now ≡ []) }
-    ensures fault { IfErr result (λ e. Contains (section_field_faults file modifiers.now.names field.now) e) }
+    ensures fault { IfErr result (λ e.
+        Contains (section_field_faults file modifiers.now.names field.now) e) }
 {
     if is_group_name(&field.place) {
         Ok(())
@@ -41,8 +44,10 @@ pub(crate) fn check_other(
     word: Span,
     statement: &Statement,
 ) -> Result<(), Fault>
-    ensures faultless { OnOk result (other_faults file modifiers.now.names word statement.now ≡ []) }
-    ensures fault { IfErr result (λ e. Contains (other_faults file modifiers.now.names word statement.now) e) }
+    ensures faultless { OnOk result
+        (other_faults file modifiers.now.names word statement.now ≡ []) }
+    ensures fault { IfErr result (λ e.
+        Contains (other_faults file modifiers.now.names word statement.now) e) }
 {
     match statement {
         Statement::VirtualModifiers(_) => Ok(()),

@@ -43,9 +43,15 @@ fn add_symbols(
     lists: &mut Vec<Option<Levels<Keysyms>>>,
     notes: &mut Notes,
 ) -> Result<(), Fault>
-    ensures value { OnOk result (lists.new.items ≡ given_list lists.old.items (group_for lists.old.items (index.now)) (levels_of names.now list.now)) }
-    ensures faultless { OnOk result (place_faults site.file lists.old.items (index.now) list.now ++ elements_faults site.file site.whole list.now ≡ []) }
-    ensures fault { IfErr result (λ e. Contains (Memory ∷ (place_faults site.file lists.old.items (index.now) list.now ++ elements_faults site.file site.whole list.now)) e) }
+    ensures value { OnOk result (lists.new.items
+        ≡ given_list lists.old.items (group_for lists.old.items (index.now))
+        (levels_of names.now list.now)) }
+    ensures faultless { OnOk result
+        (place_faults site.file lists.old.items (index.now) list.now
+        ++ elements_faults site.file site.whole list.now ≡ []) }
+    ensures fault { IfErr result (λ e.
+        Contains (Memory ∷ (place_faults site.file lists.old.items (index.now) list.now
+        ++ elements_faults site.file site.whole list.now)) e) }
 {
     let group = group_for(site.file, lists.as_slice(), index, list)?;
     let levels = read_levels(alloc, names, site, list, notes)?;
@@ -63,9 +69,15 @@ fn add_actions(
     lists: &mut Vec<Option<Levels<LevelAction>>>,
     notes: &mut Notes,
 ) -> Result<(), Fault>
-    ensures value { OnOk result (lists.new.items ≡ given_list lists.old.items (group_for lists.old.items (index.now)) (actions_of known.now list.now)) }
-    ensures faultless { OnOk result (place_faults site.file lists.old.items (index.now) list.now ++ actions_faults site.file known.now.modifiers list.now ≡ []) }
-    ensures fault { IfErr result (λ e. Contains (Memory ∷ (place_faults site.file lists.old.items (index.now) list.now ++ actions_faults site.file known.now.modifiers list.now)) e) }
+    ensures value { OnOk result (lists.new.items
+        ≡ given_list lists.old.items (group_for lists.old.items (index.now))
+        (actions_of known.now list.now)) }
+    ensures faultless { OnOk result
+        (place_faults site.file lists.old.items (index.now) list.now
+        ++ actions_faults site.file known.now.modifiers list.now ≡ []) }
+    ensures fault { IfErr result (λ e.
+        Contains (Memory ∷ (place_faults site.file lists.old.items (index.now) list.now
+        ++ actions_faults site.file known.now.modifiers list.now)) e) }
 {
     let group = group_for(site.file, lists.as_slice(), index, list)?;
     let levels = read_actions(alloc, known, site.file, list, notes)?;
@@ -84,9 +96,14 @@ fn add_list(
     lists: &mut StatementLists,
     notes: &mut Notes,
 ) -> Result<(), Fault>
-    ensures value { OnOk result (lists.new ≡ with_listed known.now lists.old (index.now) list.now kind) }
-    ensures faultless { OnOk result (list_faults site.file known.now.modifiers site.whole lists.old (index.now) list.now kind ≡ []) }
-    ensures fault { IfErr result (λ e. Contains (Memory ∷ list_faults site.file known.now.modifiers site.whole lists.old (index.now) list.now kind) e) }
+    ensures value { OnOk result (lists.new
+        ≡ with_listed known.now lists.old (index.now) list.now kind) }
+    ensures faultless { OnOk result
+        (list_faults site.file known.now.modifiers site.whole lists.old (index.now) list.now kind
+        ≡ []) }
+    ensures fault { IfErr result (λ e.
+        Contains (Memory ∷ list_faults site.file known.now.modifiers site.whole lists.old
+        (index.now) list.now kind) e) }
 {
     match kind {
         ListKind::Symbols => {
@@ -110,9 +127,14 @@ fn add_set(
     lists: &mut StatementLists,
     notes: &mut Notes,
 ) -> Result<(), Fault>
-    ensures value { OnOk result (lists.new ≡ set_lists known.now lists.old field.now.place.index kind field.now.setting) }
-    ensures faultless { OnOk result (set_faults site.file known.now.modifiers site.whole lists.old field.now.place.index field.now.span kind field.now.setting ≡ []) }
-    ensures fault { IfErr result (λ e. Contains (Memory ∷ set_faults site.file known.now.modifiers site.whole lists.old field.now.place.index field.now.span kind field.now.setting) e) }
+    ensures value { OnOk result (lists.new
+        ≡ set_lists known.now lists.old field.now.place.index kind field.now.setting) }
+    ensures faultless { OnOk result
+        (set_faults site.file known.now.modifiers site.whole lists.old field.now.place.index
+        field.now.span kind field.now.setting ≡ []) }
+    ensures fault { IfErr result (λ e.
+        Contains (Memory ∷ set_faults site.file known.now.modifiers site.whole lists.old
+        field.now.place.index field.now.span kind field.now.setting) e) }
 {
     match &field.setting {
         Setting::To(Value::List(list)) => {
@@ -136,9 +158,14 @@ fn add_named(
     lists: &mut StatementLists,
     notes: &mut Notes,
 ) -> Result<(), Fault>
-    ensures value { OnOk result (lists.new ≡ named_lists known.now lists.old field.now (field_kind field.now.place)) }
-    ensures faultless { OnOk result (named_faults site.file known.now.modifiers site.whole lists.old field.now (field_kind field.now.place) ≡ []) }
-    ensures fault { IfErr result (λ e. Contains (Memory ∷ named_faults site.file known.now.modifiers site.whole lists.old field.now (field_kind field.now.place)) e) }
+    ensures value { OnOk result (lists.new
+        ≡ named_lists known.now lists.old field.now (field_kind field.now.place)) }
+    ensures faultless { OnOk result
+        (named_faults site.file known.now.modifiers site.whole lists.old field.now
+        (field_kind field.now.place) ≡ []) }
+    ensures fault { IfErr result (λ e.
+        Contains (Memory ∷ named_faults site.file known.now.modifiers site.whole lists.old field.now
+        (field_kind field.now.place)) e) }
 {
     match field_kind(&field.place) {
         None => Ok(()),
@@ -156,8 +183,11 @@ fn add_field(
     notes: &mut Notes,
 ) -> Result<(), Fault>
     ensures value { OnOk result (lists.new ≡ field_lists known.now lists.old field.now) }
-    ensures faultless { OnOk result (field_faults site.file known.now.modifiers site.whole lists.old field.now ≡ []) }
-    ensures fault { IfErr result (λ e. Contains (Memory ∷ field_faults site.file known.now.modifiers site.whole lists.old field.now) e) }
+    ensures faultless { OnOk result
+        (field_faults site.file known.now.modifiers site.whole lists.old field.now ≡ []) }
+    ensures fault { IfErr result (λ e.
+        Contains (Memory ∷ field_faults site.file known.now.modifiers site.whole lists.old
+        field.now) e) }
 {
     match field {
         KeyField::List(list) => {
@@ -177,8 +207,10 @@ pub(crate) fn read_lists(
     notes: &mut Notes,
 ) -> Result<StatementLists, Fault>
     ensures value { IfOk result (λ lists. lists ≡ lists_of known.now fields.now) }
-    ensures faultless { OnOk result (fields_faults site.file known.now site.whole no_lists fields.now ≡ []) }
-    ensures fault { IfErr result (λ e. Contains (Memory ∷ fields_faults site.file known.now site.whole no_lists fields.now) e) }
+    ensures faultless { OnOk result
+        (fields_faults site.file known.now site.whole no_lists fields.now ≡ []) }
+    ensures fault { IfErr result (λ e.
+        Contains (Memory ∷ fields_faults site.file known.now site.whole no_lists fields.now) e) }
 {
     let mut lists = StatementLists {
         symbols: Vec::new(alloc),

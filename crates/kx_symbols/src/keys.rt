@@ -67,7 +67,9 @@ fn no_records(alloc: Global) -> Vec<(u16, KeyRecord)>
 }
 
 fn one_record(alloc: Global, code: u16, key: KeyRecord) -> Result<Vec<(u16, KeyRecord)>, Fault>
-    ensures records { (mode : ModeValue) (o : Offer ℕ Cell CellValue) → IsOffered mode (cell_in) (width_in_key) code key o → IfOk result (λ records. AreOffered mode (cell_in) (width_in_key) records.items (o ∷ [])) }
+    ensures records { (mode : ModeValue) (o : Offer ℕ Cell CellValue)
+        → IsOffered mode (cell_in) (width_in_key) code key o
+        → IfOk result (λ records. AreOffered mode (cell_in) (width_in_key) records.items (o ∷ [])) }
     ensures err { IfErr result (λ e. e ≡ Memory) }
 {
     let mut records = Vec::new(alloc);
@@ -83,9 +85,13 @@ fn read_content(
     fields: &[KeyField],
     notes: &mut Notes,
 ) -> Result<KeyRecord, Fault>
-    ensures offered { (mode : ModeValue) (code : ℕ) → IfOk result (λ key. IsOffered mode (cell_in) (width_in_key) code key (key_offer known.now fields.now mode code)) }
-    ensures faultless { OnOk result (content_faults site.file known.now site.whole fields.now ≡ []) }
-    ensures fault { IfErr result (λ e. Contains (Memory ∷ content_faults site.file known.now site.whole fields.now) e) }
+    ensures offered { (mode : ModeValue) (code : ℕ)
+        → IfOk result (λ key. IsOffered mode (cell_in) (width_in_key) code key
+        (key_offer known.now fields.now mode code)) }
+    ensures faultless { OnOk result
+        (content_faults site.file known.now site.whole fields.now ≡ []) }
+    ensures fault { IfErr result (λ e.
+        Contains (Memory ∷ content_faults site.file known.now site.whole fields.now) e) }
 {
     let lists = read_lists(alloc, known, site, fields, notes)?;
     let settings = read_besides(alloc, known, site.file, fields)?;
@@ -102,9 +108,15 @@ fn read_key(
     fields: &[KeyField],
     notes: &mut Notes,
 ) -> Result<Vec<(u16, KeyRecord)>, Fault>
-    ensures records { (mode : ModeValue) → IfOk result (λ records. AreOffered mode (cell_in) (width_in_key) records.items (offered known.now fields.now mode (code_of codes.now name.now.bytes))) }
-    ensures faultless { OnOk result (name_faults site.file site.whole name.now ++ content_faults site.file known.now site.whole fields.now ≡ []) }
-    ensures fault { IfErr result (λ e. Contains (Memory ∷ (name_faults site.file site.whole name.now ++ content_faults site.file known.now site.whole fields.now)) e) }
+    ensures records { (mode : ModeValue)
+        → IfOk result (λ records. AreOffered mode (cell_in) (width_in_key) records.items
+        (offered known.now fields.now mode (code_of codes.now name.now.bytes))) }
+    ensures faultless { OnOk result
+        (name_faults site.file site.whole name.now
+        ++ content_faults site.file known.now site.whole fields.now ≡ []) }
+    ensures fault { IfErr result (λ e.
+        Contains (Memory ∷ (name_faults site.file site.whole name.now
+        ++ content_faults site.file known.now site.whole fields.now)) e) }
 {
     if name.as_slice().len() > MOST_NAME_BYTES {
         return Err(Fault::TooMany(site.at(site.whole)));
@@ -129,9 +141,15 @@ fn read_statement(
     statement: &Statement,
     notes: &mut Notes,
 ) -> Result<Vec<(u16, KeyRecord)>, Fault>
-    ensures records { (mode : ModeValue) → IfOk result (λ records. AreOffered mode (cell_in) (width_in_key) records.items (said_offers codes.now known.now mode (key_in statement.now))) }
-    ensures faultless { OnOk result (said_faults site.file known.now statement.now word site.whole (key_in statement.now) ≡ []) }
-    ensures fault { IfErr result (λ e. Contains (Memory ∷ said_faults site.file known.now statement.now word site.whole (key_in statement.now)) e) }
+    ensures records { (mode : ModeValue)
+        → IfOk result (λ records. AreOffered mode (cell_in) (width_in_key) records.items
+        (said_offers codes.now known.now mode (key_in statement.now))) }
+    ensures faultless { OnOk result
+        (said_faults site.file known.now statement.now word site.whole (key_in statement.now)
+        ≡ []) }
+    ensures fault { IfErr result (λ e.
+        Contains (Memory ∷ said_faults site.file known.now statement.now word site.whole
+        (key_in statement.now)) e) }
 {
     match key_in(statement) {
         None => {
@@ -153,9 +171,12 @@ fn read_item(
     item: &Item,
     notes: &mut Notes,
 ) -> Result<Vec<(u16, KeyRecord)>, Fault>
-    ensures records { IfOk result (λ records. AreOffered (mode_of item.now) (cell_in) (width_in_key) records.items (item_offers codes.now known.now item.now)) }
+    ensures records { IfOk result (λ records.
+        AreOffered (mode_of item.now) (cell_in) (width_in_key) records.items
+        (item_offers codes.now known.now item.now)) }
     ensures faultless { OnOk result (item_faults place.file known.now item.now ≡ []) }
-    ensures fault { IfErr result (λ e. Contains (Memory ∷ item_faults place.file known.now item.now) e) }
+    ensures fault { IfErr result (λ e.
+        Contains (Memory ∷ item_faults place.file known.now item.now) e) }
 {
     match item {
         Item::Include { .. } => Ok(no_records(alloc)),
@@ -185,7 +206,8 @@ impl<'a, 'l> Fields<Context<'a, 'l>> for KeyRecord {
 
     type Notes = Notes;
 
-    ghost rules = { λ context. key_rules context.codes.now context.names.now context.modifiers.now.names };
+    ghost rules = { λ context. key_rules context.codes.now context.names.now
+        context.modifiers.now.names };
 
     ghost moves = { key_moves };
 
@@ -223,8 +245,11 @@ impl<'a, 'l> Fields<Context<'a, 'l>> for KeyRecord {
     }
 
     fn absorb(&mut self, _alloc: Global, other: KeyRecord, mode: Mode) -> Result<(), Fault>
-        ensures cells { OnOk result ((c : Cell) → cell_in self.new c ≡ taken mode (cell_in self.old c) (cell_in other c)) }
-        ensures widths { OnOk result ((g : ℕ) → width_in_key self.new g ≡ widened mode (width_in_key self.old g) (width_in_key other g)) }
+        ensures cells { OnOk result ((c : Cell)
+            → cell_in self.new c ≡ taken mode (cell_in self.old c) (cell_in other c)) }
+        ensures widths { OnOk result ((g : ℕ)
+            → width_in_key self.new g ≡ widened mode (width_in_key self.old g)
+            (width_in_key other g)) }
         ensures err { IfErr result (λ e. e ≡ Memory) }
     {
         self.join(other, mode)?;
@@ -245,8 +270,12 @@ impl<'a, 'l> Fields<Context<'a, 'l>> for KeyRecord {
         group: Option<u8>,
         mode: Mode,
     ) -> Result<(), Fault>
-        ensures cells { OnOk result ((c : Cell) → cell_in self.new c ≡ taken mode (cell_in self.old c) (moved_value key_moves group (cell_in other.now) c)) }
-        ensures widths { OnOk result ((g : ℕ) → width_in_key self.new g ≡ widened mode (width_in_key self.old g) (moved_width key_moves group (width_in_key other.now) g)) }
+        ensures cells { OnOk result ((c : Cell)
+            → cell_in self.new c ≡ taken mode (cell_in self.old c)
+            (moved_value key_moves group (cell_in other.now) c)) }
+        ensures widths { OnOk result ((g : ℕ)
+            → width_in_key self.new g ≡ widened mode (width_in_key self.old g)
+            (moved_width key_moves group (width_in_key other.now) g)) }
         ensures err { IfErr result (λ e. e ≡ Memory) }
     {
         self.join_moved(alloc, other, group, mode)?;
@@ -314,9 +343,14 @@ pub fn symbols(
     names: &NameTable,
     modifiers: &ModNames,
 ) -> Result<(Keys, Notes), Fault>
-    ensures shows { IfOk result (λ found. KeysShow found.0 codes.now names.now modifiers.now.names (expanded_body expansion.now)) }
-    ensures faultless { OnOk result (faults_of nat_eq (key_rules codes.now names.now modifiers.now.names) key_moves (expanded_body expansion.now) ≡ []) }
-    ensures fault { IfErr result (λ e. Contains (Memory ∷ faults_of nat_eq (key_rules codes.now names.now modifiers.now.names) key_moves (expanded_body expansion.now)) e) }
+    ensures shows { IfOk result (λ found.
+        KeysShow found.0 codes.now names.now modifiers.now.names (expanded_body expansion.now)) }
+    ensures faultless { OnOk result
+        (faults_of nat_eq (key_rules codes.now names.now modifiers.now.names) key_moves
+        (expanded_body expansion.now) ≡ []) }
+    ensures fault { IfErr result (λ e.
+        Contains (Memory ∷ faults_of nat_eq (key_rules codes.now names.now modifiers.now.names)
+        key_moves (expanded_body expansion.now)) e) }
 {
     let context = Context {
         codes,

@@ -192,8 +192,12 @@ fn braces_keysyms(
     notes: &mut Notes,
 ) -> Result<Keysyms, Fault>
     ensures value { IfOk result (λ keysyms. keysyms ≡ flat_map (part_keysyms names.now) parts.now) }
-    ensures faultless { OnOk result (count_faults site.file site.whole parts.now ++ flat_map (part_faults site.file) parts.now ≡ []) }
-    ensures fault { IfErr result (λ e. Contains (Memory ∷ (count_faults site.file site.whole parts.now ++ flat_map (part_faults site.file) parts.now)) e) }
+    ensures faultless { OnOk result
+        (count_faults site.file site.whole parts.now ++ flat_map (part_faults site.file) parts.now
+        ≡ []) }
+    ensures fault { IfErr result (λ e.
+        Contains (Memory ∷ (count_faults site.file site.whole parts.now
+        ++ flat_map (part_faults site.file) parts.now)) e) }
 {
     let mut keysyms = Keysyms::none();
     if parts.len() > MOST_KEYSYMS {
@@ -214,7 +218,8 @@ fn element_level(
 ) -> Result<Option<Keysyms>, Fault>
     ensures value { IfOk result (λ level. level ≡ element_level names.now element.now) }
     ensures faultless { OnOk result (element_faults site.file site.whole element.now ≡ []) }
-    ensures fault { IfErr result (λ e. Contains (Memory ∷ element_faults site.file site.whole element.now) e) }
+    ensures fault { IfErr result (λ e.
+        Contains (Memory ∷ element_faults site.file site.whole element.now) e) }
 {
     match element {
         Element::Symbol(symbol) => match symbol_keysym(names, site.file, symbol, notes)? {
@@ -243,7 +248,8 @@ pub(crate) fn read_levels(
 ) -> Result<Levels<Keysyms>, Fault>
     ensures value { IfOk result (λ levels. levels ≡ levels_of names.now list.now) }
     ensures faultless { OnOk result (elements_faults site.file site.whole list.now ≡ []) }
-    ensures fault { IfErr result (λ e. Contains (Memory ∷ elements_faults site.file site.whole list.now) e) }
+    ensures fault { IfErr result (λ e.
+        Contains (Memory ∷ elements_faults site.file site.whole list.now) e) }
 {
     let elements = list.elements.as_slice();
     let mut levels = Vec::with_capacity(alloc, elements.len())?;

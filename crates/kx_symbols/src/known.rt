@@ -20,7 +20,11 @@ impl<'a> Model for Known<'a> {
 
     ghost Value = { KnownValue };
 
-    ghost view = { λ k. record { names = k.names.now; modifiers = k.modifiers.now.names; defaults = k.defaults.now } };
+    ghost view = { λ k. record {
+      names = k.names.now;
+      modifiers = k.modifiers.now.names;
+      defaults = k.defaults.now;
+    } };
 }
 
 /// Where a statement stands.

@@ -32,7 +32,11 @@ impl Model for KeyRecord {
 
     ghost Value = { KeyContent };
 
-    ghost view = { λ r. record { symbols = r.symbols; actions = r.actions; settings = r.settings } };
+    ghost view = { λ r. record {
+      symbols = r.symbols;
+      actions = r.actions;
+      settings = r.settings;
+    } };
 }
 
 impl KeyRecord {
@@ -63,14 +67,16 @@ impl KeyRecord {
 
     /// The keysyms of a group and a level, both counted from 0.
     pub fn keysyms(&self, group: usize, level: usize) -> Option<&Keysyms>
-        ensures { option_map (λ keysyms. KeysymsValue keysyms.now) result ≡ cell_in self.now (KeysymsOf group level) }
+        ensures { option_map (λ keysyms. KeysymsValue keysyms.now) result
+            ≡ cell_in self.now (KeysymsOf group level) }
     {
         self.symbols.get(group, level)
     }
 
     /// The action of a group and a level, both counted from 0.
     pub fn action(&self, group: usize, level: usize) -> Option<KeyAction>
-        ensures { option_map (λ action. ActionValue action) result ≡ cell_in self.now (ActionOf group level) }
+        ensures { option_map (λ action. ActionValue action) result
+            ≡ cell_in self.now (ActionOf group level) }
     {
         match self.actions.get(group, level) {
             Some(action) => Some(action.action()),
@@ -81,7 +87,8 @@ impl KeyRecord {
     /// Whether a group and a level have an action, however far beyond the levels of the group's type.
     pub fn has_action(&self) -> bool
         ensures some { IsTrue result → HasAction self.now }
-        ensures none { result ≡ false → (group level : ℕ) → cell_in self.now (ActionOf group level) ≡ None }
+        ensures none { result ≡ false → (group level : ℕ)
+            → cell_in self.now (ActionOf group level) ≡ None }
     {
         self.actions.has_value()
     }
@@ -89,7 +96,9 @@ impl KeyRecord {
     /// What is said of the key besides its lists: the types of its groups, its own type, its virtual modifiers and its range.
     pub fn settings(&self) -> &KeyAttributes
         ensures value { result.now ≡ self.now.settings }
-        ensures cells { (cell : AttributeCell) → option_map (λ value. AttributeOfKey value) (attribute_in result.now cell) ≡ cell_in self.now (AttributeOf cell) }
+        ensures cells { (cell : AttributeCell)
+            → option_map (λ value. AttributeOfKey value) (attribute_in result.now cell)
+            ≡ cell_in self.now (AttributeOf cell) }
     {
         &self.settings
     }
@@ -108,8 +117,11 @@ impl KeyRecord {
 
     /// Takes up what a later statement or include gives.
     pub(crate) fn join(&mut self, other: KeyRecord, mode: Mode) -> Result<(), AllocError>
-        ensures cells { OnOk result ((c : Cell) → cell_in self.new c ≡ taken mode (cell_in self.old c) (cell_in other c)) }
-        ensures widths { OnOk result ((g : ℕ) → width_in_key self.new g ≡ widened mode (width_in_key self.old g) (width_in_key other g)) }
+        ensures cells { OnOk result ((c : Cell)
+            → cell_in self.new c ≡ taken mode (cell_in self.old c) (cell_in other c)) }
+        ensures widths { OnOk result ((g : ℕ)
+            → width_in_key self.new g ≡ widened mode (width_in_key self.old g)
+            (width_in_key other g)) }
     {
         self.symbols.join(other.symbols, mode)?;
         self.actions.join(other.actions, mode)?;
@@ -125,8 +137,12 @@ impl KeyRecord {
         group: Option<u8>,
         mode: Mode,
     ) -> Result<(), AllocError>
-        ensures cells { OnOk result ((c : Cell) → cell_in self.new c ≡ taken mode (cell_in self.old c) (moved_value key_moves group (cell_in other.now) c)) }
-        ensures widths { OnOk result ((g : ℕ) → width_in_key self.new g ≡ widened mode (width_in_key self.old g) (moved_width key_moves group (width_in_key other.now) g)) }
+        ensures cells { OnOk result ((c : Cell)
+            → cell_in self.new c ≡ taken mode (cell_in self.old c)
+            (moved_value key_moves group (cell_in other.now) c)) }
+        ensures widths { OnOk result ((g : ℕ)
+            → width_in_key self.new g ≡ widened mode (width_in_key self.old g)
+            (moved_width key_moves group (width_in_key other.now) g)) }
     {
         self.symbols.join_moved(alloc, &other.symbols, group, mode)?;
         self.actions.join_moved(alloc, &other.actions, group, mode)?;

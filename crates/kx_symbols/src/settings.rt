@@ -31,9 +31,11 @@ fn read_alone(
     file: u32,
     fields: &[KeyField],
 ) -> Result<KeyAttributes, Fault>
-    ensures cells { IfOk result (λ settings. (cell : AttributeCell) → attribute_in settings cell ≡ effective modifiers.now.names no_settings fields.now cell) }
+    ensures cells { IfOk result (λ settings. (cell : AttributeCell)
+        → attribute_in settings cell ≡ effective modifiers.now.names no_settings fields.now cell) }
     ensures faultless { OnOk result (setting_faults file modifiers.now.names fields.now ≡ []) }
-    ensures fault { IfErr result (λ e. Contains (Memory ∷ setting_faults file modifiers.now.names fields.now) e) }
+    ensures fault { IfErr result (λ e.
+        Contains (Memory ∷ setting_faults file modifiers.now.names fields.now) e) }
 {
     if has_field(fields) {
         let none = KeyDefaults::none(alloc);
@@ -50,9 +52,12 @@ pub(crate) fn read_besides(
     file: u32,
     fields: &[KeyField],
 ) -> Result<KeyAttributes, Fault>
-    ensures cells { IfOk result (λ settings. (cell : AttributeCell) → attribute_in settings cell ≡ effective known.now.modifiers known.now.defaults.keys fields.now cell) }
+    ensures cells { IfOk result (λ settings. (cell : AttributeCell)
+        → attribute_in settings cell ≡ effective known.now.modifiers known.now.defaults.keys
+        fields.now cell) }
     ensures faultless { OnOk result (setting_faults file known.now.modifiers fields.now ≡ []) }
-    ensures fault { IfErr result (λ e. Contains (Memory ∷ setting_faults file known.now.modifiers fields.now) e) }
+    ensures fault { IfErr result (λ e.
+        Contains (Memory ∷ setting_faults file known.now.modifiers fields.now) e) }
 {
     match known.defaults.keys() {
         Some(defaults) => read_settings(alloc, known.modifiers, file, fields, defaults),

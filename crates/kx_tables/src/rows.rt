@@ -81,7 +81,8 @@ impl Flags for States {
 
     ghost exact = { ⊤ };
 
-    ghost table = { (codes "BASE", 1) ∷ (codes "LATCHED", 2) ∷ (codes "LOCKED", 4) ∷ (codes "EFFECTIVE", 8) ∷ [] };
+    ghost table = { (codes "BASE", 1) ∷ (codes "LATCHED", 2) ∷ (codes "LOCKED", 4)
+        ∷ (codes "EFFECTIVE", 8) ∷ [] };
 
     ghost set_of = { λ s. s.0 };
 

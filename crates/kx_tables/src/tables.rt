@@ -101,7 +101,8 @@ pub trait Tables: Rows {
     /// The name of a type.
     fn type_name(&self, index: u16) -> &[u8]
         requires { index < length (Self.content self.now).types }
-        ensures { IfSome (slice_get (Self.content self.now).types index) (λ t. result.now ≡ type_name (Self.content self.now) t) }
+        ensures { IfSome (slice_get (Self.content self.now).types index) (λ t.
+            result.now ≡ type_name (Self.content self.now) t) }
     {
         let _sound = self.key_count();
         let row = self.type_row(index);
@@ -111,7 +112,8 @@ pub trait Tables: Rows {
     /// The name of a key.
     fn key_name(&self, index: u16) -> &[u8]
         requires { index < length (Self.content self.now).keys }
-        ensures { IfSome (slice_get (Self.content self.now).keys index) (λ k. result.now ≡ key_name (Self.content self.now) k) }
+        ensures { IfSome (slice_get (Self.content self.now).keys index) (λ k.
+            result.now ≡ key_name (Self.content self.now) k) }
     {
         let _sound = self.key_count();
         let row = self.key_row(index);
@@ -121,7 +123,8 @@ pub trait Tables: Rows {
     /// The name of an indicator.
     fn indicator_name(&self, index: u16) -> &[u8]
         requires { index < length (Self.content self.now).indicators }
-        ensures { IfSome (slice_get (Self.content self.now).indicators index) (λ d. result.now ≡ indicator_name (Self.content self.now) d) }
+        ensures { IfSome (slice_get (Self.content self.now).indicators index) (λ d.
+            result.now ≡ indicator_name (Self.content self.now) d) }
     {
         let _sound = self.key_count();
         let row = self.indicator_row(index);
@@ -131,7 +134,8 @@ pub trait Tables: Rows {
     /// The name of a group, empty for one without a name.
     fn group_name(&self, index: u16) -> &[u8]
         requires { index < length (Self.content self.now).group_names }
-        ensures { IfSome (slice_get (Self.content self.now).group_names index) (λ g. result.now ≡ group_name (Self.content self.now) g) }
+        ensures { IfSome (slice_get (Self.content self.now).group_names index) (λ g.
+            result.now ≡ group_name (Self.content self.now) g) }
     {
         let _sound = self.key_count();
         let row = self.group_name_row(index);

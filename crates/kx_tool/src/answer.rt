@@ -11,7 +11,8 @@ use kx_run::{Direction, Event, Reply};
 use kx_tables::Tables;
 
 fn write_event<O: Out>(buffered: &mut BufferedOut, out: &mut O, event: Event)
-    ensures { Writes O.written O.failures out.old buffered.old out.new buffered.new (event_text event) }
+    ensures { Writes O.written O.failures out.old buffered.old out.new buffered.new
+        (event_text event) }
 {
     write_number(buffered, out, event.code);
     match event.direction {
@@ -22,7 +23,8 @@ fn write_event<O: Out>(buffered: &mut BufferedOut, out: &mut O, event: Event)
 
 /// The keysyms' names joined by commas, `-` for none, `?` for an unknown code.
 fn write_keysyms<O: Out>(buffered: &mut BufferedOut, out: &mut O, names: &NameTable, reply: &Reply)
-    ensures { Writes O.written O.failures out.old buffered.old out.new buffered.new (keysyms_text names.now (answered reply.now).look) }
+    ensures { Writes O.written O.failures out.old buffered.old out.new buffered.new
+        (keysyms_text names.now (answered reply.now).look) }
 {
     if !reply.known {
         buffered.write(out, b"?");
@@ -45,7 +47,8 @@ pub fn write_answer<T: Tables, O: Out>(
     event: Event,
     reply: &Reply,
 )
-    ensures { Writes O.written O.failures out.old buffered.old out.new buffered.new (answer_line (T.content tables.now) names.now event (answered reply.now)) }
+    ensures { Writes O.written O.failures out.old buffered.old out.new buffered.new
+        (answer_line (T.content tables.now) names.now event (answered reply.now)) }
 {
     write_event(buffered, out, event);
     write_keysyms(buffered, out, names, reply);

@@ -52,8 +52,10 @@ pub fn compile(
     files: &Files,
     names: &NameTable,
 ) -> Result<(Vec<u8>, Notes), Fault>
-    ensures answers { IfOk result (λ made. (content : Content) → IsImage content made.0.items → IsCompiled source.now files.now names.now (keymap_of content)) }
-    ensures image { IfOk result (λ made. (content : Content) × IsWritten source.now files.now names.now content made.0.items) }
+    ensures answers { IfOk result (λ made. (content : Content) → IsImage content made.0.items
+        → IsCompiled source.now files.now names.now (keymap_of content)) }
+    ensures image { IfOk result (λ made. (content : Content)
+        × IsWritten source.now files.now names.now content made.0.items) }
     ensures fault { IfErr result (λ e. (e ≡ Memory) ⊎ HasFault source.now files.now names.now e) }
 
     // The printed text of tables gives their own image, and nothing but lack of memory refuses it.

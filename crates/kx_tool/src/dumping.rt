@@ -21,7 +21,8 @@ pub fn dump<O: Out>(bytes: &[u8], out: &mut O) -> io::Result<()>
 }
 
 fn write_rows<O: Out>(buffered: &mut BufferedOut, out: &mut O, bytes: &[u8])
-    ensures { Writes O.written O.failures out.old buffered.old out.new buffered.new (dumped bytes.now) }
+    ensures { Writes O.written O.failures out.old buffered.old out.new buffered.new
+        (dumped bytes.now) }
 {
     for index in 0..bytes.len().div_ceil(ROW) {
         write_row(buffered, out, row(bytes, index));
@@ -40,7 +41,8 @@ fn row(bytes: &[u8], index: usize) -> &[u8]
 
 fn write_row<O: Out>(buffered: &mut BufferedOut, out: &mut O, row: &[u8])
     requires { length row.now ≤ 32 }
-    ensures { Writes O.written O.failures out.old buffered.old out.new buffered.new (row_text row.now) }
+    ensures { Writes O.written O.failures out.old buffered.old out.new buffered.new
+        (row_text row.now) }
 {
     let mut text = [0; 2 * ROW];
     let digits = &mut text[..2 * row.len()];

@@ -51,7 +51,8 @@ impl Line {
 
     /// Reads one more byte of the line.
     pub fn push(&mut self, byte: u8)
-        ensures { (line : List ℕ) → KeepsLine self.old line → KeepsLine self.new (line ++ byte ∷ []) }
+        ensures { (line : List ℕ) → KeepsLine self.old line
+            → KeepsLine self.new (line ++ byte ∷ []) }
     {
         if self.bytes.is_full() {
             self.too_long = true;
@@ -62,7 +63,8 @@ impl Line {
 
     /// Reads the next bytes of the line.
     pub fn push_all(&mut self, part: &[u8])
-        ensures { (line : List ℕ) → KeepsLine self.old line → KeepsLine self.new (line ++ part.now) }
+        ensures { (line : List ℕ) → KeepsLine self.old line
+            → KeepsLine self.new (line ++ part.now) }
     {
         if self.bytes.try_extend_from_slice(part).is_err() {
             self.too_long = true;

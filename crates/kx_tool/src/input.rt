@@ -34,7 +34,10 @@ impl Model for Input {
 
     ghost Value = { Waiting };
 
-    ghost view = { λ s. record { bytes = drop s.start (take s.stop s.chunk); allowance = s.allowance } };
+    ghost view = { λ s. record {
+      bytes = drop s.start (take s.stop s.chunk);
+      allowance = s.allowance;
+    } };
 
     ghost invariant = { λ s. (s.start ≤ s.stop) × (s.stop ≤ 4096) };
 }
@@ -79,12 +82,17 @@ impl Input {
 
     /// The next byte, or none at the end.
     pub fn next_byte<F: Feed>(&mut self, feed: &mut F) -> Result<Option<u8>, ReadFailed>
-        ensures some { IfOk result (λ byte. IfSome byte (λ b. Came (coming self.old (F.left feed.old)) (budget self.old) (coming self.new (F.left feed.new)) (budget self.new) (b ∷ []))) }
-        ensures none { IfOk result (λ byte. IfNone byte (IsAtEnd (coming self.old (F.left feed.old)))) }
+        ensures some { IfOk result (λ byte.
+            IfSome byte (λ b. Came (coming self.old (F.left feed.old)) (budget self.old)
+            (coming self.new (F.left feed.new)) (budget self.new) (b ∷ []))) }
+        ensures none { IfOk result (λ byte.
+            IfNone byte (IsAtEnd (coming self.old (F.left feed.old)))) }
         ensures counted { OnOk result (F.failures feed.new ≡ F.failures feed.old) }
-        ensures taken { OnOk result (F.taken feed.new + self.new.allowance ≡ F.taken feed.old + self.old.allowance) }
+        ensures taken { OnOk result (F.taken feed.new + self.new.allowance
+            ≡ F.taken feed.old + self.old.allowance) }
         ensures empty { OnErr result (self.old.bytes ≡ []) }
-        ensures failed { OnErr result (FailsBehind F.left F.taken F.failures self.old feed.old feed.new) }
+        ensures failed { OnErr result (FailsBehind F.left F.taken F.failures self.old feed.old
+            feed.new) }
     {
         if self.is_empty() {
             self.fill(feed)?;
@@ -113,8 +121,10 @@ impl Input {
         ensures end { OnOk result (self.new.bytes ≡ [] → IsAtEnd (F.left feed.old)) }
         ensures budget { OnOk result (budget self.new ≡ budget self.old) }
         ensures counted { OnOk result (F.failures feed.new ≡ F.failures feed.old) }
-        ensures taken { OnOk result (F.taken feed.new + self.new.allowance ≡ F.taken feed.old + self.old.allowance) }
-        ensures failed { OnErr result (FailsToRead F.left F.taken F.failures feed.old feed.new self.old.allowance) }
+        ensures taken { OnOk result (F.taken feed.new + self.new.allowance
+            ≡ F.taken feed.old + self.old.allowance) }
+        ensures failed { OnErr result (FailsToRead F.left F.taken F.failures feed.old feed.new
+            self.old.allowance) }
     {
         let mut chunk = [0; CHUNK];
         let Ok(count) = feed.take(&mut chunk) else {

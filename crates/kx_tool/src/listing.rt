@@ -35,7 +35,8 @@ fn mod_name(bit: u8) -> &'static str
 
 /// Writes the next piece of a list, and what stands before it.
 fn write_piece<O: Out>(buffered: &mut BufferedOut, out: &mut O, before: &[u8], piece: &[u8])
-    ensures { Writes O.written O.failures out.old buffered.old out.new buffered.new (before.now ++ piece.now) }
+    ensures { Writes O.written O.failures out.old buffered.old out.new buffered.new
+        (before.now ++ piece.now) }
 {
     buffered.write(out, before);
     buffered.write(out, piece);
@@ -43,7 +44,8 @@ fn write_piece<O: Out>(buffered: &mut BufferedOut, out: &mut O, before: &[u8], p
 
 /// Writes the next name of a list as printed text writes it, and what stands before it.
 fn write_name<O: Out>(buffered: &mut BufferedOut, out: &mut O, before: &[u8], name: &[u8])
-    ensures { Writes O.written O.failures out.old buffered.old out.new buffered.new (before.now ++ printed_name name.now) }
+    ensures { Writes O.written O.failures out.old buffered.old out.new buffered.new
+        (before.now ++ printed_name name.now) }
 {
     buffered.write(out, before);
     write_printed_name(buffered, out, name);
@@ -51,7 +53,8 @@ fn write_name<O: Out>(buffered: &mut BufferedOut, out: &mut O, before: &[u8], na
 
 /// The modifiers' names in the order of their bits, joined by `+`.
 pub fn write_mod_names<O: Out>(buffered: &mut BufferedOut, out: &mut O, label: &[u8], mods: Mods)
-    ensures { Writes O.written O.failures out.old buffered.old out.new buffered.new (listed label.now (codes "+") (chosen (mask mods) mod_names)) }
+    ensures { Writes O.written O.failures out.old buffered.old out.new buffered.new
+        (listed label.now (codes "+") (chosen (mask mods) mod_names)) }
 {
     let mut before = label;
     let mut bits = mods.mask();
@@ -71,7 +74,8 @@ pub fn write_keysym_names<O: Out>(
     names: &NameTable,
     keysyms: &[u32],
 )
-    ensures { Writes O.written O.failures out.old buffered.old out.new buffered.new (keysym_names names.now keysyms.now) }
+    ensures { Writes O.written O.failures out.old buffered.old out.new buffered.new
+        (keysym_names names.now keysyms.now) }
 {
     let mut before: &[u8] = b"";
     for keysym in keysyms {
@@ -84,7 +88,8 @@ pub fn write_keysym_names<O: Out>(
 
 /// The names of the indicators that are lit, joined by commas and written as in printed text.
 pub fn write_lit<T: Tables, O: Out>(buffered: &mut BufferedOut, out: &mut O, tables: &T, lit: u32)
-    ensures { Writes O.written O.failures out.old buffered.old out.new buffered.new (lit_text (T.content tables.now) lit) }
+    ensures { Writes O.written O.failures out.old buffered.old out.new buffered.new
+        (lit_text (T.content tables.now) lit) }
 {
     let mut before: &[u8] = b" lit=";
     let mut bits = lit;

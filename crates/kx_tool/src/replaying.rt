@@ -34,8 +34,14 @@ fn answer_line<T: Tables + Drop, O: Out>(
     line: &Line,
 ) -> bool
     ensures formed { (text : List ℕ) → KeepsLine line.now text → result ≡ is_well_formed text }
-    ensures told { (text : List ℕ) → KeepsLine line.now text → Writes O.written O.failures out.old buffered.old out.new buffered.new (answers_from player.old.content names.now player.old.world (events_in (text ∷ []))) }
-    ensures world { (text : List ℕ) → KeepsLine line.now text → player.new ≡ record player.old { world = world_after (keymap_of player.old.content) player.old.world (events_in (text ∷ [])) } }
+    ensures told { (text : List ℕ) → KeepsLine line.now text
+        → Writes O.written O.failures out.old buffered.old out.new buffered.new
+        (answers_from player.old.content names.now player.old.world (events_in (text ∷ []))) }
+    ensures world { (text : List ℕ) → KeepsLine line.now text
+        → player.new ≡ record player.old {
+          world = world_after (keymap_of player.old.content)
+              player.old.world (events_in (text ∷ []));
+        } }
     ensures still { result ≡ false → (buffered.new ≡ buffered.old) × (out.new ≡ out.old) }
 {
     match line.said() {
@@ -79,10 +85,18 @@ fn finish_line<T: Tables + Drop, O: Out>(
     line: &Line,
     number: u64,
 ) -> Result<(), ReplayFault>
-    ensures formed { OnOk result ((text : List ℕ) → KeepsLine line.now text → true ≡ is_well_formed text) }
-    ensures told { OnOk result ((text : List ℕ) → KeepsLine line.now text → Writes O.written O.failures out.old buffered.old out.new buffered.new (answers_from player.old.content names.now player.old.world (events_in (text ∷ [])))) }
-    ensures world { OnOk result ((text : List ℕ) → KeepsLine line.now text → player.new ≡ record player.old { world = world_after (keymap_of player.old.content) player.old.world (events_in (text ∷ [])) }) }
-    ensures stopped { IfErr result (StopsAt O.written O.failures line.now number out.old buffered.old out.new) }
+    ensures formed { OnOk result ((text : List ℕ) → KeepsLine line.now text
+        → true ≡ is_well_formed text) }
+    ensures told { OnOk result ((text : List ℕ) → KeepsLine line.now text
+        → Writes O.written O.failures out.old buffered.old out.new buffered.new
+        (answers_from player.old.content names.now player.old.world (events_in (text ∷ [])))) }
+    ensures world { OnOk result ((text : List ℕ) → KeepsLine line.now text
+        → player.new ≡ record player.old {
+          world = world_after (keymap_of player.old.content)
+              player.old.world (events_in (text ∷ []));
+        }) }
+    ensures stopped { IfErr result
+        (StopsAt O.written O.failures line.now number out.old buffered.old out.new) }
 {
     if answer_line(player, buffered, out, names, tails, line) {
         return Ok(());
@@ -100,12 +114,17 @@ fn take_byte<F: Feed>(
     _told: &BufferedOut,
 ) -> Result<Option<u8>, ReplayFault>
     requires { input.old.bytes ≡ [] → _told.now ≡ nothing_gathered }
-    ensures some { IfOk result (λ byte. IfSome byte (λ b. Came (coming input.old (F.left feed.old)) (budget input.old) (coming input.new (F.left feed.new)) (budget input.new) (b ∷ []))) }
-    ensures none { IfOk result (λ byte. IfNone byte (IsAtEnd (coming input.old (F.left feed.old)))) }
+    ensures some { IfOk result (λ byte.
+        IfSome byte (λ b. Came (coming input.old (F.left feed.old)) (budget input.old)
+        (coming input.new (F.left feed.new)) (budget input.new) (b ∷ []))) }
+    ensures none { IfOk result (λ byte.
+        IfNone byte (IsAtEnd (coming input.old (F.left feed.old)))) }
     ensures counted { OnOk result (F.failures feed.new ≡ F.failures feed.old) }
-    ensures taken { OnOk result (F.taken feed.new + input.new.allowance ≡ F.taken feed.old + input.old.allowance) }
+    ensures taken { OnOk result (F.taken feed.new + input.new.allowance
+        ≡ F.taken feed.old + input.old.allowance) }
     ensures empty { OnErr result (input.old.bytes ≡ []) }
-    ensures failed { IfErr result (λ fault. (fault ≡ Read) × FailsBehind F.left F.taken F.failures input.old feed.old feed.new) }
+    ensures failed { IfErr result (λ fault. (fault ≡ Read)
+        × FailsBehind F.left F.taken F.failures input.old feed.old feed.new) }
 {
     match input.next_byte(feed) {
         Ok(byte) => Ok(byte),
@@ -120,12 +139,19 @@ fn next_byte<F: Feed, O: Out>(
     buffered: &mut BufferedOut,
     out: &mut O,
 ) -> Result<Option<u8>, ReplayFault>
-    ensures some { IfOk result (λ byte. IfSome byte (λ b. Came (coming input.old (F.left feed.old)) (budget input.old) (coming input.new (F.left feed.new)) (budget input.new) (b ∷ []))) }
-    ensures none { IfOk result (λ byte. IfNone byte (IsAtEnd (coming input.old (F.left feed.old)))) }
+    ensures some { IfOk result (λ byte.
+        IfSome byte (λ b. Came (coming input.old (F.left feed.old)) (budget input.old)
+        (coming input.new (F.left feed.new)) (budget input.new) (b ∷ []))) }
+    ensures none { IfOk result (λ byte.
+        IfNone byte (IsAtEnd (coming input.old (F.left feed.old)))) }
     ensures counted { OnOk result (F.failures feed.new ≡ F.failures feed.old) }
-    ensures taken { OnOk result (F.taken feed.new + input.new.allowance ≡ F.taken feed.old + input.old.allowance) }
-    ensures put { OnOk result (PutsOrWaits O.written O.failures out.old buffered.old out.new buffered.new) }
-    ensures failed { IfErr result (FailsAt O.written O.failures (FailsBehind F.left F.taken F.failures input.old feed.old feed.new) out.old buffered.old out.new) }
+    ensures taken { OnOk result (F.taken feed.new + input.new.allowance
+        ≡ F.taken feed.old + input.old.allowance) }
+    ensures put { OnOk result (PutsOrWaits O.written O.failures out.old buffered.old out.new
+        buffered.new) }
+    ensures failed { IfErr result (FailsAt O.written O.failures
+        (FailsBehind F.left F.taken F.failures input.old feed.old feed.new) out.old buffered.old
+        out.new) }
 {
     if input.is_empty() {
         put_waiting(buffered, out)?;
@@ -143,8 +169,10 @@ pub fn answer_lines<F: Feed, O: Out, T: Tables + Drop>(
     out: &mut O,
 ) -> Result<(), ReplayFault>
     requires { budget input.old ≤ MOST_BYTES }
-    ensures answers { Replays O.written O.failures (T.content tables) names.now (known_lines (coming input.old (F.left feed.old))) out.old out.new result }
-    ensures read { IfErr result (λ fault. fault ≡ Read → FailsBehind F.left F.taken F.failures input.old feed.old feed.new) }
+    ensures answers { Replays O.written O.failures (T.content tables) names.now
+        (known_lines (coming input.old (F.left feed.old))) out.old out.new result }
+    ensures read { IfErr result (λ fault. fault ≡ Read
+        → FailsBehind F.left F.taken F.failures input.old feed.old feed.new) }
     ensures whole { OnOk result (IsWithin (coming input.old (F.left feed.old)) (budget input.old)) }
     ensures few { OnOk result (F.taken feed.new ≤ F.taken feed.old + input.old.allowance) }
 {
@@ -210,9 +238,11 @@ pub fn replay<F: Feed, O: Out>(
     names: &NameTable,
     out: &mut O,
 ) -> Result<(), ReplayFault>
-    ensures answers { ReplaysImage O.written O.failures image.now names.now (known_lines (F.left feed.old)) out.old out.new result
+    ensures answers { ReplaysImage O.written O.failures image.now names.now
+        (known_lines (F.left feed.old)) out.old out.new result
         ⊎ RefusesImage image.now out.old out.new result }
-    ensures read { IfErr result (λ fault. fault ≡ Read → FailsToRead F.left F.taken F.failures feed.old feed.new MOST_BYTES) }
+    ensures read { IfErr result (λ fault. fault ≡ Read
+        → FailsToRead F.left F.taken F.failures feed.old feed.new MOST_BYTES) }
     ensures whole { OnOk result (IsWithin (F.left feed.old) MOST_BYTES) }
     ensures few { OnOk result (F.taken feed.new ≤ F.taken feed.old + MOST_BYTES) }
 {

@@ -32,11 +32,14 @@ pub fn session<F: Feed, O: Out>(
 ) -> Result<(), SessionFault>
     ensures quiet { IfErr result (KeepsQuiet out.old out.new) }
     ensures refused { IfErr result (RefusesSource files.now names.now) }
-    ensures written { MatchResult result (λ _. O.failures out.new ≡ O.failures out.old) (BlamesWriter (O.failures out.old) (O.failures out.new)) }
+    ensures written { MatchResult result (λ _. O.failures out.new ≡ O.failures out.old)
+        (BlamesWriter (O.failures out.old) (O.failures out.new)) }
     ensures whole { OnOk result (IsWithin (F.left feed.old) MOST_BYTES) }
     ensures few { OnOk result (F.taken feed.new ≤ F.taken feed.old + MOST_BYTES) }
-    ensures answers { IfSome (F.left feed.old) (λ text. AnswersSession O.written O.failures text files.now names.now out.old out.new result) }
-    ensures read { IfErr result (λ fault. fault ≡ SessionFault.Replay Read → FailsToRead F.left F.taken F.failures feed.old feed.new MOST_BYTES) }
+    ensures answers { IfSome (F.left feed.old) (λ text.
+        AnswersSession O.written O.failures text files.now names.now out.old out.new result) }
+    ensures read { IfErr result (λ fault. fault ≡ SessionFault.Replay Read
+        → FailsToRead F.left F.taken F.failures feed.old feed.new MOST_BYTES) }
 {
     let mut input = Input::new();
     let source = read_source(alloc, &mut input, feed)?;

@@ -54,12 +54,17 @@ pub fn read_source<F: Feed>(
     input: &mut Input,
     feed: &mut F,
 ) -> Result<Source, SessionFault>
-    ensures source { IfOk result (λ source. ReadsSource (coming input.old (F.left feed.old)) (budget input.old) (coming input.new (F.left feed.new)) (budget input.new) source.text.items source.has_lines) }
+    ensures source { IfOk result (λ source.
+        ReadsSource (coming input.old (F.left feed.old)) (budget input.old)
+        (coming input.new (F.left feed.new)) (budget input.new) source.text.items
+        source.has_lines) }
     ensures counted { OnOk result (F.failures feed.new ≡ F.failures feed.old) }
-    ensures taken { OnOk result (F.taken feed.new + input.new.allowance ≡ F.taken feed.old + input.old.allowance) }
+    ensures taken { OnOk result (F.taken feed.new + input.new.allowance
+        ≡ F.taken feed.old + input.old.allowance) }
     ensures few { IfOk result (λ source. length source.text.items ≤ budget input.old) }
     ensures fault { IfErr result (λ fault. (fault ≡ SessionFault.Compile Fault.Memory)
-        ⊎ ((fault ≡ SessionFault.Replay Read) × FailsBehind F.left F.taken F.failures input.old feed.old feed.new)) }
+        ⊎ ((fault ≡ SessionFault.Replay Read)
+        × FailsBehind F.left F.taken F.failures input.old feed.old feed.new)) }
 {
     let mut text = Vec::new(alloc);
     let mut line_start = 0;

@@ -13,7 +13,8 @@ use kx_run::Components;
 
 /// Writes a number in decimal.
 pub fn write_number<O: Out>(buffered: &mut BufferedOut, out: &mut O, number: u16)
-    ensures { Writes O.written O.failures out.old buffered.old out.new buffered.new (decimal number) }
+    ensures { Writes O.written O.failures out.old buffered.old out.new buffered.new
+        (decimal number) }
 {
     let mut buffer = Buffer::new();
     buffered.write(out, buffer.format(number).as_bytes());
@@ -21,7 +22,8 @@ pub fn write_number<O: Out>(buffered: &mut BufferedOut, out: &mut O, number: u16
 
 /// The modifiers' names after a label, or `none`.
 fn write_mods<O: Out>(buffered: &mut BufferedOut, out: &mut O, label: &[u8], mods: Mods)
-    ensures { Writes O.written O.failures out.old buffered.old out.new buffered.new (mods_text label.now (mask mods)) }
+    ensures { Writes O.written O.failures out.old buffered.old out.new buffered.new
+        (mods_text label.now (mask mods)) }
 {
     if mods.mask() == 0 {
         buffered.write(out, label);
@@ -38,7 +40,8 @@ pub fn write_all_mods<O: Out>(
     consumed: Mods,
     state: Components,
 )
-    ensures { Writes O.written O.failures out.old buffered.old out.new buffered.new (all_mods_text (mask consumed) (told state)) }
+    ensures { Writes O.written O.failures out.old buffered.old out.new buffered.new
+        (all_mods_text (mask consumed) (told state)) }
 {
     write_mods(buffered, out, b" consumed=", consumed);
     write_mods(buffered, out, b" base=", state.base);
@@ -48,7 +51,8 @@ pub fn write_all_mods<O: Out>(
 
 /// The effective group, counted from 1.
 pub fn write_group<O: Out>(buffered: &mut BufferedOut, out: &mut O, state: Components)
-    ensures { Writes O.written O.failures out.old buffered.old out.new buffered.new (group_text (told state)) }
+    ensures { Writes O.written O.failures out.old buffered.old out.new buffered.new
+        (group_text (told state)) }
 {
     buffered.write(out, b" group=");
     write_number(buffered, out, u16::from(state.effective_group) + 1);

@@ -65,7 +65,8 @@ impl Tail {
 
     /// Its text.
     fn text(&self) -> &[u8]
-        ensures { result.now ≡ unlit_tail (mask self.now.shown.consumed) (told self.now.shown.state) }
+        ensures { result.now ≡ unlit_tail (mask self.now.shown.consumed)
+            (told self.now.shown.state) }
     {
         self.text.as_slice()
     }
@@ -73,7 +74,8 @@ impl Tail {
 
 /// The text of an end, if it is kept and shows this.
 fn kept_text(tail: &Option<Tail>, shown: Shown) -> Option<&[u8]>
-    ensures { IfSome result (λ text. text.now ≡ unlit_tail (mask shown.consumed) (told shown.state)) }
+    ensures { IfSome result (λ text.
+        text.now ≡ unlit_tail (mask shown.consumed) (told shown.state)) }
 {
     match tail {
         None => None,
@@ -89,7 +91,8 @@ fn kept_text(tail: &Option<Tail>, shown: Shown) -> Option<&[u8]>
 
 /// Puts the end of an answer in which no indicator is lit.
 fn put_unlit<O: Out>(out: &mut O, shown: Shown) -> io::Result<()>
-    ensures { Puts O.written O.failures out.old out.new result (unlit_tail (mask shown.consumed) (told shown.state)) }
+    ensures { Puts O.written O.failures out.old out.new result
+        (unlit_tail (mask shown.consumed) (told shown.state)) }
 {
     let mut buffered = BufferedOut::new();
     write_unlit(&mut buffered, out, shown);
@@ -97,7 +100,8 @@ fn put_unlit<O: Out>(out: &mut O, shown: Shown) -> io::Result<()>
 }
 
 fn write_unlit<O: Out>(buffered: &mut BufferedOut, out: &mut O, shown: Shown)
-    ensures { Writes O.written O.failures out.old buffered.old out.new buffered.new (unlit_tail (mask shown.consumed) (told shown.state)) }
+    ensures { Writes O.written O.failures out.old buffered.old out.new buffered.new
+        (unlit_tail (mask shown.consumed) (told shown.state)) }
 {
     write_all_mods(buffered, out, shown.consumed, shown.state);
     write_group(buffered, out, shown.state);
@@ -106,7 +110,8 @@ fn write_unlit<O: Out>(buffered: &mut BufferedOut, out: &mut O, shown: Shown)
 
 /// Writes the end of an answer from the tables.
 fn write_tail<T: Tables, O: Out>(buffered: &mut BufferedOut, out: &mut O, tables: &T, reply: &Reply)
-    ensures { Writes O.written O.failures out.old buffered.old out.new buffered.new (tail_text (T.content tables.now) (answered reply.now)) }
+    ensures { Writes O.written O.failures out.old buffered.old out.new buffered.new
+        (tail_text (T.content tables.now) (answered reply.now)) }
 {
     write_all_mods(buffered, out, reply.consumed, reply.state);
     write_group(buffered, out, reply.state);
@@ -121,7 +126,9 @@ fn write_kept<O: Out>(
     out: &mut O,
     shown: Shown,
 ) -> bool
-    ensures written { result ≡ true → Writes O.written O.failures out.old buffered.old out.new buffered.new (unlit_tail (mask shown.consumed) (told shown.state)) }
+    ensures written { result ≡ true
+        → Writes O.written O.failures out.old buffered.old out.new buffered.new
+        (unlit_tail (mask shown.consumed) (told shown.state)) }
     ensures still { result ≡ false → (buffered.new ≡ buffered.old) × (out.new ≡ out.old) }
 {
     match kept_text(tail, shown) {
@@ -150,7 +157,8 @@ impl Tails {
         tables: &T,
         reply: &Reply,
     )
-        ensures { Writes O.written O.failures out.old buffered.old out.new buffered.new (tail_text (T.content tables.now) (answered reply.now)) }
+        ensures { Writes O.written O.failures out.old buffered.old out.new buffered.new
+            (tail_text (T.content tables.now) (answered reply.now)) }
     {
         let shown = Shown {
             consumed: reply.consumed,
@@ -164,7 +172,9 @@ impl Tails {
 
     /// Writes an end in which no indicator is lit, if it is kept, and else keeps it; whether it is written.
     fn write_unlit<O: Out>(&mut self, buffered: &mut BufferedOut, out: &mut O, shown: Shown) -> bool
-        ensures written { result ≡ true → Writes O.written O.failures out.old buffered.old out.new buffered.new (unlit_tail (mask shown.consumed) (told shown.state)) }
+        ensures written { result ≡ true
+            → Writes O.written O.failures out.old buffered.old out.new buffered.new
+            (unlit_tail (mask shown.consumed) (told shown.state)) }
         ensures still { result ≡ false → (buffered.new ≡ buffered.old) × (out.new ≡ out.old) }
     {
         if write_kept(&self.last, buffered, out, shown) {

@@ -88,7 +88,9 @@ fn one_record(
     name: ShortName,
     definition: KeyType,
 ) -> Result<Vec<(ShortName, DeclaredType)>, Fault>
-    ensures records { (mode : ModeValue) → IfOk result (λ records. AreOffered mode declared_cell declared_width records.items (type_offer mode name definition ∷ [])) }
+    ensures records { (mode : ModeValue)
+        → IfOk result (λ records. AreOffered mode declared_cell declared_width records.items
+        (type_offer mode name definition ∷ [])) }
     ensures err { IfErr result (λ e. e ≡ Memory) }
 {
     let mut records = Vec::new(alloc);
@@ -110,9 +112,16 @@ fn read_type(
     name: &Name,
     fields: &[Field],
 ) -> Result<Vec<(ShortName, DeclaredType)>, Fault>
-    ensures records { (mode : ModeValue) → IfOk result (λ records. AreOffered mode declared_cell declared_width records.items (type_offer mode name.now.bytes (definition_of (sayings_of modifiers.now.names fields.now)) ∷ [])) }
-    ensures faultless { OnOk result (name_faults file whole name.now ++ flat_map (field_faults modifiers.now.names file) fields.now ≡ []) }
-    ensures fault { IfErr result (λ e. Contains (Memory ∷ (name_faults file whole name.now ++ flat_map (field_faults modifiers.now.names file) fields.now)) e) }
+    ensures records { (mode : ModeValue)
+        → IfOk result (λ records. AreOffered mode declared_cell declared_width records.items
+        (type_offer mode name.now.bytes (definition_of (sayings_of modifiers.now.names fields.now))
+        ∷ [])) }
+    ensures faultless { OnOk result
+        (name_faults file whole name.now
+        ++ flat_map (field_faults modifiers.now.names file) fields.now ≡ []) }
+    ensures fault { IfErr result (λ e.
+        Contains (Memory ∷ (name_faults file whole name.now
+        ++ flat_map (field_faults modifiers.now.names file) fields.now)) e) }
 {
     let bytes = name.bytes.as_slice();
     if bytes.len() > MOST_NAME_BYTES {
@@ -132,9 +141,15 @@ fn read_statement(
     whole: Span,
     statement: &Statement,
 ) -> Result<Vec<(ShortName, DeclaredType)>, Fault>
-    ensures records { (mode : ModeValue) → IfOk result (λ records. AreOffered mode declared_cell declared_width records.items (said_offers modifiers.now.names mode (type_in statement.now))) }
-    ensures faultless { OnOk result (said_faults modifiers.now.names file (type_in statement.now) statement.now word whole ≡ []) }
-    ensures fault { IfErr result (λ e. Contains (Memory ∷ said_faults modifiers.now.names file (type_in statement.now) statement.now word whole) e) }
+    ensures records { (mode : ModeValue)
+        → IfOk result (λ records. AreOffered mode declared_cell declared_width records.items
+        (said_offers modifiers.now.names mode (type_in statement.now))) }
+    ensures faultless { OnOk result
+        (said_faults modifiers.now.names file (type_in statement.now) statement.now word whole
+        ≡ []) }
+    ensures fault { IfErr result (λ e.
+        Contains (Memory ∷ said_faults modifiers.now.names file (type_in statement.now)
+        statement.now word whole) e) }
 {
     match type_in(statement) {
         Some((name, fields)) => read_type(alloc, modifiers, file, whole, name, fields.as_slice()),
@@ -154,9 +169,12 @@ fn read_item(
     place: Place,
     item: &Item,
 ) -> Result<Vec<(ShortName, DeclaredType)>, Fault>
-    ensures records { IfOk result (λ records. AreOffered (mode_of item.now) declared_cell declared_width records.items (item_offers modifiers.now.names item.now)) }
+    ensures records { IfOk result (λ records.
+        AreOffered (mode_of item.now) declared_cell declared_width records.items
+        (item_offers modifiers.now.names item.now)) }
     ensures faultless { OnOk result (item_faults modifiers.now.names place.file item.now ≡ []) }
-    ensures fault { IfErr result (λ e. Contains (Memory ∷ item_faults modifiers.now.names place.file item.now) e) }
+    ensures fault { IfErr result (λ e.
+        Contains (Memory ∷ item_faults modifiers.now.names place.file item.now) e) }
 {
     let word = item.word_span();
     match item {
@@ -241,8 +259,12 @@ impl Fields<ModNames> for DeclaredType {
     }
 
     fn absorb(&mut self, _alloc: Global, other: DeclaredType, mode: Mode) -> Result<(), Fault>
-        ensures cells { OnOk result ((c : Unit {0}) → declared_cell self.new c ≡ taken mode (declared_cell self.old c) (declared_cell other c)) }
-        ensures widths { OnOk result ((g : ℕ) → declared_width self.new g ≡ widened mode (declared_width self.old g) (declared_width other g)) }
+        ensures cells { OnOk result ((c : Unit {0})
+            → declared_cell self.new c ≡ taken mode (declared_cell self.old c)
+            (declared_cell other c)) }
+        ensures widths { OnOk result ((g : ℕ)
+            → declared_width self.new g ≡ widened mode (declared_width self.old g)
+            (declared_width other g)) }
         ensures err { IfErr result (λ e. e ≡ Memory) }
     {
         self.join(other.definition, mode);
@@ -263,8 +285,12 @@ impl Fields<ModNames> for DeclaredType {
         group: Option<u8>,
         mode: Mode,
     ) -> Result<(), Fault>
-        ensures cells { OnOk result ((c : Unit {0}) → declared_cell self.new c ≡ taken mode (declared_cell self.old c) (moved_value type_moves group (declared_cell other.now) c)) }
-        ensures widths { OnOk result ((g : ℕ) → declared_width self.new g ≡ widened mode (declared_width self.old g) (moved_width type_moves group (declared_width other.now) g)) }
+        ensures cells { OnOk result ((c : Unit {0})
+            → declared_cell self.new c ≡ taken mode (declared_cell self.old c)
+            (moved_value type_moves group (declared_cell other.now) c)) }
+        ensures widths { OnOk result ((g : ℕ)
+            → declared_width self.new g ≡ widened mode (declared_width self.old g)
+            (moved_width type_moves group (declared_width other.now) g)) }
         ensures err { IfErr result (λ e. e ≡ Memory) }
     {
         let definition = copied(alloc, &other.definition)?;
@@ -296,9 +322,12 @@ impl Fields<ModNames> for DeclaredType {
 /// at a field without one; `LevelRange` at a level outside of 1 to 64; `UnknownModifier` at a modifier that is neither real
 /// nor declared; `Memory`.
 pub fn types(alloc: Global, expansion: &Expansion, modifiers: &ModNames) -> Result<Types, Fault>
-    ensures shows { IfOk result (λ types. TypesShow types modifiers.now.names (expanded_body expansion.now)) }
-    ensures faultless { OnOk result (types_faults modifiers.now.names (expanded_body expansion.now) ≡ []) }
-    ensures fault { IfErr result (λ e. Contains (Memory ∷ types_faults modifiers.now.names (expanded_body expansion.now)) e) }
+    ensures shows { IfOk result (λ types.
+        TypesShow types modifiers.now.names (expanded_body expansion.now)) }
+    ensures faultless { OnOk result
+        (types_faults modifiers.now.names (expanded_body expansion.now) ≡ []) }
+    ensures fault { IfErr result (λ e.
+        Contains (Memory ∷ types_faults modifiers.now.names (expanded_body expansion.now)) e) }
 {
     let _counted = count_names::<TypeNaming>(alloc, MOST_TYPES, Names::new(alloc), expansion)?;
     let merged = merge::<ModNames, DeclaredType>(alloc, modifiers, expansion)?;

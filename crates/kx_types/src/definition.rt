@@ -26,11 +26,16 @@ impl Model for KeyType {
 
     ghost Value = { Definition };
 
-    ghost view = { λ t. record { modifiers = t.modifiers; levels = t.levels; entries = t.entries.items } };
+    ghost view = { λ t. record {
+      modifiers = t.modifiers;
+      levels = t.levels;
+      entries = t.entries.items;
+    } };
 
     ghost use Rattle.kx_types.specs.Lawful.{IsLawful};
 
-    ghost invariant = { λ t. IsLawful (record { modifiers = t.modifiers; levels = t.levels; entries = t.entries.items }) };
+    ghost invariant = { λ t. IsLawful
+        (record { modifiers = t.modifiers; levels = t.levels; entries = t.entries.items }) };
 }
 
 fn written_modifiers(saying: Saying) -> Option<NameSet>
@@ -115,7 +120,9 @@ fn add_level(
     modifiers: NameSet,
     saying: Saying,
 ) -> Result<(), AllocError>
-    ensures { OnOk result ((mask : ℕ) → get nat_eq levels.new mask ≡ option_or (mapped modifiers mask saying) (get nat_eq levels.old mask)) }
+    ensures { OnOk result ((mask : ℕ)
+        → get nat_eq levels.new mask ≡ option_or (mapped modifiers mask saying)
+        (get nat_eq levels.old mask)) }
 {
     if let Saying::Map(mask, level) = saying {
         levels.insert(mask.meet(modifiers), level)?;
@@ -129,7 +136,8 @@ fn mapped_levels(
     modifiers: NameSet,
     said: &[Saying],
 ) -> Result<Ordered<NameSet, u8>, AllocError>
-    ensures { IfOk result (λ levels. (mask : ℕ) → get nat_eq levels mask ≡ last_given (mapped modifiers mask) said.now) }
+    ensures { IfOk result (λ levels. (mask : ℕ)
+        → get nat_eq levels mask ≡ last_given (mapped modifiers mask) said.now) }
 {
     let mut levels = Ordered::new(alloc);
     'said: for saying in said {
@@ -144,7 +152,9 @@ fn add_preserved(
     modifiers: NameSet,
     saying: Saying,
 ) -> Result<(), AllocError>
-    ensures { OnOk result ((mask : ℕ) → get nat_eq kept.new mask ≡ option_or (preserved modifiers mask saying) (get nat_eq kept.old mask)) }
+    ensures { OnOk result ((mask : ℕ)
+        → get nat_eq kept.new mask ≡ option_or (preserved modifiers mask saying)
+        (get nat_eq kept.old mask)) }
 {
     if let Saying::Preserve(mask, names) = saying {
         kept.insert(mask.meet(modifiers), names)?;
@@ -158,7 +168,8 @@ fn preserved_names(
     modifiers: NameSet,
     said: &[Saying],
 ) -> Result<Ordered<NameSet, NameSet>, AllocError>
-    ensures { IfOk result (λ kept. (mask : ℕ) → get nat_eq kept mask ≡ last_given (preserved modifiers mask) said.now) }
+    ensures { IfOk result (λ kept. (mask : ℕ)
+        → get nat_eq kept mask ≡ last_given (preserved modifiers mask) said.now) }
 {
     let mut kept = Ordered::new(alloc);
     'said: for saying in said {
@@ -193,7 +204,8 @@ fn entries_with(
     levels: &Ordered<NameSet, u8>,
     kept: &Ordered<NameSet, NameSet>,
 ) -> Result<Vec<TypeEntry>, AllocError>
-    ensures { IfOk result (λ entries. entries.items ≡ map (entry_with (get nat_eq levels.now) (get nat_eq kept.now)) masks.now) }
+    ensures { IfOk result (λ entries.
+        entries.items ≡ map (entry_with (get nat_eq levels.now) (get nat_eq kept.now)) masks.now) }
 {
     let mut entries = Vec::with_capacity(alloc, masks.as_slice().len())?;
     'masks: for mask in masks.as_slice() {

@@ -69,9 +69,14 @@ fn check_text(file: u32, expression: &Expression) -> Result<(), Fault>
 
 /// The modifiers that a field is set to.
 fn value_mask(modifiers: &ModNames, file: u32, field: &Field) -> Result<NameSet, Fault>
-    ensures value { IfOk result (λ set. option_map (mask_set modifiers.now.names) (expression_in field.now.setting) ≡ Some set) }
-    ensures faultless { OnOk result (value_faults file (mask_faults file modifiers.now.names) field.now.span field.now.setting ≡ []) }
-    ensures fault { IfErr result (λ e. Contains (value_faults file (mask_faults file modifiers.now.names) field.now.span field.now.setting) e) }
+    ensures value { IfOk result (λ set.
+        option_map (mask_set modifiers.now.names) (expression_in field.now.setting) ≡ Some set) }
+    ensures faultless { OnOk result
+        (value_faults file (mask_faults file modifiers.now.names) field.now.span field.now.setting
+        ≡ []) }
+    ensures fault { IfErr result (λ e.
+        Contains (value_faults file (mask_faults file modifiers.now.names) field.now.span
+        field.now.setting) e) }
 {
     let expression = expression_of(file, field.span, &field.setting)?;
     modifiers.mask_of(file, expression)
@@ -79,37 +84,50 @@ fn value_mask(modifiers: &ModNames, file: u32, field: &Field) -> Result<NameSet,
 
 /// The level that a field is set to.
 fn value_level(file: u32, field: &Field) -> Result<u8, Fault>
-    ensures value { IfOk result (λ level. option_and_then (number_named Level) (expression_in field.now.setting) ≡ Some level) }
+    ensures value { IfOk result (λ level.
+        option_and_then (number_named Level) (expression_in field.now.setting) ≡ Some level) }
     ensures within { IfOk result IsLevel }
-    ensures faultless { OnOk result (value_faults file (number_faults file Level) field.now.span field.now.setting ≡ []) }
-    ensures fault { IfErr result (λ e. Contains (value_faults file (number_faults file Level) field.now.span field.now.setting) e) }
+    ensures faultless { OnOk result
+        (value_faults file (number_faults file Level) field.now.span field.now.setting ≡ []) }
+    ensures fault { IfErr result (λ e.
+        Contains (value_faults file (number_faults file Level) field.now.span field.now.setting)
+        e) }
 {
     let expression = expression_of(file, field.span, &field.setting)?;
     Counted::Level.read(file, expression)
 }
 
 fn check_value_text(file: u32, field: &Field) -> Result<(), Fault>
-    ensures faultless { OnOk result (value_faults file (text_faults file) field.now.span field.now.setting ≡ []) }
-    ensures fault { IfErr result (λ e. Contains (value_faults file (text_faults file) field.now.span field.now.setting) e) }
+    ensures faultless { OnOk result
+        (value_faults file (text_faults file) field.now.span field.now.setting ≡ []) }
+    ensures fault { IfErr result (λ e.
+        Contains (value_faults file (text_faults file) field.now.span field.now.setting) e) }
 {
     let expression = expression_of(file, field.span, &field.setting)?;
     check_text(file, expression)
 }
 
 fn read_modifiers(modifiers: &ModNames, file: u32, field: &Field) -> Result<Saying, Fault>
-    ensures value { IfOk result (λ saying. slot_saying modifiers.now.names (Some slots.Modifiers) None field.now ≡ Some saying) }
+    ensures value { IfOk result (λ saying.
+        slot_saying modifiers.now.names (Some slots.Modifiers) None field.now ≡ Some saying) }
     ensures level { IfOk result NamesLevel }
-    ensures faultless { OnOk result (slot_faults modifiers.now.names file (Some slots.Modifiers) None field.now ≡ []) }
-    ensures fault { IfErr result (λ e. Contains (slot_faults modifiers.now.names file (Some slots.Modifiers) None field.now) e) }
+    ensures faultless { OnOk result
+        (slot_faults modifiers.now.names file (Some slots.Modifiers) None field.now ≡ []) }
+    ensures fault { IfErr result (λ e.
+        Contains (slot_faults modifiers.now.names file (Some slots.Modifiers) None field.now) e) }
 {
     Ok(Saying::Modifiers(value_mask(modifiers, file, field)?))
 }
 
 fn read_map(modifiers: &ModNames, file: u32, index: &Index, field: &Field) -> Result<Saying, Fault>
-    ensures value { IfOk result (λ saying. slot_saying modifiers.now.names (Some slots.Map) (Some index.now) field.now ≡ Some saying) }
+    ensures value { IfOk result (λ saying.
+        slot_saying modifiers.now.names (Some slots.Map) (Some index.now) field.now ≡ Some saying) }
     ensures level { IfOk result NamesLevel }
-    ensures faultless { OnOk result (slot_faults modifiers.now.names file (Some slots.Map) (Some index.now) field.now ≡ []) }
-    ensures fault { IfErr result (λ e. Contains (slot_faults modifiers.now.names file (Some slots.Map) (Some index.now) field.now) e) }
+    ensures faultless { OnOk result
+        (slot_faults modifiers.now.names file (Some slots.Map) (Some index.now) field.now ≡ []) }
+    ensures fault { IfErr result (λ e.
+        Contains (slot_faults modifiers.now.names file (Some slots.Map) (Some index.now) field.now)
+        e) }
 {
     let mask = modifiers.mask_of(file, &index.value)?;
     Ok(Saying::Map(mask, value_level(file, field)?))
@@ -121,10 +139,16 @@ fn read_preserve(
     index: &Index,
     field: &Field,
 ) -> Result<Saying, Fault>
-    ensures value { IfOk result (λ saying. slot_saying modifiers.now.names (Some slots.Preserve) (Some index.now) field.now ≡ Some saying) }
+    ensures value { IfOk result (λ saying.
+        slot_saying modifiers.now.names (Some slots.Preserve) (Some index.now) field.now
+        ≡ Some saying) }
     ensures level { IfOk result NamesLevel }
-    ensures faultless { OnOk result (slot_faults modifiers.now.names file (Some slots.Preserve) (Some index.now) field.now ≡ []) }
-    ensures fault { IfErr result (λ e. Contains (slot_faults modifiers.now.names file (Some slots.Preserve) (Some index.now) field.now) e) }
+    ensures faultless { OnOk result
+        (slot_faults modifiers.now.names file (Some slots.Preserve) (Some index.now) field.now
+        ≡ []) }
+    ensures fault { IfErr result (λ e.
+        Contains (slot_faults modifiers.now.names file (Some slots.Preserve) (Some index.now)
+        field.now) e) }
 {
     let mask = modifiers.mask_of(file, &index.value)?;
     Ok(Saying::Preserve(mask, value_mask(modifiers, file, field)?))
@@ -136,10 +160,16 @@ fn read_level_name(
     index: &Index,
     field: &Field,
 ) -> Result<Saying, Fault>
-    ensures value { IfOk result (λ saying. slot_saying modifiers.now.names (Some slots.LevelName) (Some index.now) field.now ≡ Some saying) }
+    ensures value { IfOk result (λ saying.
+        slot_saying modifiers.now.names (Some slots.LevelName) (Some index.now) field.now
+        ≡ Some saying) }
     ensures level { IfOk result NamesLevel }
-    ensures faultless { OnOk result (slot_faults modifiers.now.names file (Some slots.LevelName) (Some index.now) field.now ≡ []) }
-    ensures fault { IfErr result (λ e. Contains (slot_faults modifiers.now.names file (Some slots.LevelName) (Some index.now) field.now) e) }
+    ensures faultless { OnOk result
+        (slot_faults modifiers.now.names file (Some slots.LevelName) (Some index.now) field.now
+        ≡ []) }
+    ensures fault { IfErr result (λ e.
+        Contains (slot_faults modifiers.now.names file (Some slots.LevelName) (Some index.now)
+        field.now) e) }
 {
     let level = Counted::Level.read(file, &index.value)?;
     check_value_text(file, field)?;
@@ -160,7 +190,8 @@ fn read_field(modifiers: &ModNames, file: u32, field: &Field) -> Result<Saying, 
     ensures value { IfOk result (λ saying. saying_of modifiers.now.names field.now ≡ Some saying) }
     ensures level { IfOk result NamesLevel }
     ensures faultless { OnOk result (field_faults modifiers.now.names file field.now ≡ []) }
-    ensures fault { IfErr result (λ e. Contains (field_faults modifiers.now.names file field.now) e) }
+    ensures fault { IfErr result (λ e.
+        Contains (field_faults modifiers.now.names file field.now) e) }
 {
     let place = &field.place;
     if place.member.is_some() {
@@ -186,8 +217,10 @@ pub(crate) fn read_fields(
 ) -> Result<Vec<Saying>, Fault>
     ensures value { IfOk result (λ said. said.items ≡ sayings_of modifiers.now.names fields.now) }
     ensures levels { IfOk result (λ said. All NamesLevel said.items) }
-    ensures faultless { OnOk result (flat_map (field_faults modifiers.now.names file) fields.now ≡ []) }
-    ensures fault { IfErr result (λ e. Contains (Memory ∷ flat_map (field_faults modifiers.now.names file) fields.now) e) }
+    ensures faultless { OnOk result
+        (flat_map (field_faults modifiers.now.names file) fields.now ≡ []) }
+    ensures fault { IfErr result (λ e.
+        Contains (Memory ∷ flat_map (field_faults modifiers.now.names file) fields.now) e) }
 {
     let mut said = Vec::with_capacity(alloc, fields.len())?;
     'fields: for field in fields {

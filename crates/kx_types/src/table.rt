@@ -77,7 +77,8 @@ impl Types {
 
     /// The name and the type at a place, counted from 0.
     pub fn at(&self, place: usize) -> Option<(&[u8], Option<&KeyType>)>
-        ensures { option_map (λ t. (t.0.now, option_map (λ d. d.now) t.1)) result ≡ slice_get self.now place }
+        ensures { option_map (λ t. (t.0.now, option_map (λ d. d.now) t.1)) result
+            ≡ slice_get self.now place }
     {
         match self.by_name.at(place) {
             Some((name, declared)) => Some((name.as_slice(), declared.definition.as_ref())),

@@ -70,7 +70,8 @@ fn add_statement<N: Naming>(
 ) -> Result<(), Fault>
     ensures added { OnOk result (names.new ≡ with_names names.old (N.names item.now)) }
     ensures few { OnOk result (length names.new ≤ limit) }
-    ensures fault { IfErr result (λ e. Contains (Memory ∷ crossing N.names limit names.old ((place, item.now) ∷ [])) e) }
+    ensures fault { IfErr result (λ e.
+        Contains (Memory ∷ crossing N.names limit names.old ((place, item.now) ∷ [])) e) }
 {
     N::add(alloc, names, item)?;
     if names.len() > limit {
@@ -95,7 +96,8 @@ fn add_map<N: Naming>(
     requires within { below ≤ length maps.now }
     requires few { length tally.old.names ≤ limit }
     requires done { AreDone N.names maps.now tally.old }
-    ensures { Adds N.names limit maps.now tally.old result tally.new (map_statements (take below (bodies_of maps.now)) map.now) }
+    ensures { Adds N.names limit maps.now tally.old result tally.new
+        (map_statements (take below (bodies_of maps.now)) map.now) }
 {
     'entries: for entry in &map.entries {
         add_entry::<N>(alloc, limit, maps, below, map.place, entry, tally)?;
@@ -117,7 +119,8 @@ fn add_entry<N: Naming>(
     requires within { below ≤ length maps.now }
     requires few { length tally.old.names ≤ limit }
     requires done { AreDone N.names maps.now tally.old }
-    ensures { Adds N.names limit maps.now tally.old result tally.new (entry_statements (take below (bodies_of maps.now)) place entry.now) }
+    ensures { Adds N.names limit maps.now tally.old result tally.new
+        (entry_statements (take below (bodies_of maps.now)) place entry.now) }
 {
     match entry {
         Entry::Own(item) => add_statement::<N>(alloc, limit, place, item, &mut tally.names),
@@ -140,7 +143,8 @@ fn add_links<N: Naming>(
     requires within { below ≤ length maps.now }
     requires few { length tally.old.names ≤ limit }
     requires done { AreDone N.names maps.now tally.old }
-    ensures { Adds N.names limit maps.now tally.old result tally.new (links_statements (take below (bodies_of maps.now)) links.now) }
+    ensures { Adds N.names limit maps.now tally.old result tally.new
+        (links_statements (take below (bodies_of maps.now)) links.now) }
 {
     'links: for link in links {
         add_included::<N>(alloc, limit, maps, below, link.map, tally)?;
@@ -161,7 +165,8 @@ fn add_included<N: Naming>(
     requires within { below ≤ length maps.now }
     requires few { length tally.old.names ≤ limit }
     requires done { AreDone N.names maps.now tally.old }
-    ensures { Adds N.names limit maps.now tally.old result tally.new (statements_of (body_at (take below (bodies_of maps.now)) number)) }
+    ensures { Adds N.names limit maps.now tally.old result tally.new
+        (statements_of (body_at (take below (bodies_of maps.now)) number)) }
 {
     if number >= below {
         return Ok(());
@@ -186,10 +191,14 @@ pub fn count_names<N: Naming>(
     expansion: &Expansion,
 ) -> Result<Names, Fault>
     requires few { length names ≤ limit }
-    ensures names { IfOk result (λ new. new ≡ names_behind N.names names (statements_of (expanded_body expansion.now))) }
+    ensures names { IfOk result (λ new.
+        new ≡ names_behind N.names names (statements_of (expanded_body expansion.now))) }
     ensures few { IfOk result (λ new. length new ≤ limit) }
-    ensures faultless { OnOk result (crossing N.names limit names (statements_of (expanded_body expansion.now)) ≡ []) }
-    ensures fault { IfErr result (λ e. Contains (Memory ∷ crossing N.names limit names (statements_of (expanded_body expansion.now))) e) }
+    ensures faultless { OnOk result
+        (crossing N.names limit names (statements_of (expanded_body expansion.now)) ≡ []) }
+    ensures fault { IfErr result (λ e.
+        Contains (Memory ∷ crossing N.names limit names
+        (statements_of (expanded_body expansion.now))) e) }
 {
     let maps = expansion.maps.as_slice();
     let done = vec![in alloc; false; maps.len()]?;

@@ -70,7 +70,8 @@ fn add_one(alloc: Global, names: &mut Names, declaration: &Declaration) -> Resul
 
 /// Adds the virtual modifiers that declarations name.
 fn add_declared(alloc: Global, names: &mut Names, declarations: &[Declaration]) -> Result<(), Fault>
-    ensures added { OnOk result (names.new ≡ with_names names.old (flat_map named_by declarations.now)) }
+    ensures added { OnOk result (names.new
+        ≡ with_names names.old (flat_map named_by declarations.now)) }
     ensures err { IfErr result (λ e. e ≡ Memory) }
 {
     'declarations: for declaration in declarations {
@@ -125,9 +126,12 @@ fn read_declaration(
     declaration: &Declaration,
     given: &mut Vec<(usize, Option<u8>)>,
 ) -> Result<(), Fault>
-    ensures value { OnOk result (given.new.items ≡ given.old.items ++ given_by (virtual_number names.now declaration.now.word.bytes) declaration.now.mask) }
+    ensures value { OnOk result (given.new.items
+        ≡ given.old.items ++ given_by (virtual_number names.now declaration.now.word.bytes)
+        declaration.now.mask) }
     ensures faultless { OnOk result (declaration_faults file names.now declaration.now ≡ []) }
-    ensures fault { IfErr result (λ e. Contains (Memory ∷ declaration_faults file names.now declaration.now) e) }
+    ensures fault { IfErr result (λ e.
+        Contains (Memory ∷ declaration_faults file names.now declaration.now) e) }
 {
     check_name(file, &declaration.word)?;
     let mask = read_mask(names, file, &declaration.mask)?;
@@ -148,8 +152,10 @@ fn read_declarations(
     declarations: &[Declaration],
 ) -> Result<Vec<(usize, Option<u8>)>, Fault>
     ensures value { IfOk result (λ given. given.items ≡ given_in names.now declarations.now) }
-    ensures faultless { OnOk result (flat_map (declaration_faults file names.now) declarations.now ≡ []) }
-    ensures fault { IfErr result (λ e. Contains (Memory ∷ flat_map (declaration_faults file names.now) declarations.now) e) }
+    ensures faultless { OnOk result
+        (flat_map (declaration_faults file names.now) declarations.now ≡ []) }
+    ensures fault { IfErr result (λ e.
+        Contains (Memory ∷ flat_map (declaration_faults file names.now) declarations.now) e) }
 {
     let mut given = Vec::new(alloc);
     'declarations: for declaration in declarations {
@@ -216,7 +222,9 @@ fn records_for(
     given: &[(usize, Option<u8>)],
     numbers: &[usize],
 ) -> Result<Vec<(usize, Declared)>, Fault>
-    ensures records { (mode : ModeValue) → IfOk result (λ records. AreOffered mode (declared_cell) (declared_width) records.items (map (mask_offer mode given.now) numbers.now)) }
+    ensures records { (mode : ModeValue)
+        → IfOk result (λ records. AreOffered mode (declared_cell) (declared_width) records.items
+        (map (mask_offer mode given.now) numbers.now)) }
     ensures err { IfErr result (λ e. e ≡ Memory) }
 {
     let mut records = Vec::new(alloc);
@@ -229,7 +237,9 @@ fn records_for(
 
 /// What declarations give each virtual modifier.
 fn records_of(alloc: Global, given: &[(usize, Option<u8>)]) -> Result<Vec<(usize, Declared)>, Fault>
-    ensures records { (mode : ModeValue) → IfOk result (λ records. AreOffered mode (declared_cell) (declared_width) records.items (mask_offers mode given.now)) }
+    ensures records { (mode : ModeValue)
+        → IfOk result (λ records. AreOffered mode (declared_cell) (declared_width) records.items
+        (mask_offers mode given.now)) }
     ensures err { IfErr result (λ e. e ≡ Memory) }
 {
     let numbers = numbers_of(alloc, given)?;
@@ -243,7 +253,9 @@ fn read_item(
     file: u32,
     item: &Item,
 ) -> Result<Vec<(usize, Declared)>, Fault>
-    ensures records { IfOk result (λ records. AreOffered (mode_of item.now) (declared_cell) (declared_width) records.items (item_offers names.now item.now)) }
+    ensures records { IfOk result (λ records.
+        AreOffered (mode_of item.now) (declared_cell) (declared_width) records.items
+        (item_offers names.now item.now)) }
     ensures faultless { OnOk result (item_faults file names.now item.now ≡ []) }
     ensures fault { IfErr result (λ e. Contains (Memory ∷ item_faults file names.now item.now) e) }
 {
@@ -298,8 +310,12 @@ impl Fields<Names> for Declared {
     }
 
     fn absorb(&mut self, _alloc: Global, other: Declared, mode: Mode) -> Result<(), Fault>
-        ensures cells { OnOk result ((c : Unit {0}) → declared_cell self.new c ≡ taken mode (declared_cell self.old c) (declared_cell other c)) }
-        ensures widths { OnOk result ((g : ℕ) → declared_width self.new g ≡ widened mode (declared_width self.old g) (declared_width other g)) }
+        ensures cells { OnOk result ((c : Unit {0})
+            → declared_cell self.new c ≡ taken mode (declared_cell self.old c)
+            (declared_cell other c)) }
+        ensures widths { OnOk result ((g : ℕ)
+            → declared_width self.new g ≡ widened mode (declared_width self.old g)
+            (declared_width other g)) }
         ensures err { IfErr result (λ e. e ≡ Memory) }
     {
         self.mask = taken(mode, self.mask, other.mask);
@@ -320,8 +336,12 @@ impl Fields<Names> for Declared {
         _group: Option<u8>,
         mode: Mode,
     ) -> Result<(), Fault>
-        ensures cells { OnOk result ((c : Unit {0}) → declared_cell self.new c ≡ taken mode (declared_cell self.old c) (moved_value mask_moves _group (declared_cell other.now) c)) }
-        ensures widths { OnOk result ((g : ℕ) → declared_width self.new g ≡ widened mode (declared_width self.old g) (moved_width mask_moves _group (declared_width other.now) g)) }
+        ensures cells { OnOk result ((c : Unit {0})
+            → declared_cell self.new c ≡ taken mode (declared_cell self.old c)
+            (moved_value mask_moves _group (declared_cell other.now) c)) }
+        ensures widths { OnOk result ((g : ℕ)
+            → declared_width self.new g ≡ widened mode (declared_width self.old g)
+            (moved_width mask_moves _group (declared_width other.now) g)) }
         ensures err { IfErr result (λ e. e ≡ Memory) }
     {
         self.mask = taken(mode, self.mask, other.mask);

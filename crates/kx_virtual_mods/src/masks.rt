@@ -23,7 +23,8 @@ fn bad_value(file: u32, span: Span) -> Fault
 /// The mask of a number, which has at most eight bits.
 fn number_mask(file: u32, number: Number) -> Result<Mods, Fault>
     ensures value { IfOk result (λ m. (mask m ≡ number.value) × (number.value ≤ 255)) }
-    ensures fault { IfErr result (λ e. (255 < number.value) × (e ≡ BadValue (at file number.span))) }
+    ensures fault { IfErr result (λ e. (255 < number.value)
+        × (e ≡ BadValue (at file number.span))) }
 {
     match u8::try_from(number.value) {
         Ok(bits) => Ok(Mods::from_mask(bits)),
@@ -72,8 +73,10 @@ fn word_set(names: &Names, file: u32, word: &Name) -> Result<NameSet, Fault>
 
 fn real_term(names: &Names, file: u32, term: &Term) -> Result<Mods, Fault>
     ensures value { IfOk result (λ m. mask m ≡ term_set [] term.now) }
-    ensures faultless { OnOk result (term_faults file (real_word_faults file names.now) term.now ≡ []) }
-    ensures fault { IfErr result (λ e. Contains (term_faults file (real_word_faults file names.now) term.now) e) }
+    ensures faultless { OnOk result
+        (term_faults file (real_word_faults file names.now) term.now ≡ []) }
+    ensures fault { IfErr result (λ e.
+        Contains (term_faults file (real_word_faults file names.now) term.now) e) }
 {
     match term {
         Term::Number(number) => number_mask(file, *number),
@@ -88,7 +91,8 @@ fn term_set(names: &Names, file: u32, term: &Term) -> Result<NameSet, Fault>
     requires { length names.now ≤ MOST_VIRTUAL_MODIFIERS }
     ensures value { IfOk result (λ set. set ≡ term_set names.now term.now) }
     ensures faultless { OnOk result (term_faults file (word_faults file names.now) term.now ≡ []) }
-    ensures fault { IfErr result (λ e. Contains (term_faults file (word_faults file names.now) term.now) e) }
+    ensures fault { IfErr result (λ e.
+        Contains (term_faults file (word_faults file names.now) term.now) e) }
 {
     match term {
         Term::Number(number) => {
@@ -128,8 +132,11 @@ fn real_operations(
     operations: &[Operation],
 ) -> Result<Mods, Fault>
     ensures value { IfOk result (λ m. mask m ≡ fold (operated []) (mask before) operations.now) }
-    ensures faultless { OnOk result (flat_map (operation_faults file (real_word_faults file names.now)) operations.now ≡ []) }
-    ensures fault { IfErr result (λ e. Contains (flat_map (operation_faults file (real_word_faults file names.now)) operations.now) e) }
+    ensures faultless { OnOk result
+        (flat_map (operation_faults file (real_word_faults file names.now)) operations.now ≡ []) }
+    ensures fault { IfErr result (λ e.
+        Contains (flat_map (operation_faults file (real_word_faults file names.now)) operations.now)
+        e) }
 {
     let mut mods = before;
     'operations: for operation in operations {
@@ -148,8 +155,10 @@ fn set_operations(
 ) -> Result<NameSet, Fault>
     requires { length names.now ≤ MOST_VIRTUAL_MODIFIERS }
     ensures value { IfOk result (λ set. set ≡ fold (operated names.now) before operations.now) }
-    ensures faultless { OnOk result (flat_map (operation_faults file (word_faults file names.now)) operations.now ≡ []) }
-    ensures fault { IfErr result (λ e. Contains (flat_map (operation_faults file (word_faults file names.now)) operations.now) e) }
+    ensures faultless { OnOk result
+        (flat_map (operation_faults file (word_faults file names.now)) operations.now ≡ []) }
+    ensures fault { IfErr result (λ e.
+        Contains (flat_map (operation_faults file (word_faults file names.now)) operations.now) e) }
 {
     let mut set = before;
     'operations: for operation in operations {
@@ -163,7 +172,8 @@ fn set_operations(
 pub(crate) fn real_mask_of(names: &Names, file: u32, expression: &Expression) -> Result<Mods, Fault>
     ensures value { IfOk result (λ m. mask m ≡ mask_set [] expression.now) }
     ensures faultless { OnOk result (real_mask_faults file names.now expression.now ≡ []) }
-    ensures fault { IfErr result (λ e. Contains (real_mask_faults file names.now expression.now) e) }
+    ensures fault { IfErr result (λ e.
+        Contains (real_mask_faults file names.now expression.now) e) }
 {
     let first = real_term(names, file, &expression.first)?;
     real_operations(names, file, first, expression.rest.as_slice())

@@ -36,8 +36,11 @@ const LIMIT: usize = 24;
 fn modifier_names(alloc: Global, bodies: &Bodies) -> Result<Names, Fault>
     ensures names { IfOk result (λ names. names ≡ virtual_names (modifier_bodies bodies.now)) }
     ensures few { IfOk result (λ names. length names ≤ LIMIT) }
-    ensures faultless { OnOk result (count_faults named_in LIMIT (all_statements (modifier_bodies bodies.now)) ≡ []) }
-    ensures fault { IfErr result (λ e. Contains (Memory ∷ count_faults named_in LIMIT (all_statements (modifier_bodies bodies.now))) e) }
+    ensures faultless { OnOk result
+        (count_faults named_in LIMIT (all_statements (modifier_bodies bodies.now)) ≡ []) }
+    ensures fault { IfErr result (λ e.
+        Contains (Memory ∷ count_faults named_in LIMIT
+        (all_statements (modifier_bodies bodies.now))) e) }
 {
     let none = Names::new(alloc);
     let types = count_names::<Declared>(alloc, LIMIT, none, &bodies.types)?;
@@ -62,7 +65,10 @@ fn joined_masks(
     compat: &Ordered<usize, Declared>,
     symbols: &Ordered<usize, Declared>,
 ) -> Result<Vec<Mods>, Fault>
-    ensures masks { IfOk result (λ masks. (number : ℕ) → number < LIMIT → option_map_or mask (slice_get masks.items number) 0 ≡ union (union (union 0 (mask_recorded types.now number)) (mask_recorded compat.now number)) (mask_recorded symbols.now number)) }
+    ensures masks { IfOk result (λ masks. (number : ℕ) → number < LIMIT
+        → option_map_or mask (slice_get masks.items number) 0
+        ≡ union (union (union 0 (mask_recorded types.now number)) (mask_recorded compat.now number))
+        (mask_recorded symbols.now number)) }
     ensures err { IfErr result (λ e. e ≡ Memory) }
 {
     let mut masks = Vec::new(alloc);
@@ -78,9 +84,15 @@ fn joined_masks(
 
 /// The masks that bodies declare for virtual modifiers, by number.
 fn declared_masks(alloc: Global, names: &Names, bodies: &Bodies) -> Result<Vec<Mods>, Fault>
-    ensures masks { IfOk result (λ masks. (number : ℕ) → number < LIMIT → option_map_or mask (slice_get masks.items number) 0 ≡ declared_mask names.now (modifier_bodies bodies.now) number) }
-    ensures faultless { OnOk result (flat_map (faults_of nat_eq (mask_rules names.now) mask_moves) (modifier_bodies bodies.now) ≡ []) }
-    ensures fault { IfErr result (λ e. Contains (Memory ∷ flat_map (faults_of nat_eq (mask_rules names.now) mask_moves) (modifier_bodies bodies.now)) e) }
+    ensures masks { IfOk result (λ masks. (number : ℕ) → number < LIMIT
+        → option_map_or mask (slice_get masks.items number) 0
+        ≡ declared_mask names.now (modifier_bodies bodies.now) number) }
+    ensures faultless { OnOk result
+        (flat_map (faults_of nat_eq (mask_rules names.now) mask_moves) (modifier_bodies bodies.now)
+        ≡ []) }
+    ensures fault { IfErr result (λ e.
+        Contains (Memory ∷ flat_map (faults_of nat_eq (mask_rules names.now) mask_moves)
+        (modifier_bodies bodies.now)) e) }
 {
     let types = merge::<Names, Declared>(alloc, names, &bodies.types)?;
     let compat = merge::<Names, Declared>(alloc, names, &bodies.compat)?;
@@ -119,7 +131,8 @@ impl ModNames {
         ensures names { IfOk result (λ m. AreModNames m (modifier_bodies bodies.now)) }
         ensures once { (names : List (List ℕ)) → OffersOnce nat_eq (mask_rules names) }
         ensures faultless { OnOk result (modifier_faults (modifier_bodies bodies.now) ≡ []) }
-        ensures fault { IfErr result (λ e. Contains (Memory ∷ modifier_faults (modifier_bodies bodies.now)) e) }
+        ensures fault { IfErr result (λ e.
+            Contains (Memory ∷ modifier_faults (modifier_bodies bodies.now)) e) }
     {
         let names = modifier_names(alloc, bodies)?;
         let masks = declared_masks(alloc, &names, bodies)?;
@@ -177,7 +190,8 @@ impl ModNames {
     pub fn mask_of(&self, file: u32, expression: &Expression) -> Result<NameSet, Fault>
         ensures value { IfOk result (λ set. set ≡ mask_set self.now.names expression.now) }
         ensures faultless { OnOk result (mask_faults file self.now.names expression.now ≡ []) }
-        ensures fault { IfErr result (λ e. Contains (mask_faults file self.now.names expression.now) e) }
+        ensures fault { IfErr result (λ e.
+            Contains (mask_faults file self.now.names expression.now) e) }
     {
         mask_of(&self.names, file, expression)
     }
@@ -190,7 +204,8 @@ impl ModNames {
     pub fn real_mask_of(&self, file: u32, expression: &Expression) -> Result<Mods, Fault>
         ensures value { IfOk result (λ m. mask m ≡ mask_set [] expression.now) }
         ensures faultless { OnOk result (real_mask_faults file self.now.names expression.now ≡ []) }
-        ensures fault { IfErr result (λ e. Contains (real_mask_faults file self.now.names expression.now) e) }
+        ensures fault { IfErr result (λ e.
+            Contains (real_mask_faults file self.now.names expression.now) e) }
     {
         real_mask_of(&self.names, file, expression)
     }

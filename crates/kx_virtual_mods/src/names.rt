@@ -66,7 +66,8 @@ impl Names {
     /// `Memory`.
     pub fn number(&mut self, alloc: Global, name: &[u8]) -> Result<usize, Fault>
         ensures added { OnOk result (self.new ≡ with_name bytes_eq self.old name.now) }
-        ensures number { IfOk result (λ number. position (bytes_eq name.now) self.new ≡ Some number) }
+        ensures number { IfOk result (λ number.
+            position (bytes_eq name.now) self.new ≡ Some number) }
         ensures err { IfErr result (λ e. e ≡ Memory) }
     {
         match self.numbers.place_of_owned_name(name) {

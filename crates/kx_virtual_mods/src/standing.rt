@@ -11,7 +11,8 @@ use kx_mods::Mods;
 /// What a virtual modifier stands for, where it is in the set.
 fn stood_for(set: NameSet, stands: &[Mods], number: u8) -> Mods
     requires { number < MOST_VIRTUAL_MODIFIERS }
-    ensures { (real : ℕ) → has (mask result) real ≡ (has_virtual set number && stands_for stands.now number real) }
+    ensures { (real : ℕ) → has (mask result) real
+        ≡ (has_virtual set number && stands_for stands.now number real) }
 {
     if !set.has_virtual(number) {
         return Mods::NONE;

@@ -42,28 +42,39 @@ ghost use Rattle.std.specs.Prelude.{◌≡◌, List, [], ℕ, Option, ◌++◌, 
 /// Without files a tree of printed sections is these sections alone.
 pub fn printed_sections_stand_alone()
     ensures { (keycodes types indicators symbols : List Item) (tree : Tree) (library : Library)
-        → tree ≡ record { sections = sections_of keycodes types indicators symbols } → IsLibrary tree [] library → library ≡ library_of keycodes types indicators symbols }
+        → tree ≡ record { sections = sections_of keycodes types indicators symbols }
+        → IsLibrary tree [] library → library ≡ library_of keycodes types indicators symbols }
 {}
 
 /// The section of printed types declares each as it was printed.
 pub fn printed_types_are_declared()
     ensures { (place : PlaceValue) (ts : List ResolvedType) (items : List Item)
-        → AreShown (λ t i. IsItem (IsType t) i) ts items → EachOf TypeFits ts → AreApart (λ (t : ResolvedType). t.name) ts → length ts ≤ MOST_TYPES
-        → EachOf (λ (t : ResolvedType). declared_type [] (Begin (own_body place items End)) t.name ≡ Some (definition_seen t)) ts }
+        → AreShown (λ t i. IsItem (IsType t) i) ts items → EachOf TypeFits ts
+        → AreApart (λ (t : ResolvedType). t.name) ts → length ts ≤ MOST_TYPES
+        → EachOf (λ (t : ResolvedType).
+        declared_type [] (Begin (own_body place items End)) t.name ≡ Some (definition_seen t)) ts }
 {}
 
 /// A section of printed names of groups, keys and modifier maps gives each key what was printed of it.
 pub fn printed_keys_are_given()
-    ensures { (codes : Codes) (names : List Entry) (place : PlaceValue) (ks : List PrintedKey) (group_names keys maps : List Item)
-        → list_all is_sound names ≡ true → EachOf IsNameItem group_names → AreShown (λ (k : PrintedKey) i. IsItem (IsKey k) i) ks keys
-        → AreShown (λ (l : MapLine) i. IsItem (IsModifierMap l.modifier l.name) i) (flat_map maps_of_key ks) maps
-        → EachOf KeyFits ks → AreRising (λ (k : PrintedKey). k.code) 0 ks → EachOf (λ (k : PrintedKey). code_of codes k.name ≡ Some k.code) ks
+    ensures { (codes : Codes) (names : List Entry) (place : PlaceValue) (ks : List PrintedKey)
+        (group_names keys maps : List Item)
+        → list_all is_sound names ≡ true → EachOf IsNameItem group_names
+        → AreShown (λ (k : PrintedKey) i. IsItem (IsKey k) i) ks keys
+        → AreShown (λ (l : MapLine) i. IsItem (IsModifierMap l.modifier l.name) i)
+        (flat_map maps_of_key ks) maps
+        → EachOf KeyFits ks → AreRising (λ (k : PrintedKey). k.code) 0 ks
+        → EachOf (λ (k : PrintedKey). code_of codes k.name ≡ Some k.code) ks
         → EachOf (λ (k : PrintedKey). IsGiven k (given_by
-        (value_of nat_eq (offers_of nat_eq (key_rules codes names []) key_moves (Begin (own_body place (group_names ++ (keys ++ maps)) End))) k.code)
-        (width_of nat_eq (offers_of nat_eq (key_rules codes names []) key_moves (Begin (own_body place (group_names ++ (keys ++ maps)) End))) k.code))) ks }
+        (value_of nat_eq (offers_of nat_eq (key_rules codes names []) key_moves
+        (Begin (own_body place (group_names ++ (keys ++ maps)) End))) k.code)
+        (width_of nat_eq (offers_of nat_eq (key_rules codes names []) key_moves
+        (Begin (own_body place (group_names ++ (keys ++ maps)) End))) k.code))) ks }
 {}
 
 /// Types and keys that are read as they were printed resolve to those that are seen in the tables.
 pub fn read_again_resolves_again()
-    ensures { (c : Content) (real : ℕ → RealSet) (declared : List ℕ → Option Definition) (keyed : Keyed) → Sound c → ReadAgain c real declared keyed → resolved_of real declared keyed ≡ seen c }
+    ensures { (c : Content) (real : ℕ → RealSet) (declared : List ℕ
+        → Option Definition) (keyed : Keyed) → Sound c → ReadAgain c real declared keyed
+        → resolved_of real declared keyed ≡ seen c }
 {}

@@ -16,12 +16,15 @@ ghost use Rattle.std.specs.Prelude.{◌≡◌, ℕ, List, []};
 
 /// A text that is read as some tokens, without their places, has a token reading, which these are.
 pub fn phrases_are_read()
-    ensures { (text : List ℕ) (slices : List Slice) → Lexes text slices → mark_len text ≡ 0 → (tokens : List Token) × IsReading text tokens × Begins text slices tokens [] }
+    ensures { (text : List ℕ) (slices : List Slice) → Lexes text slices → mark_len text ≡ 0
+        → (tokens : List Token) × IsReading text tokens × Begins text slices tokens [] }
 {}
 
 /// The types, keys, indicators and names of groups that are seen in sound tables make these tables.
 pub fn seen_tables_are_themselves()
-    ensures { (c : Content) → Sound c → with_indicator_maps (content_of_resolved (seen c)) (indicators_printed c) (names_printed c) ≡ c }
+    ensures { (c : Content) → Sound c
+        → with_indicator_maps (content_of_resolved (seen c)) (indicators_printed c)
+        (names_printed c) ≡ c }
 {}
 
 /// The text of sound tables is read as its tokens.

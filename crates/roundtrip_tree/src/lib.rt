@@ -14,7 +14,9 @@ ghost use Rattle.roundtrip_tree.specs.Sources.{ShowsSource};
 
 /// The tokens of a printed text spell a tree that shows what was printed.
 pub fn printed_tokens_are_a_tree()
-    ensures { (text : List ℕ) (ks : List PrintedKey) (ts : List ResolvedType) (ds : List ResolvedIndicator) (gs : List (List ℕ)) (tokens : List Token)
-        → EachOf KeyFits ks → EachOf TypeFits ts → EachOf IndicatorFits ds → NamesFit gs → Begins text (source_slices ks ts ds gs) tokens []
+    ensures { (text : List ℕ) (ks : List PrintedKey) (ts : List ResolvedType)
+        (ds : List ResolvedIndicator) (gs : List (List ℕ)) (tokens : List Token)
+        → EachOf KeyFits ks → EachOf TypeFits ts → EachOf IndicatorFits ds → NamesFit gs
+        → Begins text (source_slices ks ts ds gs) tokens []
         → (tree : Tree) × Spells text tokens tree × ShowsSource ks ts ds gs tree }
 {}

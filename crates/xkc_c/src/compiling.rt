@@ -30,10 +30,16 @@ pub extern "C" fn xkc_keymap_compile(
     names: &mut NamesHandle,
     fault: &mut XkcFault,
 ) -> u32
-    ensures compiled { result ≡ OK → IfSome keymap.new.value (λ content. IsCompiled source.now (handed [] files.now) (names_in names.old.value) (keymap_of content)) }
-    ensures means { result ≡ OK → IfSome keymap.new.value (Means source.now (handed [] files.now) (names_in names.old.value)) }
+    ensures compiled { result ≡ OK
+        → IfSome keymap.new.value (λ content.
+        IsCompiled source.now (handed [] files.now) (names_in names.old.value)
+        (keymap_of content)) }
+    ensures means { result ≡ OK → IfSome keymap.new.value
+        (Means source.now (handed [] files.now) (names_in names.old.value)) }
     ensures refused { result ≢ OK → keymap.new ≡ keymap.old }
-    ensures fault { result ≡ SOURCE → (e : Fault) × (fault.new ≡ fault_in_c e) × HasFault source.now (handed [] files.now) (names_in names.old.value) e }
+    ensures fault { result ≡ SOURCE
+        → (e : Fault) × (fault.new ≡ fault_in_c e)
+        × HasFault source.now (handed [] files.now) (names_in names.old.value) e }
     ensures no_fault { result ≢ SOURCE → fault.new ≡ fault.old }
     ensures names { names.new.value ≡ names.old.value }
     ensures statuses { (result ≡ OK) ⊎ ((result ≡ MEMORY) ⊎ (result ≡ SOURCE)) }
@@ -60,9 +66,13 @@ fn compiled_under(
     files: &[XkcFile<'_>],
     names: &mut NamesHandle,
 ) -> Result<Box<SharedTables>, Fault>
-    ensures compiled { IfOk result (λ b. IsCompiled source.now (handed [] files.now) (names_in names.old.value) (keymap_of b.value)) }
-    ensures means { IfOk result (λ b. Means source.now (handed [] files.now) (names_in names.old.value) b.value) }
-    ensures fault { IfErr result (λ e. (e ≡ Memory) ⊎ HasFault source.now (handed [] files.now) (names_in names.old.value) e) }
+    ensures compiled { IfOk result (λ b.
+        IsCompiled source.now (handed [] files.now) (names_in names.old.value)
+        (keymap_of b.value)) }
+    ensures means { IfOk result (λ b.
+        Means source.now (handed [] files.now) (names_in names.old.value) b.value) }
+    ensures fault { IfErr result (λ e. (e ≡ Memory)
+        ⊎ HasFault source.now (handed [] files.now) (names_in names.old.value) e) }
     ensures names { names.new.value ≡ names.old.value }
 {
     match names.take(alloc) {
@@ -82,9 +92,11 @@ fn compiled(
     files: &[XkcFile<'_>],
     names: &NameTable,
 ) -> Result<Box<SharedTables>, Fault>
-    ensures compiled { IfOk result (λ b. IsCompiled source.now (handed [] files.now) names.now (keymap_of b.value)) }
+    ensures compiled { IfOk result (λ b.
+        IsCompiled source.now (handed [] files.now) names.now (keymap_of b.value)) }
     ensures means { IfOk result (λ b. Means source.now (handed [] files.now) names.now b.value) }
-    ensures fault { IfErr result (λ e. (e ≡ Memory) ⊎ HasFault source.now (handed [] files.now) names.now e) }
+    ensures fault { IfErr result (λ e. (e ≡ Memory)
+        ⊎ HasFault source.now (handed [] files.now) names.now e) }
 {
     let files = files_of(alloc, files)?;
     let (image, _notes) = compile(alloc, source, &files, names)?;

@@ -18,7 +18,12 @@ pub struct XkcFault {
 
 /// A fault of a number at a place.
 const fn at(number: u32, place: At) -> XkcFault
-    ensures { result ≡ record { number = number; file = place.file; start = place.span.start; stop = place.span.stop } }
+    ensures { result ≡ record {
+      number = number;
+      file = place.file;
+      start = place.span.start;
+      stop = place.span.stop;
+    } }
 {
     XkcFault {
         number,
@@ -31,7 +36,8 @@ const fn at(number: u32, place: At) -> XkcFault
 impl XkcFault {
     /// What a fault of a source says; lack of memory is none.
     pub fn of(fault: Fault) -> Option<XkcFault>
-        ensures { MatchOption result (fault ≡ Memory) (λ told. (told ≡ fault_in_c fault) × (fault ≢ Memory)) }
+        ensures { MatchOption result (fault ≡ Memory) (λ told. (told ≡ fault_in_c fault)
+            × (fault ≢ Memory)) }
     {
         let told = match fault {
             Fault::Memory => return None,

@@ -24,9 +24,14 @@ pub extern "C" fn xkc_follower_start(
 ) -> u32
     ensures keymap { keymap.new.value ≡ keymap.old.value }
     ensures empty { keymap.old.value ≡ None → result ≡ EMPTY }
-    ensures started { result ≡ OK → IfSome keymap.old.value (λ content. follower.new.value ≡ Some (record { content = content; status = status_in (keymap_of content) opening })) }
+    ensures started { result ≡ OK → IfSome keymap.old.value (λ content.
+        follower.new.value ≡ Some (record {
+          content = content;
+          status = status_in (keymap_of content) opening;
+        })) }
     ensures refused { result ≢ OK → follower.new ≡ follower.old }
-    ensures statuses { (content : Content) → keymap.old.value ≡ Some content → (result ≡ OK) ⊎ (result ≡ MEMORY) }
+    ensures statuses { (content : Content) → keymap.old.value ≡ Some content
+        → (result ≡ OK) ⊎ (result ≡ MEMORY) }
 {
     let Some(tables) = keymap.take(alloc) else {
         return EMPTY;
@@ -51,7 +56,8 @@ pub extern "C" fn xkc_follower_set(
 ) -> u32
     ensures empty { follower.old.value ≡ None → (result ≡ EMPTY) × (follower.new.value ≡ None) }
     ensures told { (followed : Followed) → follower.old.value ≡ Some followed
-        → (result ≡ OK) × (follower.new.value ≡ Some (record followed { status = status state.now })) }
+        → (result ≡ OK) × (follower.new.value
+        ≡ Some (record followed { status = status state.now })) }
 {
     let Some(mut boxed) = follower.take(alloc) else {
         return EMPTY;
@@ -72,7 +78,8 @@ pub extern "C" fn xkc_follower_look(
     ensures follower { follower.new.value ≡ follower.old.value }
     ensures empty { follower.old.value ≡ None → (result ≡ EMPTY) × (look.new ≡ look.old) }
     ensures looked { (followed : Followed) → follower.old.value ≡ Some followed → code < 65536
-        → (result ≡ OK) × IsLook look.new (look_at (keymap_of followed.content) followed.status code) }
+        → (result ≡ OK) × IsLook look.new
+        (look_at (keymap_of followed.content) followed.status code) }
     ensures missing { (followed : Followed) → follower.old.value ≡ Some followed → 65536 ≤ code
         → (result ≡ MISSING) × (look.new ≡ look.old) }
 {
@@ -114,7 +121,8 @@ pub extern "C" fn xkc_follower_end(alloc: Global, follower: &mut FollowerHandle)
 
 /// A follower on the heap.
 fn started(alloc: Global, tables: &SharedTables) -> Option<Box<SharedFollower>>
-    ensures { IfSome result (λ b. b.value ≡ record { content = tables.now; status = status_in (keymap_of tables.now) opening }) }
+    ensures { IfSome result (λ b. b.value
+        ≡ record { content = tables.now; status = status_in (keymap_of tables.now) opening }) }
 {
     let Ok(shared) = tables.again() else {
         return None;
@@ -127,7 +135,8 @@ fn started(alloc: Global, tables: &SharedTables) -> Option<Box<SharedFollower>>
 
 /// What the key of a code gives, where keys have codes so great.
 fn looked(follower: &SharedFollower, code: u32, look: &mut XkcLook) -> u32
-    ensures looked { code < 65536 → (result ≡ OK) × IsLook look.new (look_at (keymap_of follower.now.content) follower.now.status code) }
+    ensures looked { code < 65536 → (result ≡ OK)
+        × IsLook look.new (look_at (keymap_of follower.now.content) follower.now.status code) }
     ensures missing { 65536 ≤ code → (result ≡ MISSING) × (look.new ≡ look.old) }
 {
     if code > 0xffff {

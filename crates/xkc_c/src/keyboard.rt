@@ -25,9 +25,11 @@ pub extern "C" fn xkc_keyboard_start(
 ) -> u32
     ensures keymap { keymap.new.value ≡ keymap.old.value }
     ensures empty { keymap.old.value ≡ None → result ≡ EMPTY }
-    ensures started { result ≡ OK → IfSome keymap.old.value (λ content. keyboard.new.value ≡ Some (record { content = content; world = opening })) }
+    ensures started { result ≡ OK → IfSome keymap.old.value (λ content.
+        keyboard.new.value ≡ Some (record { content = content; world = opening })) }
     ensures refused { result ≢ OK → keyboard.new ≡ keyboard.old }
-    ensures statuses { (content : Content) → keymap.old.value ≡ Some content → (result ≡ OK) ⊎ (result ≡ MEMORY) }
+    ensures statuses { (content : Content) → keymap.old.value ≡ Some content
+        → (result ≡ OK) ⊎ (result ≡ MEMORY) }
 {
     let Some(tables) = keymap.take(alloc) else {
         return EMPTY;
@@ -52,9 +54,11 @@ pub extern "C" fn xkc_keyboard_event(
     down: u8,
     reply: &mut XkcReply,
 ) -> u32
-    ensures empty { keyboard.old.value ≡ None → (result ≡ EMPTY) × ((keyboard.new.value ≡ None) × (reply.new ≡ reply.old)) }
+    ensures empty { keyboard.old.value ≡ None
+        → (result ≡ EMPTY) × ((keyboard.new.value ≡ None) × (reply.new ≡ reply.old)) }
     ensures stepped { (played : Played) → keyboard.old.value ≡ Some played → code < 65536
-        → (result ≡ OK) × ((keyboard.new.value ≡ Some (behind played code down)) × IsReply reply.new (reply_to played code down)) }
+        → (result ≡ OK) × ((keyboard.new.value ≡ Some (behind played code down))
+        × IsReply reply.new (reply_to played code down)) }
     ensures missing { (played : Played) → keyboard.old.value ≡ Some played → 65536 ≤ code
         → (result ≡ MISSING) × ((keyboard.new.value ≡ Some played) × (reply.new ≡ reply.old)) }
 {
@@ -96,7 +100,8 @@ pub extern "C" fn xkc_keyboard_lit(
     ensures keyboard { keyboard.new.value ≡ keyboard.old.value }
     ensures empty { keyboard.old.value ≡ None → (result ≡ EMPTY) × (lit.new ≡ lit.old) }
     ensures lit { (played : Played) → keyboard.old.value ≡ Some played
-        → (result ≡ OK) × (lit.new ≡ lit_in (keymap_of played.content) (status_in (keymap_of played.content) played.world)) }
+        → (result ≡ OK) × (lit.new ≡ lit_in (keymap_of played.content)
+        (status_in (keymap_of played.content) played.world)) }
 {
     let Some(boxed) = keyboard.take(alloc) else {
         return EMPTY;
@@ -132,8 +137,11 @@ fn started(alloc: Global, tables: &SharedTables) -> Option<Box<SharedKeyboard>>
 
 /// Tells a keyboard of an event, where keys have codes so great.
 fn told(keyboard: &mut SharedKeyboard, code: u32, down: u8, reply: &mut XkcReply) -> u32
-    ensures stepped { code < 65536 → (result ≡ OK) × ((keyboard.new ≡ behind keyboard.old code down) × IsReply reply.new (reply_to keyboard.old code down)) }
-    ensures missing { 65536 ≤ code → (result ≡ MISSING) × ((keyboard.new ≡ keyboard.old) × (reply.new ≡ reply.old)) }
+    ensures stepped { code < 65536
+        → (result ≡ OK) × ((keyboard.new ≡ behind keyboard.old code down)
+        × IsReply reply.new (reply_to keyboard.old code down)) }
+    ensures missing { 65536 ≤ code
+        → (result ≡ MISSING) × ((keyboard.new ≡ keyboard.old) × (reply.new ≡ reply.old)) }
 {
     if code > 0xffff {
         return MISSING;

@@ -41,7 +41,8 @@ pub extern "C" fn xkc_keymap_image(
     size: &mut usize,
 ) -> u32
     ensures keymap { keymap.new.value ≡ keymap.old.value }
-    ensures empty { keymap.old.value ≡ None → (result ≡ EMPTY) × ((out.new ≡ out.old) × (size.new ≡ size.old)) }
+    ensures empty { keymap.old.value ≡ None
+        → (result ≡ EMPTY) × ((out.new ≡ out.old) × (size.new ≡ size.old)) }
     ensures image { (content : Content) → keymap.old.value ≡ Some content
         → (image : List ℕ) × IsImage content image × Copies image out.old out.new size.new result }
 {
@@ -63,7 +64,8 @@ pub extern "C" fn xkc_keymap_print(
 ) -> u32
     ensures keymap { keymap.new.value ≡ keymap.old.value }
     ensures empty { keymap.old.value ≡ None → result ≡ EMPTY }
-    ensures nothing { (result ≡ EMPTY) ⊎ (result ≡ MEMORY) → (out.new ≡ out.old) × (size.new ≡ size.old) }
+    ensures nothing { (result ≡ EMPTY) ⊎ (result ≡ MEMORY)
+        → (out.new ≡ out.old) × (size.new ≡ size.old) }
     ensures text { (content : Content) → keymap.old.value ≡ Some content
         → (result ≡ MEMORY) ⊎ Copies (printed content) out.old out.new size.new result }
 {

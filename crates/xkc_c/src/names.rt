@@ -32,9 +32,11 @@ pub extern "C" fn xkc_names_read(
     lines: &[u8],
     fault: &mut XkcNamesFault,
 ) -> u32
-    ensures read { result ≡ OK → (names.new.value ≡ Some (given_by (lines_of lines.now))) × AreFaultless (lines_of lines.now) }
+    ensures read { result ≡ OK → (names.new.value ≡ Some (given_by (lines_of lines.now)))
+        × AreFaultless (lines_of lines.now) }
     ensures refused { result ≢ OK → names.new ≡ names.old }
-    ensures fault { result ≡ NAMES → (e : NameFault) × (fault.new ≡ names_fault_in_c e) × IsFirstFault (lines_of lines.now) e }
+    ensures fault { result ≡ NAMES
+        → (e : NameFault) × (fault.new ≡ names_fault_in_c e) × IsFirstFault (lines_of lines.now) e }
     ensures no_fault { result ≢ NAMES → fault.new ≡ fault.old }
     ensures statuses { (result ≡ OK) ⊎ ((result ≡ MEMORY) ⊎ (result ≡ NAMES)) }
 {
@@ -62,8 +64,10 @@ pub extern "C" fn xkc_names_keysym(
     keysym: &mut u32,
 ) -> u32
     ensures names { names.new.value ≡ names.old.value }
-    ensures found { result ≡ OK → keysym_named (names_in names.old.value) name.now ≡ Some keysym.new }
-    ensures missing { result ≢ OK → (keysym.new ≡ keysym.old) × (IsUtf8 name.now → keysym_named (names_in names.old.value) name.now ≡ None) }
+    ensures found { result ≡ OK → keysym_named (names_in names.old.value) name.now
+        ≡ Some keysym.new }
+    ensures missing { result ≢ OK → (keysym.new ≡ keysym.old)
+        × (IsUtf8 name.now → keysym_named (names_in names.old.value) name.now ≡ None) }
     ensures statuses { (result ≡ OK) ⊎ (result ≡ MISSING) }
 {
     match keysym_named(alloc, names, name) {
@@ -85,7 +89,8 @@ pub extern "C" fn xkc_names_name(
     size: &mut usize,
 ) -> u32
     ensures names { names.new.value ≡ names.old.value }
-    ensures name { Copies (name_of_keysym (names_in names.old.value) keysym) out.old out.new size.new result }
+    ensures name { Copies (name_of_keysym (names_in names.old.value) keysym) out.old out.new
+        size.new result }
 {
     let mut name = ArrayString::new();
     write_name(alloc, names, Keysym(keysym), &mut name);
@@ -116,8 +121,10 @@ fn boxed(alloc: Global, lines: &[u8]) -> Result<Box<NameTable>, NameFault>
 /// The keysym that bytes name.
 fn keysym_named(alloc: Global, names: &mut NamesHandle, name: &[u8]) -> Option<u32>
     ensures names { names.new.value ≡ names.old.value }
-    ensures found { IfSome result (λ keysym. keysym_named (names_in names.old.value) name.now ≡ Some keysym) }
-    ensures missing { result ≡ None → IsUtf8 name.now → keysym_named (names_in names.old.value) name.now ≡ None }
+    ensures found { IfSome result (λ keysym.
+        keysym_named (names_in names.old.value) name.now ≡ Some keysym) }
+    ensures missing { result ≡ None → IsUtf8 name.now
+        → keysym_named (names_in names.old.value) name.now ≡ None }
 {
     let Ok(text) = str::from_utf8(name) else {
         return None;
@@ -153,7 +160,8 @@ fn write_name(alloc: Global, names: &mut NamesHandle, keysym: Keysym, name: &mut
 impl XkcNamesFault {
     /// What a fault of lines says; lack of memory is none.
     pub fn of(fault: NameFault) -> Option<XkcNamesFault>
-        ensures { MatchOption result (fault ≡ Memory) (λ told. (told ≡ names_fault_in_c fault) × (fault ≢ Memory)) }
+        ensures { MatchOption result (fault ≡ Memory) (λ told. (told ≡ names_fault_in_c fault)
+            × (fault ≢ Memory)) }
     {
         match fault {
             NameFault::Memory => None,

@@ -23,7 +23,8 @@ pub extern "C" fn xkc_keymap_counts(
 ) -> u32
     ensures keymap { keymap.new.value ≡ keymap.old.value }
     ensures empty { keymap.old.value ≡ None → (result ≡ EMPTY) × (counts.new ≡ counts.old) }
-    ensures counts { (content : Content) → keymap.old.value ≡ Some content → (result ≡ OK) × (counts.new ≡ counts_in_c (counts_of content)) }
+    ensures counts { (content : Content) → keymap.old.value ≡ Some content
+        → (result ≡ OK) × (counts.new ≡ counts_in_c (counts_of content)) }
 {
     let Some(tables) = keymap.take(alloc) else {
         return EMPTY;
@@ -43,7 +44,8 @@ pub extern "C" fn xkc_keymap_key(
 ) -> u32
     ensures keymap { keymap.new.value ≡ keymap.old.value }
     ensures empty { keymap.old.value ≡ None → (result ≡ EMPTY) × (key.new ≡ key.old) }
-    ensures row { (content : Content) → keymap.old.value ≡ Some content → Finds key_in_c (slice_get content.keys index) key.old key.new result }
+    ensures row { (content : Content) → keymap.old.value ≡ Some content
+        → Finds key_in_c (slice_get content.keys index) key.old key.new result }
 {
     let Some(tables) = keymap.take(alloc) else {
         return EMPTY;
@@ -63,7 +65,8 @@ pub extern "C" fn xkc_keymap_type(
 ) -> u32
     ensures keymap { keymap.new.value ≡ keymap.old.value }
     ensures empty { keymap.old.value ≡ None → (result ≡ EMPTY) × (key_type.new ≡ key_type.old) }
-    ensures row { (content : Content) → keymap.old.value ≡ Some content → Finds type_in_c (slice_get content.types index) key_type.old key_type.new result }
+    ensures row { (content : Content) → keymap.old.value ≡ Some content
+        → Finds type_in_c (slice_get content.types index) key_type.old key_type.new result }
 {
     let Some(tables) = keymap.take(alloc) else {
         return EMPTY;
@@ -83,7 +86,8 @@ pub extern "C" fn xkc_keymap_entry(
 ) -> u32
     ensures keymap { keymap.new.value ≡ keymap.old.value }
     ensures empty { keymap.old.value ≡ None → (result ≡ EMPTY) × (entry.new ≡ entry.old) }
-    ensures row { (content : Content) → keymap.old.value ≡ Some content → Finds entry_in_c (slice_get content.entries index) entry.old entry.new result }
+    ensures row { (content : Content) → keymap.old.value ≡ Some content
+        → Finds entry_in_c (slice_get content.entries index) entry.old entry.new result }
 {
     let Some(tables) = keymap.take(alloc) else {
         return EMPTY;
@@ -103,7 +107,8 @@ pub extern "C" fn xkc_keymap_group(
 ) -> u32
     ensures keymap { keymap.new.value ≡ keymap.old.value }
     ensures empty { keymap.old.value ≡ None → (result ≡ EMPTY) × (group.new ≡ group.old) }
-    ensures row { (content : Content) → keymap.old.value ≡ Some content → Finds group_in_c (slice_get content.groups index) group.old group.new result }
+    ensures row { (content : Content) → keymap.old.value ≡ Some content
+        → Finds group_in_c (slice_get content.groups index) group.old group.new result }
 {
     let Some(tables) = keymap.take(alloc) else {
         return EMPTY;
@@ -123,7 +128,8 @@ pub extern "C" fn xkc_keymap_level(
 ) -> u32
     ensures keymap { keymap.new.value ≡ keymap.old.value }
     ensures empty { keymap.old.value ≡ None → (result ≡ EMPTY) × (level.new ≡ level.old) }
-    ensures row { (content : Content) → keymap.old.value ≡ Some content → Finds level_in_c (slice_get content.cells index) level.old level.new result }
+    ensures row { (content : Content) → keymap.old.value ≡ Some content
+        → Finds level_in_c (slice_get content.cells index) level.old level.new result }
 {
     let Some(tables) = keymap.take(alloc) else {
         return EMPTY;
@@ -143,7 +149,8 @@ pub extern "C" fn xkc_keymap_keysym(
 ) -> u32
     ensures keymap { keymap.new.value ≡ keymap.old.value }
     ensures empty { keymap.old.value ≡ None → (result ≡ EMPTY) × (keysym.new ≡ keysym.old) }
-    ensures row { (content : Content) → keymap.old.value ≡ Some content → Finds (λ keysym. keysym) (slice_get content.keysyms index) keysym.old keysym.new result }
+    ensures row { (content : Content) → keymap.old.value ≡ Some content
+        → Finds (λ keysym. keysym) (slice_get content.keysyms index) keysym.old keysym.new result }
 {
     let Some(tables) = keymap.take(alloc) else {
         return EMPTY;
@@ -163,7 +170,9 @@ pub extern "C" fn xkc_keymap_indicator(
 ) -> u32
     ensures keymap { keymap.new.value ≡ keymap.old.value }
     ensures empty { keymap.old.value ≡ None → (result ≡ EMPTY) × (indicator.new ≡ indicator.old) }
-    ensures row { (content : Content) → keymap.old.value ≡ Some content → Finds indicator_in_c (slice_get content.indicators index) indicator.old indicator.new result }
+    ensures row { (content : Content) → keymap.old.value ≡ Some content
+        → Finds indicator_in_c (slice_get content.indicators index) indicator.old indicator.new
+        result }
 {
     let Some(tables) = keymap.take(alloc) else {
         return EMPTY;
@@ -184,9 +193,11 @@ pub extern "C" fn xkc_keymap_key_of(
     ensures keymap { keymap.new.value ≡ keymap.old.value }
     ensures empty { keymap.old.value ≡ None → (result ≡ EMPTY) × (index.new ≡ index.old) }
     ensures found { (content : Content) → keymap.old.value ≡ Some content → result ≡ OK
-        → (index.new < length content.keys) × (key_with content code ≡ slice_get content.keys index.new) }
+        → (index.new < length content.keys)
+        × (key_with content code ≡ slice_get content.keys index.new) }
     ensures missing { (content : Content) → keymap.old.value ≡ Some content → result ≢ OK
-        → (result ≡ MISSING) × ((index.new ≡ index.old) × (code < 65536 → key_with content code ≡ None)) }
+        → (result ≡ MISSING) × ((index.new ≡ index.old)
+        × (code < 65536 → key_with content code ≡ None)) }
 {
     let Some(tables) = keymap.take(alloc) else {
         return EMPTY;
@@ -214,9 +225,11 @@ pub extern "C" fn xkc_keymap_name(
     size: &mut usize,
 ) -> u32
     ensures keymap { keymap.new.value ≡ keymap.old.value }
-    ensures empty { keymap.old.value ≡ None → (result ≡ EMPTY) × ((out.new ≡ out.old) × (size.new ≡ size.old)) }
+    ensures empty { keymap.old.value ≡ None
+        → (result ≡ EMPTY) × ((out.new ≡ out.old) × (size.new ≡ size.old)) }
     ensures name { (content : Content) → keymap.old.value ≡ Some content
-        → MatchOption (name_in content kind index) ((result ≡ MISSING) × ((out.new ≡ out.old) × (size.new ≡ size.old)))
+        → MatchOption (name_in content kind index) ((result ≡ MISSING)
+        × ((out.new ≡ out.old) × (size.new ≡ size.old)))
         (λ name. Copies name out.old out.new size.new result) }
 {
     let Some(tables) = keymap.take(alloc) else {
@@ -281,7 +294,8 @@ fn level_of(tables: &SharedTables, index: u32, level: &mut XkcLevel) -> u32
 }
 
 fn keysym_of(tables: &SharedTables, index: u32, keysym: &mut u32) -> u32
-    ensures { Finds (λ keysym. keysym) (slice_get tables.now.keysyms index) keysym.old keysym.new result }
+    ensures { Finds (λ keysym. keysym) (slice_get tables.now.keysyms index) keysym.old keysym.new
+        result }
 {
     if index >= tables.counts().keysyms {
         return MISSING;
@@ -291,7 +305,8 @@ fn keysym_of(tables: &SharedTables, index: u32, keysym: &mut u32) -> u32
 }
 
 fn indicator_of(tables: &SharedTables, index: u32, indicator: &mut XkcIndicator) -> u32
-    ensures { Finds indicator_in_c (slice_get tables.now.indicators index) indicator.old indicator.new result }
+    ensures { Finds indicator_in_c (slice_get tables.now.indicators index) indicator.old
+        indicator.new result }
 {
     if index >= u32::from(tables.counts().indicators) {
         return MISSING;
@@ -301,7 +316,8 @@ fn indicator_of(tables: &SharedTables, index: u32, indicator: &mut XkcIndicator)
 }
 
 fn index_of(tables: &SharedTables, code: u32) -> Option<u16>
-    ensures found { IfSome result (λ index. (index < length tables.now.keys) × (key_with tables.now code ≡ slice_get tables.now.keys index)) }
+    ensures found { IfSome result (λ index. (index < length tables.now.keys)
+        × (key_with tables.now code ≡ slice_get tables.now.keys index)) }
     ensures missing { result ≡ None → code < 65536 → key_with tables.now code ≡ None }
 {
     if code > 0xffff {

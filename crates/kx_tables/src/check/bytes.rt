@@ -13,7 +13,8 @@ pub fn check_key_bytes<R: Rows>(rows: &R, start: u32, end: u32) -> Result<(), Br
     requires start { start ≡ type_names (R.content rows.now) }
     requires end { end ≡ type_names (R.content rows.now) + key_names (R.content rows.now) }
     requires within { end ≤ length (R.content rows.now).names }
-    ensures ok { OnOk result (EachRow (R.content rows.now).names (NameByteHolds (R.content rows.now))) }
+    ensures ok { OnOk result (EachRow (R.content rows.now).names
+        (NameByteHolds (R.content rows.now))) }
     ensures broken { IfErr result (λ b. Breaks (R.content rows.now) b.part b.index) }
 {
     let names = rows.names();

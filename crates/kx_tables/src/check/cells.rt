@@ -45,7 +45,8 @@ fn is_numbered(row: &CellRow, keysyms: u64) -> bool
 
 /// Checks the cells.
 pub fn check_cells<R: Rows>(rows: &R) -> Result<(), Broken>
-    ensures ok { OnOk result (CellsAre (R.content rows.now) (length (R.content rows.now).cells) (length (R.content rows.now).keysyms)) }
+    ensures ok { OnOk result (CellsAre (R.content rows.now) (length (R.content rows.now).cells)
+        (length (R.content rows.now).keysyms)) }
     ensures broken { IfErr result (λ b. Breaks (R.content rows.now) b.part b.index) }
 {
     let counts = rows.counts();
@@ -68,7 +69,8 @@ pub fn check_cells<R: Rows>(rows: &R) -> Result<(), Broken>
 
 /// Checks the keysyms.
 pub fn check_keysyms<R: Rows>(rows: &R) -> Result<(), Broken>
-    ensures ok { OnOk result (EachBelow (R.content rows.now).keysyms (λ i s. IsKeysym s) (length (R.content rows.now).keysyms)) }
+    ensures ok { OnOk result (EachBelow (R.content rows.now).keysyms (λ i s. IsKeysym s)
+        (length (R.content rows.now).keysyms)) }
     ensures broken { IfErr result (λ b. Breaks (R.content rows.now) b.part b.index) }
 {
     for index in 0..rows.counts().keysyms {

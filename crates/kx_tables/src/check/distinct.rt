@@ -29,7 +29,8 @@ fn bytes_at(names: &[u8], first: u32, count: u16) -> &[u8]
 pub struct TypeNames<'a, R>(pub &'a R);
 
 impl<R: Rows> NameList for TypeNames<'_, R> {
-    ghost name = { λ s i. option_map_or (type_name (R.content s.0.now)) (slice_get (R.content s.0.now).types i) [] };
+    ghost name = { λ s i. option_map_or (type_name (R.content s.0.now))
+        (slice_get (R.content s.0.now).types i) [] };
 
     fn name(&self, index: u16) -> &[u8] {
         if index < self.0.counts().types {
@@ -46,7 +47,8 @@ impl<R: Rows> NameList for TypeNames<'_, R> {
 pub struct KeyNames<'a, R>(pub &'a R);
 
 impl<R: Rows> NameList for KeyNames<'_, R> {
-    ghost name = { λ s i. option_map_or (key_name (R.content s.0.now)) (slice_get (R.content s.0.now).keys i) [] };
+    ghost name = { λ s i. option_map_or (key_name (R.content s.0.now))
+        (slice_get (R.content s.0.now).keys i) [] };
 
     fn name(&self, index: u16) -> &[u8] {
         if index < self.0.counts().keys {
@@ -63,7 +65,8 @@ impl<R: Rows> NameList for KeyNames<'_, R> {
 pub struct IndicatorNames<'a, R>(pub &'a R);
 
 impl<R: Rows> NameList for IndicatorNames<'_, R> {
-    ghost name = { λ s i. option_map_or (indicator_name (R.content s.0.now)) (slice_get (R.content s.0.now).indicators i) [] };
+    ghost name = { λ s i. option_map_or (indicator_name (R.content s.0.now))
+        (slice_get (R.content s.0.now).indicators i) [] };
 
     fn name(&self, index: u16) -> &[u8] {
         if index < self.0.counts().indicators {
@@ -138,7 +141,8 @@ fn repeated_of_most<L: NameList>(list: &L, count: u16) -> Option<u16>
 /// Checks that no two of the first `count` names are the same.
 pub fn check_names<L: NameList>(list: &L, count: u16, part: RecordKind) -> Result<(), Broken>
     ensures ok { OnOk result (NamesDiffer (L.name list.now) count) }
-    ensures broken { IfErr result (λ b. (b.part ≡ part) × IsRepeated (L.name list.now) count b.index) }
+    ensures broken { IfErr result (λ b. (b.part ≡ part)
+        × IsRepeated (L.name list.now) count b.index) }
 {
     // A function pays for its locals when it is called, so each size has one of its own.
     let repeated = if count <= 256 {

@@ -46,7 +46,8 @@ fn check_entries_of<R: Rows>(rows: &R, index: u16, key_type: TypeRow) -> Result<
 pub fn check_entries<R: Rows>(rows: &R) -> Result<(), Broken>
     requires within { EachRow (R.content rows.now).types (EntriesLie (R.content rows.now)) }
     requires begin { EachRow (R.content rows.now).types (EntriesBegin (R.content rows.now)) }
-    ensures ok { OnOk result (EachRow (R.content rows.now).types (EntriesHold (R.content rows.now))) }
+    ensures ok { OnOk result (EachRow (R.content rows.now).types
+        (EntriesHold (R.content rows.now))) }
     ensures broken { IfErr result (λ b. Breaks (R.content rows.now) b.part b.index) }
 {
     for index in 0..rows.counts().types {

@@ -16,7 +16,8 @@ fn is_numbered(row: &GroupRow, types: u16, used: u16, cells: u64) -> bool
 
 /// Checks the groups, and that each type is used.
 pub fn check_groups<R: Rows>(rows: &R) -> Result<(), Broken>
-    ensures ok { OnOk result (GroupsAre (R.content rows.now) (length (R.content rows.now).groups) (length (R.content rows.now).types) (length (R.content rows.now).cells)) }
+    ensures ok { OnOk result (GroupsAre (R.content rows.now) (length (R.content rows.now).groups)
+        (length (R.content rows.now).types) (length (R.content rows.now).cells)) }
     ensures broken { IfErr result (λ b. Breaks (R.content rows.now) b.part b.index) }
 {
     let counts = rows.counts();

@@ -23,8 +23,11 @@ fn is_numbered(row: IndicatorRow, index: u16, names: u64) -> bool
 /// the indicators'.
 pub fn check_indicators<R: Rows>(rows: &R, before: u64) -> Result<u64, Broken>
     requires { before ≡ type_names (R.content rows.now) + key_names (R.content rows.now) }
-    ensures total { IfOk result (λ names. names ≡ type_names (R.content rows.now) + key_names (R.content rows.now) + indicator_names (R.content rows.now)) }
-    ensures ok { IfOk result (λ names. IndicatorsAre (R.content rows.now) (length (R.content rows.now).indicators) names) }
+    ensures total { IfOk result (λ names.
+        names ≡ type_names (R.content rows.now) + key_names (R.content rows.now)
+        + indicator_names (R.content rows.now)) }
+    ensures ok { IfOk result (λ names.
+        IndicatorsAre (R.content rows.now) (length (R.content rows.now).indicators) names) }
     ensures broken { IfErr result (λ b. Breaks (R.content rows.now) b.part b.index) }
 {
     let mut names = before;
@@ -53,8 +56,10 @@ fn is_named(row: &GroupNameRow, index: u16, count: u16, names: u64) -> bool
 
 /// Checks the groups' names. The names of types, keys and indicators are so many bytes.
 pub fn check_group_names<R: Rows>(rows: &R, before: u64) -> Result<(), Broken>
-    requires { before ≡ type_names (R.content rows.now) + key_names (R.content rows.now) + indicator_names (R.content rows.now) }
-    ensures ok { OnOk result (GroupNamesAre (R.content rows.now) (length (R.content rows.now).group_names) (length (R.content rows.now).names)) }
+    requires { before ≡ type_names (R.content rows.now) + key_names (R.content rows.now)
+        + indicator_names (R.content rows.now) }
+    ensures ok { OnOk result (GroupNamesAre (R.content rows.now)
+        (length (R.content rows.now).group_names) (length (R.content rows.now).names)) }
     ensures broken { IfErr result (λ b. Breaks (R.content rows.now) b.part b.index) }
 {
     let counts = rows.counts();

@@ -36,8 +36,11 @@ fn is_numbered(row: KeyRow, groups: u64, names: u64) -> bool
 /// many they are with the keys' names.
 pub fn check_keys<R: Rows>(rows: &R, before: u64) -> Result<u64, Broken>
     requires { before ≡ type_names (R.content rows.now) }
-    ensures total { IfOk result (λ names. names ≡ type_names (R.content rows.now) + key_names (R.content rows.now)) }
-    ensures ok { IfOk result (λ names. (next : ℕ) × KeysAre (R.content rows.now) (length (R.content rows.now).keys) (length (R.content rows.now).groups) names next) }
+    ensures total { IfOk result (λ names.
+        names ≡ type_names (R.content rows.now) + key_names (R.content rows.now)) }
+    ensures ok { IfOk result (λ names. (next : ℕ)
+        × KeysAre (R.content rows.now) (length (R.content rows.now).keys)
+        (length (R.content rows.now).groups) names next) }
     ensures broken { IfErr result (λ b. Breaks (R.content rows.now) b.part b.index) }
 {
     let counts = rows.counts();

@@ -9,7 +9,8 @@ use crate::tables::Rows;
 
 /// Checks that no two types have one name.
 pub fn check_type_names<R: Rows>(rows: &R) -> Result<(), Broken>
-    ensures ok { OnOk result (NamesAreNew (R.content rows.now).types (type_name (R.content rows.now))) }
+    ensures ok { OnOk result (NamesAreNew (R.content rows.now).types
+        (type_name (R.content rows.now))) }
     ensures broken { IfErr result (λ b. Breaks (R.content rows.now) b.part b.index) }
 {
     check_names(&TypeNames(rows), rows.counts().types, RecordKind::KeyType)
@@ -17,7 +18,8 @@ pub fn check_type_names<R: Rows>(rows: &R) -> Result<(), Broken>
 
 /// Checks that no two keys have one name.
 pub fn check_key_names<R: Rows>(rows: &R) -> Result<(), Broken>
-    ensures ok { OnOk result (NamesAreNew (R.content rows.now).keys (key_name (R.content rows.now))) }
+    ensures ok { OnOk result (NamesAreNew (R.content rows.now).keys
+        (key_name (R.content rows.now))) }
     ensures broken { IfErr result (λ b. Breaks (R.content rows.now) b.part b.index) }
 {
     check_names(&KeyNames(rows), rows.counts().keys, RecordKind::Key)
@@ -25,7 +27,8 @@ pub fn check_key_names<R: Rows>(rows: &R) -> Result<(), Broken>
 
 /// Checks that no two indicators have one name.
 pub fn check_indicator_names<R: Rows>(rows: &R) -> Result<(), Broken>
-    ensures ok { OnOk result (NamesAreNew (R.content rows.now).indicators (indicator_name (R.content rows.now))) }
+    ensures ok { OnOk result (NamesAreNew (R.content rows.now).indicators
+        (indicator_name (R.content rows.now))) }
     ensures broken { IfErr result (λ b. Breaks (R.content rows.now) b.part b.index) }
 {
     check_names(

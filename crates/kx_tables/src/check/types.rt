@@ -22,7 +22,9 @@ fn is_numbered(row: TypeRow, entries: u64, names: u64) -> bool
 /// Checks the types' numbers, and answers how many bytes their names have.
 pub fn check_types<R: Rows>(rows: &R) -> Result<u64, Broken>
     ensures total { IfOk result (λ names. names ≡ type_names (R.content rows.now)) }
-    ensures ok { IfOk result (λ names. TypesAre (R.content rows.now) (length (R.content rows.now).types) (length (R.content rows.now).entries) names) }
+    ensures ok { IfOk result (λ names.
+        TypesAre (R.content rows.now) (length (R.content rows.now).types)
+        (length (R.content rows.now).entries) names) }
     ensures broken { IfErr result (λ b. Breaks (R.content rows.now) b.part b.index) }
 {
     let counts = rows.counts();
