@@ -4,3 +4,4 @@ pub mod ByHead
 pub mod ByNames
 pub mod Sorted
 pub mod Numbers
+pub mod Putting

@@ -1,5 +1,5 @@
 -- Where keys stand that are told by numbers.
-use Rattle.std.proofs.Common.{arith, take, ◌≡◌, ℕ, ◌<◌, Bool, true, false, cond, List, [], ◌∷◌, ◌++◌, length, set, get_or, Option, None, Some, is_some, refl, sym, ap, subst, ◌∙◌, true≢false}
+use Rattle.std.proofs.Common.{arith, take, ◌≡◌, ℕ, ◌<◌, Bool, true, false, cond, List, [], ◌∷◌, ◌++◌, length, set, Option, None, Some, is_some, refl, sym, ap, ◌∙◌, true≢false}
 use Rattle.std.proofs.Math.Seq.{take-append_seam}
 use Rattle.std.proofs.lemmas.List.{length-append, get_or-set_other, get_or-set_same}
 use Rattle.std.specs.BTreeMap as tree
@@ -8,8 +8,7 @@ use Rattle.std.specs.Cmp.{IsTotalOrder}
 use Rattle.std.specs.Option.{option_or, option_to_list}
 use Rattle.std.specs.Ordering.{is_eq}
 use Rattle.std.specs.declared.cmp.Ordering.{Ordering}
-use Rattle.std.specs.declared.cmp.Ordering.TheVariants.{Equal}
-use Rattle.kx_ordered.specs.KeyPlaces.{ArePlaced, IsEachPlaced, IsUnnumbered, Respects, place_in}
+use Rattle.kx_ordered.specs.KeyPlaces.{ArePlaced, IsEachPlaced, place_in}
 use Rattle.kx_ordered.specs.Numbers.{IsTold, numbered}
 use Rattle.kx_ordered.proofs.KeyPlaces.{absent, is_equal, no_some, place_pushed}
 

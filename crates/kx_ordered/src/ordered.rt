@@ -1,4 +1,5 @@
-ghost use Rattle.std.specs.Prelude.{◌≡◌, ℕ, Option, IfSome, ◌++◌, ◌∷◌, [], length, position, slice_get, IfOk, OnOk, IfErr, OnErr, None, Some, ◌<◌, if◌then◌else◌};
+ghost use Rattle.std.specs.Prelude.{◌≡◌, ℕ, Option, IfSome, ◌++◌, ◌∷◌, [], length, position, slice_get, IfOk, OnOk, IfErr, OnErr, None, Some, ◌<◌, if◌then◌else◌, unwrap_or};
+ghost use Rattle.std.specs.BTreeMap as tree;
 ghost use Rattle.std.specs.Option.{option_map, option_copied, option_copied_mut};
 ghost use Rattle.std.specs.Borrow.{sem};
 ghost use Rattle.indexmap.specs.IndexMap.{get, keys, values, index_map_len, insert_entry, IsUnique};
@@ -81,6 +82,24 @@ fn room_for(
     }
     numbers.resize(number + 1, None)?;
     Ok(Some(number))
+}
+
+/// The place of a key; where it has none, it is given this one.
+fn place_or_put<K: TableKey + Drop>(
+    places: &mut BTreeMap<K, usize>,
+    key: K,
+    place: usize,
+) -> Result<usize, AllocError>
+    ensures found { IfOk result (λ found.
+        found ≡ unwrap_or (tree.get K.cmp places.old key) place) }
+    ensures put { IfOk result (λ found.
+        places.new.entries ≡ tree.insert_entry K.cmp places.old.entries key found) }
+    ensures err { OnErr result (places.new.entries ≡ places.old.entries) }
+{
+    match places.entry(key) {
+        Ok(entry) => Ok(*entry.or_insert(place)),
+        Err(_) => Err(AllocError),
+    }
 }
 
 impl<K: TableKey + Drop, V> Ordered<K, V> {
@@ -239,6 +258,63 @@ impl<K: TableKey + Drop, V> Ordered<K, V> {
             return Err(AllocError);
         }
         Ok(())
+    }
+
+    /// Puts a value after the others, if its key has none; else gives it back, with the place of its key, counted from 0.
+    pub fn push_new(&mut self, key: K, value: V) -> Result<Option<(usize, V)>, AllocError>
+    where
+        V: Drop,
+        ensures place { IfOk result (λ found.
+            option_map (λ f. f.0) found ≡ position (K.eq key) (keys self.old)) }
+        ensures back { IfOk result (λ found.
+            IfSome found (λ f. (f.1 ≡ value) × (self.new ≡ self.old))) }
+        ensures entries { IfOk result (λ found.
+            found ≡ None → self.new.entries ≡ insert_entry K.eq self.old.entries key value) }
+        ensures updates { IfOk result (λ found.
+            found ≡ None → Updates K.eq self.old key value self.new) }
+        ensures unique { IsUnique K.eq self.new }
+        ensures err { OnErr result (self.new ≡ self.old) }
+    {
+        if key.number().is_none() {
+            return self.put_new_by_order(key, value);
+        }
+        match self.place(&key) {
+            Some(place) => Ok(Some((place, value))),
+            None => {
+                self.push(key, value)?;
+                Ok(None)
+            }
+        }
+    }
+
+    /// Puts a value whose key is found by its order, if it has none; else gives it back, with the place of its key.
+    fn put_new_by_order(&mut self, key: K, value: V) -> Result<Option<(usize, V)>, AllocError>
+    where
+        V: Drop,
+        requires { K.number key ≡ None }
+        ensures place { IfOk result (λ found.
+            option_map (λ f. f.0) found ≡ position (K.eq key) (keys self.old)) }
+        ensures back { IfOk result (λ found.
+            IfSome found (λ f. (f.1 ≡ value) × (self.new ≡ self.old))) }
+        ensures put { IfOk result (λ found.
+            found ≡ None → self.new.entries ≡ self.old.entries ++ (key, value) ∷ []) }
+        ensures unique { IsUnique K.eq self.new }
+        ensures err { OnErr result (self.new ≡ self.old) }
+    {
+        let place = self.len();
+        let again = key.again()?;
+        self.entries.push((key, value))?;
+        match place_or_put(&mut self.places, again, place) {
+            Ok(found) if found == place => Ok(None),
+            Ok(found) => match self.entries.pop() {
+                Some((_, value)) => Ok(Some((found, value))),
+                None => Err(AllocError),
+            },
+            Err(error) => {
+                let _ = self.entries.pop();
+                Err(error)
+            }
+        }
     }
 
     /// Puts a value: where its key has one, in its place, else after the others.

@@ -1,10 +1,9 @@
-use Rattle.std.proofs.Common.{◌≡◌, ◌<◌, ℕ, Option, Some, None, length, sym, ap, subst, ◌∙◌}
+use Rattle.std.proofs.Common.{◌≡◌, ◌<◌, Some, None, length, sym, ap, subst, ◌∙◌}
 use Rattle.std.specs.Prelude.{IfSome}
 use Rattle.std.specs.List.{IsDistinct}
 use Rattle.std.specs.Map.{keys_of}
 use Rattle.indexmap.specs.IndexMap.{get}
 use Rattle.kx_ordered.specs.KeyPlaces.{ArePlaced, IsEachPlaced}
-use Rattle.kx_ordered.specs.Numbers.{numbered}
 use Rattle.kx_ordered.proofs.KeyPlaces.{by_order, distinct_more, unplaced}
 use Rattle.kx_ordered.proofs.Numbers.{each_by_number, placed_by_number, set_other, set_same}
 use Rattle.kx_ordered.proofs.ordered.Ordered.put.Goals as goal
