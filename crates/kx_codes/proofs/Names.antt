@@ -1,5 +1,5 @@
 -- Names that are given numbers.
-use Rattle.std.proofs.Common.{◌≡◌, ℕ, zero, suc, Bool, true, false, cond, List, [], ◌∷◌, ◌++◌, All, Option, None, Some, is_some, length, arith, refl, sym, ap, ◌∙◌, subst}
+use Rattle.std.proofs.Common.{◌≡◌, ℕ, zero, suc, Bool, true, false, cond, List, [], ◌∷◌, ◌++◌, All, Option, None, Some, IfSome, is_some, length, arith, refl, sym, ap, ◌∙◌, subst}
 use Rattle.std.proofs.lemmas.Bool.{false≢true}
 use Rattle.std.proofs.lemmas.List.Elements.{All-push}
 use Rattle.std.proofs.lemmas.Map.Keys.{IsDistinct-head, IsDistinct-tail}
@@ -8,7 +8,7 @@ use Rattle.std.specs.List.{AllByRecursion, IsDistinct, position, slice_get}
 use Rattle.std.specs.Map.{keys_of, lookup}
 use Rattle.std.specs.Option.{option_map}
 use Rattle.std.specs.Str.{bytes_eq}
-use Rattle.indexmap.specs.IndexMap.{insert_entry}
+use Rattle.indexmap.specs.IndexMap.{IndexMap, insert_entry}
 use Rattle.kx_codes.proofs.Matching.{some_same}
 use Rattle.kx_codes.specs.Numbers.{Grows, IsOnce}
 use Rattle.kx_ordered.specs.KeyPlaces.{place_in}
@@ -82,6 +82,30 @@ module _ {V : Type 0} where
 
     pub names_valid : (P : List ℕ → Type 0) → new ≡ insert_entry bytes_eq es key v → All P (keys_of es) → P name → All P (keys_of new)
     names_valid P is all one = subst (All P) (sym (names_pushed is)) (All-push P (keys_of es) name all one)
+
+-- a name that is put where it is not there yet
+module _ {V : Type 0} (key name : List ℕ) (same : key ≡ name) (v : V) (old new : IndexMap (List ℕ) V ℕ) (found : Option (ℕ × V)) (at : option_map (λ f. f.0) found ≡ position (bytes_eq key) (keys_of old.entries)) (back : IfSome found (λ f. (f.1 ≡ v) × (new ≡ old))) (pushed : found ≡ None → new.entries ≡ insert_entry bytes_eq old.entries key v) where
+  pub names_put_grow : IsDistinct bytes_eq (keys_of new.entries) → Grows (keys_of old.entries) (keys_of new.entries)
+  names_put_grow u = by found at back pushed
+    where
+      by : (found : Option (ℕ × V)) → option_map (λ f. f.0) found ≡ position (bytes_eq key) (keys_of old.entries) → IfSome found (λ f. (f.1 ≡ v) × (new ≡ old)) → (found ≡ None → new.entries ≡ insert_entry bytes_eq old.entries key v) → Grows (keys_of old.entries) (keys_of new.entries)
+      by None at back pushed = names_grow key name same v old.entries new.entries (sym at) (pushed refl) u
+      by (Some f) at back pushed = subst (λ m. Grows (keys_of m.entries) (keys_of new.entries)) back.1 (names_stay (keys_of new.entries) u)
+
+  pub names_put_valid : (P : List ℕ → Type 0) → All P (keys_of old.entries) → P name → All P (keys_of new.entries)
+  names_put_valid P all one = by found at back pushed
+    where
+      by : (found : Option (ℕ × V)) → option_map (λ f. f.0) found ≡ position (bytes_eq key) (keys_of old.entries) → IfSome found (λ f. (f.1 ≡ v) × (new ≡ old)) → (found ≡ None → new.entries ≡ insert_entry bytes_eq old.entries key v) → All P (keys_of new.entries)
+      by None at back pushed = names_valid key name same v old.entries new.entries (sym at) P (pushed refl) all one
+      by (Some f) at back pushed = subst (λ m. All P (keys_of m.entries)) (sym back.1) all
+
+  pub names_put_there : (n : ℕ) (w : V) → found ≡ Some (n, w) → slice_get (keys_of new.entries) n ≡ Some name
+  names_put_there n w is =
+      let kept : IfSome {T = ℕ × V} (Some (n, w)) (λ f. (f.1 ≡ v) × (new ≡ old)) = subst (λ found. IfSome found (λ f. (f.1 ≡ v) × (new ≡ old))) is back in
+      subst (λ m. slice_get (keys_of m.entries) n ≡ Some name) (sym kept.1) (names_stored key name same old.entries n (sym at ∙ ap (option_map (λ f. f.0)) is))
+
+  pub names_put_last : found ≡ None → slice_get (keys_of new.entries) (length old.entries) ≡ Some name
+  names_put_last is = names_last key name same v old.entries new.entries (sym at ∙ ap (option_map (λ f. f.0)) is) (pushed is)
 
 -- what holds of each name holds of one at a place
 pub valid_at : {V : Type 0} (P : List ℕ → Type 0) (es : List (List ℕ × V)) (n : ℕ) (e : List ℕ × V) → All P (keys_of es) → slice_get es n ≡ Some e → P e.0

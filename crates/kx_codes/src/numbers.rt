@@ -45,14 +45,10 @@ impl<'l> Names<'l> {
         ensures grows { Grows self.old self.new }
         ensures err { IfErr result (λ e. e ≡ Memory) }
     {
-        let key = NameKey::of(name);
-        match self.names.place(&key) {
-            Some(number) => Ok(number),
-            None => {
-                let number = self.names.len();
-                self.names.push(key, ())?;
-                Ok(number)
-            }
+        let count = self.names.len();
+        match self.names.push_new(NameKey::of(name), ())? {
+            Some((number, _)) => Ok(number),
+            None => Ok(count),
         }
     }
 

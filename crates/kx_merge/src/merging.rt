@@ -30,11 +30,10 @@ fn add_one<C, R: Fields<C>>(
         → OnOk result (TableShows R.cell R.width R.Key.eq records.new (os ++ o ∷ [])) }
     ensures err { IfErr result (λ e. e ≡ Memory) }
 {
-    if let Some(old) = records.get_mut(&key) {
-        return old.absorb(alloc, given, mode);
+    match records.push_new(key, given)? {
+        None => Ok(()),
+        Some((place, given)) => records.value_mut(place).absorb(alloc, given, mode),
     }
-    records.push(key, given)?;
-    Ok(())
 }
 
 /// Takes up records under a mode in order, beside those that are there.

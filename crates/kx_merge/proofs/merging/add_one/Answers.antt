@@ -1,30 +1,45 @@
-use Rattle.std.proofs.Common.{cond, Some, is_some, sym, ap, ◌∙◌}
-use Rattle.std.specs.Map.{keys_of}
+use Rattle.std.proofs.Common.{◌≡◌, Some, IfSome, sym, ap, subst, ◌∙◌}
+use Rattle.std.proofs.lemmas.Option.{slice_get-map}
+use Rattle.std.specs.List.{position}
+use Rattle.std.specs.Map.{keys_of, lookup}
+use Rattle.std.specs.Option.{option_map}
 use Rattle.indexmap.specs.IndexMap.{get, keys}
-use Rattle.kx_merge.specs.Offers.{taken, widened, with_name}
-use Rattle.kx_merge.specs.Records.{cell_in, width_in}
+use Rattle.kx_merge.specs.Offers.{taken, widened}
+use Rattle.kx_merge.specs.Records.{TableShows, cell_in, width_in}
 use Rattle.kx_merge.proofs.Steps.{shows_more, shows_first, keys-put, keys-there, on_both}
+use Rattle.kx_ordered.specs.KeyPlaces.{place_in}
+use Rattle.kx_ordered.proofs.KeyPlaces.{found, keys-with_value, missing, place_is, written}
 use Rattle.kx_merge.proofs.merging.add_one.Goals as goal
 
 pub returns-in-Some-clause-shows : goal.returns-in-Some-clause-shows
 returns-in-Some-clause-shows g c = λ os o shows is.
     let eq = g.R.Key.PartialEq.eq in
-    let h = c.get_mut.follows.holds c.absorb.new.self in
-    let new = c.get_mut.follows.lender c.absorb.new.self in
-    let at = c.in-Some.ensures.value in
+    let cell = g.R.Fields.cell in
+    let width = g.R.Fields.width in
+    let mode = c.args.mode in
+    let key = c.args.key in
+    let there = c.push_new.new.self in
+    let es = there.entries in
+    let place = c.in-Some.place in
+    let made = c.absorb.new.self in
+    let back : (c.in-Some.given ≡ c.args.given) × (there ≡ c.args.records.now) = subst (λ found. IfSome found (λ f. (f.1 ≡ c.args.given) × (there ≡ c.args.records.now))) c.in-Some.is c.in_ok-push_new.ensures.back in
+    let at : place_in (eq key) es ≡ Some place = sym (place_is (eq key) es) ∙ ap (λ m. position (eq key) (keys m)) back.1 ∙ sym c.in_ok-push_new.ensures.place ∙ ap (option_map (λ f. f.0)) c.in-Some.is in
+    let old = sym c.value_mut.ensures.value ∙ slice_get-map (λ x. x.1) es place ∙ sym (found (eq key) es place at) in
     on_both c.absorb.result c.absorb.ensures.cells c.absorb.ensures.widths (λ cells widths.
-    shows_more g.R.Fields.cell g.R.Fields.width eq g.met.R.Key.Eq.laws g.met.R.Fields.same (keys c.args.records.now) (keys new) (get eq c.args.records.now) (get eq new) os c.args.mode c.args.key c.args.given c.absorb.new.self o shows is
-    (h.0 ∙ sym (keys-there eq c.args.records.now.entries c.args.key c.in-Some.old.now at))
-    (h.1 (sym (ap is_some at)))
-    (λ cell. cells cell ∙ ap (λ found. taken c.args.mode (cell_in g.R.Fields.cell found cell) (g.R.Fields.cell c.args.given cell)) at)
-    (λ group. widths group ∙ ap (λ found. widened c.args.mode (width_in g.R.Fields.width found group) (g.R.Fields.width c.args.given group)) at))
+    shows_more cell width eq g.met.R.Key.Eq.laws g.met.R.Fields.same (keys there) _ (get eq there) _ os mode key c.args.given made o (subst (λ m. TableShows cell width eq m os) (sym back.1) shows) is
+    (keys-with_value es place made ∙ sym (keys-there eq es key c.value_mut.result.now old))
+    (written eq g.met.R.Key.Eq.laws key made es place at)
+    (λ at. cells at ∙ ap (λ found. taken mode (cell_in cell found at) (cell c.in-Some.given at)) old ∙ ap (λ given. taken mode (cell_in cell (lookup (eq key) es) at) (cell given at)) back.0)
+    (λ group. widths group ∙ ap (λ found. widened mode (width_in width found group) (width c.in-Some.given group)) old ∙ ap (λ given. widened mode (width_in width (lookup (eq key) es) group) (width given group)) back.0))
 
-pub returns-clause-shows : goal.returns-clause-shows
-returns-clause-shows g c = λ os o shows is.
+pub returns-in-None-clause-shows : goal.returns-in-None-clause-shows
+returns-in-None-clause-shows g c = λ os o shows is.
     let eq = g.R.Key.PartialEq.eq in
-    let before = c.get_mut.follows.lender-at-none in
-    let same = c.get_mut.follows.holds-at-none in
-    shows_first g.R.Fields.cell g.R.Fields.width eq g.met.R.Key.Eq.laws g.met.R.Fields.same (keys c.args.records.now) (keys c.push.new.self) (get eq c.args.records.now) (get eq c.push.new.self) os c.args.mode c.args.key c.args.given o shows is
-    (ap keys_of c.in_ok-push.ensures.entries ∙ keys-put eq before.entries c.args.key c.args.given ∙ ap (λ m. with_name eq (keys m) c.args.key) same)
-    (sym c.in_default.ensures.value)
-    (λ q. c.in_ok-push.ensures.updates q ∙ ap (λ m. cond (eq c.args.key q) (Some c.args.given) (get eq m q)) same)
+    let key = c.args.key in
+    let before = c.args.records.now in
+    let es = before.entries in
+    let nowhere = sym (place_is (eq key) es) ∙ sym c.in_ok-push_new.ensures.place ∙ ap (option_map (λ f. f.0)) c.in-None.is in
+    shows_first g.R.Fields.cell g.R.Fields.width eq g.met.R.Key.Eq.laws g.met.R.Fields.same (keys before) (keys c.push_new.new.self) (get eq before) (get eq c.push_new.new.self) os c.args.mode key c.args.given o shows is
+    (ap keys_of (c.in_ok-push_new.ensures.entries c.in-None.is) ∙ keys-put eq es key c.args.given)
+    (missing (eq key) es nowhere)
+    (c.in_ok-push_new.ensures.updates c.in-None.is)
