@@ -36,7 +36,9 @@ fn add_one<C, R: Fields<C>>(
     }
 }
 
-/// Takes up records under a mode in order, beside those that are there.
+/// Takes up records under a mode in order, beside those that are there. Most statements of a section give a family of
+/// records none, which takes no call where it is inlined.
+#[inline(always)]
 pub(crate) fn add_all<C, R: Fields<C>>(
     alloc: Global,
     records: &mut Ordered<R::Key, R>,

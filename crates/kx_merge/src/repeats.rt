@@ -116,7 +116,9 @@ impl Repeats {
         Ok(Repeats { places })
     }
 
-    /// Whether an include that isn't under augment also stands before a place and after it.
+    /// Whether an include that isn't under augment also stands before a place and after it. Inlined, it is told of a
+    /// statement without a call.
+    #[inline(always)]
     pub(crate) fn stands_between(&self, entries: &[Entry], place: usize, included: Included) -> bool
         ensures { IsTrue result
             → StandsBetween entries.now place (included.entry.mode, included.entry.links.now) }
@@ -136,6 +138,8 @@ impl Repeats {
     }
 
     /// Where an include under augment also stands before a place, and not before another. Notes that it stands there.
+    /// Inlined, it is told of a statement without a call.
+    #[inline(always)]
     pub(crate) fn stood_since(
         &mut self,
         entries: &[Entry],
