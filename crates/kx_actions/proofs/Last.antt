@@ -1,14 +1,14 @@
 -- Fields that are given one after another have what the last gives.
-use Rattle.std.proofs.Common.{◌≡◌, ℕ, ◌+◌, ◌<◌, Bool, true, false, List, [], ◌∷◌, length, drop, get_or, fold, Option, None, Some, cond, is_some, refl, sym, ap, ◌∙◌}
-use Rattle.std.specs.Option.{option_and_then, option_map_or, option_or}
+use Rattle.std.proofs.Common.{◌≡◌, ℕ, ◌+◌, ◌<◌, Bool, true, false, List, [], ◌∷◌, length, drop, get_or, fold, Option, None, Some, cond, refl, sym, ap, ◌∙◌}
+use Rattle.std.specs.Option.{option_and_then, option_or}
 use Rattle.kx_lex.specs.declared.name.Name.{Name}
 use Rattle.kx_parse.specs.declared.tree.Field.{Field}
 use Rattle.kx_parse.specs.declared.tree.Index.{Index}
 use Rattle.kx_parse.specs.declared.tree.Setting.{Setting}
 use Rattle.kx_tables.specs.declared.rows.GroupChange.{GroupChange}
 use Rattle.kx_actions.specs.Defaults.{default_for, default_given, defaulted, defaults_behind, given_as, is_same, kind_of, next_defaults, next_for, no_defaults, settings_for, taken_up}
-use Rattle.kx_actions.specs.Settings.{each_last, given_affect, given_clear_locks, given_group, given_latch_to_lock, given_modifiers, last_settings, no_settings, with_given}
-use Rattle.kx_actions.specs.Values.{member_given, setting_given}
+use Rattle.kx_actions.specs.Settings.{given_affect, given_clear_locks, given_group, given_latch_to_lock, given_modifiers, last_settings, no_settings, with_given}
+use Rattle.kx_actions.specs.Values.{member_given, setting_given, unindexed}
 use Rattle.kx_merge.specs.Last.{last_given}
 use Rattle.kx_merge.specs.Words.{among}
 use Rattle.kx_actions.specs.Words.{argument_words, of_kind}
@@ -35,7 +35,8 @@ same_made m n g h a b c d k l p q r s t = ap (λ x. made x g a c k) p ∙ ap (λ
 
 -- what is given after what was
 abbrev pub with_any : Settings → Option Given → Settings
-with_any s o = option_map_or (with_given s) o s
+with_any s None = s
+with_any s (Some g) = with_given s g
 
 -- five fields, each given the last
 inner : (s : Settings) (m : Option ActionMods) (g : Option GroupChange) (a : Option Affect) (c l : Option Bool) (o : Option Given)
@@ -60,21 +61,13 @@ taken s m g a c l (Some (given.LatchToLock x)) = refl
 
 module _ {X : Type 0} (gives : X → Option Given) where
   pub last_next : (s : Settings) (x : X) (xs : List X) → last_settings gives s (x ∷ xs) ≡ last_settings gives (with_any s (gives x)) xs
-  last_next s x xs = refl
-
-  each_next : (s : Settings) (x : X) (xs : List X) → each_last gives s (x ∷ xs) ≡ each_last gives (with_any s (gives x)) xs
-  each_next s x xs =
+  last_next s x xs =
       let m : Option ActionMods = last_given (λ y. option_and_then given_modifiers (gives y)) xs in
       let g : Option GroupChange = last_given (λ y. option_and_then given_group (gives y)) xs in
       let a : Option Affect = last_given (λ y. option_and_then given_affect (gives y)) xs in
       let c : Option Bool = last_given (λ y. option_and_then given_clear_locks (gives y)) xs in
       let l : Option Bool = last_given (λ y. option_and_then given_latch_to_lock (gives y)) xs in
       inner s m g a c l (gives x) ∙ taken s m g a c l (gives x)
-
-  -- each field has what the last gives that gives it anything
-  pub each_is_last : (s : Settings) (xs : List X) → last_settings gives s xs ≡ each_last gives s xs
-  each_is_last s [] = refl
-  each_is_last s (x ∷ xs) = each_is_last (with_any s (gives x)) xs ∙ sym (each_next s x xs)
 
   -- what is left is given after what the next gives
   pub last_goes : (before s : Settings) (xs : List X) (i : ℕ) (x : X) (g : Given) → i < length xs → x ≡ get_or xs i x → Some g ≡ gives x → last_settings gives before xs ≡ last_settings gives s (drop i xs) → last_settings gives before xs ≡ last_settings gives (with_given s g) (drop (i + 1) xs)
@@ -103,7 +96,7 @@ one d kinds.LockGroup kinds.LockGroup (Some g) h = refl
 one d k kind (Some g) h = refl
 
 module _ (names : List (List ℕ)) where
-  no_member : (i : Option Index) (f : Option ActionField) (setting : Setting) → option_and_then (λ field. setting_given names field setting) (cond (is_some i) None (option_and_then (of_kind kinds.NoAction) f)) ≡ None
+  no_member : (i : Option Index) (f : Option ActionField) (setting : Setting) → option_and_then (λ field. setting_given names field setting) (unindexed i (option_and_then (of_kind kinds.NoAction) f)) ≡ None
   no_member None None setting = refl
   no_member None (Some f) setting = refl
   no_member (Some i) f setting = refl
@@ -144,6 +137,4 @@ module _ (names : List (List ℕ)) where
 
   -- of default statements the last counts
   pub last_defaults : (statements : List Field) (kind : ActionKind) → settings_for (defaults_behind names statements) kind ≡ defaulted names statements kind
-  last_defaults statements kind =
-      go no_defaults kind statements ∙ ap (λ s. last_settings (default_given names kind) s statements) (none_for kind)
-      ∙ each_is_last (default_given names kind) no_settings statements
+  last_defaults statements kind = go no_defaults kind statements ∙ ap (λ s. last_settings (default_given names kind) s statements) (none_for kind)

@@ -5,7 +5,7 @@ use Rattle.kx_include.specs.IncludeFaults.{at}
 use Rattle.kx_lex.specs.declared.fault.Fault.{Fault}
 use Rattle.kx_lex.specs.declared.fault.Fault.TheVariants.{UnknownField}
 use Rattle.kx_parse.specs.declared.tree.Field.{Field}
-use Rattle.kx_actions.specs.Settings.{each_last, no_settings, with_given}
+use Rattle.kx_actions.specs.Settings.{last_settings, no_settings, with_given}
 use Rattle.kx_actions.specs.Values.{member_faults, member_given}
 use Rattle.kx_merge.specs.Words.{among}
 use Rattle.kx_actions.specs.Words.{kind_words}
@@ -65,7 +65,7 @@ module _ (names : List (List ℕ)) where
 
   -- what default statements give an action: each of its fields has what the last of those gives that give it anything
   abbrev pub defaulted : List Field → ActionKind → Settings
-  defaulted statements kind = each_last (default_given kind) no_settings statements
+  defaulted statements kind = last_settings (default_given kind) no_settings statements
 
   -- the defaults after one more statement
   abbrev pub next_defaults : ActionDefaults → Field → ActionDefaults

@@ -1,6 +1,6 @@
 -- What the fields of an action are given, and the last of several that give a field.
-use Rattle.std.specs.Prelude.{Bool, List, fold, Option, None, Some}
-use Rattle.std.specs.Option.{option_and_then, option_map_or, option_or}
+use Rattle.std.specs.Prelude.{Bool, List, Option, None, Some}
+use Rattle.std.specs.Option.{option_and_then, option_or}
 use Rattle.kx_tables.specs.declared.rows.GroupChange.{GroupChange}
 use Rattle.kx_merge.specs.Last.{last_given}
 use Rattle.kx_actions.specs.declared.action.ActionMods.{ActionMods}
@@ -20,16 +20,22 @@ with_given s (given.Affect what) = record s { affect = Some what }
 with_given s (given.ClearLocks on) = record s { clear_locks = Some on }
 with_given s (given.LatchToLock on) = record s { latch_to_lock = Some on }
 
-module _ {X : Type 0} (gives : X → Option Given) where
-  -- several give one after another: each field has what the last gives that gives it anything, else what it had before them
-  abbrev pub last_settings : Settings → List X → Settings
-  last_settings before xs = fold (λ s x. option_map_or (with_given s) (gives x) s) before xs
-
--- ---- Under names, for clauses and proofs
-
 -- settings with what is given alone
 abbrev pub only : Given → Settings
 only g = with_given no_settings g
+
+module _ {X : Type 0} (gives : X → Option Given) where
+  -- each field has what the last gives that gives it anything, else what it had before them
+  abbrev pub last_settings : Settings → List X → Settings
+  last_settings before xs = record {
+    modifiers = option_or (last_given (λ x. option_and_then (λ g. (only g).modifiers) (gives x)) xs) before.modifiers;
+    group = option_or (last_given (λ x. option_and_then (λ g. (only g).group) (gives x)) xs) before.group;
+    affect = option_or (last_given (λ x. option_and_then (λ g. (only g).affect) (gives x)) xs) before.affect;
+    clear_locks = option_or (last_given (λ x. option_and_then (λ g. (only g).clear_locks) (gives x)) xs) before.clear_locks;
+    latch_to_lock = option_or (last_given (λ x. option_and_then (λ g. (only g).latch_to_lock) (gives x)) xs) before.latch_to_lock;
+  }
+
+-- ---- Under names, for proofs
 
 abbrev pub given_modifiers : Given → Option ActionMods
 given_modifiers g = (only g).modifiers
@@ -45,14 +51,3 @@ given_clear_locks g = (only g).clear_locks
 
 abbrev pub given_latch_to_lock : Given → Option Bool
 given_latch_to_lock g = (only g).latch_to_lock
-
-module _ {X : Type 0} (gives : X → Option Given) where
-  -- the same, field by field
-  abbrev pub each_last : Settings → List X → Settings
-  each_last before xs = record {
-    modifiers = option_or (last_given (λ x. option_and_then (λ g. (only g).modifiers) (gives x)) xs) before.modifiers;
-    group = option_or (last_given (λ x. option_and_then (λ g. (only g).group) (gives x)) xs) before.group;
-    affect = option_or (last_given (λ x. option_and_then (λ g. (only g).affect) (gives x)) xs) before.affect;
-    clear_locks = option_or (last_given (λ x. option_and_then (λ g. (only g).clear_locks) (gives x)) xs) before.clear_locks;
-    latch_to_lock = option_or (last_given (λ x. option_and_then (λ g. (only g).latch_to_lock) (gives x)) xs) before.latch_to_lock;
-  }
