@@ -1,5 +1,5 @@
 -- Fields that are given one after another have what the last gives.
-use Rattle.std.proofs.Common.{◌≡◌, ℕ, ◌+◌, ◌<◌, Bool, true, false, List, [], ◌∷◌, length, drop, get_or, fold, Option, None, Some, cond, refl, sym, ap, ◌∙◌}
+use Rattle.std.proofs.Common.{◌≡◌, ℕ, ◌+◌, ◌<◌, Bool, true, false, List, [], ◌∷◌, length, drop, get_or, fold, Option, None, Some, cond, is_some, refl, sym, ap, ◌∙◌}
 use Rattle.std.specs.Option.{option_and_then, option_or}
 use Rattle.kx_lex.specs.declared.name.Name.{Name}
 use Rattle.kx_parse.specs.declared.tree.Field.{Field}
@@ -8,7 +8,7 @@ use Rattle.kx_parse.specs.declared.tree.Setting.{Setting}
 use Rattle.kx_tables.specs.declared.rows.GroupChange.{GroupChange}
 use Rattle.kx_actions.specs.Defaults.{default_for, default_given, defaulted, defaults_behind, given_as, is_same, kind_of, next_defaults, next_for, no_defaults, settings_for, taken_up}
 use Rattle.kx_actions.specs.Settings.{given_affect, given_clear_locks, given_group, given_latch_to_lock, given_modifiers, last_settings, no_settings, with_given}
-use Rattle.kx_actions.specs.Values.{member_given, setting_given, unindexed}
+use Rattle.kx_actions.specs.Values.{member_given, setting_given}
 use Rattle.kx_merge.specs.Last.{last_given}
 use Rattle.kx_merge.specs.Words.{among}
 use Rattle.kx_actions.specs.Words.{argument_words, of_kind}
@@ -96,7 +96,7 @@ one d kinds.LockGroup kinds.LockGroup (Some g) h = refl
 one d k kind (Some g) h = refl
 
 module _ (names : List (List ℕ)) where
-  no_member : (i : Option Index) (f : Option ActionField) (setting : Setting) → option_and_then (λ field. setting_given names field setting) (unindexed i (option_and_then (of_kind kinds.NoAction) f)) ≡ None
+  no_member : (i : Option Index) (f : Option ActionField) (setting : Setting) → option_and_then (λ field. setting_given names field setting) (cond (is_some i) None (option_and_then (of_kind kinds.NoAction) f)) ≡ None
   no_member None None setting = refl
   no_member None (Some f) setting = refl
   no_member (Some i) f setting = refl

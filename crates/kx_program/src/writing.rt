@@ -1,16 +1,26 @@
 //! Files that are written whole or not at all.
 use std::alloc::{AllocError, Global};
-use std::fs::File;
+use std::fs::{File, Permissions};
 use std::io::Write;
 use std::rt::Files as FileSystem;
 use std::{fs, io};
 
-/// Whether a file is replaced by a new one: where there is none yet, or a plain one. What is something else, as a
-/// device or a link, is written into.
-fn is_replaced(rt: &impl FileSystem, path: &str) -> bool {
+/// What stands where a file is to be written.
+enum Standing {
+    /// Nothing: a new file is put there.
+    Nothing,
+    /// A plain file, which a new one replaces, with these permissions.
+    Plain(Permissions),
+    /// Something else, as a device or a link, which is written into.
+    Other,
+}
+
+fn standing_at(rt: &impl FileSystem, path: &str) -> Standing {
     match fs::symlink_metadata(rt, path) {
-        Ok(found) => found.is_file(),
-        Err(fault) => fault.kind() == io::ErrorKind::NotFound,
+        Ok(found) if found.is_file() => Standing::Plain(found.permissions()),
+        Ok(_) => Standing::Other,
+        Err(fault) if fault.kind() == io::ErrorKind::NotFound => Standing::Nothing,
+        Err(_) => Standing::Other,
     }
 }
 
@@ -27,9 +37,14 @@ fn write_new(rt: &impl FileSystem, path: &str, bytes: &[u8]) -> io::Result<()> {
 }
 
 /// Puts a new file, which stands beside the old one, in its place, with the old one's permissions.
-fn put_in_place(rt: &impl FileSystem, beside: &str, path: &str) -> io::Result<()> {
-    if let Ok(old) = fs::metadata(rt, path) {
-        let _ = fs::set_permissions(rt, beside, old.permissions());
+fn put_in_place(
+    rt: &impl FileSystem,
+    beside: &str,
+    path: &str,
+    permissions: Option<Permissions>,
+) -> io::Result<()> {
+    if let Some(permissions) = permissions {
+        let _ = fs::set_permissions(rt, beside, permissions);
     }
     match fs::rename(rt, beside, path) {
         Ok(()) => Ok(()),
@@ -58,13 +73,15 @@ pub fn write_whole(
     path: &str,
     bytes: &[u8],
 ) -> io::Result<()> {
-    if !is_replaced(rt, path) {
-        return fs::write(rt, path, bytes);
-    }
+    let permissions = match standing_at(rt, path) {
+        Standing::Nothing => None,
+        Standing::Plain(permissions) => Some(permissions),
+        Standing::Other => return fs::write(rt, path, bytes),
+    };
     for number in 0..MOST_PARTS {
         let beside = part_of(rt.alloc(), path, number)?;
         match write_new(rt, beside.as_str(), bytes) {
-            Ok(()) => return put_in_place(rt, beside.as_str(), path),
+            Ok(()) => return put_in_place(rt, beside.as_str(), path, permissions),
             Err(fault) if fault.kind() == io::ErrorKind::AlreadyExists => {}
             Err(fault) => return Err(fault),
         }

@@ -213,6 +213,7 @@ fn type_for<'a>(types: &Types, wanted: Option<&'a [u8]>) -> GroupType<'a>
 }
 
 /// The type that a group has, or the first one where it has no level of its own.
+#[inline(always)]
 pub fn group_type<'a>(types: &Types, key: &'a KeyRecord, group: usize) -> GroupType<'a>
     ensures name { result.name.now ≡ group_type_name (type_named types.now) (given key.now) group }
     ensures levels { result.levels ≡ group_levels (type_named types.now) (given key.now) group }

@@ -45,6 +45,7 @@ impl KeyModmaps {
     ghost use Rattle.kx_resolve.specs.ReadMapping.{mapping_of};
 
     /// The real modifiers that the key of a code is mapped to.
+    #[inline(always)]
     pub fn key(&self, code: u16) -> Mods
         ensures { result ≡ modmap_at self.now code }
     {

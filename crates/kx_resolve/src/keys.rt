@@ -191,6 +191,7 @@ fn push_group(
 
 /// Pushes a key without its groups.
 #[tactic(auto, using(crate::proofs::Small::key_refused))]
+#[inline(always)]
 fn push_bare_key(
     builder: &mut Builder,
     code: u16,

@@ -44,6 +44,7 @@ impl<'a> InterpretedKey<'a> {
     ghost use Rattle.kx_resolve.specs.GroupTypes.{has_action};
 
     /// The interpretation of a level of a group, both counted from 0.
+    #[inline(always)]
     pub(crate) fn interpretation(self, group: usize, level: usize) -> Option<&'a Interpretation>
         requires { self.own ≡ has_action (given self.key.now) }
         ensures { option_map (λ i. i.now) result

@@ -85,6 +85,7 @@ impl Keysyms {
 }
 
 /// The keysym of a word; none where it says so, or where no keysym has the name, which is noted.
+#[inline(always)]
 fn word_keysym(names: &NameTable, word: &[u8], notes: &mut Notes) -> Option<u32>
     ensures value { result ≡ word_keysym names.now word.now }
     ensures within { IfSome result IsKeysym }
@@ -134,6 +135,7 @@ fn number_keysym(number: u32) -> u32
 ///
 /// # Errors
 /// `BadValue` at a number above the greatest keysym.
+#[inline(always)]
 pub fn symbol_keysym(
     names: &NameTable,
     file: u32,

@@ -16,7 +16,7 @@ invariant_of-self-2 c = names_put_valid c.of.result c.args.name.now c.of.ensures
 
 pub returns-clause-name : goal.returns-clause-name
 returns-clause-name c = let ks = keys_of c.push_new.new.self.entries in elim c.match-branch-2.branch [
-  in-Some w ↦ subst (λ r. IfOk r (λ n. slice_get ks n ≡ Some c.args.name.now)) (sym w.result-is) (names_put_there c.of.result c.args.name.now c.of.ensures tt c.self.inside.names c.push_new.new.self c.in_ok-number.field-0 c.in_ok-number.ensures.place c.in_ok-number.ensures.back c.in_ok-number.ensures.entries w.in-Some.number tt w.in-Some.is)
+  | in-Some w ↦ subst (λ r. IfOk r (λ n. slice_get ks n ≡ Some c.args.name.now)) (sym w.result-is) (names_put_there c.of.result c.args.name.now c.of.ensures tt c.self.inside.names c.push_new.new.self c.in_ok-number.field-0 c.in_ok-number.ensures.place c.in_ok-number.ensures.back c.in_ok-number.ensures.entries w.in-Some.number tt w.in-Some.is)
   | in-None w ↦ subst (λ r. IfOk r (λ n. slice_get ks n ≡ Some c.args.name.now)) (sym w.result-is) (ap (slice_get ks) c.len-count.ensures ∙ names_put_last c.of.result c.args.name.now c.of.ensures tt c.self.inside.names c.push_new.new.self c.in_ok-number.field-0 c.in_ok-number.ensures.place c.in_ok-number.ensures.back c.in_ok-number.ensures.entries w.in-None.is)
 ]
 
