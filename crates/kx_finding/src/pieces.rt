@@ -2,6 +2,7 @@
 ghost use Rattle.std.specs.Prelude.{◌≤◌, length};
 
 use Ends::{No, Yes};
+use memchr::memchr;
 
 /// Whether a byte ends the plain bytes of a body.
 #[derive(Clone, Copy)]
@@ -74,28 +75,12 @@ pub(crate) fn is_comment(first: u8, left: &[u8]) -> bool {
     first == b'#' || first == b'/' && left.first() == Some(&b'/')
 }
 
-/// What stands after the first such byte, which is looked for four bytes a turn; nothing where there is none.
+/// What stands after the first such byte; nothing where there is none.
 fn behind_byte(wanted: u8, bytes: &[u8]) -> &[u8]
     ensures { length result.now ≤ length bytes.now }
 {
-    let mut rest = bytes;
-    'fours: while let [first, second, third, fourth, left @ ..] = rest {
-        if *first == wanted {
-            return behind(rest, 1);
-        }
-        if *second == wanted {
-            return behind(rest, 2);
-        }
-        if *third == wanted {
-            return behind(rest, 3);
-        }
-        rest = left;
-        if *fourth == wanted {
-            return rest;
-        }
-    }
-    match rest.iter().position(|byte| *byte == wanted) {
-        Some(place) => behind(rest, place.saturating_add(1)),
+    match memchr(wanted, bytes) {
+        Some(place) => behind(bytes, place.saturating_add(1)),
         None => &[],
     }
 }
