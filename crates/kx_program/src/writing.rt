@@ -1,6 +1,6 @@
 //! Files that are written whole or not at all.
 use std::alloc::{AllocError, Global};
-use std::fs::{File, Permissions};
+use std::fs::{File, OpenFile, Permissions};
 use std::io::Write;
 use std::rt::Files as FileSystem;
 use std::{fs, io};
@@ -24,9 +24,17 @@ fn standing_at(rt: &impl FileSystem, path: &str) -> Standing {
     }
 }
 
-/// Writes a new file; one that is there already is left alone.
-fn write_new(rt: &impl FileSystem, path: &str, bytes: &[u8]) -> io::Result<()> {
+/// Writes a new file, with these permissions where some are given; one that is there already is left alone.
+fn write_new(
+    rt: &impl FileSystem,
+    path: &str,
+    bytes: &[u8],
+    permissions: &Option<Permissions>,
+) -> io::Result<()> {
     let mut file = File::create_new(rt, path)?;
+    if let Some(permissions) = permissions {
+        let _ = file.set_permissions(permissions.clone()?);
+    }
     match file.write_all(bytes) {
         Ok(()) => Ok(()),
         Err(fault) => {
@@ -36,16 +44,8 @@ fn write_new(rt: &impl FileSystem, path: &str, bytes: &[u8]) -> io::Result<()> {
     }
 }
 
-/// Puts a new file, which stands beside the old one, in its place, with the old one's permissions.
-fn put_in_place(
-    rt: &impl FileSystem,
-    beside: &str,
-    path: &str,
-    permissions: Option<Permissions>,
-) -> io::Result<()> {
-    if let Some(permissions) = permissions {
-        let _ = fs::set_permissions(rt, beside, permissions);
-    }
+/// Puts a new file, which stands beside the old one, in its place.
+fn put_in_place(rt: &impl FileSystem, beside: &str, path: &str) -> io::Result<()> {
     match fs::rename(rt, beside, path) {
         Ok(()) => Ok(()),
         Err(fault) => {
@@ -80,8 +80,8 @@ pub fn write_whole(
     };
     for number in 0..MOST_PARTS {
         let beside = part_of(rt.alloc(), path, number)?;
-        match write_new(rt, beside.as_str(), bytes) {
-            Ok(()) => return put_in_place(rt, beside.as_str(), path, permissions),
+        match write_new(rt, beside.as_str(), bytes, &permissions) {
+            Ok(()) => return put_in_place(rt, beside.as_str(), path),
             Err(fault) if fault.kind() == io::ErrorKind::AlreadyExists => {}
             Err(fault) => return Err(fault),
         }
