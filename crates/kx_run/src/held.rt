@@ -1,5 +1,5 @@
 //! A key that is down, with the action that it was pressed with.
-ghost use Rattle.std.specs.Prelude.{◌≡◌, ℕ, ◌^◌, ◌<◌, ◌≤◌, ◌≤ℤ◌, false, List, [], ◌∷◌, ◌++◌, slice_index, map, IfOk, IfNone, pos, negsuc};
+ghost use Rattle.std.specs.Prelude.{◌≡◌, ◌↔◌, ℕ, ◌^◌, ◌<◌, ◌≤◌, ◌≤ℤ◌, false, List, [], ◌∷◌, ◌++◌, slice_index, map, IfOk, IfNone, pos, negsuc};
 ghost use Rattle.kx_mods.specs.Mods.{mask};
 ghost use Rattle.kx_tables.specs.declared.rows.Action.TheVariants.{None as NoAction};
 ghost use Rattle.kx_run.specs.Held.{held_mods, base_mods, base_group, count_of, is_group_held, is_held, held_at, other_keys, disturbed, action_size, AreSound, AreAllDisturbed, AreDistinct};
@@ -28,7 +28,7 @@ pub struct HeldKey {
 
 /// Whether an action does anything.
 pub fn acts(action: Action) -> bool
-    ensures { result ≡ false → action ≡ NoAction }
+    ensures { (result ≡ false) ↔ (action ≡ NoAction) }
 {
     !matches!(action, Action::None)
 }

@@ -52,7 +52,7 @@ pub invariant_of-self : goal.invariant_of-self
 invariant_of-self c =
     let keys = c.self.inside.keys in
     let key = c.args.key in
-    let plain = c.acts.ensures c.if-not-acts.true in
+    let plain = c.acts.ensures.0 c.if-not-acts.true in
     let none : held_mods key.action ≡ 0 = ap held_mods plain in
     let new : is_held key.code keys ≡ false = ap (is_held key.code) c.self.view_is ∙ c.requires.new_code in
     let within : held_mods key.action < 256 = omega (arith, none) in

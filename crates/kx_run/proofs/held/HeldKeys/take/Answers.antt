@@ -81,7 +81,7 @@ invariant_of-self-then-not-acts c =
     let place = place_in c.args.code keys in
     let at = stands_at c.args.code keys key c.self.invariant.sound.distinct (sym c.in_ok-key.ensures.found) in
     let left = c.take.ensures.rest ∙ at.left in
-    let plain = c.acts.ensures c.if-not-acts.true in
+    let plain = c.acts.ensures.0 c.if-not-acts.true in
     record {
       sound = subst AreSound (sym left) (AreSound-remove keys place at.within c.self.invariant.sound);
       counts = λ bit small. count_left_none bit keys place key _ at.within at.read (ap held_mods plain) (c.self.invariant.counts bit small) ∙ ap (count_of bit) (sym left);
