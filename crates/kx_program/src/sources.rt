@@ -13,21 +13,21 @@ use std::{fs, io};
 /// Room for this many bytes at most, 16 MiB, is made before a file is read; more is made as it comes.
 const MOST_ROOM: u64 = 1 << 24;
 
-/// Room for the bytes of a file, by where it ends; none where it has no end to go to, as a pipe.
+/// Room for the bytes of a file and one more, by where it ends; for one where it has no end to go to, as a pipe.
 fn room_for(file: &mut impl Seek) -> io::Result<u64> {
     match file.seek(SeekFrom::End(0)) {
         Ok(end) => {
             file.seek(SeekFrom::Start(0))?;
-            Ok(end.min(MOST_ROOM))
+            Ok(end.min(MOST_ROOM) + 1)
         }
-        Err(_) => Ok(0),
+        Err(_) => Ok(1),
     }
 }
 
 /// The bytes of a file. Room for them is made at once where their count is known, so that none of them is moved.
 fn bytes_of(rt: &(impl FileSystem + AllocGlobal), path: &str) -> io::Result<Vec<u8>> {
     let mut file = fs::open(rt, path)?;
-    let room = room_for(&mut file)? + 1;
+    let room = room_for(&mut file)?;
     let mut bytes = Vec::with_capacity(rt.alloc(), room as usize)?;
     file.read_to_end(&mut bytes)?;
     Ok(bytes)
