@@ -31,9 +31,10 @@ fn write_new(
     bytes: &[u8],
     permissions: &Option<Permissions>,
 ) -> io::Result<()> {
+    let permissions = permissions.clone()?;
     let mut file = File::create_new(rt, path)?;
     if let Some(permissions) = permissions {
-        let _ = file.set_permissions(permissions.clone()?);
+        let _ = file.set_permissions(permissions);
     }
     match file.write_all(bytes) {
         Ok(()) => Ok(()),
