@@ -17,17 +17,18 @@ use kx_lex::{At, Fault};
 use kx_parse::{BracePart, Element, List as Listed, Symbol};
 use std::alloc::{AllocError, Global};
 use std::marker::Model;
+use std::slice;
 
 /// The keysym of `None` and `VoidSymbol`.
 const VOID: u32 = 0xff_ffff;
 
-/// The keysyms of a level, one to eight.
+/// Keysyms that stand in braces, eight at most.
 #[derive(Debug, Drop)]
-pub struct Keysyms {
+pub struct BracedKeysyms {
     numbers: ArrayVec<u32, MOST_KEYSYMS>,
 }
 
-impl Model for Keysyms {
+impl Model for BracedKeysyms {
     ghost use Rattle.std.specs.Prelude.{All, List, ℕ};
     ghost use Rattle.kx_basics.specs.Keysyms.{IsKeysym};
 
@@ -38,19 +39,11 @@ impl Model for Keysyms {
     ghost invariant = { λ k. All IsKeysym k.numbers.items };
 }
 
-impl LevelValue for Keysyms {
-    fn copied(&self) -> Result<Keysyms, AllocError> {
-        Ok(Keysyms {
-            numbers: self.numbers.clone()?,
-        })
-    }
-}
-
-impl Keysyms {
-    fn none() -> Keysyms
+impl BracedKeysyms {
+    fn none() -> BracedKeysyms
         ensures { result ≡ [] }
     {
-        Keysyms {
+        BracedKeysyms {
             numbers: ArrayVec::new(),
         }
     }
@@ -64,7 +57,7 @@ impl Keysyms {
     }
 
     /// The keysyms in order, by their numbers.
-    pub fn as_slice(&self) -> &[u32]
+    fn as_slice(&self) -> &[u32]
         ensures value { result.now ≡ self.now }
         ensures few { length result.now ≤ 8 }
         ensures each { All IsKeysym result.now }
@@ -72,14 +65,84 @@ impl Keysyms {
         self.numbers.as_slice()
     }
 
-    /// These keysyms, where there is one.
-    fn given(self) -> Option<Keysyms>
-        ensures { result ≡ given self }
+    fn copied(&self) -> Result<BracedKeysyms, AllocError>
+        ensures { IfOk result (λ copy. copy ≡ self.now) }
     {
-        if self.numbers.is_empty() {
-            None
-        } else {
-            Some(self)
+        Ok(BracedKeysyms {
+            numbers: self.numbers.clone()?,
+        })
+    }
+}
+
+/// Most levels have one keysym, which takes no allocation.
+#[derive(Debug, Drop)]
+enum KeptKeysyms {
+    One(u32),
+    Several(Box<BracedKeysyms>),
+}
+
+/// The keysyms of a level, one to eight.
+#[derive(Debug, Drop)]
+pub struct Keysyms {
+    kept: KeptKeysyms,
+}
+
+impl Model for Keysyms {
+    ghost use Rattle.std.specs.Prelude.{All, List, ℕ};
+    ghost use Rattle.kx_basics.specs.Keysyms.{IsKeysym};
+    ghost use Rattle.kx_symbols.specs.Kept.{kept_keysyms};
+
+    ghost Value = { List ℕ };
+
+    ghost view = { λ k. kept_keysyms k.kept };
+
+    ghost invariant = { λ k. All IsKeysym (kept_keysyms k.kept) };
+}
+
+impl LevelValue for Keysyms {
+    fn copied(&self) -> Result<Keysyms, AllocError> {
+        let kept = match &self.kept {
+            KeptKeysyms::One(keysym) => KeptKeysyms::One(*keysym),
+            KeptKeysyms::Several(keysyms) => {
+                KeptKeysyms::Several(Box::new(*Box::allocator(keysyms), keysyms.copied()?)?)
+            }
+        };
+        Ok(Keysyms { kept })
+    }
+}
+
+impl Keysyms {
+    fn one(keysym: u32) -> Keysyms
+        requires { IsKeysym keysym }
+        ensures { result ≡ keysym ∷ [] }
+    {
+        Keysyms {
+            kept: KeptKeysyms::One(keysym),
+        }
+    }
+
+    /// The keysyms of braces, where there is one.
+    fn of_braces(alloc: Global, keysyms: BracedKeysyms) -> Result<Option<Keysyms>, AllocError>
+        ensures { IfOk result (λ level. level ≡ given keysyms) }
+    {
+        match keysyms.as_slice() {
+            [] => Ok(None),
+            [keysym] => Ok(Some(Keysyms::one(*keysym))),
+            _ => Ok(Some(Keysyms {
+                kept: KeptKeysyms::Several(Box::new(alloc, keysyms)?),
+            })),
+        }
+    }
+
+    /// The keysyms in order, by their numbers.
+    pub fn as_slice(&self) -> &[u32]
+        ensures value { result.now ≡ self.now }
+        ensures few { length result.now ≤ 8 }
+        ensures each { All IsKeysym result.now }
+    {
+        match &self.kept {
+            KeptKeysyms::One(keysym) => slice::from_ref(keysym),
+            KeptKeysyms::Several(keysyms) => keysyms.as_slice(),
         }
     }
 }
@@ -166,7 +229,7 @@ fn add_part(
     names: &NameTable,
     site: StatementSite,
     part: &BracePart,
-    keysyms: &mut Keysyms,
+    keysyms: &mut BracedKeysyms,
     notes: &mut Notes,
 ) -> Result<(), Fault>
     requires { length keysyms.old < 8 }
@@ -192,7 +255,7 @@ fn braces_keysyms(
     site: StatementSite,
     parts: &[BracePart],
     notes: &mut Notes,
-) -> Result<Keysyms, Fault>
+) -> Result<BracedKeysyms, Fault>
     ensures value { IfOk result (λ keysyms. keysyms ≡ flat_map (part_keysyms names.now) parts.now) }
     ensures faultless { OnOk result
         (count_faults site.file site.whole parts.now ++ flat_map (part_faults site.file) parts.now
@@ -201,7 +264,7 @@ fn braces_keysyms(
         Contains (Memory ∷ (count_faults site.file site.whole parts.now
         ++ flat_map (part_faults site.file) parts.now)) e) }
 {
-    let mut keysyms = Keysyms::none();
+    let mut keysyms = BracedKeysyms::none();
     if parts.len() > MOST_KEYSYMS {
         return Err(Fault::TooMany(site.at(site.whole)));
     }
@@ -213,6 +276,7 @@ fn braces_keysyms(
 
 /// What an element of a list gives its level.
 fn element_level(
+    alloc: Global,
     names: &NameTable,
     site: StatementSite,
     element: &Element,
@@ -226,16 +290,12 @@ fn element_level(
     match element {
         Element::Symbol(symbol) => match symbol_keysym(names, site.file, symbol, notes)? {
             None => Ok(None),
-            Some(keysym) => {
-                let mut keysyms = Keysyms::none();
-                keysyms.push(keysym);
-                Ok(Some(keysyms))
-            }
+            Some(keysym) => Ok(Some(Keysyms::one(keysym))),
         },
         Element::Call(call) => Err(Fault::BadValue(site.at(call.get().span))),
         Element::Braces(braces) => {
             let keysyms = braces_keysyms(names, site, braces.parts.as_slice(), notes)?;
-            Ok(keysyms.given())
+            Ok(Keysyms::of_braces(alloc, keysyms)?)
         }
     }
 }
@@ -256,7 +316,7 @@ pub(crate) fn read_levels(
     let elements = list.elements.as_slice();
     let mut levels = Vec::with_capacity(alloc, elements.len())?;
     'elements: for element in elements {
-        levels.push(element_level(names, site, element, notes)?)?;
+        levels.push(element_level(alloc, names, site, element, notes)?)?;
     }
     Ok(Levels::of(levels))
 }
