@@ -12,9 +12,9 @@ drop_next xs i x within h = drop_more xs i x within ∙ ap (λ y. y ∷ drop (i 
 pub none_goes : {X Y : Type 0} (f : X → List Y) (xs : List X) (i : ℕ) (x : X) → i < length xs → x ≡ get_or xs i x → f x ≡ [] → flat_map f xs ≡ flat_map f (drop i xs) → flat_map f xs ≡ flat_map f (drop (i + 1) xs)
 none_goes f xs i x within is none left = left ∙ ap (flat_map f) (drop_next xs i x within is) ∙ ap (λ ys. ys ++ flat_map f (drop (i + 1) xs)) none
 
--- nothing came of what is after, and this comes of the next
-pub none_blames : {X Y : Type 0} (f : X → List Y) (xs : List X) (i : ℕ) (x : X) (e : Y) → i < length xs → x ≡ get_or xs i x → flat_map f xs ≡ flat_map f (drop i xs) → Contains (f x) e → Contains (flat_map f xs) e
-none_blames f xs i x e within is left has = subst (λ ys. Contains ys e) (sym (left ∙ ap (flat_map f) (drop_next xs i x within is))) (Contains-append_left (f x) (flat_map f (drop (i + 1) xs)) e has)
+-- nothing came of what is after, and this comes of the next, or is what may come of each
+pub any_blames : {X Y : Type 0} (f : X → List Y) (xs : List X) (i : ℕ) (x : X) (m e : Y) → i < length xs → x ≡ get_or xs i x → flat_map f xs ≡ flat_map f (drop i xs) → Contains (m ∷ f x) e → Contains (m ∷ flat_map f xs) e
+any_blames f xs i x m e within is left has = subst (λ ys. Contains (m ∷ ys) e) (sym (left ∙ ap (flat_map f) (drop_next xs i x within is))) (Contains-append_left (m ∷ f x) (flat_map f (drop (i + 1) xs)) e has)
 
 -- an Err that is answered for another is one of the same
 pub passed : {X F : Type 0} (r : Result X F) (fs : List F) (e : F) → IsErrAnd r (λ y. y ≡ e) → Contains fs e → IfErr r (λ y. Contains fs y)

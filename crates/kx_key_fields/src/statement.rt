@@ -3,7 +3,7 @@ ghost use Rattle.std.specs.Prelude.{◌≡◌, ◌∷◌, [], Contains, IfErr, I
 ghost use Rattle.std.specs.Result.{result_ok};
 ghost use Rattle.kx_lex.specs.declared.fault.Fault.TheVariants.{Memory};
 ghost use Rattle.kx_key_fields.specs.KeyFields.{effective, key_field_faults, key_given, own_faults, own_given, setting_faults};
-ghost use Rattle.kx_key_fields.specs.Attributes.{attribute_in};
+ghost use Rattle.kx_key_fields.specs.Attributes.{attribute_in, with_given};
 ghost use Rattle.kx_key_fields.specs.AttributeFields.{given_any};
 
 use crate::attributes::KeyAttributes;
@@ -34,15 +34,27 @@ fn read_own(names: &ModNames, file: u32, field: &Field) -> Result<Option<Given>,
     read_named(names, file, word, field)
 }
 
-fn read_key_field(names: &ModNames, file: u32, field: &KeyField) -> Result<Option<Given>, Fault>
-    ensures value { given_any (result_ok result) ≡ key_given names.now.names field.now }
+/// Takes up what a field of a key gives; a list gives nothing.
+fn take_field(
+    alloc: Global,
+    names: &ModNames,
+    file: u32,
+    field: &KeyField,
+    settings: &mut KeyAttributes,
+) -> Result<(), Fault>
+    ensures taken { OnOk result (settings.new
+        ≡ with_given settings.old (key_given names.now.names field.now)) }
     ensures faultless { OnOk result (key_field_faults file names.now.names field.now ≡ []) }
     ensures fault { IfErr result (λ e.
-        Contains (key_field_faults file names.now.names field.now) e) }
+        Contains (Memory ∷ key_field_faults file names.now.names field.now) e) }
 {
     match field {
-        KeyField::Field(field) => read_own(names, file, field.get()),
-        KeyField::List(_) => Ok(None),
+        KeyField::Field(field) => {
+            let given = read_own(names, file, field.get())?;
+            settings.put(alloc, &given)?;
+            Ok(())
+        }
+        KeyField::List(_) => Ok(()),
     }
 }
 
@@ -70,8 +82,7 @@ pub fn read_settings(
 {
     let mut settings = defaults.settings(alloc)?;
     'fields: for field in fields {
-        let given = read_key_field(names, file, field)?;
-        settings.put(alloc, &given)?;
+        take_field(alloc, names, file, field, &mut settings)?;
     }
     Ok(settings)
 }
