@@ -3,6 +3,7 @@ mod Bits
 mod Distinct
 mod Going
 mod Keyed
+mod Numbered
 mod Offering
 mod Reached
 mod There

@@ -14,6 +14,8 @@ use std::marker::Model;
 #[derive(Drop)]
 pub struct Names {
     numbers: Ordered<OwnedName, ()>,
+    /// The number that was asked for last: names often come several times on end.
+    last: usize,
 }
 
 impl Model for Names {
@@ -32,6 +34,7 @@ impl Names {
     {
         Names {
             numbers: Ordered::new(alloc),
+            last: 0,
         }
     }
 
@@ -60,11 +63,37 @@ impl Names {
         }
     }
 
+    /// The number of a name that is the one that was asked for last.
+    fn last_number(&self, name: &[u8]) -> Option<usize>
+        ensures { IfSome result (λ number. position (bytes_eq name.now) self.now ≡ Some number) }
+    {
+        match self.numbers.as_slice().get(self.last) {
+            Some((last, _)) if last.as_slice() == name => Some(self.last),
+            _ => None,
+        }
+    }
+
     /// The number of a name, which is added after the others where it isn't among them.
     ///
     /// # Errors
     /// `Memory`.
+    #[inline(always)]
     pub fn number(&mut self, alloc: Global, name: &[u8]) -> Result<usize, Fault>
+        ensures added { OnOk result (self.new ≡ with_name bytes_eq self.old name.now) }
+        ensures number { IfOk result (λ number.
+            position (bytes_eq name.now) self.new ≡ Some number) }
+        ensures err { IfErr result (λ e. e ≡ Memory) }
+    {
+        if let Some(number) = self.last_number(name) {
+            return Ok(number);
+        }
+        let number = self.number_by_order(alloc, name)?;
+        self.last = number;
+        Ok(number)
+    }
+
+    /// The number of a name, looked up among all.
+    fn number_by_order(&mut self, alloc: Global, name: &[u8]) -> Result<usize, Fault>
         ensures added { OnOk result (self.new ≡ with_name bytes_eq self.old name.now) }
         ensures number { IfOk result (λ number.
             position (bytes_eq name.now) self.new ≡ Some number) }
