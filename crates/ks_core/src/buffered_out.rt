@@ -56,6 +56,7 @@ impl BufferedOut {
     }
 
     /// Takes the next piece of the text.
+    #[inline(always)]
     pub fn write<O: Out>(&mut self, out: &mut O, piece: &[u8])
         ensures { Writes O.written O.failures out.old self.old out.new self.new piece.now }
     {
@@ -113,6 +114,7 @@ impl BufferedOut {
     }
 
     /// Adds a piece to what waits.
+    #[inline(always)]
     fn gather(&mut self, piece: &[u8])
         requires { length self.old.waiting + length piece.now ≤ 4096 }
         ensures still { self.old.failed ≡ true → self.new ≡ self.old }

@@ -167,6 +167,7 @@ impl<'l> NamedPairs<'l> {
         })
     }
 
+    #[inline(always)]
     pub(crate) fn code_of(&self, name: &[u8]) -> Option<u16>
         ensures { result ≡ code_in self.now.by_name name.now }
     {

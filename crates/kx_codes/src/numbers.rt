@@ -53,6 +53,7 @@ impl<'l> Names<'l> {
     }
 
     /// The number of a name.
+    #[inline(always)]
     pub(crate) fn place(&self, name: &[u8]) -> Option<usize>
         ensures { result ≡ position (bytes_eq name.now) self.now }
     {

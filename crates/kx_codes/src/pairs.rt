@@ -72,6 +72,7 @@ impl Pairs {
     }
 
     /// Gives a name this code; answers its code before.
+    #[inline(always)]
     fn put_code(&mut self, name: usize, code: u16) -> Result<Option<u16>, Fault>
         ensures before { IfOk result (λ before. before ≡ code_in self.old.by_name (numbered name)) }
         ensures put { OnOk result ((n : List ℕ)
@@ -84,6 +85,7 @@ impl Pairs {
     }
 
     /// Gives a code this name; answers its name before.
+    #[inline(always)]
     fn put_name(&mut self, code: u16, name: usize) -> Result<Option<usize>, Fault>
         ensures before { IfOk result (λ before.
             option_map numbered before ≡ name_in self.old.by_code code) }
@@ -154,6 +156,7 @@ impl Pairs {
 
     /// Takes a pair. Under override and replace it removes every pair that shares its name or its code; under augment
     /// it is dropped where there is such a pair.
+    #[inline(always)]
     pub(crate) fn take(&mut self, mode: Mode, name: usize, code: u16) -> Result<(), Fault>
         ensures took { OnOk result ((ps : List PairValue) → Stands self.old ps
             → Stands self.new (taken mode ps (record { name = numbered name; code = code }))) }

@@ -63,6 +63,7 @@ impl<'l> Codes<'l> {
 
     /// The keycode of a name, exactly as it is written: that of its pair, else that of the pair of the name that it
     /// stands for.
+    #[inline(always)]
     pub fn code_of(&self, name: &[u8]) -> Option<u16>
         ensures { result ≡ code_of self.now name.now }
     {

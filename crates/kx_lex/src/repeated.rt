@@ -86,6 +86,7 @@ impl<R: Repeated> Repeated for AfterComma<R> {
         front_is_mark(b',', tokens)
     }
 
+    #[inline(always)]
     fn read_next<'a>(alloc: Global, text: &[u8], tokens: &'a [Token]) -> Parsed<'a, R::Value> {
         let (_, rest) = read_mark(text, b',', tokens)?;
         R::read_next(alloc, text, rest)

@@ -32,6 +32,7 @@ fn range(text: &[u8], start: usize, stop: usize) -> &[u8]
     }
 }
 
+#[inline(always)]
 fn slice_of<'t>(text: &'t [u8], token: &Token) -> &'t [u8]
     ensures { result.now ≡ slice_of text.now token.now }
 {
@@ -168,6 +169,7 @@ fn word_of(alloc: Global, text: &[u8], token: &Token) -> Result<Name, AllocError
     })
 }
 
+#[inline(always)]
 fn key_name_of(alloc: Global, text: &[u8], token: &Token) -> Result<KeyName, Fault>
     ensures value { IfOk result (λ name. enclosed text.now token.now ≡ Ok name) }
     ensures fault { IfErr result (λ e. (e ≡ Memory) ⊎ (enclosed text.now token.now ≡ Err e)) }
@@ -201,6 +203,7 @@ pub fn read_word<'a>(alloc: Global, text: &[u8], tokens: &'a [Token]) -> Parsed<
 ///
 /// # Errors
 /// [`Fault::Syntax`] where another token or none stands, and [`Fault::Memory`] where a growth is refused.
+#[inline(always)]
 #[tactic(auto, unfolding(crate::specs::Tokens::key_name))]
 pub fn read_key_name<'a>(alloc: Global, text: &[u8], tokens: &'a [Token]) -> Parsed<'a, KeyName>
     ensures { Gives result ((key_name text.now).read tokens.now) }
@@ -252,6 +255,7 @@ fn measured(value: u64, span: Span) -> Result<Number, Fault>
 }
 
 /// The value of a number's bytes, or 2^32 where it is greater.
+#[inline(always)]
 #[tactic(auto, unfolding(crate::specs::Kinds::number_value))]
 fn number_value(digits: &[u8]) -> u64
     ensures exact { result < 2 ^ 32 → result ≡ number_value digits.now }
@@ -269,6 +273,7 @@ fn number_value(digits: &[u8]) -> u64
 /// # Errors
 /// [`Fault::Syntax`] where another token or none stands, and [`Fault::NumberTooBig`] above
 /// 4,294,967,295.
+#[inline(always)]
 #[tactic(auto, unfolding(crate::specs::Tokens::number))]
 pub fn read_number<'a>(text: &[u8], tokens: &'a [Token]) -> Parsed<'a, Number>
     ensures { Gives result ((number text.now).read tokens.now) }

@@ -17,6 +17,7 @@ use kx_parse::{Item, Mode};
 use std::alloc::Global;
 
 /// Takes up a record under a mode, beside those that are there.
+#[inline(always)]
 fn add_one<C, R: Fields<C>>(
     alloc: Global,
     records: &mut Ordered<R::Key, R>,

@@ -122,6 +122,7 @@ impl<K: TableKey + Drop, V> Ordered<K, V> {
     }
 
     /// The place of a key, counted from 0.
+    #[inline(always)]
     pub fn place(&self, key: &K) -> Option<usize>
         ensures value { result ≡ position (K.eq key.now) (keys self.now) }
         ensures unique { IsUnique K.eq self.now }
@@ -242,6 +243,7 @@ impl<K: TableKey + Drop, V> Ordered<K, V> {
     }
 
     /// Puts a value whose key is found by its order.
+    #[inline(always)]
     fn put_by_order(&mut self, key: K, value: V) -> Result<(), AllocError>
     where
         V: Drop,

@@ -17,6 +17,7 @@ use kx_lex::tokens::{
 use kx_lex::{Boxed, Fault, Row, Token};
 use std::alloc::Global;
 
+#[inline(always)]
 #[tactic(auto, unfolding(crate::specs::Statements::setting))]
 fn read_setting<'a>(alloc: Global, text: &[u8], tokens: &'a [Token]) -> Parsed<'a, Setting>
     ensures { Gives result ((setting text.now).read tokens.now) }
@@ -29,6 +30,7 @@ fn read_setting<'a>(alloc: Global, text: &[u8], tokens: &'a [Token]) -> Parsed<'
     Ok((Setting::To(value), rest))
 }
 
+#[inline(always)]
 fn read_bare_field<'a>(
     alloc: Global,
     text: &[u8],
@@ -63,6 +65,7 @@ pub fn read_field<'a>(alloc: Global, text: &[u8], tokens: &'a [Token]) -> Parsed
     ))
 }
 
+#[inline(always)]
 #[tactic(auto, unfolding(crate::specs::Statements::block_field))]
 fn read_block_field<'a>(alloc: Global, text: &[u8], tokens: &'a [Token]) -> Parsed<'a, Field>
     ensures { Gives result ((block_field text.now).read tokens.now) }
@@ -85,6 +88,7 @@ impl Repeated for BlockFields {
         is_before_mark(b'}', tokens)
     }
 
+    #[inline(always)]
     fn read_next<'a>(alloc: Global, text: &[u8], tokens: &'a [Token]) -> Parsed<'a, Field> {
         read_block_field(alloc, text, tokens)
     }
@@ -101,6 +105,7 @@ pub fn read_block<'a>(alloc: Global, text: &[u8], tokens: &'a [Token]) -> Parsed
     Ok((fields, rest))
 }
 
+#[inline(always)]
 #[tactic(auto, unfolding(crate::specs::Statements::key_field))]
 fn read_key_field<'a>(alloc: Global, text: &[u8], tokens: &'a [Token]) -> Parsed<'a, KeyField>
     ensures { Gives result ((key_field text.now).read tokens.now) }
@@ -127,6 +132,7 @@ impl Repeated for KeyFields {
         true
     }
 
+    #[inline(always)]
     fn read_next<'a>(alloc: Global, text: &[u8], tokens: &'a [Token]) -> Parsed<'a, KeyField> {
         read_key_field(alloc, text, tokens)
     }

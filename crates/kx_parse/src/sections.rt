@@ -118,6 +118,7 @@ fn read_include<'a>(alloc: Global, text: &[u8], tokens: &'a [Token]) -> Parsed<'
 }
 
 #[tactic(auto, unfolding(crate::specs::Sections::moded))]
+#[inline(always)]
 fn read_moded<'a>(
     alloc: Global,
     text: &[u8],

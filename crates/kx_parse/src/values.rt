@@ -17,6 +17,7 @@ use kx_lex::{Boxed, Fault, Name, Token};
 use std::alloc::Global;
 
 /// Takes a keysym as it is written.
+#[inline(always)]
 #[tactic(auto, unfolding(crate::specs::Values::symbol))]
 pub fn read_symbol<'a>(alloc: Global, text: &[u8], tokens: &'a [Token]) -> Parsed<'a, Symbol>
     ensures { Gives result ((symbol text.now).read tokens.now) }
@@ -72,6 +73,7 @@ fn read_signed<'a>(text: &[u8], tokens: &'a [Token]) -> Parsed<'a, Signed>
     Ok((Signed { sign, number, span }, rest))
 }
 
+#[inline(always)]
 #[tactic(auto, unfolding(crate::specs::Values::term))]
 fn read_term<'a>(alloc: Global, text: &[u8], tokens: &'a [Token]) -> Parsed<'a, Term>
     ensures { Gives result ((term text.now).read tokens.now) }
@@ -118,6 +120,7 @@ impl Repeated for Operations {
         front_is_sign(tokens)
     }
 
+    #[inline(always)]
     fn read_next<'a>(alloc: Global, text: &[u8], tokens: &'a [Token]) -> Parsed<'a, Operation> {
         read_operation(alloc, text, tokens)
     }
@@ -145,6 +148,7 @@ pub fn read_expression<'a>(
     ))
 }
 
+#[inline(always)]
 #[tactic(auto, unfolding(crate::specs::Values::index))]
 fn read_index<'a>(alloc: Global, text: &[u8], tokens: &'a [Token]) -> Parsed<'a, Index>
     ensures { Gives result ((index text.now).read tokens.now) }
@@ -156,6 +160,7 @@ fn read_index<'a>(alloc: Global, text: &[u8], tokens: &'a [Token]) -> Parsed<'a,
     Ok((Index { value, span }, rest))
 }
 
+#[inline(always)]
 fn read_optional_index<'a>(
     alloc: Global,
     text: &[u8],
@@ -187,6 +192,7 @@ fn read_optional_member<'a>(
 }
 
 /// Takes what a field sets, without its value.
+#[inline(always)]
 #[tactic(auto, unfolding(crate::specs::Values::place))]
 pub fn read_place<'a>(alloc: Global, text: &[u8], tokens: &'a [Token]) -> Parsed<'a, FieldPlace>
     ensures { Gives result ((place text.now).read tokens.now) }
@@ -244,6 +250,7 @@ fn read_bare_argument<'a>(alloc: Global, text: &[u8], tokens: &'a [Token]) -> Pa
     Ok((Argument::Plain(value), rest))
 }
 
+#[inline(always)]
 #[tactic(auto, unfolding(crate::specs::Values::argument))]
 fn read_argument<'a>(alloc: Global, text: &[u8], tokens: &'a [Token]) -> Parsed<'a, PlacedArgument>
     ensures { Gives result ((argument text.now).read tokens.now) }
@@ -266,6 +273,7 @@ impl Repeated for Arguments {
         true
     }
 
+    #[inline(always)]
     fn read_next<'a>(
         alloc: Global,
         text: &[u8],
@@ -343,6 +351,7 @@ fn read_braces<'a>(alloc: Global, text: &[u8], tokens: &'a [Token]) -> Parsed<'a
     Ok((Braces { parts, span }, rest))
 }
 
+#[inline(always)]
 #[tactic(auto, unfolding(crate::specs::Values::element))]
 fn read_element<'a>(alloc: Global, text: &[u8], tokens: &'a [Token]) -> Parsed<'a, Element>
     ensures { Gives result ((element text.now).read tokens.now) }
@@ -372,6 +381,7 @@ impl Repeated for Elements {
         true
     }
 
+    #[inline(always)]
     fn read_next<'a>(alloc: Global, text: &[u8], tokens: &'a [Token]) -> Parsed<'a, Element> {
         read_element(alloc, text, tokens)
     }

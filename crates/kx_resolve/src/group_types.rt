@@ -17,6 +17,7 @@ use kx_types::Types;
 const ONE_LEVEL: &str = "ONE_LEVEL";
 
 /// The first keysym of a level, or none.
+#[inline(always)]
 fn first_keysym(key: &KeyRecord, group: usize, level: usize) -> Keysym
     ensures { result.0 ≡ first_keysym (given key.now) group level }
 {
@@ -26,6 +27,7 @@ fn first_keysym(key: &KeyRecord, group: usize, level: usize) -> Keysym
     }
 }
 
+#[inline(always)]
 fn has_letters(key: &KeyRecord, group: usize, level: usize) -> bool
     requires { level ≤ 2 }
     ensures { result ≡ has_letters (first_keysym (given key.now) group) level }
@@ -39,6 +41,7 @@ fn has_keypad(key: &KeyRecord, group: usize) -> bool
     first_keysym(key, group, 0).is_keypad() || first_keysym(key, group, 1).is_keypad()
 }
 
+#[inline(always)]
 fn two_levels(key: &KeyRecord, group: usize) -> &'static [u8]
     ensures { result.now ≡ two_levels (first_keysym (given key.now) group) }
 {
@@ -51,6 +54,7 @@ fn two_levels(key: &KeyRecord, group: usize) -> &'static [u8]
     }
 }
 
+#[inline(always)]
 fn four_levels(key: &KeyRecord, group: usize) -> &'static [u8]
     ensures { result.now ≡ four_levels (first_keysym (given key.now) group) }
 {
@@ -68,6 +72,7 @@ fn four_levels(key: &KeyRecord, group: usize) -> &'static [u8]
 }
 
 /// The type that a group wants by how many levels it has, and by their first keysyms.
+#[inline(always)]
 fn automatic(key: &KeyRecord, group: usize) -> Option<&'static [u8]>
     ensures { option_map (λ n. n.now) result
         ≡ automatic (first_keysym (given key.now) group) ((given key.now).width group) }
@@ -81,6 +86,7 @@ fn automatic(key: &KeyRecord, group: usize) -> Option<&'static [u8]>
 }
 
 /// The type that a group wants: the one that is written for it, else the key's, else the automatic one.
+#[inline(always)]
 fn wanted_type(key: &KeyRecord, group: usize) -> Option<&[u8]>
     ensures { option_map (λ n. n.now) result ≡ wanted_type (given key.now) group }
 {
@@ -193,6 +199,7 @@ fn declared_type<'a>(types: &Types, name: &'a [u8]) -> Option<GroupType<'a>>
 }
 
 /// The type that stands for one that is wanted.
+#[inline(always)]
 fn type_for<'a>(types: &Types, wanted: Option<&'a [u8]>) -> GroupType<'a>
     ensures name { result.name.now
         ≡ type_name (type_named types.now) (option_map (λ n. n.now) wanted.entry) }
