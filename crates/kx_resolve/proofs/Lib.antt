@@ -22,7 +22,7 @@ mod Growing
 mod IndicatorMaps
 mod Names
 mod Order
-mod PlacedTypes
+mod TypesInUse
 mod Small
 mod Steps
 mod Typed

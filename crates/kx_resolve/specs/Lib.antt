@@ -14,5 +14,5 @@ pub mod MappedKeys
 pub mod Keys
 pub mod Shown
 pub mod Bounds
-pub mod PlacedTypes
+pub mod TypesInUse
 pub mod Lit

@@ -12,7 +12,7 @@ ghost use Rattle.kx_virtual_mods.specs.Sets.{real_of};
 ghost use Rattle.kx_virtual_mods.specs.Standing.{stands_for};
 ghost use Rattle.kx_mods.specs.Mods.{mask};
 ghost use Rattle.kx_resolve.specs.Bounds.{BoundsBelow, CellsAreValid, KeepsBounds, last_cells};
-ghost use Rattle.kx_resolve.specs.PlacedTypes.{PlacedAreValid, placed_group, placed_groups, placed_type};
+ghost use Rattle.kx_resolve.specs.TypesInUse.{TypedAreValid, typed_group, typed_groups, type_in_use};
 ghost use Rattle.kx_resolve.specs.LevelActions.{level_actions_of};
 ghost use Rattle.kx_resolve.specs.Keys.{cell_of, cells_of, key_if_named, keyed_of, keys_below, type_names_below, type_names_if};
 ghost use Rattle.kx_symbols.specs.Keys.{key_at};
@@ -25,8 +25,8 @@ use crate::given::{keysyms_at, range};
 use crate::group_types::{content_group, group_count, has_action};
 use crate::key_modmaps::KeyModmaps;
 use crate::level_actions::level_action;
-use crate::placed_types::{PlacedType, UsedTypes};
 use crate::read::Read;
+use crate::types_in_use::{TypeInUse, UsedTypes};
 use ks_core::{Note, Notes};
 use kx_builder::{BuildFault, Builder};
 use kx_compat::Interpretations;
@@ -148,13 +148,13 @@ fn push_bare_group(builder: &mut Builder, key_type: u16) -> Result<(), Fault>
 }
 
 /// Notes a type that stands in place of another, and keysyms or an action after its levels.
-fn note_group(key: &KeyRecord, content: usize, placed: &PlacedType, notes: &mut Notes) {
-    if placed.falls_back() {
+fn note_group(key: &KeyRecord, content: usize, group_type: &TypeInUse, notes: &mut Notes) {
+    if group_type.falls_back() {
         notes.count(Note::OtherType);
     }
     let lost = |level| key.keysyms(content, level).is_some()
         || key.action(content, level).is_some();
-    if (placed.levels()..key.width(content)).any(lost) {
+    if (group_type.levels()..key.width(content)).any(lost) {
         notes.count(Note::LostLevels);
     }
 }
@@ -164,7 +164,7 @@ fn push_group(
     builder: &mut Builder,
     key: KeyMeaning,
     group: usize,
-    placed: &PlacedType,
+    group_type: &TypeInUse,
     notes: &mut Notes,
 ) -> Result<(), Fault>
     requires small { IsWithinLimits builder.old }
@@ -172,20 +172,20 @@ fn push_group(
     requires few { length (last_groups builder.old.keys) < MOST_GROUPS }
     requires own { key.own ≡ has_action (given key.key.now) }
     ensures pushed { OnOk result (builder.new
-        ≡ with_group builder.old (placed_group
+        ≡ with_group builder.old (typed_group
         (level_actions_of (real_of (stands_for key.entry.stands.now)) key.entry.interpretations.now
-        key.entry.modmap (given key.entry.key.now)) (given key.entry.key.now) group placed.now)) }
+        key.entry.modmap (given key.entry.key.now)) (given key.entry.key.now) group group_type.now)) }
     ensures valid { OnOk result (CellsAreValid
         (level_actions_of (real_of (stands_for key.entry.stands.now)) key.entry.interpretations.now
         key.entry.modmap (given key.entry.key.now)) (given key.entry.key.now)
-        (content_group (given key.entry.key.now) group) placed.now.levels) }
+        (content_group (given key.entry.key.now) group) group_type.now.levels) }
     ensures small { OnOk result (IsWithinLimits builder.new) }
     ensures err { IfErr result (λ e. e ≡ Memory) }
 {
     let content = content_group(key.key, group);
-    note_group(key.key, content, placed, notes);
-    push_bare_group(builder, placed.place())?;
-    push_levels(builder, key, content, placed.levels())?;
+    note_group(key.key, content, group_type, notes);
+    push_bare_group(builder, group_type.place())?;
+    push_levels(builder, key, content, group_type.levels())?;
     Ok(())
 }
 
@@ -220,12 +220,12 @@ fn push_key(
     code: u16,
     name: &[u8],
     key: KeyMeaning,
-    placed: &[PlacedType],
+    group_types: &[TypeInUse],
     notes: &mut Notes,
 ) -> Result<(), Fault>
     requires small { IsWithinLimits builder.old }
     requires few { length builder.old.keys < CODES }
-    requires groups { length placed.now ≤ MOST_GROUPS }
+    requires groups { length group_types.now ≤ MOST_GROUPS }
     requires short { length name.now ≤ MOST_NAME_BYTES }
     requires own { key.own ≡ has_action (given key.key.now) }
     ensures pushed { OnOk result (builder.new
@@ -234,21 +234,21 @@ fn push_key(
           name = name.now;
           modmap = key.entry.modmap;
           range = (given key.entry.key.now).range;
-          groups = placed_groups (level_actions_of (real_of (stands_for key.entry.stands.now))
+          groups = typed_groups (level_actions_of (real_of (stands_for key.entry.stands.now))
               key.entry.interpretations.now key.entry.modmap (given key.entry.key.now))
-              (given key.entry.key.now) placed.now (length placed.now);
+              (given key.entry.key.now) group_types.now (length group_types.now);
         })) }
-    ensures valid { OnOk result (PlacedAreValid
+    ensures valid { OnOk result (TypedAreValid
         (level_actions_of (real_of (stands_for key.entry.stands.now)) key.entry.interpretations.now
-        key.entry.modmap (given key.entry.key.now)) (given key.entry.key.now) placed.now
-        (length placed.now)) }
+        key.entry.modmap (given key.entry.key.now)) (given key.entry.key.now) group_types.now
+        (length group_types.now)) }
     ensures range { RangeHolds (given key.entry.key.now).range }
     ensures small { OnOk result (IsWithinLimits builder.new) }
     ensures err { IfErr result (λ e. e ≡ Memory) }
 {
     push_bare_key(builder, code, name, key.modmap, range(key.key))?;
-    'groups: for group in 0..placed.len() {
-        push_group(builder, key, group, &placed[group], notes)?;
+    'groups: for group in 0..group_types.len() {
+        push_group(builder, key, group, &group_types[group], notes)?;
     }
     Ok(())
 }
@@ -262,13 +262,13 @@ fn key_mods(modmaps: &KeyModmaps, code: u16) -> Mods
 }
 
 /// The types of so many groups, and those after them.
-fn split(placed: &[PlacedType], count: usize) -> (&[PlacedType], &[PlacedType])
-    ensures own { result.0.now ≡ take count placed.now }
-    ensures rest { result.1.now ≡ drop count placed.now }
+fn split(group_types: &[TypeInUse], count: usize) -> (&[TypeInUse], &[TypeInUse])
+    ensures own { result.0.now ≡ take count group_types.now }
+    ensures rest { result.1.now ≡ drop count group_types.now }
 {
-    match placed.split_at_checked(count) {
+    match group_types.split_at_checked(count) {
         Some(split) => split,
-        None => (placed, &[]),
+        None => (group_types, &[]),
     }
 }
 
@@ -277,14 +277,14 @@ fn split(placed: &[PlacedType], count: usize) -> (&[PlacedType], &[PlacedType])
 fn push_code<'p>(
     builder: &mut Builder,
     read: Read,
-    placed: &'p [PlacedType],
+    group_types: &'p [TypeInUse],
     code: u16,
     notes: &mut Notes,
-) -> Result<&'p [PlacedType], Fault>
+) -> Result<&'p [TypeInUse], Fault>
     requires small { IsWithinLimits builder.old }
     requires few { length builder.old.keys < CODES }
     ensures pushed { OnOk result ((used ns : List (List ℕ))
-        → placed.now ≡ map (placed_type (type_named read.entry.types.now) used)
+        → group_types.now ≡ map (type_in_use (type_named read.entry.types.now) used)
         (type_names_if (type_named read.entry.types.now) (name_of read.entry.codes.now code)
         (given_in (key_at read.entry.keys.now code)) ++ ns)
         → builder.new ≡ record builder.old {
@@ -297,7 +297,7 @@ fn push_code<'p>(
               code (name_of read.entry.codes.now code) (modmap_at read.entry.modmaps.now code);
         }) }
     ensures bounds { OnOk result ((used ns : List (List ℕ))
-        → placed.now ≡ map (placed_type (type_named read.entry.types.now) used)
+        → group_types.now ≡ map (type_in_use (type_named read.entry.types.now) used)
         (type_names_if (type_named read.entry.types.now) (name_of read.entry.codes.now code)
         (given_in (key_at read.entry.keys.now code)) ++ ns) → (name : List ℕ)
         → name_of read.entry.codes.now code ≡ Some name
@@ -307,17 +307,17 @@ fn push_code<'p>(
         (given_in (key_at read.entry.keys.now code)))
         (given_in (key_at read.entry.keys.now code))) }
     ensures rest { IfOk result (λ rest. (used ns : List (List ℕ))
-        → placed.now ≡ map (placed_type (type_named read.entry.types.now) used)
+        → group_types.now ≡ map (type_in_use (type_named read.entry.types.now) used)
         (type_names_if (type_named read.entry.types.now) (name_of read.entry.codes.now code)
         (given_in (key_at read.entry.keys.now code)) ++ ns)
-        → rest.now ≡ map (placed_type (type_named read.entry.types.now) used) ns) }
+        → rest.now ≡ map (type_in_use (type_named read.entry.types.now) used) ns) }
     ensures small { OnOk result (IsWithinLimits builder.new) }
     ensures err { IfErr result (λ e. e ≡ Memory) }
 {
     let modmap = key_mods(read.modmaps, code);
     match (read.codes.name_of(code), read.keys.key(code)) {
         (Some(name), Some(key)) => {
-            let (own, rest) = split(placed, group_count(key));
+            let (own, rest) = split(group_types, group_count(key));
             let key = KeyMeaning {
                 key,
                 own: has_action(key),
@@ -330,9 +330,9 @@ fn push_code<'p>(
         }
         (Some(name), None) => {
             push_bare_key(builder, code, name, modmap, Range::Wrap)?;
-            Ok(placed)
+            Ok(group_types)
         }
-        (None, _) => Ok(placed),
+        (None, _) => Ok(group_types),
     }
 }
 
@@ -345,8 +345,8 @@ pub(crate) fn push_keys(
 ) -> Result<(), Fault>
     requires small { IsWithinLimits builder.old }
     requires keyless { builder.old.keys ≡ [] }
-    requires placed { used.now.placed.items
-        ≡ map (placed_type (type_named read.types.now) used.now.names)
+    requires group_types { used.now.group_types.items
+        ≡ map (type_in_use (type_named read.types.now) used.now.names)
         (type_names_below (type_named read.types.now) (name_of read.codes.now) (λ c.
         given_in (key_at read.keys.now c)) CODES) }
     ensures pushed { OnOk result (builder.new
@@ -363,9 +363,9 @@ pub(crate) fn push_keys(
     ensures small { OnOk result (IsWithinLimits builder.new) }
     ensures err { IfErr result (λ e. e ≡ Memory) }
 {
-    let mut placed = used.placed.as_slice();
+    let mut group_types = used.group_types.as_slice();
     'codes: for code in 0..read.codes.end() {
-        placed = push_code(builder, read, placed, code, notes)?;
+        group_types = push_code(builder, read, group_types, code, notes)?;
     }
     Ok(())
 }

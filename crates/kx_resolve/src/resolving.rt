@@ -19,8 +19,8 @@ ghost use Rattle.kx_types.specs.Types.{type_named};
 
 use crate::keys::push_keys;
 use crate::lighting::with_indicator_maps;
-use crate::placed_types::types_used;
 use crate::read::Read;
+use crate::types_in_use::types_used;
 use crate::using::with_types;
 use ks_core::Notes;
 use kx_lex::Fault;

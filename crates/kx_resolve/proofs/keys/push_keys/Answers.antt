@@ -5,12 +5,12 @@ use Rattle.kx_resolve.specs.Modmaps.{modmap_at}
 use Rattle.kx_virtual_mods.specs.Sets.{real_of}
 use Rattle.kx_virtual_mods.specs.Standing.{stands_for}
 use Rattle.kx_resolve.proofs.Gathering.{bounds_whole, keys_whole}
-use Rattle.kx_resolve.proofs.PlacedTypes.{next_ahead}
+use Rattle.kx_resolve.proofs.TypesInUse.{next_ahead}
 use Rattle.kx_resolve.proofs.Steps.{below_next, below_none, used_none}
 use Rattle.kx_resolve.proofs.Whole.{below_few, bounds_next}
 use Rattle.kx_resolve.specs.Bounds.{BoundsBelow}
 use Rattle.kx_resolve.specs.Keys.{Keyed, key_if_named, keyed_of, keys_below, type_names_below}
-use Rattle.kx_resolve.specs.PlacedTypes.{placed_type}
+use Rattle.kx_resolve.specs.TypesInUse.{type_in_use}
 use Rattle.kx_types.specs.Types.{type_named}
 use Rattle.kx_resolve.proofs.keys.push_keys.Goals as goal
 
@@ -22,7 +22,7 @@ codes-init c =
       λ code less of_key is. absurd (omega (arith, less)),
       (
         type_names_below (type_named c.args.read.types.now) keyed.name keyed.key CODES,
-        c.as_slice-placed.ensures.value ∙ c.requires.placed,
+        c.as_slice-group_types.ensures.value ∙ c.requires.group_types,
         ap (λ ns. ns ++ type_names_below (type_named c.args.read.types.now) keyed.name keyed.key CODES) (used_none (type_named c.args.read.types.now) keyed.name keyed.key),
       ),
     )
@@ -34,13 +34,13 @@ codes-preserved c =
     let used = c.args.used.now.names in
     let n = c.codes.code in
     let next = next_ahead declared keyed.name keyed.key n (omega (arith, c.codes-test.true, c.end-code-end.ensures.within)) c.codes.invariant.3.0 c.codes.invariant.3.2 in
-    let ahead = c.codes.invariant.3.1 ∙ ap (map (placed_type declared used)) next.1 in (
-      c.in_ok-placed.ensures.pushed used next.0 ahead
+    let ahead = c.codes.invariant.3.1 ∙ ap (map (type_in_use declared used)) next.1 in (
+      c.in_ok-group_types.ensures.pushed used next.0 ahead
           ∙ (λ i. record (c.codes.invariant.0 i) { keys = (c.codes.invariant.0 i).keys ++ key_if_named declared used (keyed.level_actions n) (keyed.key n) n (keyed.name n) (keyed.modmap n) })
           ∙ (λ i. record c.args.builder.now { keys = sym (below_next declared used keyed n) i }),
-      c.in_ok-placed.ensures.small,
-      bounds_next declared keyed n c.codes.invariant.2 (c.in_ok-placed.ensures.bounds used next.0 ahead),
-      (next.0, c.in_ok-placed.ensures.rest used next.0 ahead, next.2),
+      c.in_ok-group_types.ensures.small,
+      bounds_next declared keyed n c.codes.invariant.2 (c.in_ok-group_types.ensures.bounds used next.0 ahead),
+      (next.0, c.in_ok-group_types.ensures.rest used next.0 ahead, next.2),
     )
 
 pub push_code-requires-clause-small : goal.push_code-requires-clause-small

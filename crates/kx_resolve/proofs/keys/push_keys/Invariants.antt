@@ -2,7 +2,7 @@ use Rattle.std.proofs.Common.{◌≡◌, ◌++◌, List, ℕ, map}
 use Rattle.kx_basics.specs.declared.limits.TheConstants.{CODES}
 use Rattle.kx_codes.specs.Codes.{name_of}
 use Rattle.kx_resolve.specs.Given.{given_in}
-use Rattle.kx_resolve.specs.PlacedTypes.{placed_type}
+use Rattle.kx_resolve.specs.TypesInUse.{type_in_use}
 use Rattle.kx_symbols.specs.Keys.{key_at}
 use Rattle.kx_resolve.specs.Modmaps.{modmap_at}
 use Rattle.kx_virtual_mods.specs.Sets.{real_of}
@@ -18,4 +18,4 @@ invariant-codes l =
     (l.builder ≡ record l.fn.builder { keys = keys_below (type_named l.read.types.now) l.used.names (keyed_of (real_of (stands_for l.read.stands.now)) l.read.codes.now l.read.keys.now (modmap_at l.read.modmaps.now) l.read.interpretations.now) l.code })
     × IsWithinLimits l.builder
     × BoundsBelow (type_named l.read.types.now) (keyed_of (real_of (stands_for l.read.stands.now)) l.read.codes.now l.read.keys.now (modmap_at l.read.modmaps.now) l.read.interpretations.now) l.code
-    × ((ns : List (List ℕ)) × (l.placed ≡ map (placed_type (type_named l.read.types.now) l.used.names) ns) × (type_names_below (type_named l.read.types.now) (name_of l.read.codes.now) (λ c. given_in (key_at l.read.keys.now c)) l.code ++ ns ≡ type_names_below (type_named l.read.types.now) (name_of l.read.codes.now) (λ c. given_in (key_at l.read.keys.now c)) CODES))
+    × ((ns : List (List ℕ)) × (l.group_types ≡ map (type_in_use (type_named l.read.types.now) l.used.names) ns) × (type_names_below (type_named l.read.types.now) (name_of l.read.codes.now) (λ c. given_in (key_at l.read.keys.now c)) l.code ++ ns ≡ type_names_below (type_named l.read.types.now) (name_of l.read.codes.now) (λ c. given_in (key_at l.read.keys.now c)) CODES))

@@ -36,8 +36,8 @@ push_keys-requires-clause-small c = c.in_ok-builder.ensures.small
 pub push_keys-requires-clause-keyless : goal.push_keys-requires-clause-keyless
 push_keys-requires-clause-keyless c = ap (λ (r : Resolved). r.keys) c.in_ok-builder.ensures.types
 
-pub push_keys-requires-clause-placed : goal.push_keys-requires-clause-placed
-push_keys-requires-clause-placed c = c.in_ok-used.ensures.placed
+pub push_keys-requires-clause-group_types : goal.push_keys-requires-clause-group_types
+push_keys-requires-clause-group_types c = c.in_ok-used.ensures.group_types
 
 pub returns-clause-content : goal.returns-clause-content
 returns-clause-content c =

@@ -18,7 +18,7 @@ use Rattle.kx_resolve.specs.Given.{KeyGiven}
 use Rattle.kx_resolve.specs.GroupTypes.{content_group, group_count, group_type_name}
 use Rattle.kx_resolve.specs.Keys.{groups_of, type_names, type_names_below, type_names_if, type_place}
 use Rattle.kx_resolve.specs.LevelActions.{LevelActions}
-use Rattle.kx_resolve.specs.PlacedTypes.{AreUsed, PlacedAreValid, PlacedType, none_placed, placed_group, placed_groups, placed_type, type_at}
+use Rattle.kx_resolve.specs.TypesInUse.{AreUsed, TypedAreValid, TypeInUse, no_type, typed_group, typed_groups, type_in_use, type_at}
 use Rattle.kx_types.specs.KeyTypes.{Definition}
 use Rattle.kx_virtual_mods.specs.Counted.{with_names}
 
@@ -51,18 +51,18 @@ same_place used x name there = let more = extends_one used x in ap (λ ks. place
 -- ---- Groups by their types
 
 module _ (level_actions : LevelActions) (key : KeyGiven) where
-  pub placed_none : (placed : List PlacedType) → placed_groups level_actions key placed 0 ≡ []
-  unfolding placed_groups
-  placed_none placed = refl
+  pub typed_none : (group_types : List TypeInUse) → typed_groups level_actions key group_types 0 ≡ []
+  unfolding typed_groups
+  typed_none group_types = refl
 
-  pub placed_next : (placed : List PlacedType) (n : ℕ) → placed_groups level_actions key placed (n + 1) ≡ placed_groups level_actions key placed n ++ placed_group level_actions key n (get_or placed n none_placed) ∷ []
-  unfolding placed_groups
-  placed_next placed n = let one : suc n ≡ n + 1 = omega arith in subst (λ m. placed_groups level_actions key placed m ≡ placed_groups level_actions key placed n ++ placed_group level_actions key n (get_or placed n none_placed) ∷ []) one refl
+  pub typed_next : (group_types : List TypeInUse) (n : ℕ) → typed_groups level_actions key group_types (n + 1) ≡ typed_groups level_actions key group_types n ++ typed_group level_actions key n (get_or group_types n no_type) ∷ []
+  unfolding typed_groups
+  typed_next group_types n = let one : suc n ≡ n + 1 = omega arith in subst (λ m. typed_groups level_actions key group_types m ≡ typed_groups level_actions key group_types n ++ typed_group level_actions key n (get_or group_types n no_type) ∷ []) one refl
 
 -- ---- What is made out
 
 module _ (declared : List ℕ → Option Definition) where
-  abbrev type_in : List (List ℕ) → List ℕ → PlacedType
+  abbrev type_in : List (List ℕ) → List ℕ → TypeInUse
   type_in used name = type_at declared (type_place used name % 2 ^ 16) name
 
   types_stay : (used : List (List ℕ)) (x : List ℕ) (names : List (List ℕ)) → All (IsIn used) names → map (type_in used) names ≡ map (type_in (with_name bytes_eq used x)) names
@@ -71,12 +71,12 @@ module _ (declared : List ℕ → Option Definition) where
       type_at declared (sym (same_place used x name (All-head (IsIn used) name names all)) i % 2 ^ 16) name
       ∷ types_stay used x names (All-tail (IsIn used) name names all) i
 
-  pub one_used : (names used more : List (List ℕ)) (placed new : List PlacedType) (x : List ℕ) (place : ℕ) → more ≡ with_name bytes_eq used x → position (bytes_eq x) more ≡ Some place → new ≡ placed ++ type_at declared (place % 2 ^ 16) x ∷ [] → AreUsed declared names used placed → AreUsed declared (names ++ x ∷ []) more new
-  one_used names used more placed new x place is at pushed before = record {
+  pub one_used : (names used more : List (List ℕ)) (group_types new : List TypeInUse) (x : List ℕ) (place : ℕ) → more ≡ with_name bytes_eq used x → position (bytes_eq x) more ≡ Some place → new ≡ group_types ++ type_at declared (place % 2 ^ 16) x ∷ [] → AreUsed declared names used group_types → AreUsed declared (names ++ x ∷ []) more new
+  one_used names used more group_types new x place is at pushed before = record {
     used_are = is ∙ ap (λ ks. with_name bytes_eq ks x) before.used_are ∙ sym (with_next [] names x);
-    placed_are =
+    types_are =
         pushed
-        ∙ (λ i. (before.placed_are ∙ types_stay used x names before.there ∙ ap (λ ks. map (type_in ks) names) (sym is)) i ++ type_at declared (found i % 2 ^ 16) x ∷ [])
+        ∙ (λ i. (before.types_are ∙ types_stay used x names before.there ∙ ap (λ ks. map (type_in ks) names) (sym is)) i ++ type_at declared (found i % 2 ^ 16) x ∷ [])
         ∙ sym (map-append (type_in more) names (x ∷ []));
     there = subst (λ ks. All (IsIn ks) (names ++ x ∷ [])) (sym is) (All-push (IsIn (with_name bytes_eq used x)) names x (All-weaker (IsIn used) (IsIn (with_name bytes_eq used x)) (there_with used x) names before.there) (there_now used x));
   }
@@ -85,7 +85,7 @@ module _ (declared : List ℕ → Option Definition) where
       found = sym (ap (λ o. unwrap_or o 0) at)
 
   pub none_used : AreUsed declared [] [] []
-  none_used = record { used_are = refl; placed_are = refl; there = All-nil (IsIn []) }
+  none_used = record { used_are = refl; types_are = refl; there = All-nil (IsIn []) }
 
   -- ---- Places are small
 
@@ -96,7 +96,7 @@ module _ (declared : List ℕ → Option Definition) where
       by None is = omega arith
       by (Some i) is = let at = position-Some (bytes_eq name) used i [] is in omega (arith, at.0)
 
-  pub places_whole : (used names : List (List ℕ)) → length used < 2 ^ 16 → map (type_in used) names ≡ map (placed_type declared used) names
+  pub places_whole : (used names : List (List ℕ)) → length used < 2 ^ 16 → map (type_in used) names ≡ map (type_in_use declared used) names
   places_whole used names few = λ i. map (λ name. type_at declared (small name i) name) names
     where
       small : (name : List ℕ) → type_place used name % 2 ^ 16 ≡ type_place used name
@@ -114,69 +114,69 @@ module _ (declared : List ℕ → Option Definition) where
         ap (λ m. length (type_names declared key m)) one ∙ omega (arith, more, before)
 
     module _ (used : List (List ℕ)) where
-      abbrev types_of : ℕ → List PlacedType
-      types_of n = map (placed_type declared used) (type_names declared key n)
+      abbrev types_of : ℕ → List TypeInUse
+      types_of n = map (type_in_use declared used) (type_names declared key n)
 
       types_count : (n : ℕ) → length (types_of n) ≡ n
-      types_count n = length-map (type_names declared key n) (placed_type declared used) ∙ names_count n
+      types_count n = length-map (type_names declared key n) (type_in_use declared used) ∙ names_count n
 
-      types_next : (n : ℕ) → types_of (suc n) ≡ types_of n ++ placed_type declared used (group_type_name declared key n) ∷ []
+      types_next : (n : ℕ) → types_of (suc n) ≡ types_of n ++ type_in_use declared used (group_type_name declared key n) ∷ []
       types_next n =
           let one : suc n ≡ n + 1 = omega arith in
-          ap types_of one ∙ ap (map (placed_type declared used)) (names_next key declared n) ∙ map-append (placed_type declared used) (type_names declared key n) (group_type_name declared key n ∷ [])
+          ap types_of one ∙ ap (map (type_in_use declared used)) (names_next key declared n) ∙ map-append (type_in_use declared used) (type_names declared key n) (group_type_name declared key n ∷ [])
 
-      pub type_of_group : (n group : ℕ) → group < n → get_or (types_of n) group none_placed ≡ placed_type declared used (group_type_name declared key group)
+      pub type_of_group : (n group : ℕ) → group < n → get_or (types_of n) group no_type ≡ type_in_use declared used (group_type_name declared key group)
       type_of_group zero group less = absurd (omega (arith, less))
       type_of_group (suc n) group less =
-          ap (λ ts. get_or ts group none_placed) (types_next n)
+          ap (λ ts. get_or ts group no_type) (types_next n)
           ∙ elim (eq-or-lt_of_le upto) [
-            | inl same ↦ ap (λ g. get_or (types_of n ++ placed_type declared used (group_type_name declared key n) ∷ []) g none_placed) (same ∙ sym (types_count n)) ∙ get_or-append_seam (types_of n) (placed_type declared used (group_type_name declared key n)) [] none_placed ∙ ap (λ g. placed_type declared used (group_type_name declared key g)) (sym same)
-            | inr earlier ↦ get_or_append_left (types_of n) (placed_type declared used (group_type_name declared key n) ∷ []) none_placed group (omega (arith, earlier, types_count n)) ∙ type_of_group n group earlier
+            | inl same ↦ ap (λ g. get_or (types_of n ++ type_in_use declared used (group_type_name declared key n) ∷ []) g no_type) (same ∙ sym (types_count n)) ∙ get_or-append_seam (types_of n) (type_in_use declared used (group_type_name declared key n)) [] no_type ∙ ap (λ g. type_in_use declared used (group_type_name declared key g)) (sym same)
+            | inr earlier ↦ get_or_append_left (types_of n) (type_in_use declared used (group_type_name declared key n) ∷ []) no_type group (omega (arith, earlier, types_count n)) ∙ type_of_group n group earlier
           ]
         where
           upto : group ≤ n
           upto = omega (arith, less)
 
       module _ (level_actions : LevelActions) where
-        pub groups_placed : (placed : List PlacedType) (n : ℕ) → ((group : ℕ) → group < n → get_or placed group none_placed ≡ placed_type declared used (group_type_name declared key group)) → placed_groups level_actions key placed n ≡ groups_of declared used level_actions key n
-        groups_placed placed zero each = placed_none level_actions key placed ∙ sym (groups_none key declared used level_actions)
-        groups_placed placed (suc n) each =
+        pub groups_typed : (group_types : List TypeInUse) (n : ℕ) → ((group : ℕ) → group < n → get_or group_types group no_type ≡ type_in_use declared used (group_type_name declared key group)) → typed_groups level_actions key group_types n ≡ groups_of declared used level_actions key n
+        groups_typed group_types zero each = typed_none level_actions key group_types ∙ sym (groups_none key declared used level_actions)
+        groups_typed group_types (suc n) each =
             let one : suc n ≡ n + 1 = omega arith in
-            ap (placed_groups level_actions key placed) one ∙ placed_next level_actions key placed n
-            ∙ (λ i. groups_placed placed n (λ group less. each group (omega (arith, less))) i ++ placed_group level_actions key n (each n (omega arith) i) ∷ [])
+            ap (typed_groups level_actions key group_types) one ∙ typed_next level_actions key group_types n
+            ∙ (λ i. groups_typed group_types n (λ group less. each group (omega (arith, less))) i ++ typed_group level_actions key n (each n (omega arith) i) ∷ [])
             ∙ sym (groups_next key declared used level_actions n) ∙ ap (groups_of declared used level_actions key) (sym one)
 
-        pub valid_placed : (placed : List PlacedType) (n : ℕ) → ((group : ℕ) → group < n → get_or placed group none_placed ≡ placed_type declared used (group_type_name declared key group)) → PlacedAreValid level_actions key placed n → GroupsAreValid declared level_actions key n
-        valid_placed placed n each valid = λ group less. subst (λ (t : PlacedType). CellsAreValid level_actions key (content_group key group) t.levels) (each group less) (valid group less)
+        pub valid_typed : (group_types : List TypeInUse) (n : ℕ) → ((group : ℕ) → group < n → get_or group_types group no_type ≡ type_in_use declared used (group_type_name declared key group)) → TypedAreValid level_actions key group_types n → GroupsAreValid declared level_actions key n
+        valid_typed group_types n each valid = λ group less. subst (λ (t : TypeInUse). CellsAreValid level_actions key (content_group key group) t.levels) (each group less) (valid group less)
 
         -- the types of a key's groups, ahead of others
-        module _ (placed own : List PlacedType) (ns : List (List ℕ)) (count : ℕ) (is : count ≡ group_count key) (ahead : placed ≡ map (placed_type declared used) (type_names declared key (group_count key) ++ ns)) where
+        module _ (group_types own : List TypeInUse) (ns : List (List ℕ)) (count : ℕ) (is : count ≡ group_count key) (ahead : group_types ≡ map (type_in_use declared used) (type_names declared key (group_count key) ++ ns)) where
           abbrev n : ℕ
           n = group_count key
 
-          split : placed ≡ types_of n ++ map (placed_type declared used) ns
-          split = ahead ∙ map-append (placed_type declared used) (type_names declared key n) ns
+          split : group_types ≡ types_of n ++ map (type_in_use declared used) ns
+          split = ahead ∙ map-append (type_in_use declared used) (type_names declared key n) ns
 
-          own_types : own ≡ take count placed → own ≡ types_of n
+          own_types : own ≡ take count group_types → own ≡ types_of n
           own_types first =
               first ∙ (λ i. take (is i) (split i))
-              ∙ subst (λ m. take m (types_of n ++ map (placed_type declared used) ns) ≡ types_of n) (types_count n) (take-append_seam (types_of n) (map (placed_type declared used) ns))
+              ∙ subst (λ m. take m (types_of n ++ map (type_in_use declared used) ns) ≡ types_of n) (types_count n) (take-append_seam (types_of n) (map (type_in_use declared used) ns))
 
-          pub types_after : own ≡ drop count placed → own ≡ map (placed_type declared used) ns
+          pub types_after : own ≡ drop count group_types → own ≡ map (type_in_use declared used) ns
           types_after last =
               last ∙ (λ i. drop (is i) (split i))
-              ∙ subst (λ m. drop m (types_of n ++ map (placed_type declared used) ns) ≡ map (placed_type declared used) ns) (types_count n) (drop-append_seam (types_of n) (map (placed_type declared used) ns))
+              ∙ subst (λ m. drop m (types_of n ++ map (type_in_use declared used) ns) ≡ map (type_in_use declared used) ns) (types_count n) (drop-append_seam (types_of n) (map (type_in_use declared used) ns))
 
-          pub groups_ahead : own ≡ take count placed → placed_groups level_actions key own (length own) ≡ groups_of declared used level_actions key n
+          pub groups_ahead : own ≡ take count group_types → typed_groups level_actions key own (length own) ≡ groups_of declared used level_actions key n
           groups_ahead first =
-              (λ i. placed_groups level_actions key (own_types first i) (length (own_types first i)))
-              ∙ ap (placed_groups level_actions key (types_of n)) (types_count n)
-              ∙ groups_placed (types_of n) n (type_of_group n)
+              (λ i. typed_groups level_actions key (own_types first i) (length (own_types first i)))
+              ∙ ap (typed_groups level_actions key (types_of n)) (types_count n)
+              ∙ groups_typed (types_of n) n (type_of_group n)
 
-          pub valid_ahead : own ≡ take count placed → PlacedAreValid level_actions key own (length own) → GroupsAreValid declared level_actions key n
+          pub valid_ahead : own ≡ take count group_types → TypedAreValid level_actions key own (length own) → GroupsAreValid declared level_actions key n
           valid_ahead first valid =
-              valid_placed (types_of n) n (type_of_group n)
-              (subst (PlacedAreValid level_actions key (types_of n)) (types_count n) (subst (λ ts. PlacedAreValid level_actions key ts (length ts)) (own_types first) valid))
+              valid_typed (types_of n) n (type_of_group n)
+              (subst (TypedAreValid level_actions key (types_of n)) (types_count n) (subst (λ ts. TypedAreValid level_actions key ts (length ts)) (own_types first) valid))
 
 -- ---- The names of the types of codes
 

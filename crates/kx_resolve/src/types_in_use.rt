@@ -3,7 +3,7 @@ ghost use Rattle.std.specs.Prelude.{◌≡◌, ◌≤◌, ◌+◌, ◌%◌, ◌^
 ghost use Rattle.kx_basics.specs.declared.limits.TheConstants.{CODES, MOST_LEVELS};
 ghost use Rattle.kx_codes.specs.Codes.{name_of};
 ghost use Rattle.kx_lex.specs.declared.fault.Fault.TheVariants.{Memory};
-ghost use Rattle.kx_resolve.specs.PlacedTypes.{AreUsed, placed_type};
+ghost use Rattle.kx_resolve.specs.TypesInUse.{AreUsed, type_in_use};
 ghost use Rattle.kx_resolve.specs.Given.{given, given_in};
 ghost use Rattle.kx_resolve.specs.GroupTypes.{group_count, group_type_name};
 ghost use Rattle.kx_resolve.specs.Keys.{type_names, type_names_below, type_names_if, types_used};
@@ -22,31 +22,31 @@ use std::marker::Model;
 
 /// The type of a group, made out; seen as its place and its levels.
 #[derive(Drop)]
-pub(crate) struct PlacedType {
+pub(crate) struct TypeInUse {
     place: u16,
     levels: u8,
     falls_back: bool,
 }
 
-impl Model for PlacedType {
+impl Model for TypeInUse {
     ghost use Rattle.std.specs.Prelude.{◌≤◌};
     ghost use Rattle.kx_basics.specs.declared.limits.TheConstants.{MOST_LEVELS};
-    ghost use Rattle.kx_resolve.specs.PlacedTypes.{PlacedType};
+    ghost use Rattle.kx_resolve.specs.TypesInUse.{TypeInUse};
 
-    ghost Value = { PlacedType };
+    ghost Value = { TypeInUse };
 
     ghost view = { λ c. record { place = c.place; levels = c.levels } };
 
     ghost invariant = { λ c. c.levels ≤ MOST_LEVELS };
 }
 
-impl PlacedType {
+impl TypeInUse {
     /// A type at a place, which is a number of 16 bits.
-    fn of(place: usize, group_type: GroupType) -> PlacedType
+    fn of(place: usize, group_type: GroupType) -> TypeInUse
         requires { group_type.levels ≤ MOST_LEVELS }
         ensures { result ≡ record { place = place % 2 ^ 16; levels = group_type.entry.levels } }
     {
-        PlacedType {
+        TypeInUse {
             place: (place % 0x1_0000) as u16,
             levels: group_type.levels as u8,
             falls_back: group_type.falls_back,
@@ -78,7 +78,7 @@ impl PlacedType {
 #[derive(Drop)]
 pub(crate) struct UsedTypes {
     pub(crate) names: Names,
-    pub(crate) placed: Vec<PlacedType>,
+    pub(crate) group_types: Vec<TypeInUse>,
 }
 
 /// Takes up the type of a group of a key.
@@ -90,25 +90,25 @@ fn use_group(
     used: &mut UsedTypes,
 ) -> Result<(), Fault>
     ensures used { OnOk result ((names : List (List ℕ))
-        → AreUsed (type_named types.now) names used.old.names used.old.placed.items
+        → AreUsed (type_named types.now) names used.old.names used.old.group_types.items
         → AreUsed (type_named types.now)
         (names ++ group_type_name (type_named types.now) (given key.now) group ∷ []) used.new.names
-        used.new.placed.items) }
+        used.new.group_types.items) }
     ensures err { IfErr result (λ e. e ≡ Memory) }
 {
     let group_type = group_type(types, key, group);
     let place = used.names.number(alloc, group_type.name)?;
-    used.placed.push(PlacedType::of(place, group_type))?;
+    used.group_types.push(TypeInUse::of(place, group_type))?;
     Ok(())
 }
 
 /// Takes up the types of a key's groups.
 fn use_key(alloc: Global, types: &Types, key: &KeyRecord, used: &mut UsedTypes) -> Result<(), Fault>
     ensures used { OnOk result ((names : List (List ℕ))
-        → AreUsed (type_named types.now) names used.old.names used.old.placed.items
+        → AreUsed (type_named types.now) names used.old.names used.old.group_types.items
         → AreUsed (type_named types.now)
         (names ++ type_names (type_named types.now) (given key.now) (group_count (given key.now)))
-        used.new.names used.new.placed.items) }
+        used.new.names used.new.group_types.items) }
     ensures err { IfErr result (λ e. e ≡ Memory) }
 {
     'groups: for group in 0..group_count(key) {
@@ -127,10 +127,10 @@ fn use_code(
     used: &mut UsedTypes,
 ) -> Result<(), Fault>
     ensures used { OnOk result ((names : List (List ℕ))
-        → AreUsed (type_named types.now) names used.old.names used.old.placed.items
+        → AreUsed (type_named types.now) names used.old.names used.old.group_types.items
         → AreUsed (type_named types.now)
         (names ++ type_names_if (type_named types.now) (name_of codes.now code)
-        (given_in (key_at keys.now code))) used.new.names used.new.placed.items) }
+        (given_in (key_at keys.now code))) used.new.names used.new.group_types.items) }
     ensures err { IfErr result (λ e. e ≡ Memory) }
 {
     match (codes.name_of(code), keys.key(code)) {
@@ -150,8 +150,8 @@ pub(crate) fn types_used(
     ensures used { IfOk result (λ used.
         used.names ≡ types_used (type_named types.now) (name_of codes.now) (λ c.
         given_in (key_at keys.now c))) }
-    ensures placed { IfOk result (λ used.
-        used.placed.items ≡ map (placed_type (type_named types.now) used.names)
+    ensures group_types { IfOk result (λ used.
+        used.group_types.items ≡ map (type_in_use (type_named types.now) used.names)
         (type_names_below (type_named types.now) (name_of codes.now) (λ c.
         given_in (key_at keys.now c)) CODES)) }
     ensures few { IfOk result (λ used. length used.names ≤ MOST_TYPES + 1) }
@@ -159,7 +159,7 @@ pub(crate) fn types_used(
 {
     let mut used = UsedTypes {
         names: Names::new(alloc),
-        placed: Vec::new(alloc),
+        group_types: Vec::new(alloc),
     };
     'codes: for code in 0..codes.end() {
         use_code(alloc, codes, types, keys, code, &mut used)?;

@@ -11,39 +11,39 @@ use Rattle.kx_resolve.specs.LevelActions.{LevelActions}
 use Rattle.kx_types.specs.KeyTypes.{Definition}
 use Rattle.kx_virtual_mods.specs.Counted.{with_names}
 
-pub record PlacedType : Type 0 where
+pub record TypeInUse : Type 0 where
   pub place : ℕ
   pub levels : ℕ
 
 -- `declared` are the types by name
 module _ (declared : List ℕ → Option Definition) where
   -- a type of so many levels at a place
-  abbrev pub type_at : ℕ → List ℕ → PlacedType
+  abbrev pub type_at : ℕ → List ℕ → TypeInUse
   type_at place name = record { place = place; levels = (type_definition declared name).levels }
 
   -- `used` are the types by their places
-  abbrev pub placed_type : List (List ℕ) → List ℕ → PlacedType
-  placed_type used name = type_at (type_place used name) name
+  abbrev pub type_in_use : List (List ℕ) → List ℕ → TypeInUse
+  type_in_use used name = type_at (type_place used name) name
 
   -- what is made out of the types that groups have in turn: those in use, each once in the order of first use, and the type
   -- of each group; places are numbers of 16 bits
-  pub record AreUsed (names used : List (List ℕ)) (placed : List PlacedType) : Type 0 where
+  pub record AreUsed (names used : List (List ℕ)) (group_types : List TypeInUse) : Type 0 where
     pub used_are : used ≡ with_names [] names
-    pub placed_are : placed ≡ map (λ name. type_at (type_place used name % 2 ^ 16) name) names
+    pub types_are : group_types ≡ map (λ name. type_at (type_place used name % 2 ^ 16) name) names
     pub there : All (λ name. list_any (bytes_eq name) used ≡ true) names
 
 -- in place of a type that isn't there
-abbrev pub none_placed : PlacedType
-none_placed = record { place = 0; levels = 0 }
+abbrev pub no_type : TypeInUse
+no_type = record { place = 0; levels = 0 }
 
 module _ (level_actions : LevelActions) (key : KeyGiven) where
-  abbrev pub placed_group : ℕ → PlacedType → ResolvedGroup
-  placed_group group placed = record { key_type = placed.place; cells = cells_of level_actions key (content_group key group) placed.levels }
+  abbrev pub typed_group : ℕ → TypeInUse → ResolvedGroup
+  typed_group group group_type = record { key_type = group_type.place; cells = cells_of level_actions key (content_group key group) group_type.levels }
 
   -- the groups of so many types, in order
-  unfoldable pub placed_groups : List PlacedType → ℕ → List ResolvedGroup
-  placed_groups placed zero = []
-  placed_groups placed (suc n) = placed_groups placed n ++ placed_group n (get_or placed n none_placed) ∷ []
+  unfoldable pub typed_groups : List TypeInUse → ℕ → List ResolvedGroup
+  typed_groups group_types zero = []
+  typed_groups group_types (suc n) = typed_groups group_types n ++ typed_group n (get_or group_types n no_type) ∷ []
 
-  abbrev pub PlacedAreValid : List PlacedType → ℕ → Type 0
-  PlacedAreValid placed n = (group : ℕ) → group < n → CellsAreValid level_actions key (content_group key group) (get_or placed group none_placed).levels
+  abbrev pub TypedAreValid : List TypeInUse → ℕ → Type 0
+  TypedAreValid group_types n = (group : ℕ) → group < n → CellsAreValid level_actions key (content_group key group) (get_or group_types group no_type).levels
