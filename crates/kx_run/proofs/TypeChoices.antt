@@ -26,9 +26,9 @@ entry_for-masked : (c : Content) (t : TypeRow) (m : ℕ) → entry_for c t (bit_
 entry_for-masked c t m = ap (λ n. find (λ e. mask e.mods == n) (part c.entries t.first_entry t.entries)) (masked_twice m (mask t.mods))
 
 -- what a type gives under those of its modifiers that are set, it gives under all that are set
-pub chosen_by : (c : Content) (t : TypeRow) (mods : ℕ) (choice : Choice) → IsChoice c t choice → mask choice.mods ≡ bit_and mods (mask choice.of) → Chooses c t mods choice
+pub chosen_by : (c : Content) (t : TypeRow) (mods : ℕ) (choice : Choice) → IsChoice c t choice → mask choice.mods ≡ bit_and mods (mask choice.type_mods) → Chooses c t mods choice
 chosen_by c t mods choice holds met =
-    let same : entry_for c t (mask choice.mods) ≡ entry_for c t mods = ap (entry_for c t) (met ∙ ap (bit_and mods) holds.of) ∙ entry_for-masked c t mods in
+    let same : entry_for c t (mask choice.mods) ≡ entry_for c t mods = ap (entry_for c t) (met ∙ ap (bit_and mods) holds.type_mods) ∙ entry_for-masked c t mods in
     record {
       level = holds.chosen.level ∙ ap level_of same;
       consumed = holds.chosen.consumed ∙ ap (consumed_by t) same;
@@ -39,11 +39,11 @@ same_row : (a b : TypeRow) → Some a ≡ Some b → a ≡ b
 same_row a b e = cc
 
 -- the same, where the type's modifiers were taken from an earlier choice of the type at its place
-pub chosen_fresh : (c : Content) (t read : TypeRow) (index mods : ℕ) (last choice : Choice) → slice_get c.types index ≡ Some t → slice_get c.types index ≡ Some read → IsChoice c t last → IsChoice c read choice → mask choice.mods ≡ bit_and mods (mask last.of) → Chooses c t mods choice
+pub chosen_fresh : (c : Content) (t read : TypeRow) (index mods : ℕ) (last choice : Choice) → slice_get c.types index ≡ Some t → slice_get c.types index ≡ Some read → IsChoice c t last → IsChoice c read choice → mask choice.mods ≡ bit_and mods (mask last.type_mods) → Chooses c t mods choice
 chosen_fresh c t read index mods last choice at here before holds met =
     let row = same_row read t (sym here ∙ at) in
     let own = subst (λ r. IsChoice c r choice) row holds in
-    chosen_by c t mods choice own (met ∙ ap (bit_and mods) (before.of ∙ sym own.of))
+    chosen_by c t mods choice own (met ∙ ap (bit_and mods) (before.type_mods ∙ sym own.type_mods))
 
 -- a group gives what its type chooses
 chosen_shows : (c : Content) (g : GroupRow) (t : TypeRow) (mods : ℕ) (choice : Choice) → slice_get c.types g.key_type ≡ Some t → Chooses c t mods choice → cell_shows c (mask choice.consumed) (slice_get c.cells (g.first_cell + choice.level)) ≡ group_shows c mods (Some g)

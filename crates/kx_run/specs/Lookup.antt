@@ -51,7 +51,7 @@ Gives c place mods choice = (t : TypeRow) → slice_get c.types place ≡ Some t
 
 -- a choice of a type: its modifiers, and what it gives under those of them that are set
 pub record IsChoice (c : Content) (t : TypeRow) (choice : Choice) : Type 0 where
-  pub of : mask choice.of ≡ mask t.mods
+  pub type_mods : mask choice.type_mods ≡ mask t.mods
   pub chosen : Chooses c t (mask choice.mods) choice
 
 -- for each type of tables a choice

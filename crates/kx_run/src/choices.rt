@@ -13,7 +13,7 @@ use std::marker::Model;
 #[derive(Clone, Copy, Debug)]
 pub struct Choice {
     /// The type's modifiers.
-    pub of: Mods,
+    pub type_mods: Mods,
     /// Those of them that are set.
     pub mods: Mods,
     /// The level, counted from 0.
@@ -33,7 +33,7 @@ pub fn choice_of<T: Tables>(tables: &T, row: TypeRow, mods: Mods) -> Choice
 {
     let entry = find_entry(tables, row, mods);
     Choice {
-        of: row.mods,
+        type_mods: row.mods,
         mods,
         level: level(entry),
         consumed: consumed(row, entry),
@@ -80,7 +80,7 @@ impl Choices {
         let _sound = tables.key_count();
         let place = usize::from(index);
         let last = self.choices[place];
-        let met = mods.meet(last.of);
+        let met = mods.meet(last.type_mods);
         if last.mods.mask() == met.mask() {
             return last;
         }
