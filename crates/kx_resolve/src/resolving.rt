@@ -23,9 +23,17 @@ use crate::read::Read;
 use crate::types_in_use::types_used;
 use crate::using::with_types;
 use ks_core::Notes;
+use kx_codes::Codes;
 use kx_lex::Fault;
 use kx_tables::RawTables;
 use std::alloc::Global;
+
+/// No effect: no two keycodes have the same name.
+fn names_apart(codes: &Codes)
+    ensures { OneCode (name_of codes.now) }
+{
+    let _agree = codes.name_of(0);
+}
 
 /// The tables of what is read of a keymap, and what was passed over: the keys that keycodes name, in the order of their
 /// codes, with the types that their groups use, the indicators, and the names of groups.
@@ -41,8 +49,7 @@ pub fn resolve(alloc: Global, read: Read) -> Result<(RawTables, Notes), Fault>
         read.entry.keys.now (modmap_at read.entry.modmaps.now) read.entry.interpretations.now)))
         (indicators_of (real_of (stands_for read.entry.stands.now)) read.entry.indicators.now)
         read.entry.group_names.now) }
-    ensures sound { OneCode (name_of read.entry.codes.now)
-        → IfOk result (λ made. Sound (content_of made.0)) }
+    ensures sound { IfOk result (λ made. Sound (content_of made.0)) }
     ensures agrees { IfOk result (λ made.
         ShowsSame (keymap_of (content_of made.0))
         (keymap_with (keymap_meant (real_of (stands_for read.entry.stands.now))
@@ -52,6 +59,7 @@ pub fn resolve(alloc: Global, read: Read) -> Result<(RawTables, Notes), Fault>
         (indicators_of (real_of (stands_for read.entry.stands.now)) read.entry.indicators.now))) }
     ensures err { IfErr result (λ e. e ≡ Memory) }
 {
+    names_apart(read.codes);
     let used = types_used(alloc, read.codes, read.types, read.keys)?;
     let mut builder = with_types(alloc, read.types, read.stands, &used.names)?;
     let mut notes = Notes::new();

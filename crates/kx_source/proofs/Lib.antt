@@ -2,5 +2,4 @@ mod Ending
 mod Joining
 mod Keymaps
 mod Mapped
-mod Names
 mod Refusals

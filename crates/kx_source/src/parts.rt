@@ -1,7 +1,6 @@
 //! The tables of what is read of a source's bodies.
 ghost use Rattle.std.specs.Prelude.{◌≡◌, ◌∷◌, ◌++◌, [], Contains, IfErr, IfOk, List, OnOk};
 ghost use Rattle.ks_core.specs.Entry.{Entry};
-ghost use Rattle.kx_codes.specs.Codes.{name_of};
 ghost use Rattle.kx_compat.specs.Meaning.{compat_faults, interpretations_of};
 ghost use Rattle.kx_include.specs.Shared.{expanded_body};
 ghost use Rattle.kx_indicators.specs.Meaning.{indicator_maps_faults};
@@ -9,7 +8,6 @@ ghost use Rattle.kx_lex.specs.declared.fault.Fault.TheVariants.{Memory};
 ghost use Rattle.kx_resolve.specs.Modmaps.{modmap_at};
 ghost use Rattle.kx_virtual_mods.specs.Sets.{real_of};
 ghost use Rattle.kx_virtual_mods.specs.Standing.{stands_for};
-ghost use Rattle.kx_resolve.specs.Bounds.{OneCode};
 ghost use Rattle.kx_resolve.specs.Keys.{keyed_of};
 ghost use Rattle.kx_source.specs.Made.{IsInterpreted, IsLit, IsMade};
 ghost use Rattle.kx_source.specs.Source.{keys_faults, maps_faults, names_faults};
@@ -48,7 +46,7 @@ fn lit_parts(
         (expanded_body bodies.now.symbols) (real_of (stands_for stands.now)) types.now
         (keyed_of (real_of (stands_for stands.now)) codes.now mapped.now.keys
         (modmap_at mapped.now.modmaps) interpretations.now) (content_of made.0)) }
-    ensures sound { OneCode (name_of codes.now) → IfOk result (λ made. Sound (content_of made.0)) }
+    ensures sound { IfOk result (λ made. Sound (content_of made.0)) }
     ensures faultless_names { OnOk result (names_faults (expanded_body bodies.now.symbols) ≡ []) }
     ensures faultless_indicator_maps { OnOk result
         (indicator_maps_faults modifiers.now.names (expanded_body bodies.now.compat) ≡ []) }
@@ -90,7 +88,7 @@ fn standing_parts(
         → IfOk result (λ made. IsInterpreted names modifiers.now (expanded_body bodies.now.compat)
         (expanded_body bodies.now.symbols) codes.now types.now mapped.now.keys
         (modmap_at mapped.now.modmaps) (content_of made.0)) }
-    ensures sound { OneCode (name_of codes.now) → IfOk result (λ made. Sound (content_of made.0)) }
+    ensures sound { IfOk result (λ made. Sound (content_of made.0)) }
     ensures faultless_names { OnOk result (names_faults (expanded_body bodies.now.symbols) ≡ []) }
     ensures faultless_indicator_maps { OnOk result
         (indicator_maps_faults modifiers.now.names (expanded_body bodies.now.compat) ≡ []) }
@@ -136,7 +134,7 @@ fn interpreted_parts(
         IsInterpreted names.now modifiers.now (expanded_body bodies.now.compat)
         (expanded_body bodies.now.symbols) codes.now types.now mapped.now.keys
         (modmap_at mapped.now.modmaps) (content_of made.0)) }
-    ensures sound { OneCode (name_of codes.now) → IfOk result (λ made. Sound (content_of made.0)) }
+    ensures sound { IfOk result (λ made. Sound (content_of made.0)) }
     ensures faultless_compat { OnOk result
         (compat_faults names.now modifiers.now.names (expanded_body bodies.now.compat) ≡ []) }
     ensures faultless_names { OnOk result (names_faults (expanded_body bodies.now.symbols) ≡ []) }
@@ -173,7 +171,7 @@ pub(crate) fn parts_of(
     ensures made { IfOk result (λ made.
         IsMade names.now modifiers.now (expanded_body bodies.now.compat)
         (expanded_body bodies.now.symbols) codes.now types.now (content_of made.0)) }
-    ensures sound { OneCode (name_of codes.now) → IfOk result (λ made. Sound (content_of made.0)) }
+    ensures sound { IfOk result (λ made. Sound (content_of made.0)) }
     ensures faultless_keys { OnOk result
         (keys_faults codes.now names.now modifiers.now.names (expanded_body bodies.now.symbols)
         ≡ []) }

@@ -61,4 +61,4 @@ returns-clause-sound c =
     let declared : List ℕ → Option Definition = type_named c.args.read.types.now in
     let keyed : Keyed = keyed_of (real_of (stands_for c.args.read.stands.now)) c.args.read.codes.now c.args.read.keys.now (modmap_at c.args.read.modmaps.now) c.args.read.interpretations.now in
     let built = tree_whole real declared c.in_ok-used.used.names keyed c.in_ok-used.ensures.used c.in_ok-builder.builder c.push_keys.new.builder c.in_ok-builder.ensures.types c.in_ok-push_keys.ensures.pushed in
-    λ one. c.in_ok-parts.ensures.sound (built_valid real declared keyed c.in_ok-used.used.names c.in_ok-used.ensures.used c.in_ok-used.ensures.few c.in_ok-builder.ensures.hold c.in_ok-push_keys.ensures.bounds c.push_keys.new.builder built one)
+    c.in_ok-parts.ensures.sound (built_valid real declared keyed c.in_ok-used.used.names c.in_ok-used.ensures.used c.in_ok-used.ensures.few c.in_ok-builder.ensures.hold c.in_ok-push_keys.ensures.bounds c.push_keys.new.builder built c.names_apart.ensures)

@@ -8,7 +8,6 @@ use Rattle.kx_lex.specs.declared.fault.Fault.TheVariants.{Memory}
 use Rattle.kx_virtual_mods.specs.Declarations.{modifier_faults}
 use Rattle.kx_source.proofs.Ending.{made_holds, made_keymap}
 use Rattle.kx_source.proofs.Joining.{bodies_same, keys_faults_same, maps_faults_same, modifiers_same}
-use Rattle.kx_source.proofs.Names.{one_code}
 use Rattle.kx_source.proofs.Refusals.{all_faultless, keycodes_refused, parts_refused, passed, types_refused}
 use Rattle.kx_source.specs.Source.{HasFaultIn, HoldsAll, names_faults}
 use Rattle.kx_tables.specs.Keymap.{keymap_of}
@@ -50,7 +49,7 @@ returns-in_err-parts-clause-fault c =
     c.in_err-parts.ensures.fault))
 
 pub from_sound-requires : goal.from_sound-requires
-from_sound-requires c = c.in_ok-parts.ensures.sound (one_code c.in_ok-codes.codes c.in_ok-codes.ensures.joined)
+from_sound-requires c = c.in_ok-parts.ensures.sound
 
 pub returns-clause-keymap : goal.returns-clause-keymap
 returns-clause-keymap c =
