@@ -13,7 +13,7 @@ use crate::sources::{bodies_of, library_of, text_of};
 use cases_kit::{Case, Trouble};
 use kx_include::{Expansion, Place};
 use kx_lex::Fault;
-use kx_merge::{Fields, Merged, merge};
+use kx_merge::{Fields, Merged, merge, taken};
 use kx_parse::{Item, Mode, Statement};
 use std::alloc::Global;
 use std::fmt::Write;
@@ -23,17 +23,6 @@ use std::fmt::Write;
 struct Sheet {
     one: Option<u32>,
     two: Option<u32>,
-}
-
-/// What a value under a mode makes of the one before it.
-fn taken(mode: Mode, old: Option<u32>, new: Option<u32>) -> Option<u32>
-    ensures { result ≡ taken mode old new }
-{
-    match mode {
-        Mode::Augment => old.or(new),
-        Mode::Override => new.or(old),
-        Mode::Replace => new,
-    }
 }
 
 fn first_byte(name: &[u8]) -> u8
@@ -51,16 +40,7 @@ fn keycode_in(statement: &Statement) -> Option<(u8, u32)>
 {
     match statement {
         Statement::Keycode { name, code } => Some((first_byte(name.as_slice()), code.value)),
-        Statement::Alias { .. } => None,
-        Statement::IndicatorName { .. } => None,
-        Statement::VirtualModifiers(_) => None,
-        Statement::KeyType { .. } => None,
-        Statement::Interpretation { .. } => None,
-        Statement::Indicator { .. } => None,
-        Statement::Group { .. } => None,
-        Statement::Key { .. } => None,
-        Statement::ModifierMap { .. } => None,
-        Statement::Field(_) => None,
+        _ => None,
     }
 }
 

@@ -99,16 +99,7 @@ all_distinct mode ps (q ∷ qs) h = all_distinct mode (taken mode ps q) qs (take
 
 said-distinct : (mode : Mode) (s : Said) (ps : List Pair) → distinct ps ≡ true → distinct (said_pairs mode s ps) ≡ true
 said-distinct mode (said.Keycode name code) ps h = taken_distinct mode ps (record { name = name.bytes; code = code.value }) h
-said-distinct mode (said.Alias name target) ps h = h
-said-distinct mode (said.IndicatorName number name) ps h = h
-said-distinct mode (said.VirtualModifiers ds) ps h = h
-said-distinct mode (said.KeyType name fields) ps h = h
-said-distinct mode (said.Interpretation symbol predicate fields) ps h = h
-said-distinct mode (said.Indicator name fields) ps h = h
-said-distinct mode (said.Group number mask) ps h = h
-said-distinct mode (said.Key name fields) ps h = h
-said-distinct mode (said.ModifierMap modifier entries) ps h = h
-said-distinct mode (said.Field field) ps h = h
+said-distinct mode _ ps h = h
 
 own-distinct : (item : Item) (ps : List Pair) → distinct ps ≡ true → distinct (own_pairs item ps) ≡ true
 own-distinct (Statement mode statement first span) ps h = said-distinct mode statement ps h

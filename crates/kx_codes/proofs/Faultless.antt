@@ -6,13 +6,13 @@ use Rattle.kx_include.specs.Expansion.{Body, End, Begin, Own, Inc}
 use Rattle.kx_lex.specs.declared.fault.Fault.{Fault}
 use Rattle.kx_lex.specs.declared.fault.Fault.TheVariants.{Memory}
 use Rattle.kx_lex.specs.declared.token.Span.{Span}
-use Rattle.kx_merge.specs.Bodies.{faults}
+use Rattle.kx_merge.specs.Bodies.{faults, no_moves}
 use Rattle.kx_parse.specs.declared.tree.Item.{Item}
 use Rattle.kx_parse.specs.declared.tree.Item.TheVariants.{Include, Statement}
 use Rattle.kx_parse.specs.declared.tree.Statement.{Statement as Said}
 use Rattle.kx_parse.specs.declared.tree.Statement.TheVariants as said
 use Rattle.kx_codes.proofs.Behind.{err_passed}
-use Rattle.kx_codes.specs.Aliases.{alias_in, alias_moves, alias_rules, item_name_faults, said_name_faults}
+use Rattle.kx_codes.specs.Aliases.{alias_in, alias_rules, item_name_faults, said_name_faults}
 use Rattle.kx_codes.specs.CodeFaults.{faults_of, own_faults, said_faults}
 
 none-left : (fs gs : List Fault) → fs ++ gs ≡ [] → fs ≡ []
@@ -28,27 +28,18 @@ none-both fs gs left right = ap (λ xs. xs ++ gs) left ∙ right
 
 said-faultless : (file : ℕ) (statement : Said) (first whole : Span) → said_faults file statement first whole ≡ [] → said_name_faults file whole (alias_in statement) ≡ []
 said-faultless file (said.Alias name target) first whole none = none
-said-faultless file (said.Keycode name code) first whole none = refl
-said-faultless file (said.IndicatorName number name) first whole none = refl
-said-faultless file (said.VirtualModifiers declared) first whole none = refl
-said-faultless file (said.KeyType name fields) first whole none = refl
-said-faultless file (said.Interpretation symbol predicate fields) first whole none = refl
-said-faultless file (said.Indicator name fields) first whole none = refl
-said-faultless file (said.Group number mask) first whole none = refl
-said-faultless file (said.Key name fields) first whole none = refl
-said-faultless file (said.ModifierMap name entries) first whole none = refl
-said-faultless file (said.Field field) first whole none = refl
+said-faultless file _ first whole none = refl
 
 own-faultless : (file : ℕ) (item : Item) → own_faults file item ≡ [] → item_name_faults file item ≡ []
 own-faultless file (Statement mode statement first span) none = said-faultless file statement first span none
 own-faultless file (Include mode text span) none = refl
 
-pub aliases_faultless : (body : Body) → faults_of body ≡ [] → faults bytes_eq alias_rules alias_moves tt body ≡ []
+pub aliases_faultless : (body : Body) → faults_of body ≡ [] → faults bytes_eq alias_rules no_moves tt body ≡ []
 aliases_faultless End none = refl
 aliases_faultless (Begin rest) none = aliases_faultless rest none
-aliases_faultless (Own place item rest) none = none-both (item_name_faults place.file item) (faults bytes_eq alias_rules alias_moves tt rest) (own-faultless place.file item (none-left (own_faults place.file item) (faults_of rest) none)) (aliases_faultless rest (none-right (own_faults place.file item) (faults_of rest) none))
-aliases_faultless (Inc mode group body rest) none = none-both (faults bytes_eq alias_rules alias_moves tt body) (faults bytes_eq alias_rules alias_moves tt rest) (aliases_faultless body (none-left (faults_of body) (faults_of rest) none)) (aliases_faultless rest (none-right (faults_of body) (faults_of rest) none))
+aliases_faultless (Own place item rest) none = none-both (item_name_faults place.file item) (faults bytes_eq alias_rules no_moves tt rest) (own-faultless place.file item (none-left (own_faults place.file item) (faults_of rest) none)) (aliases_faultless rest (none-right (own_faults place.file item) (faults_of rest) none))
+aliases_faultless (Inc mode group body rest) none = none-both (faults bytes_eq alias_rules no_moves tt body) (faults bytes_eq alias_rules no_moves tt rest) (aliases_faultless body (none-left (faults_of body) (faults_of rest) none)) (aliases_faultless rest (none-right (faults_of body) (faults_of rest) none))
 
 -- what aliases are refused for is lack of memory there
-pub refused : {X : Type 0} (r : Result X Fault) (body : Body) (e : Fault) → IsErrAnd r (λ y. y ≡ e) → faults_of body ≡ [] → Contains (Memory ∷ faults bytes_eq alias_rules alias_moves tt body) e → IfErr r (λ y. Contains (Memory ∷ faults_of body) y)
+pub refused : {X : Type 0} (r : Result X Fault) (body : Body) (e : Fault) → IsErrAnd r (λ y. y ≡ e) → faults_of body ≡ [] → Contains (Memory ∷ faults bytes_eq alias_rules no_moves tt body) e → IfErr r (λ y. Contains (Memory ∷ faults_of body) y)
 refused r body e is none has = err_passed r (λ y. Contains (Memory ∷ faults_of body) y) e is (subst (λ fs. Contains (Memory ∷ fs) e) (aliases_faultless body none ∙ sym none) has)

@@ -140,16 +140,7 @@ included mode ps (q ∷ qs) = included mode (taken mode ps q) qs
 
 spoken : (mode : Mode) (s : Said) (ps : List Pair) → said_pairs mode s ps ≡ fold take ps (said_offers mode s)
 spoken mode (said.Keycode name code) ps = refl
-spoken mode (said.Alias name target) ps = refl
-spoken mode (said.IndicatorName number name) ps = refl
-spoken mode (said.VirtualModifiers ds) ps = refl
-spoken mode (said.KeyType name fields) ps = refl
-spoken mode (said.Interpretation symbol predicate fields) ps = refl
-spoken mode (said.Indicator name fields) ps = refl
-spoken mode (said.Group number mask) ps = refl
-spoken mode (said.Key name fields) ps = refl
-spoken mode (said.ModifierMap modifier entries) ps = refl
-spoken mode (said.Field field) ps = refl
+spoken mode _ ps = refl
 
 own : (item : Item) (ps : List Pair) → own_pairs item ps ≡ fold take ps (own_offers item)
 own (Statement mode statement first span) ps = spoken mode statement ps

@@ -3,7 +3,6 @@ mod Distinct
 pub mod Ends
 mod Entries
 mod Faultless
-mod Given
 mod Left
 mod Matching
 mod Names

@@ -7,8 +7,9 @@ use Rattle.kx_include.specs.Expansion.{Body}
 use Rattle.kx_lex.specs.declared.fault.Fault.{Fault}
 use Rattle.kx_lex.specs.declared.name.Name.{Name}
 use Rattle.kx_lex.specs.declared.token.Span.{Span}
-use Rattle.kx_merge.specs.Bodies.{Moves, Rules, offers_of, no_moves}
+use Rattle.kx_merge.specs.Bodies.{Rules, offers_of, no_moves}
 use Rattle.kx_merge.specs.Offers.{Offer, value_of, plain_offer}
+use Rattle.kx_merge.specs.Single.{single_rules}
 use Rattle.kx_parse.specs.declared.tree.Item.{Item}
 use Rattle.kx_parse.specs.declared.tree.Item.TheVariants.{Include, Statement}
 use Rattle.kx_parse.specs.declared.tree.Mode.{Mode}
@@ -38,7 +39,7 @@ item_name_faults file (Statement mode statement first span) = option_map_or (λ 
 item_name_faults file (Include mode text span) = []
 
 abbrev pub alias_rules : Rules (List ℕ) (Unit {0}) (List ℕ) (Unit {0})
-alias_rules = record { start = tt; next = λ d item. tt; offers = λ d place item. item_offers item; faults = λ d place item. item_name_faults place.file item }
+alias_rules = single_rules (λ place item. item_offers item) (λ place item. item_name_faults place.file item)
 
 abbrev pub alias_offers : Body → List AliasOffer
 alias_offers body = offers_of bytes_eq alias_rules no_moves body
@@ -61,9 +62,6 @@ said_offers mode a = option_map_or (λ a. alias_offer mode a.0.bytes a.1.bytes �
 
 abbrev pub said_name_faults : ℕ → Span → Option (Name × Name) → List Fault
 said_name_faults file whole a = option_map_or (λ a. name_faults file whole a.0 ++ name_faults file whole a.1) a []
-
-abbrev pub alias_moves : Moves (List ℕ) (Unit {0})
-alias_moves = no_moves
 
 abbrev pub target_of : Body → List ℕ → Option (List ℕ)
 target_of body name = value_of bytes_eq (alias_offers body) name tt

@@ -1,12 +1,6 @@
--- What a record of an alias holds.
+-- What a record of an alias shows.
 use Rattle.std.specs.Prelude.{ℕ, List, Option}
-use Rattle.kx_codes.specs.declared.aliases.Alias.{Alias}
+use Rattle.kx_merge.specs.declared.single.Single.{Single}
 
-abbrev pub alias_cell : Alias → Unit {0} → Option (List ℕ)
-alias_cell a c = a.target
-
-abbrev pub alias_width : Alias → ℕ → ℕ
-alias_width a group = 0
-
-abbrev pub shown_alias : List ℕ × Alias → List ℕ × Option (List ℕ)
-shown_alias e = (e.0, e.1.target)
+abbrev pub shown_alias : List ℕ × Single (List ℕ) → List ℕ × Option (List ℕ)
+shown_alias e = (e.0, e.1.value)

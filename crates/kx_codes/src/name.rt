@@ -6,13 +6,13 @@ use kx_lex::Fault;
 use std::alloc::Global;
 use std::marker::Model;
 
-/// The name of a key, stored; seen as its bytes.
+/// The name that an alias stands for; seen as its bytes.
 #[derive(Drop)]
-pub struct StoredName {
+pub struct AliasTarget {
     bytes: Vec<u8>,
 }
 
-impl Model for StoredName {
+impl Model for AliasTarget {
     ghost use Rattle.std.specs.Prelude.{List, ℕ};
     ghost use Rattle.kx_basics.specs.KeyNames.{IsKeyName};
 
@@ -23,14 +23,14 @@ impl Model for StoredName {
     ghost invariant = { λ n. IsKeyName n.bytes.items };
 }
 
-impl StoredName {
-    pub(crate) fn of(alloc: Global, name: &[u8]) -> Result<StoredName, Fault>
+impl AliasTarget {
+    pub(crate) fn of(alloc: Global, name: &[u8]) -> Result<AliasTarget, Fault>
         requires { IsKeyName name.now }
         ensures value { IfOk result (λ n. n ≡ name.now) }
         ensures err { IfErr result (λ e. e ≡ Memory) }
     {
         let bytes = Vec::from_slice(alloc, name)?;
-        Ok(StoredName { bytes })
+        Ok(AliasTarget { bytes })
     }
 
     pub(crate) fn as_slice(&self) -> &[u8]

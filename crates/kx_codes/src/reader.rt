@@ -4,14 +4,14 @@ ghost use Rattle.kx_lex.specs.declared.fault.Fault.TheVariants.{Memory};
 ghost use Rattle.kx_codes.specs.CodeFaults.{faults_of};
 ghost use Rattle.kx_codes.specs.Codes.{CodesShow, name_of, paired};
 
-use crate::aliases::Alias;
+use crate::name::AliasTarget;
 use crate::named::NamedPairs;
 use crate::numbers::Names;
 use crate::table::Codes;
 use crate::walking::gather;
 use kx_include::Expansion;
 use kx_lex::Fault;
-use kx_merge::merge;
+use kx_merge::{Single, merge};
 use std::alloc::Global;
 
 /// The pairs and the aliases that a source's keycodes leave at their end. No two pairs share a name or a code.
@@ -30,6 +30,6 @@ pub fn codes<'l>(alloc: Global, expansion: &Expansion<'l>) -> Result<Codes<'l>, 
     let mut names = Names::new(alloc);
     let gathered = gather(alloc, &mut names, expansion)?;
     let pairs = NamedPairs::of(alloc, names, gathered)?;
-    let merged = merge::<(), Alias>(alloc, &(), expansion)?;
+    let merged = merge::<(), Single<AliasTarget>>(alloc, &(), expansion)?;
     Ok(Codes::of(pairs, merged.records))
 }

@@ -6,8 +6,9 @@ ghost use Rattle.kx_basics.specs.KeyNames.{IsKeyName};
 ghost use Rattle.kx_codes.specs.Pairs.{Agree};
 ghost use Rattle.kx_codes.specs.Records.{shown_alias};
 
-use crate::aliases::Alias;
+use crate::name::AliasTarget;
 use crate::named::NamedPairs;
+use kx_merge::Single;
 use kx_ordered::{Ordered, ShortName};
 use std::marker::Model;
 
@@ -16,7 +17,7 @@ use std::marker::Model;
 #[derive(Drop)]
 pub struct Codes<'l> {
     pairs: NamedPairs<'l>,
-    aliases: Ordered<ShortName, Alias>,
+    aliases: Ordered<ShortName, Single<AliasTarget>>,
 }
 
 impl<'l> Model for Codes<'l> {
@@ -37,7 +38,10 @@ impl<'l> Model for Codes<'l> {
 }
 
 impl<'l> Codes<'l> {
-    pub(crate) fn of(pairs: NamedPairs<'l>, aliases: Ordered<ShortName, Alias>) -> Codes<'l>
+    pub(crate) fn of(
+        pairs: NamedPairs<'l>,
+        aliases: Ordered<ShortName, Single<AliasTarget>>,
+    ) -> Codes<'l>
         requires { Agree pairs.by_name pairs.by_code }
         ensures { result ≡ record {
           by_name = pairs.entry.by_name;
@@ -54,7 +58,7 @@ impl<'l> Codes<'l> {
     {
         match self.aliases.value_of_short_name(name) {
             None => None,
-            Some(alias) => match &alias.target {
+            Some(alias) => match &alias.value {
                 None => None,
                 Some(target) => Some(target.as_slice()),
             },

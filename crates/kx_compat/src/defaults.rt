@@ -27,16 +27,7 @@ pub(crate) fn field_in(statement: &Statement) -> Option<&Field>
 {
     match statement {
         Statement::Field(field) => Some(field.get()),
-        Statement::Keycode { .. } => None,
-        Statement::Alias { .. } => None,
-        Statement::IndicatorName { .. } => None,
-        Statement::VirtualModifiers(_) => None,
-        Statement::KeyType { .. } => None,
-        Statement::Interpretation { .. } => None,
-        Statement::Indicator { .. } => None,
-        Statement::Group { .. } => None,
-        Statement::Key { .. } => None,
-        Statement::ModifierMap { .. } => None,
+        _ => None,
     }
 }
 

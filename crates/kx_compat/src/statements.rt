@@ -40,16 +40,7 @@ fn interpretation_in(
             predicate,
             fields,
         } => Some((symbol, predicate, fields)),
-        Statement::Keycode { .. } => None,
-        Statement::Alias { .. } => None,
-        Statement::IndicatorName { .. } => None,
-        Statement::VirtualModifiers(_) => None,
-        Statement::KeyType { .. } => None,
-        Statement::Indicator { .. } => None,
-        Statement::Group { .. } => None,
-        Statement::Key { .. } => None,
-        Statement::ModifierMap { .. } => None,
-        Statement::Field(_) => None,
+        _ => None,
     }
 }
 
@@ -61,14 +52,7 @@ fn is_other(statement: &Statement) -> bool
         Statement::VirtualModifiers(_) => true,
         Statement::Indicator { .. } => true,
         Statement::Group { .. } => true,
-        Statement::Keycode { .. } => false,
-        Statement::Alias { .. } => false,
-        Statement::IndicatorName { .. } => false,
-        Statement::KeyType { .. } => false,
-        Statement::Interpretation { .. } => false,
-        Statement::Key { .. } => false,
-        Statement::ModifierMap { .. } => false,
-        Statement::Field(_) => false,
+        _ => false,
     }
 }
 

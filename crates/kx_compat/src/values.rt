@@ -1,9 +1,9 @@
 //! What the fields of an interpretation are given together.
 ghost use Rattle.std.specs.Prelude.{◌≡◌};
-ghost use Rattle.kx_merge.specs.Offers.{taken};
 
 use crate::action::GivenAction;
 use crate::modifier::GivenModifier;
+use kx_merge::taken;
 use kx_parse::Mode;
 use std::marker::Model;
 
@@ -48,17 +48,6 @@ impl Model for FieldValues {
       modifier = v.modifier;
       first_level_only = v.first_level_only;
     } };
-}
-
-/// What a value under a mode makes of the one before it.
-fn taken<T: Drop>(mode: Mode, old: Option<T>, new: Option<T>) -> Option<T>
-    ensures { result ≡ taken mode old new }
-{
-    match mode {
-        Mode::Augment => old.or(new),
-        Mode::Override => new.or(old),
-        Mode::Replace => new,
-    }
 }
 
 impl FieldValues {

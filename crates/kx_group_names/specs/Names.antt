@@ -7,12 +7,13 @@ use Rattle.kx_include.specs.Expansion.{Body}
 use Rattle.kx_merge.specs.Bodies.{Rules, Moves, offers_of}
 use Rattle.kx_merge.specs.Offers.{Offer, value_of, plain_offer}
 use Rattle.kx_merge.specs.Records.{cell_in}
+use Rattle.kx_merge.specs.Single.{single_cell, single_moves, single_rules}
+use Rattle.kx_merge.specs.declared.single.Single.{Single}
 use Rattle.kx_parse.specs.declared.tree.Field.{Field}
 use Rattle.kx_parse.specs.declared.tree.Item.{Item}
 use Rattle.kx_parse.specs.declared.tree.Item.TheVariants.{Include, Statement}
 use Rattle.kx_parse.specs.declared.tree.Mode.{Mode}
 use Rattle.kx_group_names.specs.Fields.{indexed_group, item_faults, name_in, set_text}
-use Rattle.kx_group_names.specs.declared.record.GroupName.{GroupName}
 
 -- a group, counted from 1, has one cell, its name
 abbrev pub offered : Mode → Option ℕ → Option (List ℕ) → List (Offer ℕ (Unit {0}) (List ℕ))
@@ -24,11 +25,14 @@ item_offers (Statement mode statement first whole) = option_map_or (λ field. of
 item_offers (Include mode text span) = []
 
 abbrev pub name_rules : Rules ℕ (Unit {0}) (List ℕ) (Unit {0})
-name_rules = record { start = tt; next = λ d item. tt; offers = λ d place item. item_offers item; faults = λ d place item. item_faults place.file item }
+name_rules = single_rules (λ place item. item_offers item) (λ place item. item_faults place.file item)
 
 -- the name of group 1 becomes that of the group of the move, and the others go
+abbrev pub moved_group : ℕ → ℕ → Option ℕ
+moved_group n group = if group == 1 then Some n else None
+
 abbrev pub name_moves : Moves ℕ (Unit {0})
-name_moves = record { key = λ n group. if group == 1 then Some n else None; cell = λ n c. Some c; group = λ n g. None }
+name_moves = single_moves moved_group
 
 -- the name that a symbols body gives a group, counted from 1; no bytes where it gives none
 abbrev pub group_name : Body → ℕ → List ℕ
@@ -49,16 +53,9 @@ pub record AreGroupNames (names : List (List ℕ)) (body : Body) : Type 0 where
   pub few : length names ≤ MOST_GROUPS
   pub ends : name_at names (length names - 1) ≡ [] → names ≡ []
 
--- what a record of a group holds
-abbrev pub name_cell : GroupName → Unit {0} → Option (List ℕ)
-name_cell r c = r.text
-
-abbrev pub name_width : GroupName → ℕ → ℕ
-name_width r group = 0
-
 -- the name that records by group hold; no bytes where they hold none
-abbrev pub name_recorded : {S : Type 0} → IndexMap ℕ GroupName S → ℕ → List ℕ
-name_recorded records group = unwrap_or (cell_in name_cell (get nat_eq records group) tt) []
+abbrev pub name_recorded : {S : Type 0} → IndexMap ℕ (Single (List ℕ)) S → ℕ → List ℕ
+name_recorded records group = unwrap_or (cell_in single_cell (get nat_eq records group) tt) []
 
 -- ---- Under names, for clauses
 

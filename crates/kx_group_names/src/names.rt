@@ -6,12 +6,11 @@ ghost use Rattle.kx_lex.specs.declared.fault.Fault.TheVariants.{Memory};
 ghost use Rattle.kx_merge.specs.Bodies.{faults_of};
 ghost use Rattle.kx_group_names.specs.Names.{AreCut, AreGroupNames, name_at, name_moves, name_recorded, name_rules};
 
-use crate::record::GroupName;
 use crate::text::NameText;
 use kx_basics::MOST_GROUPS;
 use kx_include::Expansion;
 use kx_lex::Fault;
-use kx_merge::merge;
+use kx_merge::{Single, merge};
 use kx_ordered::Ordered;
 use std::alloc::{AllocError, Global};
 use std::marker::Model;
@@ -67,14 +66,14 @@ impl GroupNames {
 /// The name that records have for a group, counted from 1.
 fn name_among(
     alloc: Global,
-    records: &Ordered<u8, GroupName>,
+    records: &Ordered<u8, Single<NameText>>,
     group: u8,
 ) -> Result<NameText, AllocError>
     ensures { IfOk result (λ name. name ≡ name_recorded records.now group) }
 {
     match records.get(&group) {
         None => NameText::empty(alloc),
-        Some(given) => match &given.text {
+        Some(given) => match &given.value {
             None => NameText::empty(alloc),
             Some(text) => NameText::of(alloc, text.as_slice()),
         },
@@ -82,7 +81,10 @@ fn name_among(
 }
 
 /// The names that records have for all groups.
-fn all_names(alloc: Global, records: &Ordered<u8, GroupName>) -> Result<Vec<NameText>, AllocError>
+fn all_names(
+    alloc: Global,
+    records: &Ordered<u8, Single<NameText>>,
+) -> Result<Vec<NameText>, AllocError>
     ensures names { IfOk result (λ names. (group : ℕ) → group < GROUPS
         → name_at names.items group ≡ name_recorded records.now (group + 1)) }
     ensures all { IfOk result (λ names. length names.items ≡ GROUPS) }
@@ -144,7 +146,7 @@ pub fn group_names(alloc: Global, expansion: &Expansion) -> Result<GroupNames, F
         Contains (Memory ∷ faults_of nat_eq name_rules name_moves (expanded_body expansion.now))
         e) }
 {
-    let merged = merge::<(), GroupName>(alloc, &(), expansion)?;
+    let merged = merge::<(), Single<NameText>>(alloc, &(), expansion)?;
     let names = named(all_names(alloc, &merged.records)?);
     Ok(GroupNames { names })
 }

@@ -44,16 +44,7 @@ pub(crate) fn default_in(statement: &Statement) -> Option<(&Name, &Field)>
 {
     match statement {
         Statement::Field(field) => with_member(field.get()),
-        Statement::Keycode { .. } => None,
-        Statement::Alias { .. } => None,
-        Statement::IndicatorName { .. } => None,
-        Statement::VirtualModifiers(_) => None,
-        Statement::KeyType { .. } => None,
-        Statement::Interpretation { .. } => None,
-        Statement::Indicator { .. } => None,
-        Statement::Group { .. } => None,
-        Statement::Key { .. } => None,
-        Statement::ModifierMap { .. } => None,
+        _ => None,
     }
 }
 

@@ -16,16 +16,7 @@ pub(crate) fn indicator_in(statement: &Statement) -> Option<(&Name, &Row<Field>)
 {
     match statement {
         Statement::Indicator { name, fields } => Some((name, fields)),
-        Statement::Keycode { .. } => None,
-        Statement::Alias { .. } => None,
-        Statement::IndicatorName { .. } => None,
-        Statement::VirtualModifiers(_) => None,
-        Statement::KeyType { .. } => None,
-        Statement::Interpretation { .. } => None,
-        Statement::Group { .. } => None,
-        Statement::Key { .. } => None,
-        Statement::ModifierMap { .. } => None,
-        Statement::Field(_) => None,
+        _ => None,
     }
 }
 

@@ -1,8 +1,8 @@
 //! What the fields of an indicator are given together.
 ghost use Rattle.std.specs.Prelude.{◌≡◌};
-ghost use Rattle.kx_merge.specs.Offers.{taken};
 
 use crate::states::GivenStates;
+use kx_merge::taken;
 use kx_parse::Mode;
 use kx_virtual_mods::NameSet;
 use std::marker::Model;
@@ -53,17 +53,6 @@ impl Model for IndicatorMapValues {
       group_states = v.group_states;
       groups = v.groups;
     } };
-}
-
-/// What a value under a mode makes of the one before it.
-fn taken<T: Drop>(mode: Mode, old: Option<T>, new: Option<T>) -> Option<T>
-    ensures { result ≡ taken mode old new }
-{
-    match mode {
-        Mode::Augment => old.or(new),
-        Mode::Override => new.or(old),
-        Mode::Replace => new,
-    }
 }
 
 impl IndicatorMapValues {

@@ -8,9 +8,10 @@ ghost use Rattle.kx_key_fields.specs.Attributes.{no_settings, attribute_in, attr
 
 use crate::cells::AttributeCell;
 use crate::given::Given;
-use crate::group_types::{GroupTypes, copied, taken};
+use crate::group_types::{GroupTypes, copied};
 use crate::key_range::KeyRange;
 use kx_lex::Bytes;
+use kx_merge::taken;
 use kx_parse::Mode;
 use kx_tables::Range;
 use kx_virtual_mods::NameSet;

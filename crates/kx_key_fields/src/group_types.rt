@@ -6,6 +6,7 @@ ghost use Rattle.kx_key_fields.specs.Attributes.{type_at, widened_to, with_type}
 ghost use Rattle.kx_key_fields.specs.TypesMoved.{type_moved};
 
 use kx_lex::Bytes;
+use kx_merge::taken;
 use kx_parse::Mode;
 use std::alloc::{AllocError, Global};
 use std::marker::Model;
@@ -23,17 +24,6 @@ impl Model for GroupTypes {
     ghost Value = { GroupTypes };
 
     ghost view = { λ t. t.types.items };
-}
-
-/// The value that is left where a later one comes under a mode.
-pub(crate) fn taken<T: Drop>(mode: Mode, old: Option<T>, new: Option<T>) -> Option<T>
-    ensures { result ≡ taken mode old new }
-{
-    match mode {
-        Mode::Augment => old.or(new),
-        Mode::Override => new.or(old),
-        Mode::Replace => new,
-    }
 }
 
 /// The same name again.

@@ -5,6 +5,7 @@ ghost use Rattle.std.specs.Option.{option_map};
 ghost use Rattle.kx_key_fields.specs.Lists.{level_at};
 ghost use Rattle.kx_merge.specs.Offers.{is_replace, taken};
 
+use kx_merge::taken;
 use kx_parse::Mode;
 use std::alloc::{AllocError, Global};
 use std::marker::Model;
@@ -28,17 +29,6 @@ impl<X> Model for Levels<X> {
     ghost Value = { List (Option X) };
 
     ghost view = { λ l. l.levels.items };
-}
-
-/// The value that a level has where a later one comes under a mode.
-fn taken<X: LevelValue>(mode: Mode, old: Option<X>, new: Option<X>) -> Option<X>
-    ensures { result ≡ taken mode old new }
-{
-    match mode {
-        Mode::Augment => old.or(new),
-        Mode::Override => new.or(old),
-        Mode::Replace => new,
-    }
 }
 
 fn copied<X: LevelValue>(level: &Option<X>) -> Result<Option<X>, AllocError>

@@ -11,7 +11,7 @@ use Rattle.kx_merge.specs.Bodies.{gathered}
 use Rattle.kx_merge.specs.Records.{Shows}
 use Rattle.kx_merge.proofs.Movings.{append-none, append-inner}
 use Rattle.kx_merge.proofs.Precedence.{value-other, value-more, width-other, width-more, names_behind-append}
-use Rattle.kx_merge.proofs.Single.{Apart, a_key, gathered-names-apart, names, or-first, or-last}
+use Rattle.kx_merge.proofs.OnePart.{Apart, a_key, gathered-names-apart, names, or-first, or-last}
 
 or-same : {X : Type 0} (a v : Option X) → option_or (option_or a v) v ≡ option_or a v
 or-same (Some x) v = refl

@@ -17,7 +17,7 @@ use Rattle.kx_merge.proofs.Again.{Named, no_name, all-named, behind, named-again
 use Rattle.kx_merge.proofs.Movings.{append-inner, append-none}
 use Rattle.kx_merge.proofs.Precedence.{names_behind-append}
 use Rattle.kx_merge.proofs.Repeated.{behind-append, named-more}
-use Rattle.kx_merge.proofs.Single.{or-both, or-first, or-last}
+use Rattle.kx_merge.proofs.OnePart.{or-both, or-first, or-last}
 
 -- ---- Values and widths
 

@@ -18,7 +18,7 @@ use Rattle.kx_merge.proofs.Covering.{or-none}
 use Rattle.kx_merge.proofs.Movings.{append-inner, append-none}
 use Rattle.kx_merge.proofs.Picking.{named_by, value_given, width_given}
 use Rattle.kx_merge.proofs.Precedence.{names_behind-append}
-use Rattle.kx_merge.proofs.Single.{names, names-of-gathered, or-both}
+use Rattle.kx_merge.proofs.OnePart.{names, names-of-gathered, or-both}
 
 -- ---- Parts in order
 

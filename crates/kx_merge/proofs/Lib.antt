@@ -1,9 +1,10 @@
 pub mod Precedence
+pub mod Given
 pub mod Steps
 pub mod Movings
 pub mod Behind
 pub mod Covering
-pub mod Single
+pub mod OnePart
 pub mod Again
 pub mod Repeated
 pub mod Marks

@@ -15,7 +15,7 @@ use Rattle.kx_merge.specs.Records.{IsGood, Shows, cell_in, width_in}
 use Rattle.kx_merge.proofs.Again.{Named, no_name, a_name, all-named, behind, behind-away, named-again, take, taken-again, value-behind, widen, widened-again, width-behind}
 use Rattle.kx_merge.proofs.Movings.{append-inner, moved-append, moved-none, nothing_offered, offered_moved}
 use Rattle.kx_merge.proofs.Repeated.{behind-append}
-use Rattle.kx_merge.proofs.Single.{names, or-both, or-first, or-last}
+use Rattle.kx_merge.proofs.OnePart.{names, or-both, or-first, or-last}
 
 both-same : {X : Type 0} (b : Bool) (x : X) → cond b x x ≡ x
 both-same true x = refl

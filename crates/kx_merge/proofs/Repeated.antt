@@ -11,7 +11,7 @@ use Rattle.kx_merge.specs.Offers.{Offer, is_about, is_strong, taken, widened, va
 use Rattle.kx_merge.proofs.Again.{Named, no_name, a_name, all-named, behind, behind-away, named-again, still-named, take, taken-again, value-behind, widen, widened-again, width-behind}
 use Rattle.kx_merge.proofs.Movings.{append-inner}
 use Rattle.kx_merge.proofs.Precedence.{names_behind-append}
-use Rattle.kx_merge.proofs.Single.{Apart, a_key, names, names-apart, names-of-gathered, no_key}
+use Rattle.kx_merge.proofs.OnePart.{Apart, a_key, names, names-apart, names-of-gathered, no_key}
 
 taken-keeps : {X : Type 0} (m n : Mode) → is_strong m ≡ true → (a b u v : Option X) → taken m a v ≡ taken m b v → taken m (taken n a u) v ≡ taken m (taken n b u) v
 taken-keeps Augment n strong a b u v e = absurd (false≢true strong)

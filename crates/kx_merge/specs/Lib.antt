@@ -8,5 +8,6 @@ pub mod Offers
 pub mod Bodies
 pub mod Records
 pub mod Moved
+pub mod Single
 pub mod Renewals
 pub mod Gatherings

@@ -9,10 +9,13 @@ mod merging;
 mod numbers;
 mod repeats;
 mod replaced;
+mod single;
 mod words;
 
 pub use faults::{bad_value, expression_of, unknown_field};
 pub use fields::Fields;
 pub use gathering::{Merged, merge};
+pub use merging::taken;
 pub use numbers::Counted;
+pub use single::{Single, SingleValue, none_given, one_given};
 pub use words::{lone_word, truth_named};

@@ -6,7 +6,7 @@ ghost use Rattle.kx_merge.specs.Bodies.{moved, gather, gathered};
 ghost use Rattle.kx_merge.specs.Gatherings.{TableAdds};
 ghost use Rattle.kx_merge.specs.Renewals.{TakesBack, held};
 ghost use Rattle.kx_merge.specs.Moved.{IsOfferedMoved, moved_key};
-ghost use Rattle.kx_merge.specs.Offers.{Offer, is_replace};
+ghost use Rattle.kx_merge.specs.Offers.{Offer, is_replace, taken};
 ghost use Rattle.kx_merge.specs.Records.{AreOffered, IsGood, IsOffered, TableShows, mode_of};
 
 use crate::fields::Fields;
@@ -15,6 +15,17 @@ use kx_lex::Fault;
 use kx_ordered::{Ordered, TableKey};
 use kx_parse::{Item, Mode};
 use std::alloc::Global;
+
+/// What a value under a mode makes of the one before it.
+pub fn taken<V: Drop>(mode: Mode, old: Option<V>, new: Option<V>) -> Option<V>
+    ensures { result ≡ taken mode old new }
+{
+    match mode {
+        Mode::Augment => old.or(new),
+        Mode::Override => new.or(old),
+        Mode::Replace => new,
+    }
+}
 
 /// Takes up a record under a mode, beside those that are there.
 #[inline(always)]

@@ -43,16 +43,7 @@ pub(crate) fn map_in(statement: &Statement) -> Option<(&Name, &Row<Entry>)>
 {
     match statement {
         Statement::ModifierMap { modifier, entries } => Some((modifier, entries)),
-        Statement::Keycode { .. } => None,
-        Statement::Alias { .. } => None,
-        Statement::IndicatorName { .. } => None,
-        Statement::VirtualModifiers(_) => None,
-        Statement::KeyType { .. } => None,
-        Statement::Interpretation { .. } => None,
-        Statement::Indicator { .. } => None,
-        Statement::Group { .. } => None,
-        Statement::Key { .. } => None,
-        Statement::Field(_) => None,
+        _ => None,
     }
 }
 

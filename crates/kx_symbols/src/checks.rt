@@ -53,13 +53,6 @@ pub(crate) fn check_other(
         Statement::VirtualModifiers(_) => Ok(()),
         Statement::ModifierMap { .. } => Ok(()),
         Statement::Field(field) => check_field(modifiers, file, field.get()),
-        Statement::Keycode { .. } => Err(Fault::UnknownField(At { file, span: word })),
-        Statement::Alias { .. } => Err(Fault::UnknownField(At { file, span: word })),
-        Statement::IndicatorName { .. } => Err(Fault::UnknownField(At { file, span: word })),
-        Statement::KeyType { .. } => Err(Fault::UnknownField(At { file, span: word })),
-        Statement::Interpretation { .. } => Err(Fault::UnknownField(At { file, span: word })),
-        Statement::Indicator { .. } => Err(Fault::UnknownField(At { file, span: word })),
-        Statement::Group { .. } => Err(Fault::UnknownField(At { file, span: word })),
-        Statement::Key { .. } => Err(Fault::UnknownField(At { file, span: word })),
+        _ => Err(Fault::UnknownField(At { file, span: word })),
     }
 }

@@ -50,16 +50,7 @@ fn field_in(statement: &Statement) -> Option<&Field>
 {
     match statement {
         Statement::Field(field) => Some(field.get()),
-        Statement::VirtualModifiers(_) => None,
-        Statement::ModifierMap { .. } => None,
-        Statement::Keycode { .. } => None,
-        Statement::Alias { .. } => None,
-        Statement::IndicatorName { .. } => None,
-        Statement::KeyType { .. } => None,
-        Statement::Interpretation { .. } => None,
-        Statement::Indicator { .. } => None,
-        Statement::Group { .. } => None,
-        Statement::Key { .. } => None,
+        _ => None,
     }
 }
 

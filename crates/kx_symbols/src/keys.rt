@@ -47,16 +47,7 @@ fn key_in(statement: &Statement) -> Option<(&KeyName, &Row<KeyField>)>
 {
     match statement {
         Statement::Key { name, fields } => Some((name, fields)),
-        Statement::Keycode { .. } => None,
-        Statement::Alias { .. } => None,
-        Statement::IndicatorName { .. } => None,
-        Statement::VirtualModifiers(_) => None,
-        Statement::KeyType { .. } => None,
-        Statement::Interpretation { .. } => None,
-        Statement::Indicator { .. } => None,
-        Statement::Group { .. } => None,
-        Statement::ModifierMap { .. } => None,
-        Statement::Field(_) => None,
+        _ => None,
     }
 }
 

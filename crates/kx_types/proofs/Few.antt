@@ -10,7 +10,7 @@ use Rattle.std.proofs.lemmas.Map.Keys.{IsDistinct-push}
 use Rattle.std.proofs.lemmas.Map.Made.{length-le_from_is_member}
 use Rattle.kx_include.specs.Expansion.{Body, End, Begin, Own, Inc}
 use Rattle.kx_virtual_mods.specs.Counted.{Said, Text, names_behind as names_behind_saids, names_with, statements_of, with_names}
-use Rattle.kx_merge.specs.Bodies.{gather, gathered, moved, offers}
+use Rattle.kx_merge.specs.Bodies.{gather, gathered, moved, no_moves, offers}
 use Rattle.kx_merge.specs.Offers.{names_behind, names_of, with_name}
 use Rattle.kx_parse.specs.declared.tree.Item.{Item}
 use Rattle.kx_parse.specs.declared.tree.Item.TheVariants.{Include, Statement}
@@ -19,7 +19,7 @@ use Rattle.kx_parse.specs.declared.tree.Mode.{Mode}
 use Rattle.kx_lex.specs.declared.name.Name.{Name}
 use Rattle.kx_types.specs.KeyTypes.{Definition}
 use Rattle.kx_types.specs.TypeFaults.{type_in}
-use Rattle.kx_types.specs.Types.{NamedTypes, TypeOffer, TypesShow, declared_names, item_offers, said_offers, type_moves, type_names, type_offers, type_rules, written_name}
+use Rattle.kx_types.specs.Types.{NamedTypes, TypeOffer, TypesShow, declared_names, item_offers, said_offers, type_names, type_offers, type_rules, written_name}
 
 or_or : (a b c : Bool) → ((a || b) || c) ≡ (a || (b || c))
 or_or true b c = refl
@@ -83,7 +83,7 @@ module _ (q : Text) where
   gathered_offered mode os [] = refl
   gathered_offered mode os (k ∷ ks) = ap (λ b. bytes_eq q k || b) (gathered_offered mode os ks)
 
-  moved_offered : (group : Option ℕ) (os : List TypeOffer) → offered (moved type_moves group os) ≡ offered os
+  moved_offered : (group : Option ℕ) (os : List TypeOffer) → offered (moved no_moves group os) ≡ offered os
   unfolding offered
   moved_offered None os = refl
   moved_offered (Some n) [] = refl
@@ -99,17 +99,17 @@ module _ (q : Text) where
   item_offered names (Include mode text span) = refl
   item_offered names (Statement mode statement first span) = said_offered names mode (type_in statement)
 
-  body_offered : (names : List Text) (d : Unit {0}) (body : Body) → offered (offers bytes_eq (type_rules names) type_moves d body) ≡ among (written (statements_of body))
+  body_offered : (names : List Text) (d : Unit {0}) (body : Body) → offered (offers bytes_eq (type_rules names) no_moves d body) ≡ among (written (statements_of body))
   unfolding among written offered
   body_offered names d End = refl
   body_offered names d (Begin rest) = body_offered names tt rest
   body_offered names d (Own place item rest) =
-      list_any-append (λ (o : TypeOffer). bytes_eq q o.name) (item_offers names item) (offers bytes_eq (type_rules names) type_moves tt rest)
+      list_any-append (λ (o : TypeOffer). bytes_eq q o.name) (item_offers names item) (offers bytes_eq (type_rules names) no_moves tt rest)
       ∙ (λ i. item_offered names item i || body_offered names tt rest i)
       ∙ sym (list_any-append (bytes_eq q) (type_names item) (written (statements_of rest)))
   body_offered names d (Inc mode group body rest) =
-      let inner = offers bytes_eq (type_rules names) type_moves tt body in
-      list_any-append (λ (o : TypeOffer). bytes_eq q o.name) (moved type_moves group (gathered bytes_eq mode inner)) (offers bytes_eq (type_rules names) type_moves d rest)
+      let inner = offers bytes_eq (type_rules names) no_moves tt body in
+      list_any-append (λ (o : TypeOffer). bytes_eq q o.name) (moved no_moves group (gathered bytes_eq mode inner)) (offers bytes_eq (type_rules names) no_moves d rest)
       ∙ (λ i. (moved_offered group (gathered bytes_eq mode inner) ∙ gathered_offered mode inner (names_of bytes_eq inner) ∙ offers_among [] inner ∙ body_offered names tt body) i || body_offered names d rest i)
       ∙ sym (ap among (written_append (statements_of body) (statements_of rest)) ∙ list_any-append (bytes_eq q) (written (statements_of body)) (written (statements_of rest)))
     where

@@ -4,5 +4,4 @@ pub mod Lawful
 pub mod TypeFaults
 pub mod TypeFields
 pub mod Types
-pub mod Records
 pub mod Shown

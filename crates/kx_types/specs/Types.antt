@@ -7,8 +7,9 @@ use Rattle.kx_include.specs.Expansion.{Body}
 use Rattle.kx_lex.specs.declared.fault.Fault.{Fault}
 use Rattle.kx_lex.specs.declared.name.Name.{Name}
 use Rattle.kx_virtual_mods.specs.Counted.{count_faults, statements_of}
-use Rattle.kx_merge.specs.Bodies.{Moves, Rules, faults_of, offers_of, no_moves}
+use Rattle.kx_merge.specs.Bodies.{Rules, faults_of, offers_of, no_moves}
 use Rattle.kx_merge.specs.Offers.{Offer, names_of, value_of, plain_offer}
+use Rattle.kx_merge.specs.Single.{single_rules}
 use Rattle.kx_parse.specs.declared.tree.Field.{Field}
 use Rattle.kx_parse.specs.declared.tree.Item.{Item}
 use Rattle.kx_parse.specs.declared.tree.Item.TheVariants.{Include, Statement}
@@ -35,7 +36,7 @@ module _ (names : List (List ℕ)) where
   item_offers (Include mode text span) = []
 
   abbrev pub type_rules : Rules (List ℕ) (Unit {0}) Definition (Unit {0})
-  type_rules = record { start = tt; next = λ d item. tt; offers = λ d place item. item_offers item; faults = λ d place item. item_faults names place.file item }
+  type_rules = single_rules (λ place item. item_offers item) (λ place item. item_faults names place.file item)
 
 -- the name that a type statement writes
 abbrev pub type_names : Item → List (List ℕ)
@@ -77,6 +78,3 @@ pub record TypesShow (types : NamedTypes) (names : List (List ℕ)) (body : Body
 
 abbrev pub written_name : Option (Name × List Field) → List (List ℕ)
 written_name t = option_map_or (λ t. t.0.bytes ∷ []) t []
-
-abbrev pub type_moves : Moves (List ℕ) (Unit {0})
-type_moves = no_moves

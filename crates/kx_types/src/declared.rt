@@ -8,16 +8,14 @@ ghost use Rattle.std.proofs.Common.{◌∙◌, ap, sym};
 ghost use Rattle.kx_include.specs.Shared.{expanded_body};
 ghost use Rattle.kx_lex.specs.declared.fault.Fault.TheVariants.{Memory};
 ghost use Rattle.kx_merge.specs.Bodies.{faults_of};
-ghost use Rattle.kx_merge.specs.Moved.{moved_key, moved_value, moved_width};
-ghost use Rattle.kx_merge.specs.Offers.{taken, widened};
 ghost use Rattle.kx_merge.specs.Records.{AreOffered, mode_of};
+ghost use Rattle.kx_merge.specs.Single.{single_cell, single_width};
 ghost use Rattle.kx_parse.specs.Sections.{word_span};
 ghost use Rattle.kx_parse.specs.declared.tree.Mode.{Mode as ModeValue};
 ghost use Rattle.kx_types.specs.KeyTypes.{Definition, definition_of};
 ghost use Rattle.kx_types.specs.TypeFaults.{declares_modifiers, item_faults, said_faults, type_in};
 ghost use Rattle.kx_types.specs.TypeFields.{field_faults, sayings_of};
-ghost use Rattle.kx_types.specs.Types.{NamedTypes, TypesShow, item_offers, said_offers, type_moves, type_named, type_names, type_offer, type_rules, types_faults};
-ghost use Rattle.kx_types.specs.Records.{declared_cell, declared_width};
+ghost use Rattle.kx_types.specs.Types.{NamedTypes, TypesShow, item_offers, said_offers, type_named, type_names, type_offer, type_rules, types_faults};
 ghost use Rattle.kx_merge.specs.Faults.{name_faults};
 
 use crate::counting::TypeNaming;
@@ -28,17 +26,11 @@ use crate::table::Types;
 use kx_basics::MOST_NAME_BYTES;
 use kx_include::{Expansion, Place};
 use kx_lex::{At, Fault, Span};
-use kx_merge::{Fields, merge};
+use kx_merge::{Single, SingleValue, merge, none_given, one_given};
 use kx_ordered::ShortName;
-use kx_parse::{Field, Item, Mode, Name, Row, Statement};
+use kx_parse::{Field, Item, Name, Row, Statement};
 use kx_virtual_mods::{ModNames, Names, count_names};
-use std::alloc::{AllocError, Global};
-
-/// What statements declare of a type: its definition, where they give it one.
-#[derive(Debug, Drop)]
-pub struct DeclaredType {
-    pub(crate) definition: Option<KeyType>,
-}
+use std::alloc::Global;
 
 /// The name and the fields of a type statement.
 pub(crate) fn type_in(statement: &Statement) -> Option<(&Name, &Row<Field>)>
@@ -46,16 +38,7 @@ pub(crate) fn type_in(statement: &Statement) -> Option<(&Name, &Row<Field>)>
 {
     match statement {
         Statement::KeyType { name, fields } => Some((name, fields)),
-        Statement::Keycode { .. } => None,
-        Statement::Alias { .. } => None,
-        Statement::IndicatorName { .. } => None,
-        Statement::VirtualModifiers(_) => None,
-        Statement::Interpretation { .. } => None,
-        Statement::Indicator { .. } => None,
-        Statement::Group { .. } => None,
-        Statement::Key { .. } => None,
-        Statement::ModifierMap { .. } => None,
-        Statement::Field(_) => None,
+        _ => None,
     }
 }
 
@@ -64,43 +47,8 @@ fn declares_modifiers(statement: &Statement) -> bool
 {
     match statement {
         Statement::VirtualModifiers(_) => true,
-        Statement::KeyType { .. } => false,
-        Statement::Keycode { .. } => false,
-        Statement::Alias { .. } => false,
-        Statement::IndicatorName { .. } => false,
-        Statement::Interpretation { .. } => false,
-        Statement::Indicator { .. } => false,
-        Statement::Group { .. } => false,
-        Statement::Key { .. } => false,
-        Statement::ModifierMap { .. } => false,
-        Statement::Field(_) => false,
+        _ => false,
     }
-}
-
-fn no_records(alloc: Global) -> Vec<(ShortName, DeclaredType)>
-    ensures { (mode : ModeValue) → AreOffered mode declared_cell declared_width result.items [] }
-{
-    Vec::new(alloc)
-}
-
-fn one_record(
-    alloc: Global,
-    name: ShortName,
-    definition: KeyType,
-) -> Result<Vec<(ShortName, DeclaredType)>, Fault>
-    ensures records { (mode : ModeValue)
-        → IfOk result (λ records. AreOffered mode declared_cell declared_width records.items
-        (type_offer mode name definition ∷ [])) }
-    ensures err { IfErr result (λ e. e ≡ Memory) }
-{
-    let mut records = Vec::new(alloc);
-    records.push((
-        name,
-        DeclaredType {
-            definition: Some(definition),
-        },
-    ))?;
-    Ok(records)
 }
 
 /// What a type statement declares; `whole` is the statement.
@@ -111,9 +59,9 @@ fn read_type(
     whole: Span,
     name: &Name,
     fields: &[Field],
-) -> Result<Vec<(ShortName, DeclaredType)>, Fault>
+) -> Result<Vec<(ShortName, Single<KeyType>)>, Fault>
     ensures records { (mode : ModeValue)
-        → IfOk result (λ records. AreOffered mode declared_cell declared_width records.items
+        → IfOk result (λ records. AreOffered mode single_cell single_width records.items
         (type_offer mode name.now.bytes (definition_of (sayings_of modifiers.now.names fields.now))
         ∷ [])) }
     ensures faultless { OnOk result
@@ -129,7 +77,7 @@ fn read_type(
     }
     let said = read_fields(alloc, modifiers, file, fields)?;
     let definition = KeyType::of(alloc, said.as_slice())?;
-    one_record(alloc, ShortName::of(bytes), definition)
+    one_given(alloc, ShortName::of(bytes), definition)
 }
 
 /// What a statement declares; `word` is what a fault of an unknown statement names, `whole` all of it.
@@ -140,9 +88,9 @@ fn read_statement(
     word: Span,
     whole: Span,
     statement: &Statement,
-) -> Result<Vec<(ShortName, DeclaredType)>, Fault>
+) -> Result<Vec<(ShortName, Single<KeyType>)>, Fault>
     ensures records { (mode : ModeValue)
-        → IfOk result (λ records. AreOffered mode declared_cell declared_width records.items
+        → IfOk result (λ records. AreOffered mode single_cell single_width records.items
         (said_offers modifiers.now.names mode (type_in statement.now))) }
     ensures faultless { OnOk result
         (said_faults modifiers.now.names file (type_in statement.now) statement.now word whole
@@ -157,7 +105,7 @@ fn read_statement(
             if !declares_modifiers(statement) {
                 return Err(Fault::UnknownField(At { file, span: word }));
             }
-            Ok(no_records(alloc))
+            Ok(none_given(alloc))
         }
     }
 }
@@ -168,9 +116,9 @@ fn read_item(
     modifiers: &ModNames,
     place: Place,
     item: &Item,
-) -> Result<Vec<(ShortName, DeclaredType)>, Fault>
+) -> Result<Vec<(ShortName, Single<KeyType>)>, Fault>
     ensures records { IfOk result (λ records.
-        AreOffered (mode_of item.now) declared_cell declared_width records.items
+        AreOffered (mode_of item.now) single_cell single_width records.items
         (item_offers modifiers.now.names item.now)) }
     ensures faultless { OnOk result (item_faults modifiers.now.names place.file item.now ≡ []) }
     ensures fault { IfErr result (λ e.
@@ -178,7 +126,7 @@ fn read_item(
 {
     let word = item.word_span();
     match item {
-        Item::Include { .. } => Ok(no_records(alloc)),
+        Item::Include { .. } => Ok(none_given(alloc)),
         Item::Statement {
             statement,
             span,
@@ -187,126 +135,31 @@ fn read_item(
     }
 }
 
-/// What a definition under a mode makes of the one before it.
-fn taken(mode: Mode, old: Option<KeyType>, new: Option<KeyType>) -> Option<KeyType>
-    ensures { result ≡ taken mode old new }
-{
-    match mode {
-        Mode::Augment => old.or(new),
-        Mode::Override => new.or(old),
-        Mode::Replace => new,
-    }
-}
-
-fn copied(alloc: Global, definition: &Option<KeyType>) -> Result<Option<KeyType>, AllocError>
-    ensures { IfOk result (λ d. d ≡ definition.now) }
-{
-    match definition {
-        None => Ok(None),
-        Some(key_type) => Ok(Some(key_type.copied(alloc)?)),
-    }
-}
-
-impl DeclaredType {
-    /// Takes up a later definition, where there is one.
-    fn join(&mut self, definition: Option<KeyType>, mode: Mode)
-        ensures { self.new.definition ≡ taken mode self.old.definition definition }
-    {
-        let old = self.definition.take();
-        self.definition = taken(mode, old, definition);
-    }
-}
-
-impl Fields<ModNames> for DeclaredType {
+impl SingleValue<ModNames> for KeyType {
     type Key = ShortName;
 
-    type Cell = ();
+    ghost offers = { λ modifiers place item. item_offers modifiers.names item };
 
-    type Value = KeyType;
+    ghost faults = { λ modifiers place item. item_faults modifiers.names place.file item };
 
-    type Defaults = ();
-
-    type Notes = ();
-
-    ghost rules = { λ modifiers. type_rules modifiers.names };
-
-    ghost moves = { type_moves };
-
-    ghost cell = { declared_cell };
-
-    ghost width = { declared_width };
-
-    fn start(_alloc: Global, _modifiers: &ModNames) {}
-
-    fn next(
-        _alloc: Global,
-        _modifiers: &ModNames,
-        _defaults: (),
-        _item: &Item,
-    ) -> Result<(), Fault> {
-        Ok(())
-    }
+    ghost moved = { λ n name. Some name };
 
     fn read(
         alloc: Global,
         modifiers: &ModNames,
-        _defaults: &(),
         place: Place,
         item: &Item,
-        _notes: &mut (),
-    ) -> Result<Vec<(ShortName, DeclaredType)>, Fault> {
+    ) -> Result<Vec<(ShortName, Single<KeyType>)>, Fault> {
         read_item(alloc, modifiers, place, item)
     }
 
-    fn absorb(&mut self, _alloc: Global, other: DeclaredType, mode: Mode) -> Result<(), Fault>
-        ensures cells { OnOk result ((c : Unit {0})
-            → declared_cell self.new c ≡ taken mode (declared_cell self.old c)
-            (declared_cell other c)) }
-        ensures widths { OnOk result ((g : ℕ)
-            → declared_width self.new g ≡ widened mode (declared_width self.old g)
-            (declared_width other g)) }
-        ensures err { IfErr result (λ e. e ≡ Memory) }
-    {
-        self.join(other.definition, mode);
-        Ok(())
+    fn copied(&self, alloc: Global) -> Result<KeyType, Fault> {
+        Ok(self.again(alloc)?)
     }
 
-    fn none(_alloc: Global) -> DeclaredType
-        ensures cells { (c : Unit {0}) → declared_cell result c ≡ None }
-        ensures widths { (g : ℕ) → declared_width result g ≡ 0 }
-    {
-        DeclaredType { definition: None }
-    }
-
-    fn absorb_moved(
-        &mut self,
-        alloc: Global,
-        other: &DeclaredType,
-        group: Option<u8>,
-        mode: Mode,
-    ) -> Result<(), Fault>
-        ensures cells { OnOk result ((c : Unit {0})
-            → declared_cell self.new c ≡ taken mode (declared_cell self.old c)
-            (moved_value type_moves group (declared_cell other.now) c)) }
-        ensures widths { OnOk result ((g : ℕ)
-            → declared_width self.new g ≡ widened mode (declared_width self.old g)
-            (moved_width type_moves group (declared_width other.now) g)) }
-        ensures err { IfErr result (λ e. e ≡ Memory) }
-    {
-        let definition = copied(alloc, &other.definition)?;
-        self.join(definition, mode);
-        Ok(())
-    }
-
-    fn key_in(key: &ShortName, _group: Option<u8>) -> Option<ShortName>
-        ensures { result ≡ moved_key type_moves _group key.now }
-    {
+    fn key_in(key: &ShortName, _group: Option<u8>) -> Option<ShortName> {
         Some(key.copied())
     }
-
-    fn no_notes() {}
-
-    fn add_notes(_notes: &mut (), _other: &()) {}
 
     ghost apart = { λ n j k to one two. ap (λ key. unwrap_or key []) (one ∙ sym two) };
 
@@ -330,6 +183,6 @@ pub fn types(alloc: Global, expansion: &Expansion, modifiers: &ModNames) -> Resu
         Contains (Memory ∷ types_faults modifiers.now.names (expanded_body expansion.now)) e) }
 {
     let _counted = count_names::<TypeNaming>(alloc, MOST_TYPES, Names::new(alloc), expansion)?;
-    let merged = merge::<ModNames, DeclaredType>(alloc, modifiers, expansion)?;
+    let merged = merge::<ModNames, Single<KeyType>>(alloc, modifiers, expansion)?;
     Ok(Types::of(merged.records))
 }

@@ -259,7 +259,7 @@ impl KeyType {
     }
 
     /// The same type again.
-    pub(crate) fn copied(&self, alloc: Global) -> Result<KeyType, AllocError>
+    pub(crate) fn again(&self, alloc: Global) -> Result<KeyType, AllocError>
         ensures { IfOk result (λ t. t ≡ self.now) }
     {
         Ok(KeyType {

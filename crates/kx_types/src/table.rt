@@ -6,8 +6,8 @@ ghost use Rattle.std.specs.Str.{bytes_eq};
 ghost use Rattle.kx_types.specs.Shown.{shown_entry};
 ghost use Rattle.kx_types.specs.Types.{names_in, type_named};
 
-use crate::declared::DeclaredType;
 use crate::definition::KeyType;
+use kx_merge::Single;
 use kx_ordered::{Ordered, ShortName};
 use std::marker::Model;
 
@@ -15,7 +15,7 @@ use std::marker::Model;
 /// definitions.
 #[derive(Drop)]
 pub struct Types {
-    by_name: Ordered<ShortName, DeclaredType>,
+    by_name: Ordered<ShortName, Single<KeyType>>,
 }
 
 impl Model for Types {
@@ -35,7 +35,7 @@ impl Model for Types {
 
 impl Types {
     /// The types of these records.
-    pub(crate) fn of(by_name: Ordered<ShortName, DeclaredType>) -> Types
+    pub(crate) fn of(by_name: Ordered<ShortName, Single<KeyType>>) -> Types
         requires { length by_name.entries ≤ MOST_TYPES }
         ensures { result ≡ map shown_entry by_name.entries }
     {
@@ -62,7 +62,7 @@ impl Types {
         ensures { option_map (λ t. t.now) result ≡ type_named self.now name.now }
     {
         match self.by_name.value_of_short_name(name) {
-            Some(declared) => declared.definition.as_ref(),
+            Some(declared) => declared.value.as_ref(),
             None => None,
         }
     }
@@ -81,7 +81,7 @@ impl Types {
             ≡ slice_get self.now place }
     {
         match self.by_name.at(place) {
-            Some((name, declared)) => Some((name.as_slice(), declared.definition.as_ref())),
+            Some((name, declared)) => Some((name.as_slice(), declared.value.as_ref())),
             None => None,
         }
     }

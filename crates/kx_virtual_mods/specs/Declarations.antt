@@ -9,8 +9,9 @@ use Rattle.kx_include.specs.declared.expansion.Bodies.{Bodies}
 use Rattle.kx_lex.specs.declared.fault.Fault.{Fault}
 use Rattle.kx_lex.specs.declared.fault.Fault.TheVariants.{BadValue}
 use Rattle.kx_lex.specs.declared.name.Name.{Name}
-use Rattle.kx_merge.specs.Bodies.{Rules, Moves, faults_of, offers_of, no_moves}
+use Rattle.kx_merge.specs.Bodies.{Rules, faults_of, offers_of, no_moves}
 use Rattle.kx_merge.specs.Offers.{Offer, value_of, with_name, plain_offer}
+use Rattle.kx_merge.specs.Single.{single_rules}
 use Rattle.kx_merge.specs.Records.{mode_of}
 use Rattle.kx_mods.specs.Mods.{mask}
 use Rattle.kx_mods.specs.declared.mods.Mods.{Mods}
@@ -75,7 +76,7 @@ module _ (file : ℕ) where
   item_faults names item = flat_map (declaration_faults names) (declarations_of item)
 
 abbrev pub mask_rules : List (List ℕ) → Rules ℕ (Unit {0}) ℕ (Unit {0})
-mask_rules names = record { start = tt; next = λ d item. tt; offers = λ d place item. item_offers names item; faults = λ d place item. item_faults place.file names item }
+mask_rules names = single_rules (λ place item. item_offers names item) (λ place item. item_faults place.file names item)
 
 -- the bodies in which virtual modifiers are declared, in the order in which they are numbered
 abbrev pub modifier_bodies : Bodies → List Body
@@ -119,9 +120,6 @@ mask_offer mode given number = plain_offer mode number (λ _. last_mask given nu
 
 abbrev pub declared_faults : ℕ → List (List ℕ) → Option Expression → List Fault
 declared_faults file names mask = option_map_or (real_mask_faults file names) mask []
-
-abbrev pub mask_moves : Moves ℕ (Unit {0})
-mask_moves = no_moves
 
 abbrev pub numbers_of : List Given → List ℕ
 numbers_of given = fold (with_name nat_eq) [] (map (λ (g : Given). g.0) given)

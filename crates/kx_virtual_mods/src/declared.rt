@@ -1,17 +1,16 @@
 //! What statements declare of virtual modifiers.
-ghost use Rattle.std.specs.Prelude.{◌≡◌, ◌==◌, ◌++◌, ◌∷◌, [], ℕ, Contains, IfErr, IfOk, None, OnOk, fold, map, nat_eq, unwrap_or, if◌then◌else◌};
+ghost use Rattle.std.specs.Prelude.{◌≡◌, ◌==◌, ◌++◌, ◌∷◌, [], Contains, IfErr, IfOk, None, OnOk, Some, fold, map, nat_eq, unwrap_or, if◌then◌else◌};
 ghost use Rattle.std.specs.List.{flat_map, list_any};
 ghost use Rattle.std.specs.Option.{option_or, option_map};
 ghost use Rattle.std.proofs.Common.{◌∙◌, ap, eqb-true, sym};
 ghost use Rattle.kx_lex.specs.declared.fault.Fault.TheVariants.{Memory};
-ghost use Rattle.kx_merge.specs.Moved.{moved_key, moved_value, moved_width};
-ghost use Rattle.kx_merge.specs.Offers.{taken, widened, with_name};
+ghost use Rattle.kx_merge.specs.Offers.{with_name};
 ghost use Rattle.kx_merge.specs.Records.{AreOffered, mode_of};
+ghost use Rattle.kx_merge.specs.Single.{single_cell, single_width};
 ghost use Rattle.kx_parse.specs.declared.tree.Mode.{Mode as ModeValue};
-ghost use Rattle.kx_virtual_mods.specs.Declarations.{declaration_faults, declarations_in, declarations_of, declared_faults, given_by, given_in, item_faults, item_offers, last_mask, mask_moves, mask_offer, mask_offers, mask_rules, name_faults, named_by, named_in, numbers_of};
+ghost use Rattle.kx_virtual_mods.specs.Declarations.{declaration_faults, declarations_in, declarations_of, declared_faults, given_by, given_in, item_faults, item_offers, last_mask, mask_offer, mask_offers, name_faults, named_by, named_in, numbers_of};
 ghost use Rattle.kx_virtual_mods.specs.Counted.{with_names};
 ghost use Rattle.kx_virtual_mods.specs.Masks.{mask_set, virtual_number};
-ghost use Rattle.kx_virtual_mods.specs.Records.{declared_cell, declared_width};
 
 use crate::counted::Naming;
 use crate::masks::real_mask_of;
@@ -19,31 +18,19 @@ use crate::names::Names;
 use crate::real_words::real_mask;
 use kx_include::Place;
 use kx_lex::{At, Fault, Name};
-use kx_merge::Fields;
-use kx_parse::{Declaration, Expression, Item, Mode, Statement};
+use kx_merge::{Single, SingleValue};
+use kx_parse::{Declaration, Expression, Item, Statement};
 use std::alloc::Global;
 
-/// What statements declare of a virtual modifier: its mask of real modifiers, as bits, where one is written.
-#[derive(Clone, Copy, Debug)]
-pub struct Declared {
-    pub(crate) mask: Option<u8>,
-}
+/// The names of virtual modifiers.
+pub(crate) struct ModifierNaming;
 
 fn declarations_in(statement: &Statement) -> &[Declaration]
     ensures { result.now ≡ declarations_in statement.now }
 {
     match statement {
         Statement::VirtualModifiers(declarations) => declarations.as_slice(),
-        Statement::Keycode { .. } => &[],
-        Statement::Alias { .. } => &[],
-        Statement::IndicatorName { .. } => &[],
-        Statement::KeyType { .. } => &[],
-        Statement::Interpretation { .. } => &[],
-        Statement::Indicator { .. } => &[],
-        Statement::Group { .. } => &[],
-        Statement::Key { .. } => &[],
-        Statement::ModifierMap { .. } => &[],
-        Statement::Field(_) => &[],
+        _ => &[],
     }
 }
 
@@ -80,7 +67,7 @@ fn add_declared(alloc: Global, names: &mut Names, declarations: &[Declaration]) 
     Ok(())
 }
 
-impl Naming for Declared {
+impl Naming for ModifierNaming {
     ghost names = { named_in };
 
     fn add(alloc: Global, others: &mut Names, item: &Item) -> Result<(), Fault>
@@ -221,24 +208,27 @@ fn records_for(
     alloc: Global,
     given: &[(usize, Option<u8>)],
     numbers: &[usize],
-) -> Result<Vec<(usize, Declared)>, Fault>
+) -> Result<Vec<(usize, Single<u8>)>, Fault>
     ensures records { (mode : ModeValue)
-        → IfOk result (λ records. AreOffered mode (declared_cell) (declared_width) records.items
+        → IfOk result (λ records. AreOffered mode single_cell single_width records.items
         (map (mask_offer mode given.now) numbers.now)) }
     ensures err { IfErr result (λ e. e ≡ Memory) }
 {
     let mut records = Vec::new(alloc);
     'numbers: for number in numbers {
-        let mask = last_mask(given, *number);
-        records.push((*number, Declared { mask }))?;
+        let value = last_mask(given, *number);
+        records.push((*number, Single { value }))?;
     }
     Ok(records)
 }
 
 /// What declarations give each virtual modifier.
-fn records_of(alloc: Global, given: &[(usize, Option<u8>)]) -> Result<Vec<(usize, Declared)>, Fault>
+fn records_of(
+    alloc: Global,
+    given: &[(usize, Option<u8>)],
+) -> Result<Vec<(usize, Single<u8>)>, Fault>
     ensures records { (mode : ModeValue)
-        → IfOk result (λ records. AreOffered mode (declared_cell) (declared_width) records.items
+        → IfOk result (λ records. AreOffered mode single_cell single_width records.items
         (mask_offers mode given.now)) }
     ensures err { IfErr result (λ e. e ≡ Memory) }
 {
@@ -252,9 +242,9 @@ fn read_item(
     names: &Names,
     file: u32,
     item: &Item,
-) -> Result<Vec<(usize, Declared)>, Fault>
+) -> Result<Vec<(usize, Single<u8>)>, Fault>
     ensures records { IfOk result (λ records.
-        AreOffered (mode_of item.now) (declared_cell) (declared_width) records.items
+        AreOffered (mode_of item.now) single_cell single_width records.items
         (item_offers names.now item.now)) }
     ensures faultless { OnOk result (item_faults file names.now item.now ≡ []) }
     ensures fault { IfErr result (λ e. Contains (Memory ∷ item_faults file names.now item.now) e) }
@@ -263,100 +253,32 @@ fn read_item(
     records_of(alloc, given.as_slice())
 }
 
-fn taken(mode: Mode, old: Option<u8>, new: Option<u8>) -> Option<u8>
-    ensures { result ≡ taken mode old new }
-{
-    match mode {
-        Mode::Augment => old.or(new),
-        Mode::Override => new.or(old),
-        Mode::Replace => new,
-    }
-}
-
-impl Fields<Names> for Declared {
+/// The mask of real modifiers that a statement declares for a virtual modifier, as bits.
+impl SingleValue<Names> for u8 {
     type Key = usize;
 
-    type Cell = ();
+    ghost offers = { λ names place item. item_offers names item };
 
-    type Value = u8;
+    ghost faults = { λ names place item. item_faults place.file names item };
 
-    type Defaults = ();
-
-    type Notes = ();
-
-    ghost rules = { λ names. mask_rules names };
-
-    ghost moves = { mask_moves };
-
-    ghost cell = { λ r c. declared_cell r c };
-
-    ghost width = { λ r g. declared_width r g };
-
-    fn start(_alloc: Global, _names: &Names) {}
-
-    fn next(_alloc: Global, _names: &Names, _defaults: (), _item: &Item) -> Result<(), Fault> {
-        Ok(())
-    }
+    ghost moved = { λ n number. Some number };
 
     fn read(
         alloc: Global,
         names: &Names,
-        _defaults: &(),
         place: Place,
         item: &Item,
-        _notes: &mut (),
-    ) -> Result<Vec<(usize, Declared)>, Fault> {
+    ) -> Result<Vec<(usize, Single<u8>)>, Fault> {
         read_item(alloc, names, place.file, item)
     }
 
-    fn absorb(&mut self, _alloc: Global, other: Declared, mode: Mode) -> Result<(), Fault>
-        ensures cells { OnOk result ((c : Unit {0})
-            → declared_cell self.new c ≡ taken mode (declared_cell self.old c)
-            (declared_cell other c)) }
-        ensures widths { OnOk result ((g : ℕ)
-            → declared_width self.new g ≡ widened mode (declared_width self.old g)
-            (declared_width other g)) }
-        ensures err { IfErr result (λ e. e ≡ Memory) }
-    {
-        self.mask = taken(mode, self.mask, other.mask);
-        Ok(())
+    fn copied(&self, _alloc: Global) -> Result<u8, Fault> {
+        Ok(*self)
     }
 
-    fn none(_alloc: Global) -> Declared
-        ensures cells { (c : Unit {0}) → declared_cell result c ≡ None }
-        ensures widths { (g : ℕ) → declared_width result g ≡ 0 }
-    {
-        Declared { mask: None }
-    }
-
-    fn absorb_moved(
-        &mut self,
-        _alloc: Global,
-        other: &Declared,
-        _group: Option<u8>,
-        mode: Mode,
-    ) -> Result<(), Fault>
-        ensures cells { OnOk result ((c : Unit {0})
-            → declared_cell self.new c ≡ taken mode (declared_cell self.old c)
-            (moved_value mask_moves _group (declared_cell other.now) c)) }
-        ensures widths { OnOk result ((g : ℕ)
-            → declared_width self.new g ≡ widened mode (declared_width self.old g)
-            (moved_width mask_moves _group (declared_width other.now) g)) }
-        ensures err { IfErr result (λ e. e ≡ Memory) }
-    {
-        self.mask = taken(mode, self.mask, other.mask);
-        Ok(())
-    }
-
-    fn key_in(key: &usize, _group: Option<u8>) -> Option<usize>
-        ensures { result ≡ moved_key mask_moves _group key.now }
-    {
+    fn key_in(key: &usize, _group: Option<u8>) -> Option<usize> {
         Some(*key)
     }
-
-    fn no_notes() {}
-
-    fn add_notes(_notes: &mut (), _other: &()) {}
 
     ghost apart = { λ n j k to one two. ap (λ key. unwrap_or key 0) (one ∙ sym two) };
 

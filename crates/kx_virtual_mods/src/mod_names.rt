@@ -4,25 +4,25 @@ ghost use Rattle.std.specs.List.{flat_map};
 ghost use Rattle.std.specs.Option.{option_map, option_map_or};
 ghost use Rattle.indexmap.specs.IndexMap.{get};
 ghost use Rattle.kx_lex.specs.declared.fault.Fault.TheVariants.{Memory};
-ghost use Rattle.kx_merge.specs.Bodies.{faults_of};
+ghost use Rattle.kx_merge.specs.Bodies.{faults_of, no_moves};
 ghost use Rattle.kx_merge.specs.Records.{cell_in};
 ghost use Rattle.kx_mods.specs.Mods.{mask};
 ghost use Rattle.kx_virtual_mods.specs.Counted.{all_statements, count_faults};
-ghost use Rattle.kx_virtual_mods.specs.Declarations.{AreModNames, declared_mask, mask_at, mask_moves, mask_rules, modifier_bodies, modifier_faults, named_in, virtual_names};
+ghost use Rattle.kx_virtual_mods.specs.Declarations.{AreModNames, declared_mask, mask_at, mask_rules, modifier_bodies, modifier_faults, named_in, virtual_names};
 ghost use Rattle.kx_virtual_mods.specs.Once.{OffersOnce};
-ghost use Rattle.kx_virtual_mods.specs.Records.{declared_cell, mask_recorded};
+ghost use Rattle.kx_virtual_mods.specs.Records.{mask_recorded};
 ghost use Rattle.kx_virtual_mods.specs.Masks.{mask_faults, mask_set, real_mask_faults, virtual_number};
 ghost use Rattle.kx_virtual_mods.specs.Sets.{union};
 
 use crate::counted::count_names;
-use crate::declared::Declared;
+use crate::declared::ModifierNaming;
 use crate::limits::MOST_VIRTUAL_MODIFIERS;
 use crate::masks::{mask_of, real_mask_of};
 use crate::names::Names;
 use crate::set::NameSet;
 use kx_include::Bodies;
 use kx_lex::Fault;
-use kx_merge::merge;
+use kx_merge::{Single, merge};
 use kx_mods::Mods;
 use kx_ordered::Ordered;
 use kx_parse::Expression;
@@ -43,27 +43,27 @@ fn modifier_names(alloc: Global, bodies: &Bodies) -> Result<Names, Fault>
         (all_statements (modifier_bodies bodies.now))) e) }
 {
     let none = Names::new(alloc);
-    let types = count_names::<Declared>(alloc, LIMIT, none, &bodies.types)?;
-    let compat = count_names::<Declared>(alloc, LIMIT, types, &bodies.compat)?;
-    count_names::<Declared>(alloc, LIMIT, compat, &bodies.symbols)
+    let types = count_names::<ModifierNaming>(alloc, LIMIT, none, &bodies.types)?;
+    let compat = count_names::<ModifierNaming>(alloc, LIMIT, types, &bodies.compat)?;
+    count_names::<ModifierNaming>(alloc, LIMIT, compat, &bodies.symbols)
 }
 
 /// The mask that records have for a virtual modifier.
-fn mask_among(records: &Ordered<usize, Declared>, number: usize) -> Mods
+fn mask_among(records: &Ordered<usize, Single<u8>>, number: usize) -> Mods
     ensures { mask result ≡ mask_recorded records.now number }
 {
     match records.get(&number) {
         None => Mods::NONE,
-        Some(declared) => Mods::from_mask(declared.mask.unwrap_or(0)),
+        Some(declared) => Mods::from_mask(declared.value.unwrap_or(0)),
     }
 }
 
 /// The masks that records of three bodies have together, by number.
 fn joined_masks(
     alloc: Global,
-    types: &Ordered<usize, Declared>,
-    compat: &Ordered<usize, Declared>,
-    symbols: &Ordered<usize, Declared>,
+    types: &Ordered<usize, Single<u8>>,
+    compat: &Ordered<usize, Single<u8>>,
+    symbols: &Ordered<usize, Single<u8>>,
 ) -> Result<Vec<Mods>, Fault>
     ensures masks { IfOk result (λ masks. (number : ℕ) → number < LIMIT
         → option_map_or mask (slice_get masks.items number) 0
@@ -88,15 +88,15 @@ fn declared_masks(alloc: Global, names: &Names, bodies: &Bodies) -> Result<Vec<M
         → option_map_or mask (slice_get masks.items number) 0
         ≡ declared_mask names.now (modifier_bodies bodies.now) number) }
     ensures faultless { OnOk result
-        (flat_map (faults_of nat_eq (mask_rules names.now) mask_moves) (modifier_bodies bodies.now)
+        (flat_map (faults_of nat_eq (mask_rules names.now) no_moves) (modifier_bodies bodies.now)
         ≡ []) }
     ensures fault { IfErr result (λ e.
-        Contains (Memory ∷ flat_map (faults_of nat_eq (mask_rules names.now) mask_moves)
+        Contains (Memory ∷ flat_map (faults_of nat_eq (mask_rules names.now) no_moves)
         (modifier_bodies bodies.now)) e) }
 {
-    let types = merge::<Names, Declared>(alloc, names, &bodies.types)?;
-    let compat = merge::<Names, Declared>(alloc, names, &bodies.compat)?;
-    let symbols = merge::<Names, Declared>(alloc, names, &bodies.symbols)?;
+    let types = merge::<Names, Single<u8>>(alloc, names, &bodies.types)?;
+    let compat = merge::<Names, Single<u8>>(alloc, names, &bodies.compat)?;
+    let symbols = merge::<Names, Single<u8>>(alloc, names, &bodies.symbols)?;
     joined_masks(alloc, &types.records, &compat.records, &symbols.records)
 }
 

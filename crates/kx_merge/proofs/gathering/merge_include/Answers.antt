@@ -7,7 +7,7 @@ use Rattle.kx_merge.specs.Bodies.{faults_of, gathered, offers_of}
 use Rattle.kx_merge.specs.Gatherings.{Adds}
 use Rattle.kx_merge.proofs.Behind.{adds_same, only}
 use Rattle.kx_merge.proofs.Movings.{append-none}
-use Rattle.kx_merge.proofs.Single.{single_part}
+use Rattle.kx_merge.proofs.OnePart.{single_part}
 use Rattle.kx_merge.proofs.gathering.merge_include.Goals as goal
 
 pub returns-in-len1 : goal.returns-in-len1

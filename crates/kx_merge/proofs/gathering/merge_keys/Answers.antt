@@ -10,7 +10,7 @@ use Rattle.kx_merge.specs.Renewals.{Picks, TakesUp}
 use Rattle.kx_merge.proofs.Behind.{empty, only}
 use Rattle.kx_merge.proofs.Covering.{picks_none}
 use Rattle.kx_merge.proofs.Movings.{append-none}
-use Rattle.kx_merge.proofs.Single.{single_part}
+use Rattle.kx_merge.proofs.OnePart.{single_part}
 use Rattle.kx_merge.proofs.gathering.merge_keys.Goals as goal
 
 pub returns-then-is_empty-clause-again : goal.returns-then-is_empty-clause-again

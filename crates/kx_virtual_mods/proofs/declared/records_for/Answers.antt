@@ -1,5 +1,5 @@
 use Rattle.std.proofs.Common.{ℕ, get_or, sym}
-use Rattle.kx_virtual_mods.specs.declared.declared.Declared.{Declared}
+use Rattle.kx_merge.specs.declared.single.Single.{Single}
 use Rattle.kx_virtual_mods.proofs.Going.{read_again}
 use Rattle.kx_virtual_mods.proofs.Offering.{next_offered, nothing_offered}
 use Rattle.kx_virtual_mods.proofs.declared.records_for.Goals as goal
@@ -12,5 +12,5 @@ numbers-preserved c = λ mode.
     let ns = c.args.numbers.now in
     let i = c.numbers.number-index in
     let number : ℕ = get_or ns i 0 in
-    let d : Declared = record { mask = c.last_mask-mask.result } in
-    next_offered mode c.numbers.records.items c.push.new.self.items c.args.given.now ns i number d c.numbers-test.true (read_again ns i 0 c.numbers-test.true) (c.numbers.invariant mode) c.in_ok-push.ensures.items (λ cell. sym c.last_mask-mask.ensures)
+    let d : Single ℕ = record { value = c.last_mask-value.result } in
+    next_offered mode c.numbers.records.items c.push.new.self.items c.args.given.now ns i number d c.numbers-test.true (read_again ns i 0 c.numbers-test.true) (c.numbers.invariant mode) c.in_ok-push.ensures.items (λ cell. sym c.last_mask-value.ensures)

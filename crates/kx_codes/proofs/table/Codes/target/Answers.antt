@@ -6,8 +6,8 @@ use Rattle.kx_codes.proofs.table.Codes.target.Goals as goal
 pub returns-in-None : goal.returns-in-None
 returns-in-None c = sym (target_is c.args.name.now c.args.self.now.aliases c.self.inside.aliases.entries None (ap (λ v. v.aliases) c.self.view_is) (sym c.value_of_short_name.ensures ∙ ap option_copied c.in-None.is))
 
-pub returns-in-None-target : goal.returns-in-None-target
-returns-in-None-target c = sym (target_is c.args.name.now c.args.self.now.aliases c.self.inside.aliases.entries (Some c.in-Some.alias.now) (ap (λ v. v.aliases) c.self.view_is) (sym c.value_of_short_name.ensures ∙ ap option_copied c.in-Some.is) ∙ c.in-None-target.is)
+pub returns-in-None-value : goal.returns-in-None-value
+returns-in-None-value c = sym (target_is c.args.name.now c.args.self.now.aliases c.self.inside.aliases.entries (Some c.in-Some.alias.now) (ap (λ v. v.aliases) c.self.view_is) (sym c.value_of_short_name.ensures ∙ ap option_copied c.in-Some.is) ∙ c.in-None-value.is)
 
-pub returns-in-Some-target : goal.returns-in-Some-target
-returns-in-Some-target c = sym (target_is c.args.name.now c.args.self.now.aliases c.self.inside.aliases.entries (Some c.in-Some.alias.now) (ap (λ v. v.aliases) c.self.view_is) (sym c.value_of_short_name.ensures ∙ ap option_copied c.in-Some.is) ∙ c.in-Some-target.is ∙ ap Some (sym c.as_slice.ensures.value))
+pub returns-in-Some-value : goal.returns-in-Some-value
+returns-in-Some-value c = sym (target_is c.args.name.now c.args.self.now.aliases c.self.inside.aliases.entries (Some c.in-Some.alias.now) (ap (λ v. v.aliases) c.self.view_is) (sym c.value_of_short_name.ensures ∙ ap option_copied c.in-Some.is) ∙ c.in-Some-value.is ∙ ap Some (sym c.as_slice.ensures.value))

@@ -1,0 +1,24 @@
+-- Records of one value: nothing in a section is their default, and moving a map to a group leaves or takes them whole.
+use Rattle.std.specs.Prelude.{ℕ, List, Option, Some, None}
+use Rattle.kx_include.specs.declared.place.Place.{Place}
+use Rattle.kx_lex.specs.declared.fault.Fault.{Fault}
+use Rattle.kx_merge.specs.Bodies.{Moves, Rules}
+use Rattle.kx_merge.specs.Offers.{Offer}
+use Rattle.kx_merge.specs.declared.single.Single.{Single}
+use Rattle.kx_parse.specs.declared.tree.Item.{Item}
+
+module _ {K V : Type 0} where
+  abbrev pub single_rules : (Place → Item → List (Offer K (Unit {0}) V)) → (Place → Item → List Fault) → Rules K (Unit {0}) V (Unit {0})
+  single_rules offers faults = record { start = tt; next = λ d item. tt; offers = λ d place item. offers place item; faults = λ d place item. faults place item }
+
+-- to which record one goes, if any
+abbrev pub single_moves : {K : Type 0} → (ℕ → K → Option K) → Moves K (Unit {0})
+single_moves moved = record { key = moved; cell = λ n c. Some c; group = λ n g. None }
+
+-- ---- Under records, for clauses
+
+abbrev pub single_cell : {V : Type 0} → Single V → Unit {0} → Option V
+single_cell r c = r.value
+
+abbrev pub single_width : {V : Type 0} → Single V → ℕ → ℕ
+single_width r group = 0

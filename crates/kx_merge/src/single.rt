@@ -1,0 +1,191 @@
+//! Records of one value, under sections without defaults.
+ghost use Rattle.std.specs.Prelude.{◌≡◌, ◌∷◌, [], ℕ, Contains, IfErr, IfOk, List, None, OnOk, Option, Some, true};
+ghost use Rattle.kx_include.specs.declared.place.Place.{Place as PlaceValue};
+ghost use Rattle.kx_lex.specs.declared.fault.Fault.{Fault as FaultValue};
+ghost use Rattle.kx_lex.specs.declared.fault.Fault.TheVariants.{Memory};
+ghost use Rattle.kx_merge.specs.Moved.{moved_key, moved_value, moved_width};
+ghost use Rattle.kx_merge.specs.Offers.{Offer, plain_offer, taken, widened};
+ghost use Rattle.kx_merge.specs.Records.{AreOffered, mode_of};
+ghost use Rattle.kx_merge.specs.Single.{single_cell, single_moves, single_rules, single_width};
+ghost use Rattle.kx_parse.specs.declared.tree.Item.{Item as ItemValue};
+ghost use Rattle.kx_parse.specs.declared.tree.Mode.{Mode as ModeValue};
+
+use crate::fields::Fields;
+use crate::merging::taken;
+use kx_include::Place;
+use kx_lex::Fault;
+use kx_ordered::TableKey;
+use kx_parse::{Item, Mode};
+use std::alloc::Global;
+
+/// A record of one value, where statements give it one.
+#[derive(Debug, Drop)]
+pub struct Single<V> {
+    pub value: Option<V>,
+}
+
+/// A value of which a record has one, as an alias has one target, under a context `C`.
+pub trait SingleValue<C>: Drop {
+    /// What records are told apart by.
+    type Key: Ord + TableKey + Drop;
+
+    ghost offers: { C → PlaceValue → ItemValue → List (Offer Self.Key (Unit {0}) Self) };
+
+    ghost faults: { C → PlaceValue → ItemValue → List FaultValue };
+
+    // The record that one of a map goes to where the map is moved to a group, if any.
+    ghost moved: { ℕ → Self.Key → Option Self.Key };
+
+    /// What a statement gives, with the record that each is given to.
+    fn read(
+        alloc: Global,
+        context: &C,
+        place: Place,
+        item: &Item,
+    ) -> Result<Vec<(Self::Key, Single<Self>)>, Fault>
+        ensures records { IfOk result (λ records.
+            AreOffered (mode_of item.now) single_cell single_width records.items
+            (offers context.now place item.now)) }
+        ensures faultless { OnOk result (faults context.now place item.now ≡ []) }
+        ensures fault { IfErr result (λ e.
+            Contains (Memory ∷ faults context.now place item.now) e) };
+
+    /// The same value.
+    fn copied(&self, alloc: Global) -> Result<Self, Fault>
+        ensures value { IfOk result (λ copy. copy ≡ self.now) }
+        ensures err { IfErr result (λ e. e ≡ Memory) };
+
+    /// What a record is told apart by where its map is moved to a group; `None` where none is left of it.
+    fn key_in(key: &Self::Key, group: Option<u8>) -> Option<Self::Key>
+        ensures { result ≡ moved_key (single_moves moved) group key.now };
+
+    // No two records of a map that is moved become one.
+    ghost apart: { (n : ℕ) (j k to : Self.Key) → moved n j ≡ Some to → moved n k ≡ Some to → j ≡ k };
+
+    // Keys that are equal are the same.
+    ghost same: { (j k : Self.Key) → Self.Key.PartialEq.eq j k ≡ true → j ≡ k };
+}
+
+/// No records.
+pub fn none_given<K: Drop, V: Drop>(alloc: Global) -> Vec<(K, Single<V>)>
+    ensures { (mode : ModeValue) → AreOffered mode single_cell single_width result.items [] }
+{
+    Vec::new(alloc)
+}
+
+/// One record, which is given a value.
+///
+/// # Errors
+/// `Memory`.
+pub fn one_given<K: Drop, V: Drop>(
+    alloc: Global,
+    key: K,
+    value: V,
+) -> Result<Vec<(K, Single<V>)>, Fault>
+    ensures records { (mode : ModeValue) (name : K) (given : V) → key ≡ name → value ≡ given
+        → IfOk result (λ records. AreOffered mode single_cell single_width records.items
+        (plain_offer mode name (λ c. Some given) ∷ [])) }
+    ensures err { IfErr result (λ e. e ≡ Memory) }
+{
+    let mut records = Vec::new(alloc);
+    records.push((key, Single { value: Some(value) }))?;
+    Ok(records)
+}
+
+fn copied<C, V: SingleValue<C>>(alloc: Global, value: &Option<V>) -> Result<Option<V>, Fault>
+    ensures value { IfOk result (λ copy. copy ≡ value.now) }
+    ensures err { IfErr result (λ e. e ≡ Memory) }
+{
+    match value {
+        None => Ok(None),
+        Some(value) => Ok(Some(value.copied(alloc)?)),
+    }
+}
+
+impl<C, V: SingleValue<C>> Fields<C> for Single<V> {
+    type Key = V::Key;
+
+    type Cell = ();
+
+    type Value = V;
+
+    type Defaults = ();
+
+    type Notes = ();
+
+    ghost rules = { λ context. single_rules (V.offers context) (V.faults context) };
+
+    ghost moves = { single_moves V.moved };
+
+    ghost cell = { single_cell };
+
+    ghost width = { single_width };
+
+    fn start(_alloc: Global, _context: &C) {}
+
+    fn next(_alloc: Global, _context: &C, _defaults: (), _item: &Item) -> Result<(), Fault> {
+        Ok(())
+    }
+
+    fn read(
+        alloc: Global,
+        context: &C,
+        _defaults: &(),
+        place: Place,
+        item: &Item,
+        _notes: &mut (),
+    ) -> Result<Vec<(V::Key, Single<V>)>, Fault> {
+        V::read(alloc, context, place, item)
+    }
+
+    fn absorb(&mut self, _alloc: Global, other: Single<V>, mode: Mode) -> Result<(), Fault>
+        ensures cells { OnOk result ((c : Unit {0})
+            → single_cell self.new c ≡ taken mode (single_cell self.old c) (single_cell other c)) }
+        ensures widths { OnOk result ((g : ℕ)
+            → single_width self.new g ≡ widened mode (single_width self.old g)
+            (single_width other g)) }
+        ensures err { IfErr result (λ e. e ≡ Memory) }
+    {
+        self.value = taken(mode, self.value.take(), other.value);
+        Ok(())
+    }
+
+    fn none(_alloc: Global) -> Single<V>
+        ensures cells { (c : Unit {0}) → single_cell result c ≡ None }
+        ensures widths { (g : ℕ) → single_width result g ≡ 0 }
+    {
+        Single { value: None }
+    }
+
+    fn absorb_moved(
+        &mut self,
+        alloc: Global,
+        other: &Single<V>,
+        _group: Option<u8>,
+        mode: Mode,
+    ) -> Result<(), Fault>
+        ensures cells { OnOk result ((c : Unit {0})
+            → single_cell self.new c ≡ taken mode (single_cell self.old c)
+            (moved_value (single_moves V.moved) _group (single_cell other.now) c)) }
+        ensures widths { OnOk result ((g : ℕ)
+            → single_width self.new g ≡ widened mode (single_width self.old g)
+            (moved_width (single_moves V.moved) _group (single_width other.now) g)) }
+        ensures err { IfErr result (λ e. e ≡ Memory) }
+    {
+        let value = copied::<C, V>(alloc, &other.value)?;
+        self.value = taken(mode, self.value.take(), value);
+        Ok(())
+    }
+
+    fn key_in(key: &V::Key, group: Option<u8>) -> Option<V::Key> {
+        V::key_in(key, group)
+    }
+
+    fn no_notes() {}
+
+    fn add_notes(_notes: &mut (), _other: &()) {}
+
+    ghost apart = { V.apart };
+
+    ghost same = { V.same };
+}
