@@ -3,15 +3,12 @@ use Rattle.std.proofs.Common.{◌≡◌, ◌⊎◌, ℕ, Bool, true, false, List
 use Rattle.std.proofs.lemmas.List.{append-nil}
 use Rattle.std.specs.Io.KnownBytes.{Appends}
 use Rattle.ks_core.specs.Entry.{Entry}
-use Rattle.kx_image.proofs.Refused.{one_content}
-use Rattle.kx_image.specs.Image.{IsImage}
 use Rattle.kx_include.specs.Source.{Handed}
-use Rattle.kx_source.specs.Source.{HasFault}
+use Rattle.kx_source.specs.Source.{HasFault, Means}
 use Rattle.kx_lex.specs.declared.fault.Fault.{Fault}
 use Rattle.kx_lex.specs.declared.fault.Fault.TheVariants.{Memory}
 use Rattle.kx_tables.specs.Content.{Content}
-use Rattle.kx_tool.proofs.Written.{compiled_of}
-use Rattle.kx_tool.specs.Compiled.{IsWritten}
+use Rattle.kx_tool.proofs.Written.{compiled_by}
 use Rattle.kx_tool.specs.Input.{FailsBehind, FailsToRead, IsOver, IsWithin, Waiting, budget, coming, nothing_read}
 use Rattle.kx_tool.specs.Replay.{Answers, AnswersSession, Replays, known_lines}
 use Rattle.kx_tool.specs.Sources.{ReadsSource}
@@ -39,20 +36,15 @@ within_all left input is few = by left (subst (λ (w : Waiting). IsWithin (comin
     by (Some text) few = few
 
 module _ {D : Type 0} (written : D → Option (List ℕ)) (failures : D → ℕ) (files : Handed) (names : List Entry) where
-  -- the tables that are read are those that were compiled, since the bytes are the image of one content
-  opened_is_written : (source : List ℕ) (opened : Content) (bytes : List ℕ) → IsImage opened bytes → (content : Content) × IsWritten source files names content bytes → IsWritten source files names opened bytes
-  opened_is_written source opened bytes image made = subst (λ content. IsWritten source files names content bytes) (one_content bytes made.0 opened made.1.image image) made.1
-
-  answers_known : (left later : Option (List ℕ)) (k m : ℕ) (source : List ℕ) (content : Content) (bytes : List ℕ) (d e : D) (r : Result (Unit {0}) ReplayFault)
-      → ReadsSource (coming nothing_read left) k later m source true → IsWritten source files names content bytes → Replays written failures content names (known_lines later) d e r
+  answers_known : (left later : Option (List ℕ)) (k m : ℕ) (source : List ℕ) (content : Content) (d e : D) (r : Result (Unit {0}) ReplayFault)
+      → ReadsSource (coming nothing_read left) k later m source true → Means source files names content → Replays written failures content names (known_lines later) d e r
       → IfSome left (λ text. Answers written failures text files names d e r)
-  answers_known None later k m source content bytes d e r read image replays = tt
-  answers_known (Some text) later k m source content bytes d e r read image replays =
+  answers_known None later k m source content d e r read means replays = tt
+  answers_known (Some text) later k m source content d e r read means replays =
       record {
         content = content;
-        bytes = bytes;
-        compiled = compiled_of (subst (λ s. IsWritten s files names content bytes) read.is image);
-        image = subst (λ s. IsWritten s files names content bytes) read.is image;
+        compiled = compiled_by (subst (λ s. Means s files names content) read.is means);
+        means = subst (λ s. Means s files names content) read.is means;
         answers = subst (λ lines. Replays written failures content names lines d e r) (read.lines refl) replays;
       }
 
@@ -66,21 +58,21 @@ module _ {D : Type 0} (written : D → Option (List ℕ)) (failures : D → ℕ)
   session_err None d e fault h = tt
   session_err (Some text) d e fault h = inr h
 
-  pub session_answered : (left later : Option (List ℕ)) (k m : ℕ) (input : Waiting) (source : List ℕ) (content : Content) (bytes : List ℕ) (d e : D) (r : Result (Unit {0}) ReplayFault)
-      → input ≡ nothing_read → ReadsSource (coming input left) k later m source true → IsImage content bytes → (made : Content) × IsWritten source files names made bytes → Replays written failures content names (known_lines later) d e r → r ≡ Ok tt
+  pub session_answered : (left later : Option (List ℕ)) (k m : ℕ) (input : Waiting) (source : List ℕ) (content : Content) (d e : D) (r : Result (Unit {0}) ReplayFault)
+      → input ≡ nothing_read → ReadsSource (coming input left) k later m source true → Means source files names content → Replays written failures content names (known_lines later) d e r → r ≡ Ok tt
       → IfSome left (λ text. AnswersSession written failures {A = Unit {0}} text files names d e (Ok tt))
-  session_answered left later k m input source content bytes d e r is read image made replays ok =
+  session_answered left later k m input source content d e r is read means replays ok =
       session_ok left d e
       (subst (λ s. IfSome left (λ text. Answers written failures text files names d e s)) ok
-      (answers_known left later k m source content bytes d e r (subst (λ (w : Waiting). ReadsSource (coming w left) k later m source true) is read) (opened_is_written source content bytes image made) replays))
+      (answers_known left later k m source content d e r (subst (λ (w : Waiting). ReadsSource (coming w left) k later m source true) is read) means replays))
 
-  pub session_stopped : (left later : Option (List ℕ)) (k m : ℕ) (input : Waiting) (source : List ℕ) (content : Content) (bytes : List ℕ) (d e : D) (r : Result (Unit {0}) ReplayFault) (fault : ReplayFault)
-      → input ≡ nothing_read → ReadsSource (coming input left) k later m source true → IsImage content bytes → (made : Content) × IsWritten source files names made bytes → Replays written failures content names (known_lines later) d e r → r ≡ Err fault
+  pub session_stopped : (left later : Option (List ℕ)) (k m : ℕ) (input : Waiting) (source : List ℕ) (content : Content) (d e : D) (r : Result (Unit {0}) ReplayFault) (fault : ReplayFault)
+      → input ≡ nothing_read → ReadsSource (coming input left) k later m source true → Means source files names content → Replays written failures content names (known_lines later) d e r → r ≡ Err fault
       → IfSome left (λ text. AnswersSession written failures {A = Unit {0}} text files names d e (Err (Replay fault)))
-  session_stopped left later k m input source content bytes d e r fault is read image made replays err =
+  session_stopped left later k m input source content d e r fault is read means replays err =
       session_err left d e fault
       (subst (λ s. IfSome left (λ text. Answers written failures text files names d e s)) err
-      (answers_known left later k m source content bytes d e r (subst (λ (w : Waiting). ReadsSource (coming w left) k later m source true) is read) (opened_is_written source content bytes image made) replays))
+      (answers_known left later k m source content d e r (subst (λ (w : Waiting). ReadsSource (coming w left) k later m source true) is read) means replays))
 
   refused_known : (left later : Option (List ℕ)) (k m : ℕ) (source : List ℕ) (has_lines : Bool) (d : D) (fault : Fault)
       → ReadsSource (coming nothing_read left) k later m source has_lines → (fault ≡ Memory) ⊎ HasFault source files names fault
@@ -102,21 +94,20 @@ module _ {D : Type 0} (written : D → Option (List ℕ)) (failures : D → ℕ)
   silent : (content : Content) (d : D) → Replays written failures {A = Unit {0}} content names (Some []) d d (Ok tt)
   silent content d = ((refl, appends_none (written d)), refl)
 
-  silent_known : (left later : Option (List ℕ)) (k m : ℕ) (source : List ℕ) (content : Content) (bytes : List ℕ) (d : D)
-      → ReadsSource (coming nothing_read left) k later m source false → IsWritten source files names content bytes
+  silent_known : (left later : Option (List ℕ)) (k m : ℕ) (source : List ℕ) (content : Content) (d : D)
+      → ReadsSource (coming nothing_read left) k later m source false → Means source files names content
       → IfSome left (λ text. Answers written failures {A = Unit {0}} text files names d d (Ok tt))
-  silent_known None later k m source content bytes d read image = tt
-  silent_known (Some text) later k m source content bytes d read image =
+  silent_known None later k m source content d read means = tt
+  silent_known (Some text) later k m source content d read means =
       record {
         content = content;
-        bytes = bytes;
-        compiled = compiled_of (subst (λ s. IsWritten s files names content bytes) read.is image);
-        image = subst (λ s. IsWritten s files names content bytes) read.is image;
+        compiled = compiled_by (subst (λ s. Means s files names content) read.is means);
+        means = subst (λ s. Means s files names content) read.is means;
         answers = subst (λ lines. Replays written failures {A = Unit {0}} content names (Some lines) d d (Ok tt)) (sym (read.none refl)) (silent content d);
       }
 
-  pub session_silent : (left later : Option (List ℕ)) (k m : ℕ) (input : Waiting) (source : List ℕ) (bytes : List ℕ) (d : D)
-      → input ≡ nothing_read → ReadsSource (coming input left) k later m source false → (made : Content) × IsWritten source files names made bytes
+  pub session_silent : (left later : Option (List ℕ)) (k m : ℕ) (input : Waiting) (source : List ℕ) (content : Content) (d : D)
+      → input ≡ nothing_read → ReadsSource (coming input left) k later m source false → Means source files names content
       → IfSome left (λ text. AnswersSession written failures {A = Unit {0}} text files names d d (Ok tt))
-  session_silent left later k m input source bytes d is read made =
-      session_ok left d d (silent_known left later k m source made.0 bytes d (subst (λ (w : Waiting). ReadsSource (coming w left) k later m source false) is read) made.1)
+  session_silent left later k m input source content d is read means =
+      session_ok left d d (silent_known left later k m source content d (subst (λ (w : Waiting). ReadsSource (coming w left) k later m source false) is read) means)

@@ -11,10 +11,10 @@ use Rattle.kx_tables.specs.Content.{Content}
 use Rattle.kx_tables.specs.Keymap.{keymap_of}
 use Rattle.kx_run.specs.World.{opening}
 use Rattle.kx_include.specs.Source.{Handed}
-use Rattle.kx_source.specs.Source.{HasFault}
+use Rattle.kx_source.specs.Source.{HasFault, Means}
 use Rattle.kx_lex.specs.declared.fault.Fault.TheVariants.{Memory}
 use Rattle.kx_tool.specs.Answer.{answers_from}
-use Rattle.kx_tool.specs.Compiled.{IsCompiled, IsWritten}
+use Rattle.kx_tool.specs.Compiled.{IsCompiled}
 use Rattle.kx_tool.specs.EventLines.{events_in, well_formed_lines}
 use Rattle.kx_tool.specs.Sources.{lines_in, source_in}
 use Rattle.kx_tool.specs.declared.fault.ReplayFault.{ReplayFault}
@@ -64,9 +64,8 @@ module _ {D : Type 0} (written : D → Option (List ℕ)) (failures : D → ℕ)
   -- the text's source is compiled to tables, from which the lines after it are answered
   pub record Answers {A : Type 0} (text : List ℕ) (files : Handed) (names : List Entry) (d e : D) (r : Result A ReplayFault) : Type 0 where
     pub content : Content
-    pub bytes : List ℕ
     pub compiled : IsCompiled (source_in text) files names (keymap_of content)
-    pub image : IsWritten (source_in text) files names content bytes
+    pub means : Means (source_in text) files names content
     pub answers : Replays content names (Some (lines_in text)) d e r
 
   -- a session over a text: where its source is refused, and where it can't be read whole, nothing is written

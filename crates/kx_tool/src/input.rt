@@ -80,7 +80,8 @@ impl Input {
         self.start += count;
     }
 
-    /// The next byte, or none at the end.
+    /// The next byte, or none at the end. A source is read by it, so that a call would be one for each byte.
+    #[inline(always)]
     pub fn next_byte<F: Feed>(&mut self, feed: &mut F) -> Result<Option<u8>, ReadFailed>
         ensures some { IfOk result (λ byte.
             IfSome byte (λ b. Came (coming self.old (F.left feed.old)) (budget self.old)

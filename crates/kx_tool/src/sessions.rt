@@ -6,18 +6,17 @@ ghost use Rattle.kx_tool.specs.Replay.{AnswersSession};
 ghost use Rattle.kx_tool.specs.declared.fault.ReplayFault.TheVariants.{Read};
 ghost use Rattle.kx_tool.specs.declared.input.TheConstants.{MOST_BYTES};
 
-use crate::compiler::compile;
-use crate::fault::{ReplayFault, SessionFault};
+use crate::fault::SessionFault;
 use crate::input::Input;
 use crate::replaying::answer_lines;
 use crate::source::read_source;
 use ks_core::{Feed, NameTable, Out};
-use kx_image::View;
 use kx_include::Files;
+use kx_source::tables;
 use std::alloc::Global;
 
-/// Reads a source up to a line `%%`, compiles it, and answers the event lines after that line, one line for each
-/// event. Without such a line the source is all that the reader gives.
+/// Reads a source up to a line `%%`, makes its tables, and answers from them the event lines after that line, one line for
+/// each event. Without such a line the source is all that the reader gives.
 ///
 /// # Errors
 /// `Compile` where the source is refused; then nothing was written. `Replay` with `Line` at the first line that is
@@ -43,18 +42,14 @@ pub fn session<F: Feed, O: Out>(
 {
     let mut input = Input::new();
     let source = read_source(alloc, &mut input, feed)?;
-    let image = match compile(alloc, source.text.as_slice(), files, names) {
-        Ok((image, _)) => image,
+    let tables = match tables(alloc, source.text.as_slice(), files, names) {
+        Ok((tables, _)) => tables,
         Err(fault) => return Err(SessionFault::Compile(fault)),
     };
     if !source.has_lines {
         return Ok(());
     }
-    let answered = match View::open(image.as_slice()) {
-        Ok(view) => answer_lines(alloc, &mut input, feed, view, names, out),
-        Err(fault) => Err(ReplayFault::Image(fault)),
-    };
-    match answered {
+    match answer_lines(alloc, &mut input, feed, tables, names, out) {
         Ok(()) => Ok(()),
         Err(fault) => Err(SessionFault::Replay(fault)),
     }
