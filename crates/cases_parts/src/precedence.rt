@@ -5,7 +5,7 @@ ghost use Rattle.std.proofs.Common.{◌∙◌, ap, eqb-true, sym};
 ghost use Rattle.kx_lex.specs.declared.fault.Fault.TheVariants.{Memory};
 ghost use Rattle.kx_parse.specs.declared.tree.Mode.{Mode as ModeValue};
 ghost use Rattle.kx_merge.specs.Moved.{moved_value};
-ghost use Rattle.kx_merge.specs.Offers.{taken};
+ghost use Rattle.kx_merge.specs.Offers.{merged_value};
 ghost use Rattle.kx_merge.specs.Records.{AreOffered};
 ghost use Rattle.cases_parts.specs.Sheet.{keycode_in, sheet_cell, sheet_moves, sheet_offer, sheet_rules};
 
@@ -13,7 +13,7 @@ use crate::sources::{bodies_of, library_of, text_of};
 use cases_kit::{Case, Trouble};
 use kx_include::{Expansion, Place};
 use kx_lex::Fault;
-use kx_merge::{Fields, Merged, merge, taken};
+use kx_merge::{Fields, Merged, merge, merged_value};
 use kx_parse::{Item, Mode, Statement};
 use std::alloc::Global;
 use std::fmt::Write;
@@ -103,31 +103,28 @@ impl Fields<()> for Sheet {
 
     fn start(_alloc: Global, _context: &()) {}
 
-    fn next(_alloc: Global, _context: &(), _defaults: (), _item: &Item) -> Result<(), Fault> {
-        Ok(())
-    }
-
     fn read(
         alloc: Global,
         _context: &(),
-        _defaults: &(),
+        _defaults: (),
         _place: Place,
         item: &Item,
         notes: &mut u32,
-    ) -> Result<Vec<(u8, Sheet)>, Fault> {
+    ) -> Result<(Vec<(u8, Sheet)>, ()), Fault> {
         *notes = notes.saturating_add(1);
-        match item {
-            Item::Include { .. } => Ok(no_sheets(alloc)),
+        let sheets = match item {
+            Item::Include { .. } => no_sheets(alloc),
             Item::Statement { statement, .. } => match keycode_in(statement) {
-                None => Ok(no_sheets(alloc)),
-                Some((key, number)) => one_sheet(alloc, key, number),
+                None => no_sheets(alloc),
+                Some((key, number)) => one_sheet(alloc, key, number)?,
             },
-        }
+        };
+        Ok((sheets, ()))
     }
 
-    fn absorb(&mut self, _alloc: Global, other: Sheet, mode: Mode) -> Result<(), Fault> {
-        self.one = taken(mode, self.one, other.one);
-        self.two = taken(mode, self.two, other.two);
+    fn merge(&mut self, _alloc: Global, other: Sheet, mode: Mode) -> Result<(), Fault> {
+        self.one = merged_value(mode, self.one, other.one);
+        self.two = merged_value(mode, self.two, other.two);
         Ok(())
     }
 
@@ -138,7 +135,7 @@ impl Fields<()> for Sheet {
         }
     }
 
-    fn absorb_moved(
+    fn merge_moved(
         &mut self,
         _alloc: Global,
         other: &Sheet,
@@ -146,8 +143,8 @@ impl Fields<()> for Sheet {
         mode: Mode,
     ) -> Result<(), Fault> {
         let (one, two) = other.moved(group);
-        self.one = taken(mode, self.one, one);
-        self.two = taken(mode, self.two, two);
+        self.one = merged_value(mode, self.one, one);
+        self.two = merged_value(mode, self.two, two);
         Ok(())
     }
 

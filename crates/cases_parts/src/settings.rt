@@ -2,7 +2,7 @@
 use crate::sources::{bodies_of, library_of, modifiers_of, text_of};
 use cases_kit::{Case, Trouble};
 use kx_include::Place;
-use kx_key_fields::{KeyAttributes, KeyDefaults, check_default, read_settings};
+use kx_key_fields::{KeyAttributes, KeyDefaults, read_settings};
 use kx_lex::Fault;
 use kx_parse::{Item, Statement};
 use kx_virtual_mods::ModNames;
@@ -59,7 +59,7 @@ fn join_said(
     } = item
     {
         let said = read_settings(alloc, names, 0, fields.as_slice(), defaults)?;
-        settings.join(said, *mode)?;
+        settings.merge(said, *mode)?;
     }
     Ok(())
 }
@@ -75,10 +75,7 @@ fn defaults_behind(
         Item::Statement {
             statement: Statement::Field(field),
             ..
-        } => {
-            check_default(names, 0, field.get())?;
-            defaults.next(alloc, names, field.get())
-        }
+        } => { defaults.behind(alloc, names, 0, field.get()) }
         _ => Ok(defaults),
     }
 }

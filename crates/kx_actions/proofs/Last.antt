@@ -21,7 +21,7 @@ use Rattle.kx_actions.specs.declared.kinds.ActionKind.TheVariants as kinds
 use Rattle.kx_actions.specs.declared.settings.Given.{Given}
 use Rattle.kx_actions.specs.declared.settings.Given.TheVariants as given
 use Rattle.kx_actions.specs.declared.settings.Settings.{Settings}
-use Rattle.kx_actions.proofs.Going.{drop_next}
+use Rattle.kx_merge.proofs.Going.{drop_next}
 
 or_inner : {X : Type 0} (a b c : Option X) → option_or (option_or a b) c ≡ option_or a (option_or b c)
 or_inner None b c = refl

@@ -1,3 +1,1 @@
-mod Faultless
-mod Going
 mod Last

@@ -32,10 +32,6 @@ affect_words = (codes "lock", affects.Lock) ∷ (codes "unlock", affects.Unlock)
 abbrev pub is_modmap : Expression → Bool
 is_modmap e = option_map_or (λ w. str_eq_ignore_ascii_case w.bytes (codes "modMapMods")) (lone_word e) false
 
-abbrev pub is_faultless : List Fault → Bool
-is_faultless [] = true
-is_faultless (e ∷ es) = false
-
 -- a flag without a value is true, with `!` false
 abbrev pub flag_given : ActionField → Bool → Option Given
 flag_given fields.ClearLocks b = Some (given.ClearLocks b)
@@ -44,13 +40,12 @@ flag_given _ b = None
 
 -- `names` are the virtual modifiers by number
 module _ (names : List (List ℕ)) where
-  -- a mask with a fault, whatever file it stands in, gives nothing
-  abbrev pub mods_of : Expression → Option ActionMods
-  mods_of e = if is_modmap e then Some OfKey else (if is_faultless (mask_faults 0 names e) then Some (Named (mask_set names e)) else None)
+  abbrev pub mods_of : Expression → ActionMods
+  mods_of e = if is_modmap e then OfKey else Named (mask_set names e)
 
   -- what a field is given by a value
   abbrev pub value_given : ActionField → Expression → Option Given
-  value_given fields.Modifiers e = option_map given.Modifiers (mods_of e)
+  value_given fields.Modifiers e = Some (given.Modifiers (mods_of e))
   value_given fields.Group e = option_map given.Group (option_and_then change_of (written e))
   value_given fields.Affect e = option_map given.Affect (meaning_among affect_words e)
   value_given fields.ClearLocks e = option_map given.ClearLocks (meaning_among truth_words e)

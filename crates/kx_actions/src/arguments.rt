@@ -22,7 +22,8 @@ fn read_argument(
     kind: ActionKind,
     placed: &PlacedArgument,
 ) -> Result<Given, Fault>
-    ensures value { result_ok result ≡ argument_given names.now.names kind placed.now }
+    ensures value { IfOk result (λ given.
+        Some given ≡ argument_given names.now.names kind placed.now) }
     ensures faultless { OnOk result (argument_faults file names.now.names kind placed.now ≡ []) }
     ensures fault { IfErr result (λ e.
         Contains (argument_faults file names.now.names kind placed.now) e) }

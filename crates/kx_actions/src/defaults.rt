@@ -37,8 +37,8 @@ fn read_member(
     member: &Name,
     field: &Field,
 ) -> Result<Given, Fault>
-    ensures value { result_ok result
-        ≡ member_given names.now.names kind member.now field.now.place.index field.now.setting }
+    ensures value { IfOk result (λ given. Some given
+        ≡ member_given names.now.names kind member.now field.now.place.index field.now.setting) }
     ensures faultless { OnOk result
         (member_faults file names.now.names kind member.now field.now.place.index field.now.span
         field.now.setting ≡ []) }
@@ -116,7 +116,6 @@ impl ActionDefaults {
     /// `UnknownModifier` in a mask.
     pub fn behind(self, names: &ModNames, file: u32, field: &Field) -> Result<ActionDefaults, Fault>
         ensures value { IfOk result (λ d. d ≡ next_defaults names.now.names self field.now) }
-        ensures none { OnErr result (next_defaults names.now.names self field.now ≡ self) }
         ensures last { (statements : List FieldValue) (kind : Kind)
             → settings_for (defaults_behind names.now.names statements) kind
             ≡ defaulted names.now.names statements kind }
@@ -136,16 +135,5 @@ impl ActionDefaults {
         };
         let given = read_member(names, file, kind, member.get(), field)?;
         Ok(self.with_settings(kind, self.settings(kind).with(given)))
-    }
-
-    /// The defaults after one more statement, of which a field with a fault changes nothing.
-    pub fn next(self, names: &ModNames, field: &Field) -> ActionDefaults
-        ensures { result ≡ next_defaults names.now.names self field.now }
-    {
-        let same = self;
-        match self.behind(names, 0, field) {
-            Ok(defaults) => defaults,
-            Err(_) => same,
-        }
     }
 }

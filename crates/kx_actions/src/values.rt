@@ -43,7 +43,7 @@ fn is_modmap(expression: &Expression) -> bool
 }
 
 fn mods_of(names: &ModNames, file: u32, value: &Expression) -> Result<ActionMods, Fault>
-    ensures value { result_ok result ≡ mods_of names.now.names value.now }
+    ensures value { IfOk result (λ mods. mods ≡ mods_of names.now.names value.now) }
     ensures faultless { OnOk result (mods_faults file names.now.names value.now ≡ []) }
     ensures fault { IfErr result (λ e. Contains (mods_faults file names.now.names value.now) e) }
 {
@@ -128,7 +128,7 @@ pub(crate) fn value_given(
     field: ActionField,
     value: &Expression,
 ) -> Result<Given, Fault>
-    ensures value { result_ok result ≡ value_given names.now.names field value.now }
+    ensures value { IfOk result (λ given. Some given ≡ value_given names.now.names field value.now) }
     ensures faultless { OnOk result (value_faults file names.now.names field value.now ≡ []) }
     ensures fault { IfErr result (λ e.
         Contains (value_faults file names.now.names field value.now) e) }

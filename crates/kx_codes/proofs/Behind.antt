@@ -1,6 +1,6 @@
 -- Going over a body: what is after and what is left of it.
 use Rattle.std.proofs.Common.{IfErr, OnOk, ◌≡◌, true, Some, ℕ, ◌+◌, ◌<◌, ◌≤◌, zero, suc, List, [], ◌∷◌, ◌++◌, length, drop, get_or, Contains, Option, None, Result, Ok, Err, refl, sym, ap, ◌∙◌, subst, arith}
-use Rattle.std.proofs.lemmas.List.{drop_all, drop_more}
+use Rattle.std.proofs.lemmas.List.{append-nil, append_assoc, drop_all}
 use Rattle.std.proofs.lemmas.List.Elements.{Contains-append_left}
 use Rattle.std.specs.List.{slice_get}
 use Rattle.std.specs.Result.{IsErrAnd}
@@ -22,6 +22,7 @@ use Rattle.kx_codes.specs.CodeFaults.{faults_of, own_faults}
 use Rattle.kx_codes.specs.Gathering.{AreGathered, Blames, IsFound, IsGathered, Leaves, Took}
 use Rattle.kx_codes.specs.Indexed.{Indexed, Stands, distinct}
 use Rattle.kx_codes.specs.Pairs.{Pair, all_taken, pairs_from, pairs_of}
+use Rattle.kx_merge.proofs.Going.{drop_next}
 
 -- from pairs and a body, some of the body is after in what is gathered now, by the numbers of names, without a fault
 pub record Going (Old : List Pair → Type 0) (names : List (List ℕ)) (now : Indexed) (whole left : Body) : Type 0 where
@@ -61,33 +62,17 @@ going_new names g whole left s p f = record {
   faults_go = f;
 }
 
-append-none : (fs : List Fault) → fs ++ [] ≡ fs
-append-none [] = refl
-append-none (f ∷ fs) = ap (λ gs. f ∷ gs) (append-none fs)
-
-append-inner : (fs gs hs : List Fault) → (fs ++ gs) ++ hs ≡ fs ++ (gs ++ hs)
-append-inner [] gs hs = refl
-append-inner (f ∷ fs) gs hs = ap (λ all. f ∷ all) (append-inner fs gs hs)
-
-pub drop_next : {X : Type 0} (xs : List X) (i : ℕ) (x : X) → i < length xs → x ≡ get_or xs i x → drop i xs ≡ x ∷ drop (i + 1) xs
-drop_next xs i x within h = drop_more xs i x within ∙ ap (λ y. y ∷ drop (i + 1) xs) (sym h)
-
-pub read_again : {X : Type 0} (xs : List X) (i : ℕ) (d : X) → i < length xs → get_or xs i d ≡ get_or xs i (get_or xs i d)
-read_again [] i d h = absurd (omega (arith, h))
-read_again (x ∷ xs) zero d h = refl
-read_again (x ∷ xs) (suc i) d h = read_again xs i d (omega (arith, h))
-
 module _ (bodies : List Body) where
   split-entry : (place : Place) (x : Entry) (xs : List Entry) → Splits (entries_body bodies place (x ∷ xs) End) (entries_body bodies place (x ∷ []) End) (entries_body bodies place xs End)
-  split-entry place (entry.Own item) xs = record { pairs_split = λ ps. refl; faults_split = ap (λ fs. fs ++ faults_of (entries_body bodies place xs End)) (sym (append-none _)) }
-  split-entry place (entry.Include mode links) xs = record { pairs_split = λ ps. refl; faults_split = ap (λ fs. fs ++ faults_of (entries_body bodies place xs End)) (sym (append-none _)) }
+  split-entry place (entry.Own item) xs = record { pairs_split = λ ps. refl; faults_split = ap (λ fs. fs ++ faults_of (entries_body bodies place xs End)) (sym (append-nil _)) }
+  split-entry place (entry.Include mode links) xs = record { pairs_split = λ ps. refl; faults_split = ap (λ fs. fs ++ faults_of (entries_body bodies place xs End)) (sym (append-nil _)) }
 
   pub split_entry : (place : Place) (es : List Entry) (i : ℕ) (x : Entry) → i < length es → x ≡ get_or es i x → Splits (entries_body bodies place (drop i es) End) (entries_body bodies place (x ∷ []) End) (entries_body bodies place (drop (i + 1) es) End)
   split_entry place es i x within is = subst (λ xs. Splits (entries_body bodies place xs End) (entries_body bodies place (x ∷ []) End) (entries_body bodies place (drop (i + 1) es) End)) (sym (drop_next es i x within is)) (split-entry place x (drop (i + 1) es))
 
   pub split_link : (ls : List Link) (i : ℕ) (l : Link) → i < length ls → l ≡ get_or ls i l → Splits (links_body bodies (drop i ls)) (links_body bodies (l ∷ [])) (links_body bodies (drop (i + 1) ls))
   split_link ls i l within is = subst (λ xs. Splits (links_body bodies xs) (links_body bodies (l ∷ [])) (links_body bodies (drop (i + 1) ls))) (sym (drop_next ls i l within is))
-      (record { pairs_split = λ ps. refl; faults_split = ap (λ fs. fs ++ faults_of (links_body bodies (drop (i + 1) ls))) (sym (append-none (faults_of (body_at bodies l.map)))) })
+      (record { pairs_split = λ ps. refl; faults_split = ap (λ fs. fs ++ faults_of (links_body bodies (drop (i + 1) ls))) (sym (append-nil (faults_of (body_at bodies l.map)))) })
 
   pairs-behind : (place : Place) (xs : List Entry) (rest : Body) (ps : List Pair) → pairs_from ps (entries_body bodies place xs rest) ≡ pairs_from (pairs_from ps (entries_body bodies place xs End)) rest
   pairs-behind place [] rest ps = refl
@@ -96,8 +81,8 @@ module _ (bodies : List Body) where
 
   faults-behind : (place : Place) (xs : List Entry) (rest : Body) → faults_of (entries_body bodies place xs rest) ≡ faults_of (entries_body bodies place xs End) ++ faults_of rest
   faults-behind place [] rest = refl
-  faults-behind place (entry.Own item ∷ xs) rest = ap (λ gs. own_faults place.file item.now ++ gs) (faults-behind place xs rest) ∙ sym (append-inner (own_faults place.file item.now) (faults_of (entries_body bodies place xs End)) (faults_of rest))
-  faults-behind place (entry.Include mode links ∷ xs) rest = ap (λ gs. faults_of (links_body bodies links.items) ++ gs) (faults-behind place xs rest) ∙ sym (append-inner (faults_of (links_body bodies links.items)) (faults_of (entries_body bodies place xs End)) (faults_of rest))
+  faults-behind place (entry.Own item ∷ xs) rest = ap (λ gs. own_faults place.file item.now ++ gs) (faults-behind place xs rest) ∙ sym (append_assoc (own_faults place.file item.now) (faults_of (entries_body bodies place xs End)) (faults_of rest))
+  faults-behind place (entry.Include mode links ∷ xs) rest = ap (λ gs. faults_of (links_body bodies links.items) ++ gs) (faults-behind place xs rest) ∙ sym (append_assoc (faults_of (links_body bodies links.items)) (faults_of (entries_body bodies place xs End)) (faults_of rest))
 
   pub split_section : (ms : List Map) (i : ℕ) (m : Map) → i < length ms → m ≡ get_or ms i m → Splits (shared_sections bodies (drop i ms)) (shared_body bodies m End) (shared_sections bodies (drop (i + 1) ms))
   split_section ms i m within is = subst (λ xs. Splits (shared_sections bodies xs) (shared_body bodies m End) (shared_sections bodies (drop (i + 1) ms))) (sym (drop_next ms i m within is)) (record {

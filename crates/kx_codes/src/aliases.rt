@@ -91,7 +91,7 @@ impl SingleValue<()> for AliasTarget {
         read_item(alloc, place.file, item)
     }
 
-    fn copied(&self, alloc: Global) -> Result<AliasTarget, Fault> {
+    fn try_clone(&self, alloc: Global) -> Result<AliasTarget, Fault> {
         AliasTarget::of(alloc, self.as_slice())
     }
 

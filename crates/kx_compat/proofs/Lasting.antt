@@ -7,7 +7,7 @@ use Rattle.kx_compat.specs.Given.{FieldValues}
 use Rattle.kx_compat.specs.Giving.{last_values, value_action, value_first_level_only, value_modifier, with_value}
 use Rattle.kx_compat.specs.declared.values.FieldValue.{FieldValue}
 use Rattle.kx_compat.specs.declared.values.FieldValue.TheVariants.{Action, Modifier, FirstLevelOnly}
-use Rattle.kx_compat.proofs.Going.{drop_next}
+use Rattle.kx_merge.proofs.Going.{drop_next}
 
 or_inner : {X : Type 0} (a b c : Option X) → option_or (option_or a b) c ≡ option_or a (option_or b c)
 or_inner None b c = refl

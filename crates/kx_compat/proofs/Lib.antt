@@ -3,7 +3,6 @@ mod Kept
 mod Parting
 pub mod Same
 mod Behind
-mod Going
 mod Lasting
 mod Listed
 mod Offering

@@ -5,7 +5,6 @@ use Rattle.std.specs.List.{flat_map}
 use Rattle.std.specs.Str.{str_eq_ignore_ascii_case}
 use Rattle.std.specs.Option.{option_and_then, option_map_or}
 use Rattle.kx_actions.specs.Defaults.{default_faults, defaults_behind, next_defaults, no_defaults as no_action_defaults}
-use Rattle.kx_actions.specs.Values.{is_faultless}
 use Rattle.kx_actions.specs.declared.defaults.ActionDefaults.{ActionDefaults}
 use Rattle.kx_include.specs.IncludeFaults.{at}
 use Rattle.kx_lex.specs.declared.fault.Fault.{Fault}
@@ -59,13 +58,9 @@ no_defaults = record { actions = no_action_defaults; values = no_values }
 
 -- `names` are the virtual modifiers by number
 module _ (names : List (List ℕ)) where
-  -- a default with a fault, in whatever file it stands, gives nothing
-  abbrev pub member_value : ActionDefaults → Field → Option Name → Option FieldValue
-  member_value actions field member = option_and_then (λ m. if is_faultless (field_faults 0 names m field) then field_value names actions m field else None) member
-
   -- what a statement gives as a default for interpretations, where it is one, under the defaults for actions before it
   abbrev pub given_value : ActionDefaults → Option Field → Option FieldValue
-  given_value actions field = option_and_then (λ f. if is_interpret f.place.word.bytes then member_value actions f f.place.member else None) field
+  given_value actions field = option_and_then (λ f. if is_interpret f.place.word.bytes then option_and_then (λ m. field_value names actions m f) f.place.member else None) field
 
   -- the defaults after one more statement
   abbrev pub next_default : CompatDefaults → Item → CompatDefaults
@@ -122,8 +117,8 @@ alone_faults file names statement word field = option_map_or (lone_faults file n
 abbrev pub said_faults : (file : ℕ) → (names : List (List ℕ)) → Said → Span → Option Interpreted → List Fault
 said_faults file names statement word i = option_map_or (interpretation_faults file names) i (option_map_or (lone_faults file names) (field_in statement) (if is_other statement then [] else UnknownField (at file word) ∷ []))
 
-abbrev pub default_value : (names : List (List ℕ)) → ActionDefaults → Name → Field → Option FieldValue
-default_value names actions member field = if is_faultless (field_faults 0 names member field) then field_value names actions member field else None
+abbrev pub next_said : (names : List (List ℕ)) → CompatDefaults → Option Field → CompatDefaults
+next_said names d field = record { actions = option_map_or (next_defaults names d.actions) field d.actions; values = with_value d.values (given_value names d.actions field) }
 
 abbrev pub is_indicator : List ℕ → Bool
 is_indicator word = str_eq_ignore_ascii_case word (codes "indicator")

@@ -1,15 +1,16 @@
 //! The defaults of a compat section.
-ghost use Rattle.std.specs.Prelude.{◌≡◌, Some};
+ghost use Rattle.std.specs.Prelude.{◌≡◌, [], Contains, IfErr, IfOk, OnOk, Some, true};
 ghost use Rattle.std.specs.Option.{option_map};
-ghost use Rattle.kx_compat.specs.Sections.{default_value, given_value, is_interpret, item_field, member_value};
+ghost use Rattle.kx_compat.specs.Sections.{alone_faults, is_indicator, is_interpret, is_other, lone_faults, member_faults, next_said};
 ghost use Rattle.kx_symbols.specs.Keys.{field_in};
 
 use crate::fields::read_field;
-use crate::values::{FieldValue, FieldValues};
+use crate::values::FieldValues;
 use ks_core::Notes;
 use kx_actions::ActionDefaults;
-use kx_lex::{Boxed, Name};
-use kx_parse::{Field, Item, Statement};
+use kx_lex::{At, Fault, Span};
+use kx_merge::unknown_field;
+use kx_parse::{Field, Statement};
 use kx_virtual_mods::ModNames;
 
 /// What the default statements of a section give.
@@ -37,58 +38,27 @@ pub(crate) fn is_interpret(word: &[u8]) -> bool
     word.eq_ignore_ascii_case(b"interpret")
 }
 
-/// What a default for a field of interpretations gives; nothing, where it has a fault.
-fn default_value(
-    names: &ModNames,
-    actions: &ActionDefaults,
-    member: &Name,
-    field: &Field,
-) -> Option<FieldValue>
-    ensures { result ≡ default_value names.now.names actions.now member.now field.now }
+/// Whether a statement of a compat section says nothing of interpretations.
+fn is_other(statement: &Statement) -> bool
+    ensures { result ≡ is_other statement.now }
 {
-    let mut notes = Notes::new();
-    match read_field(names, 0, actions, member, field, &mut notes) {
-        Ok(value) => value,
-        Err(_) => None,
+    match statement {
+        Statement::VirtualModifiers(_) => true,
+        Statement::Indicator { .. } => true,
+        Statement::Group { .. } => true,
+        _ => false,
     }
 }
 
-fn member_value(
-    names: &ModNames,
-    actions: &ActionDefaults,
-    field: &Field,
-    member: &Option<Boxed<Name>>,
-) -> Option<FieldValue>
-    ensures { result ≡ member_value names.now.names actions.now field.now member.now }
+fn is_indicator(word: &[u8]) -> bool
+    ensures { result ≡ is_indicator word.now }
 {
-    match member {
-        None => None,
-        Some(member) => default_value(names, actions, member.get(), field),
-    }
-}
-
-/// What a field gives as a default for interpretations, where it is one.
-fn given_value(names: &ModNames, actions: &ActionDefaults, field: &Field) -> Option<FieldValue>
-    ensures { result ≡ given_value names.now.names actions.now (Some field.now) }
-{
-    if is_interpret(field.place.word.bytes.as_slice()) {
-        return member_value(names, actions, field, &field.place.member);
-    }
-    None
-}
-
-fn item_field(item: &Item) -> Option<&Field>
-    ensures { option_map (λ f. f.now) result ≡ item_field item.now }
-{
-    match item {
-        Item::Include { .. } => None,
-        Item::Statement { statement, .. } => field_in(statement),
-    }
+    word.eq_ignore_ascii_case(b"indicator")
 }
 
 impl CompatDefaults {
     ghost use Rattle.std.specs.Prelude.{◌≡◌};
-    ghost use Rattle.kx_compat.specs.Sections.{next_default, no_defaults};
+    ghost use Rattle.kx_compat.specs.Sections.{no_defaults};
 
     /// Those at the start of a section.
     pub(crate) fn none() -> CompatDefaults
@@ -100,18 +70,85 @@ impl CompatDefaults {
         }
     }
 
-    /// Those after one more statement.
-    pub(crate) fn next(self, names: &ModNames, item: &Item) -> CompatDefaults
-        ensures { result ≡ next_default names.now.names self item.now }
+    /// Those after a default for a field of interpretations.
+    fn behind_member(
+        self,
+        names: &ModNames,
+        file: u32,
+        field: &Field,
+        notes: &mut Notes,
+    ) -> Result<CompatDefaults, Fault>
+        requires { is_interpret field.now.place.word.bytes ≡ true }
+        ensures next { IfOk result (λ d. d ≡ next_said names.now.names self (Some field.now)) }
+        ensures faultless { OnOk result
+            (member_faults file names.now.names field.now field.now.place.member ≡ []) }
+        ensures fault { IfErr result (λ e.
+            Contains (member_faults file names.now.names field.now field.now.place.member) e) }
     {
-        match item_field(item) {
-            None => self,
-            Some(field) => {
-                let value = given_value(names, &self.actions, field);
-                CompatDefaults {
-                    actions: self.actions.next(names, field),
-                    values: self.values.with(value),
+        let Some(member) = &field.place.member else {
+            return Err(unknown_field(file, &field.place.word));
+        };
+        let value = read_field(names, file, &self.actions, member.get(), field, notes)?;
+        Ok(CompatDefaults {
+            actions: self.actions,
+            values: self.values.with(value),
+        })
+    }
+
+    /// Those after a field that stands alone.
+    fn behind(
+        self,
+        names: &ModNames,
+        file: u32,
+        field: &Field,
+        notes: &mut Notes,
+    ) -> Result<CompatDefaults, Fault>
+        ensures next { IfOk result (λ d. d ≡ next_said names.now.names self (Some field.now)) }
+        ensures faultless { OnOk result (lone_faults file names.now.names field.now ≡ []) }
+        ensures fault { IfErr result (λ e.
+            Contains (lone_faults file names.now.names field.now) e) }
+    {
+        let word = field.place.word.bytes.as_slice();
+        if is_interpret(word) {
+            return self.behind_member(names, file, field, notes);
+        }
+        if is_indicator(word) {
+            if field.place.member.is_none() {
+                return Err(unknown_field(file, &field.place.word));
+            }
+            return Ok(self);
+        }
+        let actions = self.actions.behind(names, file, field)?;
+        Ok(CompatDefaults {
+            actions,
+            values: self.values,
+        })
+    }
+
+    /// Those after a statement that is no interpretation; `word` is what a fault of an unknown statement names.
+    pub(crate) fn after(
+        self,
+        names: &ModNames,
+        file: u32,
+        word: Span,
+        statement: &Statement,
+        notes: &mut Notes,
+    ) -> Result<CompatDefaults, Fault>
+        ensures next { IfOk result (λ d.
+            d ≡ next_said names.now.names self (field_in statement.now)) }
+        ensures faultless { OnOk result
+            (alone_faults file names.now.names statement.now word (field_in statement.now) ≡ []) }
+        ensures fault { IfErr result (λ e.
+            Contains (alone_faults file names.now.names statement.now word
+            (field_in statement.now)) e) }
+    {
+        match field_in(statement) {
+            Some(field) => self.behind(names, file, field, notes),
+            None => {
+                if is_other(statement) {
+                    return Ok(self);
                 }
+                Err(Fault::UnknownField(At { file, span: word }))
             }
         }
     }

@@ -3,7 +3,7 @@ ghost use Rattle.std.specs.Prelude.{◌≡◌, ℕ, IfErr, None, OnOk, unwrap_or
 ghost use Rattle.std.proofs.Common.{◌∙◌, ap, rules, sym};
 ghost use Rattle.kx_lex.specs.declared.fault.Fault.TheVariants.{Memory};
 ghost use Rattle.kx_merge.specs.Moved.{moved_key, moved_value, moved_width};
-ghost use Rattle.kx_merge.specs.Offers.{taken, widened};
+ghost use Rattle.kx_merge.specs.Offers.{merged_value, merged_width};
 ghost use Rattle.kx_compat.specs.Meaning.{compat_moves, compat_rules};
 ghost use Rattle.kx_compat.specs.Giving.{values_cell, values_width};
 
@@ -49,23 +49,14 @@ impl<'a> Fields<Context<'a>> for FieldValues {
         CompatDefaults::none()
     }
 
-    fn next(
-        _alloc: Global,
-        context: &Context<'a>,
-        defaults: CompatDefaults,
-        item: &Item,
-    ) -> Result<CompatDefaults, Fault> {
-        Ok(defaults.next(context.names, item))
-    }
-
     fn read(
         alloc: Global,
         context: &Context<'a>,
-        defaults: &CompatDefaults,
+        defaults: CompatDefaults,
         place: Place,
         item: &Item,
         notes: &mut Notes,
-    ) -> Result<Vec<(InterpretationMatch, FieldValues)>, Fault> {
+    ) -> Result<(Vec<(InterpretationMatch, FieldValues)>, CompatDefaults), Fault> {
         read_item(
             alloc,
             context.table,
@@ -77,15 +68,15 @@ impl<'a> Fields<Context<'a>> for FieldValues {
         )
     }
 
-    fn absorb(&mut self, _alloc: Global, other: FieldValues, mode: Mode) -> Result<(), Fault>
+    fn merge(&mut self, _alloc: Global, other: FieldValues, mode: Mode) -> Result<(), Fault>
         ensures cells { OnOk result ((c : Cell)
-            → values_cell self.new c ≡ taken mode (values_cell self.old c) (values_cell other c)) }
+            → values_cell self.new c ≡ merged_value mode (values_cell self.old c) (values_cell other c)) }
         ensures widths { OnOk result ((g : ℕ)
-            → values_width self.new g ≡ widened mode (values_width self.old g)
+            → values_width self.new g ≡ merged_width mode (values_width self.old g)
             (values_width other g)) }
         ensures err { IfErr result (λ e. e ≡ Memory) }
     {
-        *self = self.joined(other, mode);
+        *self = self.merged_with(other, mode);
         Ok(())
     }
 
@@ -96,7 +87,7 @@ impl<'a> Fields<Context<'a>> for FieldValues {
         FieldValues::none()
     }
 
-    fn absorb_moved(
+    fn merge_moved(
         &mut self,
         _alloc: Global,
         other: &FieldValues,
@@ -104,14 +95,14 @@ impl<'a> Fields<Context<'a>> for FieldValues {
         mode: Mode,
     ) -> Result<(), Fault>
         ensures cells { OnOk result ((c : Cell)
-            → values_cell self.new c ≡ taken mode (values_cell self.old c)
+            → values_cell self.new c ≡ merged_value mode (values_cell self.old c)
             (moved_value compat_moves _group (values_cell other.now) c)) }
         ensures widths { OnOk result ((g : ℕ)
-            → values_width self.new g ≡ widened mode (values_width self.old g)
+            → values_width self.new g ≡ merged_width mode (values_width self.old g)
             (moved_width compat_moves _group (values_width other.now) g)) }
         ensures err { IfErr result (λ e. e ≡ Memory) }
     {
-        *self = self.joined(*other, mode);
+        *self = self.merged_with(*other, mode);
         Ok(())
     }
 

@@ -7,20 +7,19 @@ ghost use Rattle.kx_parse.specs.declared.tree.Mode.{Mode as ModeValue};
 ghost use Rattle.kx_merge.specs.Records.{AreOffered, mode_of};
 ghost use Rattle.kx_symbols.specs.KeyFaults.{symbol_faults};
 ghost use Rattle.kx_compat.specs.Meaning.{item_offers, offers_to, said_offers, values_offer};
-ghost use Rattle.kx_compat.specs.Sections.{alone_faults, interpretation_faults, interpretation_in, is_indicator, is_other, item_faults, indicator_map_faults, lone_faults, member_faults, own_faults, own_value, said_faults, values_of};
+ghost use Rattle.kx_compat.specs.Sections.{interpretation_faults, interpretation_in, item_faults, next_default, next_said, own_faults, own_value, said_faults, values_of};
 ghost use Rattle.kx_symbols.specs.Keys.{field_in};
 ghost use Rattle.kx_compat.specs.Matches.{predicate_faults, match_of, match_with};
 ghost use Rattle.kx_compat.specs.Giving.{values_cell, values_width};
 ghost use Rattle.kx_mods.specs.Mods.{mask};
 
-use crate::defaults::{CompatDefaults, field_in, is_interpret};
+use crate::defaults::CompatDefaults;
 use crate::fields::read_field;
 use crate::interpretation_match::{Condition, InterpretationMatch, WantedKeysym};
 use crate::predicates::{read_keysym, read_predicate};
 use crate::values::{FieldValue, FieldValues};
 use ks_core::{NameTable, Notes};
-use kx_actions::ActionDefaults;
-use kx_lex::{At, Boxed, Fault, Name, Row, Span};
+use kx_lex::{Boxed, Fault, Row, Span};
 use kx_merge::unknown_field;
 use kx_mods::Mods;
 use kx_parse::{Field, Item, Predicate, Statement, Symbol};
@@ -41,18 +40,6 @@ fn interpretation_in(
             fields,
         } => Some((symbol, predicate, fields)),
         _ => None,
-    }
-}
-
-/// Whether a statement of a compat section says nothing of interpretations.
-fn is_other(statement: &Statement) -> bool
-    ensures { result ≡ is_other statement.now }
-{
-    match statement {
-        Statement::VirtualModifiers(_) => true,
-        Statement::Indicator { .. } => true,
-        Statement::Group { .. } => true,
-        _ => false,
     }
 }
 
@@ -202,113 +189,22 @@ fn read_interpretation(
     records_for(alloc, interpretation_match, values)
 }
 
-fn is_indicator(word: &[u8]) -> bool
-    ensures { result ≡ is_indicator word.now }
-{
-    word.eq_ignore_ascii_case(b"indicator")
-}
-
-/// Checks a default for a field of interpretations.
-fn check_member(
-    names: &ModNames,
-    file: u32,
-    actions: &ActionDefaults,
-    field: &Field,
-    notes: &mut Notes,
-) -> Result<(), Fault>
-    ensures faultless { OnOk result
-        (member_faults file names.now.names field.now field.now.place.member ≡ []) }
-    ensures fault { IfErr result (λ e.
-        Contains (member_faults file names.now.names field.now field.now.place.member) e) }
-{
-    match &field.place.member {
-        None => Err(unknown_field(file, &field.place.word)),
-        Some(member) => {
-            read_field(names, file, actions, member.get(), field, notes)?;
-            Ok(())
-        }
-    }
-}
-
-/// Checks a default for a field of indicators.
-fn check_indicator_map(file: u32, field: &Field) -> Result<(), Fault>
-    ensures faultless { OnOk result
-        (indicator_map_faults file [] field.now field.now.place.member ≡ []) }
-    ensures fault { IfErr result (λ e.
-        Contains (indicator_map_faults file [] field.now field.now.place.member) e) }
-{
-    if field.place.member.is_some() {
-        Ok(())
-    } else {
-        Err(unknown_field(file, &field.place.word))
-    }
-}
-
-/// Checks a field that stands alone.
-fn check_lone(
-    names: &ModNames,
-    file: u32,
-    actions: &ActionDefaults,
-    field: &Field,
-    notes: &mut Notes,
-) -> Result<(), Fault>
-    ensures faultless { OnOk result (lone_faults file names.now.names field.now ≡ []) }
-    ensures fault { IfErr result (λ e. Contains (lone_faults file names.now.names field.now) e) }
-{
-    let word = field.place.word.bytes.as_slice();
-    if is_interpret(word) {
-        return check_member(names, file, actions, field, notes);
-    }
-    if is_indicator(word) {
-        return check_indicator_map(file, field);
-    }
-    match actions.behind(names, file, field) {
-        Ok(_) => Ok(()),
-        Err(fault) => Err(fault),
-    }
-}
-
-/// Checks a statement that is no interpretation; `word` is what a fault of an unknown statement names.
-fn check_other(
-    names: &ModNames,
-    file: u32,
-    actions: &ActionDefaults,
-    word: Span,
-    statement: &Statement,
-    notes: &mut Notes,
-) -> Result<(), Fault>
-    ensures faultless { OnOk result
-        (alone_faults file names.now.names statement.now word (field_in statement.now) ≡ []) }
-    ensures fault { IfErr result (λ e.
-        Contains (alone_faults file names.now.names statement.now word (field_in statement.now))
-        e) }
-{
-    match field_in(statement) {
-        Some(field) => check_lone(names, file, actions, field, notes),
-        None => {
-            if is_other(statement) {
-                return Ok(());
-            }
-            Err(Fault::UnknownField(At { file, span: word }))
-        }
-    }
-}
-
-/// What a statement gives; `word` is what a fault of an unknown statement names.
+/// What a statement gives, and the defaults after it; `word` is what a fault of an unknown statement names.
 fn read_statement(
     alloc: Global,
     table: &NameTable,
     names: &ModNames,
     file: u32,
-    defaults: &CompatDefaults,
+    defaults: CompatDefaults,
     word: Span,
     statement: &Statement,
     notes: &mut Notes,
-) -> Result<Vec<(InterpretationMatch, FieldValues)>, Fault>
+) -> Result<(Vec<(InterpretationMatch, FieldValues)>, CompatDefaults), Fault>
     ensures records { (mode : ModeValue)
-        → IfOk result (λ records. AreOffered mode (values_cell) (values_width) records.items
-        (said_offers table.now names.now.names defaults.now mode
-        (interpretation_in statement.now))) }
+        → IfOk result (λ said. AreOffered mode (values_cell) (values_width) said.0.items
+        (said_offers table.now names.now.names defaults mode (interpretation_in statement.now))) }
+    ensures next { IfOk result (λ said.
+        said.1 ≡ next_said names.now.names defaults (field_in statement.now)) }
     ensures faultless { OnOk result
         (said_faults file names.now.names statement.now word (interpretation_in statement.now)
         ≡ []) }
@@ -317,44 +213,49 @@ fn read_statement(
         (interpretation_in statement.now)) e) }
 {
     match interpretation_in(statement) {
-        Some((symbol, predicate, fields)) => read_interpretation(
-            alloc,
-            table,
-            names,
-            file,
-            defaults,
-            symbol,
-            predicate,
-            fields.as_slice(),
-            notes,
-        ),
+        Some((symbol, predicate, fields)) => {
+            let records = read_interpretation(
+                alloc,
+                table,
+                names,
+                file,
+                &defaults,
+                symbol,
+                predicate,
+                fields.as_slice(),
+                notes,
+            )?;
+            Ok((records, defaults))
+        }
         None => {
-            check_other(names, file, &defaults.actions, word, statement, notes)?;
-            Ok(no_records(alloc))
+            let next = defaults.after(names, file, word, statement, notes)?;
+            Ok((no_records(alloc), next))
         }
     }
 }
 
-/// What an item gives, under the defaults before it in its section.
+/// What an item gives, under the defaults before it in its section, and the defaults after it.
 pub(crate) fn read_item(
     alloc: Global,
     table: &NameTable,
     names: &ModNames,
     file: u32,
-    defaults: &CompatDefaults,
+    defaults: CompatDefaults,
     item: &Item,
     notes: &mut Notes,
-) -> Result<Vec<(InterpretationMatch, FieldValues)>, Fault>
-    ensures records { IfOk result (λ records.
-        AreOffered (mode_of item.now) (values_cell) (values_width) records.items
-        (item_offers table.now names.now.names defaults.now item.now)) }
+) -> Result<(Vec<(InterpretationMatch, FieldValues)>, CompatDefaults), Fault>
+    ensures records { IfOk result (λ said.
+        AreOffered (mode_of item.now) (values_cell) (values_width) said.0.items
+        (item_offers table.now names.now.names defaults item.now)) }
+    ensures next { IfOk result (λ said.
+        said.1 ≡ next_default names.now.names defaults item.now) }
     ensures faultless { OnOk result (item_faults file names.now.names item.now ≡ []) }
     ensures fault { IfErr result (λ e.
         Contains (Memory ∷ item_faults file names.now.names item.now) e) }
 {
     let word = item.word_span();
     match item {
-        Item::Include { .. } => Ok(no_records(alloc)),
+        Item::Include { .. } => Ok((no_records(alloc), defaults)),
         Item::Statement { statement, .. } => read_statement(
             alloc, table, names, file, defaults, word, statement, notes,
         ),

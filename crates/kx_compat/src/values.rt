@@ -3,7 +3,7 @@ ghost use Rattle.std.specs.Prelude.{◌≡◌};
 
 use crate::action::GivenAction;
 use crate::modifier::GivenModifier;
-use kx_merge::taken;
+use kx_merge::merged_value;
 use kx_parse::Mode;
 use std::marker::Model;
 
@@ -52,7 +52,7 @@ impl Model for FieldValues {
 
 impl FieldValues {
     ghost use Rattle.std.specs.Prelude.{◌≡◌};
-    ghost use Rattle.kx_merge.specs.Offers.{taken};
+    ghost use Rattle.kx_merge.specs.Offers.{merged_value};
     ghost use Rattle.kx_compat.specs.Giving.{no_values, values_cell, with_value};
     ghost use Rattle.kx_compat.specs.declared.values.Cell.{Cell as CellName};
 
@@ -121,14 +121,14 @@ impl FieldValues {
     }
 
     /// What is given once more is given under a mode.
-    pub(crate) fn joined(self, other: FieldValues, mode: Mode) -> FieldValues
+    pub(crate) fn merged_with(self, other: FieldValues, mode: Mode) -> FieldValues
         ensures { (c : CellName) → values_cell result c
-            ≡ taken mode (values_cell self c) (values_cell other c) }
+            ≡ merged_value mode (values_cell self c) (values_cell other c) }
     {
         FieldValues {
-            action: taken(mode, self.action, other.action),
-            modifier: taken(mode, self.modifier, other.modifier),
-            first_level_only: taken(mode, self.first_level_only, other.first_level_only),
+            action: merged_value(mode, self.action, other.action),
+            modifier: merged_value(mode, self.modifier, other.modifier),
+            first_level_only: merged_value(mode, self.first_level_only, other.first_level_only),
         }
     }
 }

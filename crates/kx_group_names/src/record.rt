@@ -86,7 +86,7 @@ impl SingleValue<()> for NameText {
         read_item(alloc, place.file, item)
     }
 
-    fn copied(&self, alloc: Global) -> Result<NameText, Fault> {
+    fn try_clone(&self, alloc: Global) -> Result<NameText, Fault> {
         Ok(NameText::of(alloc, self.as_slice())?)
     }
 

@@ -6,7 +6,7 @@ use Rattle.kx_indicators.specs.Given.{IndicatorMapValues}
 use Rattle.kx_indicators.specs.Giving.{last_values, value_group_states, value_groups, value_mod_states, value_modifiers, with_value}
 use Rattle.kx_indicators.specs.declared.values.IndicatorMapValue.{IndicatorMapValue}
 use Rattle.kx_indicators.specs.declared.values.IndicatorMapValue.TheVariants.{Modifiers, ModStates, GroupStates, Groups}
-use Rattle.kx_indicators.proofs.Going.{drop_next}
+use Rattle.kx_merge.proofs.Going.{drop_next}
 
 or_inner : {X : Type 0} (a b c : Option X) → option_or (option_or a b) c ≡ option_or a (option_or b c)
 or_inner None b c = refl

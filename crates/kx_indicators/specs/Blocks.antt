@@ -3,7 +3,6 @@ use Rattle.std.specs.Prelude.{◌≡◌, ℕ, fold, Bool, List, [], ◌∷◌, �
 use Rattle.std.specs.List.{flat_map}
 use Rattle.std.specs.Str.{str_eq_ignore_ascii_case}
 use Rattle.std.specs.Option.{option_map, option_map_or, option_and_then}
-use Rattle.kx_actions.specs.Values.{is_faultless}
 use Rattle.kx_lex.specs.declared.fault.Fault.{Fault}
 use Rattle.kx_lex.specs.declared.name.Name.{Name}
 use Rattle.kx_lex.specs.declared.token.Span.{Span}
@@ -41,18 +40,14 @@ indicator_map_names (Include mode text span) = []
 
 -- `names` are the virtual modifiers by number
 module _ (names : List (List ℕ)) where
-  -- a default with a fault, in whatever file it stands, gives nothing
-  abbrev pub default_value : Name → Field → Option IndicatorMapValue
-  default_value member field = if is_faultless (field_faults 0 names member field) then field_value names member field else None
-
   -- the defaults after one more statement
   abbrev pub next_default : IndicatorMapValues → Item → IndicatorMapValues
-  next_default d item = with_value d (option_and_then (λ given. default_value given.0 given.1) (item_default item))
+  next_default d item = with_value d (option_and_then (λ given. field_value names given.0 given.1) (item_default item))
 
   -- a law, the clause `defaults` of `indicators`: the defaults after the statements of a section are what the last of them gives that gives a field
   -- anything
   abbrev pub DefaultsAreLast : Type 0
-  DefaultsAreLast = (statements : List Item) → fold next_default no_values statements ≡ last_values (λ item. option_and_then (λ given. default_value given.0 given.1) (item_default item)) no_values statements
+  DefaultsAreLast = (statements : List Item) → fold next_default no_values statements ≡ last_values (λ item. option_and_then (λ given. field_value names given.0 given.1) (item_default item)) no_values statements
 
   -- what is written last in an indicator, else the default before it; a field of two words is read and not used
   abbrev pub values_of : IndicatorMapValues → List Field → IndicatorMapValues
@@ -78,7 +73,7 @@ abbrev pub given_of : Field → Option Name → Option (Name × Field)
 given_of field member = option_map (λ m. (m, field)) member
 
 abbrev pub given_value : List (List ℕ) → Option (Name × Field) → Option IndicatorMapValue
-given_value names given = option_and_then (λ g. default_value names g.0 g.1) given
+given_value names given = option_and_then (λ g. field_value names g.0 g.1) given
 
 abbrev pub written_name : Option (Name × List Field) → List (List ℕ)
 written_name i = option_map_or (λ i. i.0.bytes ∷ []) i []

@@ -4,8 +4,8 @@ ghost use Rattle.std.specs.List.{flat_map};
 ghost use Rattle.kx_lex.specs.declared.fault.Fault.TheVariants.{Memory};
 ghost use Rattle.kx_parse.specs.declared.tree.Mode.{Mode as ModeValue};
 ghost use Rattle.kx_merge.specs.Records.{AreOffered, mode_of};
-ghost use Rattle.kx_indicators.specs.Blocks.{default_faults, default_in, indicator_in, item_faults, own_faults, own_value, said_faults, values_of};
-ghost use Rattle.kx_indicators.specs.Giving.{values_cell, values_width};
+ghost use Rattle.kx_indicators.specs.Blocks.{default_faults, default_in, given_value, indicator_in, item_faults, next_default, own_faults, own_value, said_faults, values_of};
+ghost use Rattle.kx_indicators.specs.Giving.{values_cell, values_width, with_value};
 ghost use Rattle.kx_indicators.specs.Meaning.{item_offers, offers_to, said_offers, values_offer};
 ghost use Rattle.kx_merge.specs.Faults.{name_faults};
 
@@ -118,23 +118,27 @@ fn read_indicator(
     records_for(alloc, indicator_maps.number_of(bytes), values)
 }
 
-/// Checks a statement that is no indicator.
-fn check_default(names: &ModNames, file: u32, statement: &Statement) -> Result<(), Fault>
+/// The defaults after a statement that is no indicator.
+fn read_default(
+    names: &ModNames,
+    file: u32,
+    defaults: IndicatorMapValues,
+    statement: &Statement,
+) -> Result<IndicatorMapValues, Fault>
+    ensures next { IfOk result (λ d.
+        d ≡ with_value defaults (given_value names.now.names (default_in statement.now))) }
     ensures faultless { OnOk result
         (default_faults file names.now.names (default_in statement.now) ≡ []) }
     ensures fault { IfErr result (λ e.
         Contains (default_faults file names.now.names (default_in statement.now)) e) }
 {
     match default_in(statement) {
-        None => Ok(()),
-        Some((member, field)) => {
-            read_field(names, file, member, field)?;
-            Ok(())
-        }
+        None => Ok(defaults),
+        Some((member, field)) => Ok(defaults.with(read_field(names, file, member, field)?)),
     }
 }
 
-/// What a statement gives; `whole` is all of it.
+/// What a statement gives, and the defaults after it; `whole` is all of it.
 fn read_statement(
     alloc: Global,
     indicator_maps: &Names,
@@ -143,11 +147,13 @@ fn read_statement(
     defaults: IndicatorMapValues,
     whole: Span,
     statement: &Statement,
-) -> Result<Vec<(usize, IndicatorMapValues)>, Fault>
+) -> Result<(Vec<(usize, IndicatorMapValues)>, IndicatorMapValues), Fault>
     ensures records { (mode : ModeValue)
-        → IfOk result (λ records. AreOffered mode (values_cell) (values_width) records.items
+        → IfOk result (λ said. AreOffered mode (values_cell) (values_width) said.0.items
         (said_offers indicator_maps.now names.now.names defaults mode
         (indicator_in statement.now))) }
+    ensures next { IfOk result (λ said.
+        said.1 ≡ with_value defaults (given_value names.now.names (default_in statement.now))) }
     ensures faultless { OnOk result
         (said_faults file names.now.names statement.now whole (indicator_in statement.now) ≡ []) }
     ensures fault { IfErr result (λ e.
@@ -155,24 +161,27 @@ fn read_statement(
         (indicator_in statement.now)) e) }
 {
     match indicator_in(statement) {
-        Some((name, fields)) => read_indicator(
-            alloc,
-            indicator_maps,
-            names,
-            file,
-            defaults,
-            whole,
-            name,
-            fields.as_slice(),
-        ),
+        Some((name, fields)) => {
+            let records = read_indicator(
+                alloc,
+                indicator_maps,
+                names,
+                file,
+                defaults,
+                whole,
+                name,
+                fields.as_slice(),
+            )?;
+            Ok((records, defaults))
+        }
         None => {
-            check_default(names, file, statement)?;
-            Ok(no_records(alloc))
+            let next = read_default(names, file, defaults, statement)?;
+            Ok((no_records(alloc), next))
         }
     }
 }
 
-/// What an item gives, under the defaults before it in its section.
+/// What an item gives, under the defaults before it in its section, and the defaults after it.
 pub(crate) fn read_item(
     alloc: Global,
     indicator_maps: &Names,
@@ -180,16 +189,18 @@ pub(crate) fn read_item(
     file: u32,
     defaults: IndicatorMapValues,
     item: &Item,
-) -> Result<Vec<(usize, IndicatorMapValues)>, Fault>
-    ensures records { IfOk result (λ records.
-        AreOffered (mode_of item.now) (values_cell) (values_width) records.items
+) -> Result<(Vec<(usize, IndicatorMapValues)>, IndicatorMapValues), Fault>
+    ensures records { IfOk result (λ said.
+        AreOffered (mode_of item.now) (values_cell) (values_width) said.0.items
         (item_offers indicator_maps.now names.now.names defaults item.now)) }
+    ensures next { IfOk result (λ said.
+        said.1 ≡ next_default names.now.names defaults item.now) }
     ensures faultless { OnOk result (item_faults file names.now.names item.now ≡ []) }
     ensures fault { IfErr result (λ e.
         Contains (Memory ∷ item_faults file names.now.names item.now) e) }
 {
     match item {
-        Item::Include { .. } => Ok(no_records(alloc)),
+        Item::Include { .. } => Ok((no_records(alloc), defaults)),
         Item::Statement {
             statement,
             span,

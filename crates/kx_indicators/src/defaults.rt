@@ -1,13 +1,10 @@
-//! The defaults for indicators.
+//! Defaults for indicators among statements.
 ghost use Rattle.std.specs.Prelude.{◌≡◌};
 ghost use Rattle.std.specs.Option.{option_map};
-ghost use Rattle.kx_indicators.specs.Blocks.{default_in, default_value, given_of, is_indicator, item_default, member_of, next_default};
+ghost use Rattle.kx_indicators.specs.Blocks.{default_in, given_of, is_indicator, member_of};
 
-use crate::fields::read_field;
-use crate::values::{IndicatorMapValue, IndicatorMapValues};
 use kx_lex::Name;
-use kx_parse::{Field, Item, Statement};
-use kx_virtual_mods::ModNames;
+use kx_parse::{Field, Statement};
 
 fn is_indicator(word: &[u8]) -> bool
     ensures { result ≡ is_indicator word.now }
@@ -45,38 +42,5 @@ pub(crate) fn default_in(statement: &Statement) -> Option<(&Name, &Field)>
     match statement {
         Statement::Field(field) => with_member(field.get()),
         _ => None,
-    }
-}
-
-/// What a default gives; nothing, where it has a fault.
-fn default_value(names: &ModNames, member: &Name, field: &Field) -> Option<IndicatorMapValue>
-    ensures { result ≡ default_value names.now.names member.now field.now }
-{
-    match read_field(names, 0, member, field) {
-        Ok(value) => value,
-        Err(_) => None,
-    }
-}
-
-fn item_default(item: &Item) -> Option<(&Name, &Field)>
-    ensures { option_map (λ d. (d.0.now, d.1.now)) result ≡ item_default item.now }
-{
-    match item {
-        Item::Include { .. } => None,
-        Item::Statement { statement, .. } => default_in(statement),
-    }
-}
-
-/// The defaults after one more statement.
-pub(crate) fn next_default(
-    names: &ModNames,
-    defaults: IndicatorMapValues,
-    item: &Item,
-) -> IndicatorMapValues
-    ensures { result ≡ next_default names.now.names defaults item.now }
-{
-    match item_default(item) {
-        None => defaults,
-        Some((member, field)) => defaults.with(default_value(names, member, field)),
     }
 }

@@ -3,12 +3,11 @@ ghost use Rattle.std.specs.Prelude.{◌≡◌, ℕ, IfErr, None, OnOk, unwrap_or
 ghost use Rattle.std.proofs.Common.{◌∙◌, ap, eqb-true, sym};
 ghost use Rattle.kx_lex.specs.declared.fault.Fault.TheVariants.{Memory};
 ghost use Rattle.kx_merge.specs.Moved.{moved_key, moved_value, moved_width};
-ghost use Rattle.kx_merge.specs.Offers.{taken, widened};
+ghost use Rattle.kx_merge.specs.Offers.{merged_value, merged_width};
 ghost use Rattle.kx_indicators.specs.Giving.{values_cell, values_width};
 ghost use Rattle.kx_indicators.specs.Meaning.{indicator_map_moves, indicator_map_rules};
 
 use crate::blocks::read_item;
-use crate::defaults::next_default;
 use crate::values::{IndicatorMapField, IndicatorMapValue, IndicatorMapValues};
 use kx_include::Place;
 use kx_lex::Fault;
@@ -49,42 +48,33 @@ impl<'a> Fields<Context<'a>> for IndicatorMapValues {
         IndicatorMapValues::none()
     }
 
-    fn next(
-        _alloc: Global,
-        context: &Context<'a>,
-        defaults: IndicatorMapValues,
-        item: &Item,
-    ) -> Result<IndicatorMapValues, Fault> {
-        Ok(next_default(context.names, defaults, item))
-    }
-
     fn read(
         alloc: Global,
         context: &Context<'a>,
-        defaults: &IndicatorMapValues,
+        defaults: IndicatorMapValues,
         place: Place,
         item: &Item,
         _notes: &mut (),
-    ) -> Result<Vec<(usize, IndicatorMapValues)>, Fault> {
+    ) -> Result<(Vec<(usize, IndicatorMapValues)>, IndicatorMapValues), Fault> {
         read_item(
             alloc,
             context.indicator_maps,
             context.names,
             place.file,
-            *defaults,
+            defaults,
             item,
         )
     }
 
-    fn absorb(&mut self, _alloc: Global, other: IndicatorMapValues, mode: Mode) -> Result<(), Fault>
+    fn merge(&mut self, _alloc: Global, other: IndicatorMapValues, mode: Mode) -> Result<(), Fault>
         ensures cells { OnOk result ((c : IndicatorMapField)
-            → values_cell self.new c ≡ taken mode (values_cell self.old c) (values_cell other c)) }
+            → values_cell self.new c ≡ merged_value mode (values_cell self.old c) (values_cell other c)) }
         ensures widths { OnOk result ((g : ℕ)
-            → values_width self.new g ≡ widened mode (values_width self.old g)
+            → values_width self.new g ≡ merged_width mode (values_width self.old g)
             (values_width other g)) }
         ensures err { IfErr result (λ e. e ≡ Memory) }
     {
-        *self = self.joined(other, mode);
+        *self = self.merged_with(other, mode);
         Ok(())
     }
 
@@ -95,7 +85,7 @@ impl<'a> Fields<Context<'a>> for IndicatorMapValues {
         IndicatorMapValues::none()
     }
 
-    fn absorb_moved(
+    fn merge_moved(
         &mut self,
         _alloc: Global,
         other: &IndicatorMapValues,
@@ -103,14 +93,14 @@ impl<'a> Fields<Context<'a>> for IndicatorMapValues {
         mode: Mode,
     ) -> Result<(), Fault>
         ensures cells { OnOk result ((c : IndicatorMapField)
-            → values_cell self.new c ≡ taken mode (values_cell self.old c)
+            → values_cell self.new c ≡ merged_value mode (values_cell self.old c)
             (moved_value indicator_map_moves _group (values_cell other.now) c)) }
         ensures widths { OnOk result ((g : ℕ)
-            → values_width self.new g ≡ widened mode (values_width self.old g)
+            → values_width self.new g ≡ merged_width mode (values_width self.old g)
             (moved_width indicator_map_moves _group (values_width other.now) g)) }
         ensures err { IfErr result (λ e. e ≡ Memory) }
     {
-        *self = self.joined(*other, mode);
+        *self = self.merged_with(*other, mode);
         Ok(())
     }
 

@@ -2,7 +2,7 @@
 ghost use Rattle.std.specs.Prelude.{◌≡◌};
 
 use crate::states::GivenStates;
-use kx_merge::taken;
+use kx_merge::merged_value;
 use kx_parse::Mode;
 use kx_virtual_mods::NameSet;
 use std::marker::Model;
@@ -57,7 +57,7 @@ impl Model for IndicatorMapValues {
 
 impl IndicatorMapValues {
     ghost use Rattle.std.specs.Prelude.{◌≡◌, Some, unwrap_or};
-    ghost use Rattle.kx_merge.specs.Offers.{taken};
+    ghost use Rattle.kx_merge.specs.Offers.{merged_value};
     ghost use Rattle.kx_indicators.specs.Giving.{no_values, values_cell, with_value};
     ghost use Rattle.kx_indicators.specs.declared.values.IndicatorMapField.{IndicatorMapField as FieldName};
 
@@ -97,15 +97,15 @@ impl IndicatorMapValues {
     }
 
     /// What is given once more is given under a mode.
-    pub(crate) fn joined(self, other: IndicatorMapValues, mode: Mode) -> IndicatorMapValues
+    pub(crate) fn merged_with(self, other: IndicatorMapValues, mode: Mode) -> IndicatorMapValues
         ensures { (c : FieldName) → values_cell result c
-            ≡ taken mode (values_cell self c) (values_cell other c) }
+            ≡ merged_value mode (values_cell self c) (values_cell other c) }
     {
         IndicatorMapValues {
-            modifiers: taken(mode, self.modifiers, other.modifiers),
-            mod_states: taken(mode, self.mod_states, other.mod_states),
-            group_states: taken(mode, self.group_states, other.group_states),
-            groups: taken(mode, self.groups, other.groups),
+            modifiers: merged_value(mode, self.modifiers, other.modifiers),
+            mod_states: merged_value(mode, self.mod_states, other.mod_states),
+            group_states: merged_value(mode, self.group_states, other.group_states),
+            groups: merged_value(mode, self.groups, other.groups),
         }
     }
 

@@ -11,7 +11,7 @@ use Rattle.kx_key_fields.specs.declared.cells.AttributeCell.TheVariants as cells
 use Rattle.kx_key_fields.specs.declared.cells.AttributeValue.TheVariants as values
 use Rattle.kx_key_fields.specs.declared.given.Given.{Given}
 use Rattle.kx_key_fields.specs.declared.given.Given.TheVariants as given
-use Rattle.kx_key_fields.proofs.Going.{drop_next}
+use Rattle.kx_merge.proofs.Going.{drop_next}
 use Rattle.kx_key_fields.proofs.Moving.{type_put}
 
 or_inner : {X : Type 0} (a b c : Option X) → option_or (option_or a b) c ≡ option_or a (option_or b c)

@@ -2,33 +2,29 @@
 use Rattle.std.proofs.Common.{◌≡◌, ℕ, ◌+◌, ◌-◌, ◌==◌, ◌<◌, ◌≤◌, Bool, true, false, cond, max, nat_eq, nat_lt, List, [], ◌∷◌, ◌++◌, length, replicate, get_or, zero, suc, slice_set, Option, None, Some, refl, sym, ap, ◌∙◌, arith}
 use Rattle.std.specs.Option.{option_and_then}
 use Rattle.std.specs.List.{slice_get}
-use Rattle.std.proofs.lemmas.List.{length-append, length-replicate}
+use Rattle.std.proofs.lemmas.List.{append_assoc, length-append, length-replicate}
 use Rattle.std.proofs.lemmas.Option.{slice_get_past, slice_get-get_or}
 use Rattle.std.proofs.lemmas.Bool.{false≢true, eqb-true, eq-eqb, ltb-true, ltb-false, lt-ltb, le-ltb}
 use Rattle.kx_parse.specs.declared.tree.Mode.{Mode}
 use Rattle.kx_parse.specs.declared.tree.Mode.TheVariants.{Augment, Override, Replace}
-use Rattle.kx_merge.specs.Offers.{is_replace, taken}
+use Rattle.kx_merge.specs.Offers.{is_replace, merged_value}
 use Rattle.kx_key_fields.specs.Attributes.{GroupTypes, type_at, widened_to, with_type}
-
-append-inner : {X : Type 0} (xs ys zs : List X) → (xs ++ ys) ++ zs ≡ xs ++ (ys ++ zs)
-append-inner [] ys zs = refl
-append-inner (x ∷ xs) ys zs = ap (λ rest. x ∷ rest) (append-inner xs ys zs)
 
 pub widen_goes : {X : Type 0} (xs : List X) (x : X) (count : ℕ) → length xs < count → (xs ++ x ∷ []) ++ replicate (count - length (xs ++ x ∷ [])) x ≡ xs ++ replicate (count - length xs) x
 widen_goes xs x count more =
     let longer : length (xs ++ x ∷ []) ≡ length xs + 1 = length-append xs (x ∷ []) in
     let one : count - length xs ≡ suc (count - length (xs ++ x ∷ [])) = omega (arith, longer, more) in
-    append-inner xs (x ∷ []) (replicate (count - length (xs ++ x ∷ [])) x) ∙ ap (λ n. xs ++ replicate n x) (sym one)
+    append_assoc xs (x ∷ []) (replicate (count - length (xs ++ x ∷ [])) x) ∙ ap (λ n. xs ++ replicate n x) (sym one)
 
 -- of later types those before a place were taken up, and the others are still there
 pub record TypesBehind (mode : Mode) (old other now left : GroupTypes) (place : ℕ) : Type 0 where
   pub sized : length left ≡ length other
   pub kept : (k : ℕ) → place ≤ k → type_at left k ≡ type_at other k
   pub long : length now ≡ max (length old) place
-  pub types : (k : ℕ) → type_at now k ≡ cond (nat_lt k place) (taken mode (type_at old k) (type_at other k)) (type_at old k)
+  pub types : (k : ℕ) → type_at now k ≡ cond (nat_lt k place) (merged_value mode (type_at old k) (type_at other k)) (type_at old k)
 
 -- where nothing is taken up, what is there stays
-nothing_taken : (mode : Mode) (o : Option (List ℕ)) → is_replace mode ≡ false → taken mode o None ≡ o
+nothing_taken : (mode : Mode) (o : Option (List ℕ)) → is_replace mode ≡ false → merged_value mode o None ≡ o
 nothing_taken Augment None h = refl
 nothing_taken Augment (Some x) h = refl
 nothing_taken Override o h = refl
@@ -52,7 +48,7 @@ type-past xs k past = ap (λ o. option_and_then (λ p. p) o) (slice_get_past xs 
 module _ (mode : Mode) (old other : GroupTypes) where
   pub types_go : (now left : GroupTypes) (place : ℕ) (name : Option (List ℕ)) (now2 left2 : GroupTypes) → is_replace mode ≡ false → TypesBehind mode old other now left place → place < length other
       → name ≡ type_at left place → length left2 ≡ length left → ((k : ℕ) → place + 1 ≤ k → type_at left2 k ≡ type_at left k)
-      → ((g : ℕ) → type_at now2 g ≡ cond (nat_eq g place) (taken mode (type_at now place) name) (type_at now g)) → length now2 ≡ max (length now) (place + 1) → TypesBehind mode old other now2 left2 (place + 1)
+      → ((g : ℕ) → type_at now2 g ≡ cond (nat_eq g place) (merged_value mode (type_at now place) name) (type_at now g)) → length now2 ≡ max (length now) (place + 1) → TypesBehind mode old other now2 left2 (place + 1)
   types_go now left place name now2 left2 strong b within is sized kept taken_up long = record {
     sized = sized ∙ b.sized;
     kept = λ k from. kept k from ∙ b.kept k (omega (arith, from));
@@ -61,7 +57,7 @@ module _ (mode : Mode) (old other : GroupTypes) where
   }
     where
       shows : ℕ → Bool → Option (List ℕ)
-      shows k b = cond b (taken mode (type_at old k) (type_at other k)) (type_at old k)
+      shows k b = cond b (merged_value mode (type_at old k) (type_at other k)) (type_at old k)
 
       before : type_at now place ≡ type_at old place
       before = b.types place ∙ ap (shows place) (le-ltb place place (omega arith))
@@ -69,8 +65,8 @@ module _ (mode : Mode) (old other : GroupTypes) where
       later : name ≡ type_at other place
       later = is ∙ b.kept place (omega arith)
 
-      here : (k : ℕ) → k ≡ place → taken mode (type_at now place) name ≡ shows k (nat_lt k (place + 1))
-      here k e = ap (λ o. taken mode o name) before ∙ ap (taken mode (type_at old place)) later ∙ ap (λ j. taken mode (type_at old j) (type_at other j)) (sym e) ∙ sym (ap (shows k) (lt-ltb k (place + 1) (omega (arith, e))))
+      here : (k : ℕ) → k ≡ place → merged_value mode (type_at now place) name ≡ shows k (nat_lt k (place + 1))
+      here k e = ap (λ o. merged_value mode o name) before ∙ ap (merged_value mode (type_at old place)) later ∙ ap (λ j. merged_value mode (type_at old j) (type_at other j)) (sym e) ∙ sym (ap (shows k) (lt-ltb k (place + 1) (omega (arith, e))))
 
       there : (k : ℕ) → nat_eq k place ≡ false → (c d : Bool) → nat_lt k place ≡ c → nat_lt k (place + 1) ≡ d → shows k c ≡ shows k d
       there k other true true f g = refl
@@ -78,16 +74,16 @@ module _ (mode : Mode) (old other : GroupTypes) where
       there k other true false f g = absurd (false≢true (sym g ∙ lt-ltb k (place + 1) (let low = ltb-true k place f in omega (arith, low))))
       there k other false true f g = absurd (false≢true (sym other ∙ eq-eqb k place (let high = ltb-false k place f in let low = ltb-true k (place + 1) g in omega (arith, high, low))))
 
-      by : (k : ℕ) (same : Bool) → nat_eq k place ≡ same → cond same (taken mode (type_at now place) name) (type_at now k) ≡ shows k (nat_lt k (place + 1))
+      by : (k : ℕ) (same : Bool) → nat_eq k place ≡ same → cond same (merged_value mode (type_at now place) name) (type_at now k) ≡ shows k (nat_lt k (place + 1))
       by k true e = here k (eqb-true k place e)
       by k false e = b.types k ∙ there k e (nat_lt k place) (nat_lt k (place + 1)) refl refl
 
-  pub types_end : (now left : GroupTypes) (place : ℕ) → is_replace mode ≡ false → TypesBehind mode old other now left place → length other ≤ place → (k : ℕ) → type_at now k ≡ taken mode (type_at old k) (type_at other k)
+  pub types_end : (now left : GroupTypes) (place : ℕ) → is_replace mode ≡ false → TypesBehind mode old other now left place → length other ≤ place → (k : ℕ) → type_at now k ≡ merged_value mode (type_at old k) (type_at other k)
   types_end now left place strong b all k = b.types k ∙ by (nat_lt k place) refl
     where
-      by : (before : Bool) → nat_lt k place ≡ before → cond before (taken mode (type_at old k) (type_at other k)) (type_at old k) ≡ taken mode (type_at old k) (type_at other k)
+      by : (before : Bool) → nat_lt k place ≡ before → cond before (merged_value mode (type_at old k) (type_at other k)) (type_at old k) ≡ merged_value mode (type_at old k) (type_at other k)
       by true f = refl
-      by false f = sym (ap (taken mode (type_at old k)) (type-past other k (let past = ltb-false k place f in omega (arith, past, all))) ∙ nothing_taken mode (type_at old k) strong)
+      by false f = sym (ap (merged_value mode (type_at old k)) (type-past other k (let past = ltb-false k place f in omega (arith, past, all))) ∙ nothing_taken mode (type_at old k) strong)
 
 -- an element that is taken out, and those after it
 pub taken_at : {X : Type 0} (xs : List (Option X)) (i : ℕ) (x d : Option X) → i < length xs → x ≡ get_or xs i d → x ≡ option_and_then (λ p. p) (slice_get xs i)

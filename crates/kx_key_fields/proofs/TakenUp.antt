@@ -7,7 +7,7 @@ use Rattle.std.proofs.lemmas.Option.{slice_get_past, slice_get-get_or}
 use Rattle.std.proofs.lemmas.Bool.{false≢true, eqb-true, eq-eqb, ltb-true, ltb-false, lt-ltb, le-ltb}
 use Rattle.kx_parse.specs.declared.tree.Mode.{Mode}
 use Rattle.kx_parse.specs.declared.tree.Mode.TheVariants.{Augment, Override, Replace}
-use Rattle.kx_merge.specs.Offers.{is_replace, taken}
+use Rattle.kx_merge.specs.Offers.{is_replace, merged_value}
 use Rattle.kx_key_fields.specs.Lists.{Lists, level_at, level_in, level_of, list_at, widened_to, width_in, width_of}
 
 -- of later levels those before a place were taken up, and the others are still there
@@ -15,10 +15,10 @@ pub record LevelsBehind {X : Type 0} (mode : Mode) (old other now left : List (O
   pub sized : length left ≡ length other
   pub kept : (k : ℕ) → place ≤ k → level_at left k ≡ level_at other k
   pub long : length now ≡ max (length old) place
-  pub levels : (k : ℕ) → level_at now k ≡ cond (nat_lt k place) (taken mode (level_at old k) (level_at other k)) (level_at old k)
+  pub levels : (k : ℕ) → level_at now k ≡ cond (nat_lt k place) (merged_value mode (level_at old k) (level_at other k)) (level_at old k)
 
 -- where nothing is taken up, what is there stays
-pub nothing_taken : {X : Type 0} (mode : Mode) (o : Option X) → is_replace mode ≡ false → taken mode o None ≡ o
+pub nothing_taken : {X : Type 0} (mode : Mode) (o : Option X) → is_replace mode ≡ false → merged_value mode o None ≡ o
 nothing_taken Augment None h = refl
 nothing_taken Augment (Some x) h = refl
 nothing_taken Override o h = refl
@@ -39,11 +39,11 @@ level_past xs k past = ap (λ o. option_and_then (λ p. p) o) (slice_get_past xs
 
 module _ {X : Type 0} (mode : Mode) (old other : List (Option X)) where
   pub levels_begin : LevelsBehind mode old other old other 0
-  levels_begin = record { sized = refl; kept = λ k from. refl; long = omega arith; levels = λ k. sym (ap (λ b. cond b (taken mode (level_at old k) (level_at other k)) (level_at old k)) (le-ltb k 0 (omega arith))) }
+  levels_begin = record { sized = refl; kept = λ k from. refl; long = omega arith; levels = λ k. sym (ap (λ b. cond b (merged_value mode (level_at old k) (level_at other k)) (level_at old k)) (le-ltb k 0 (omega arith))) }
 
   pub levels_go : (now left : List (Option X)) (place : ℕ) (level : Option X) (now2 left2 : List (Option X)) → is_replace mode ≡ false → LevelsBehind mode old other now left place → place < length other
       → level ≡ level_at left place → length left2 ≡ length left → ((k : ℕ) → place + 1 ≤ k → level_at left2 k ≡ level_at left k)
-      → ((l : ℕ) → level_at now2 l ≡ cond (nat_eq l place) (taken mode (level_at now place) level) (level_at now l)) → length now2 ≡ max (length now) (place + 1) → LevelsBehind mode old other now2 left2 (place + 1)
+      → ((l : ℕ) → level_at now2 l ≡ cond (nat_eq l place) (merged_value mode (level_at now place) level) (level_at now l)) → length now2 ≡ max (length now) (place + 1) → LevelsBehind mode old other now2 left2 (place + 1)
   levels_go now left place level now2 left2 strong b within is sized kept taken_up long = record {
     sized = sized ∙ b.sized;
     kept = λ k from. kept k from ∙ b.kept k (omega (arith, from));
@@ -52,7 +52,7 @@ module _ {X : Type 0} (mode : Mode) (old other : List (Option X)) where
   }
     where
       shows : ℕ → Bool → Option X
-      shows k b = cond b (taken mode (level_at old k) (level_at other k)) (level_at old k)
+      shows k b = cond b (merged_value mode (level_at old k) (level_at other k)) (level_at old k)
 
       before : level_at now place ≡ level_at old place
       before = b.levels place ∙ ap (shows place) (le-ltb place place (omega arith))
@@ -60,8 +60,8 @@ module _ {X : Type 0} (mode : Mode) (old other : List (Option X)) where
       later : level ≡ level_at other place
       later = is ∙ b.kept place (omega arith)
 
-      here : (k : ℕ) → k ≡ place → taken mode (level_at now place) level ≡ shows k (nat_lt k (place + 1))
-      here k e = ap (λ o. taken mode o level) before ∙ ap (taken mode (level_at old place)) later ∙ ap (λ j. taken mode (level_at old j) (level_at other j)) (sym e) ∙ sym (ap (shows k) (lt-ltb k (place + 1) (omega (arith, e))))
+      here : (k : ℕ) → k ≡ place → merged_value mode (level_at now place) level ≡ shows k (nat_lt k (place + 1))
+      here k e = ap (λ o. merged_value mode o level) before ∙ ap (merged_value mode (level_at old place)) later ∙ ap (λ j. merged_value mode (level_at old j) (level_at other j)) (sym e) ∙ sym (ap (shows k) (lt-ltb k (place + 1) (omega (arith, e))))
 
       there : (k : ℕ) → nat_eq k place ≡ false → (c d : Bool) → nat_lt k place ≡ c → nat_lt k (place + 1) ≡ d → shows k c ≡ shows k d
       there k other true true f g = refl
@@ -69,16 +69,16 @@ module _ {X : Type 0} (mode : Mode) (old other : List (Option X)) where
       there k other true false f g = absurd (false≢true (sym g ∙ lt-ltb k (place + 1) (let low = ltb-true k place f in omega (arith, low))))
       there k other false true f g = absurd (false≢true (sym other ∙ eq-eqb k place (let high = ltb-false k place f in let low = ltb-true k (place + 1) g in omega (arith, high, low))))
 
-      by : (k : ℕ) (same : Bool) → nat_eq k place ≡ same → cond same (taken mode (level_at now place) level) (level_at now k) ≡ shows k (nat_lt k (place + 1))
+      by : (k : ℕ) (same : Bool) → nat_eq k place ≡ same → cond same (merged_value mode (level_at now place) level) (level_at now k) ≡ shows k (nat_lt k (place + 1))
       by k true e = here k (eqb-true k place e)
       by k false e = b.levels k ∙ there k e (nat_lt k place) (nat_lt k (place + 1)) refl refl
 
-  pub levels_end : (now left : List (Option X)) (place : ℕ) → is_replace mode ≡ false → LevelsBehind mode old other now left place → length other ≤ place → (k : ℕ) → level_at now k ≡ taken mode (level_at old k) (level_at other k)
+  pub levels_end : (now left : List (Option X)) (place : ℕ) → is_replace mode ≡ false → LevelsBehind mode old other now left place → length other ≤ place → (k : ℕ) → level_at now k ≡ merged_value mode (level_at old k) (level_at other k)
   levels_end now left place strong b all k = b.levels k ∙ by (nat_lt k place) refl
     where
-      by : (before : Bool) → nat_lt k place ≡ before → cond before (taken mode (level_at old k) (level_at other k)) (level_at old k) ≡ taken mode (level_at old k) (level_at other k)
+      by : (before : Bool) → nat_lt k place ≡ before → cond before (merged_value mode (level_at old k) (level_at other k)) (level_at old k) ≡ merged_value mode (level_at old k) (level_at other k)
       by true f = refl
-      by false f = sym (ap (taken mode (level_at old k)) (level_past other k (let past = ltb-false k place f in omega (arith, past, all))) ∙ nothing_taken mode (level_at old k) strong)
+      by false f = sym (ap (merged_value mode (level_at old k)) (level_past other k (let past = ltb-false k place f in omega (arith, past, all))) ∙ nothing_taken mode (level_at old k) strong)
 
 -- later values are taken up from a place on, one by one
 module _ {V : Type 0} (take : V → V → V) (nothing : V) (old other : ℕ → V) (from : ℕ) where
@@ -179,11 +179,11 @@ list_put {X = X} lists group joined final is g = ap (λ ls. list_at ls g) is ∙
         ap (λ o. option_and_then (λ p. p) o) (set-other (slice_set wide group None) group joined g away ∙ set-other wide group None g away) ∙ widened-at lists (group + 1 - length lists) g
 
 pub put_levels : {X : Type 0} (mode : Mode) (lists : Lists X) (group : ℕ) (old later joined : Option (List (Option X))) (final : Lists X) → final ≡ slice_set (slice_set (widened_to (group + 1) lists) group None) group joined → old ≡ list_at lists group
-    → ((l : ℕ) → level_of joined l ≡ taken mode (level_of old l) (level_of later l)) → (g l : ℕ) → level_in final g l ≡ cond (nat_eq g group) (taken mode (level_in lists g l) (level_of later l)) (level_in lists g l)
+    → ((l : ℕ) → level_of joined l ≡ merged_value mode (level_of old l) (level_of later l)) → (g l : ℕ) → level_in final g l ≡ cond (nat_eq g group) (merged_value mode (level_in lists g l) (level_of later l)) (level_in lists g l)
 put_levels mode lists group old later joined final is was levels g l = ap (λ o. level_of o l) (list_put lists group joined final is g) ∙ by (nat_eq g group) refl
   where
-    by : (b : Bool) → nat_eq g group ≡ b → level_of (cond b joined (list_at lists g)) l ≡ cond b (taken mode (level_in lists g l) (level_of later l)) (level_in lists g l)
-    by true e = levels l ∙ ap (λ o. taken mode (level_of o l) (level_of later l)) (was ∙ ap (list_at lists) (sym (eqb-true g group e)))
+    by : (b : Bool) → nat_eq g group ≡ b → level_of (cond b joined (list_at lists g)) l ≡ cond b (merged_value mode (level_in lists g l) (level_of later l)) (level_in lists g l)
+    by true e = levels l ∙ ap (λ o. merged_value mode (level_of o l) (level_of later l)) (was ∙ ap (list_at lists) (sym (eqb-true g group e)))
     by false e = refl
 
 pub put_widths : {X : Type 0} (lists : Lists X) (group : ℕ) (old later joined : Option (List (Option X))) (final : Lists X) → final ≡ slice_set (slice_set (widened_to (group + 1) lists) group None) group joined → old ≡ list_at lists group
@@ -198,29 +198,29 @@ put_widths lists group old later joined final is was long g = ap width_of (list_
 pub record ListsBehind {X : Type 0} (mode : Mode) (from : ℕ) (old other now left : Lists X) (place : ℕ) : Type 0 where
   pub sized : length left ≡ length other
   pub kept : (k : ℕ) → place ≤ k → list_at left k ≡ list_at other k
-  pub levels : (l : ℕ) → Goes (taken mode) None (λ g. level_in old g l) (λ g. level_in other g l) from (λ g. level_in now g l) place
+  pub levels : (l : ℕ) → Goes (merged_value mode) None (λ g. level_in old g l) (λ g. level_in other g l) from (λ g. level_in now g l) place
   pub widths : Goes max 0 (width_in old) (width_in other) from (width_in now) place
 
 module _ {X : Type 0} (mode : Mode) (from : ℕ) (old other : Lists X) where
   pub lists_begin : ListsBehind mode from old other old other 0
-  lists_begin = record { sized = refl; kept = λ k low. refl; levels = λ l. goes_begin (taken mode) None (λ g. level_in old g l) (λ g. level_in other g l) from; widths = goes_begin max 0 (width_in old) (width_in other) from }
+  lists_begin = record { sized = refl; kept = λ k low. refl; levels = λ l. goes_begin (merged_value mode) None (λ g. level_in old g l) (λ g. level_in other g l) from; widths = goes_begin max 0 (width_in old) (width_in other) from }
 
   pub lists_go : (now left : Lists X) (place : ℕ) (list : Option (List (Option X))) (now2 left2 : Lists X) → ListsBehind mode from old other now left place → list ≡ list_at left place → length left2 ≡ length left → ((k : ℕ) → place + 1 ≤ k → list_at left2 k ≡ list_at left k)
-      → ((g l : ℕ) → level_in now2 g l ≡ cond (nat_eq g (from + place)) (taken mode (level_in now g l) (level_of list l)) (level_in now g l))
+      → ((g l : ℕ) → level_in now2 g l ≡ cond (nat_eq g (from + place)) (merged_value mode (level_in now g l) (level_of list l)) (level_in now g l))
       → ((g : ℕ) → width_in now2 g ≡ cond (nat_eq g (from + place)) (max (width_in now g) (width_of list)) (width_in now g)) → ListsBehind mode from old other now2 left2 (place + 1)
   lists_go now left place list now2 left2 b is sized kept levels widths =
       let there : list ≡ list_at other place = is ∙ b.kept place (omega arith) in record {
         sized = sized ∙ b.sized;
         kept = λ k low. kept k low ∙ b.kept k (omega (arith, low));
-        levels = λ l. goes_next (taken mode) None (λ g. level_in old g l) (λ g. level_in other g l) from (λ g. level_in now g l) (λ g. level_in now2 g l) place (level_of list l) (b.levels l) (ap (λ o. level_of o l) there) (λ g. levels g l);
+        levels = λ l. goes_next (merged_value mode) None (λ g. level_in old g l) (λ g. level_in other g l) from (λ g. level_in now g l) (λ g. level_in now2 g l) place (level_of list l) (b.levels l) (ap (λ o. level_of o l) there) (λ g. levels g l);
         widths = goes_next max 0 (width_in old) (width_in other) from (width_in now) (width_in now2) place (width_of list) b.widths (ap width_of there) widths;
       }
 
   list-past : (k : ℕ) → length other ≤ k → list_at other k ≡ None
   list-past k past = ap (λ o. option_and_then (λ p. p) o) (slice_get_past other k past)
 
-  pub lists_levels : (now left : Lists X) (place : ℕ) → is_replace mode ≡ false → ListsBehind mode from old other now left place → length other ≤ place → (g l : ℕ) → level_in now g l ≡ taken mode (level_in old g l) (cond (nat_lt g from) None (level_in other (g - from) l))
-  lists_levels now left place strong b all g l = goes_end (taken mode) None (λ j. level_in old j l) (λ j. level_in other j l) from (λ j. level_in now j l) place (λ v. nothing_taken mode v strong) (λ k past. ap (λ o. level_of o l) (list-past k (omega (arith, past, all)))) (b.levels l) g
+  pub lists_levels : (now left : Lists X) (place : ℕ) → is_replace mode ≡ false → ListsBehind mode from old other now left place → length other ≤ place → (g l : ℕ) → level_in now g l ≡ merged_value mode (level_in old g l) (cond (nat_lt g from) None (level_in other (g - from) l))
+  lists_levels now left place strong b all g l = goes_end (merged_value mode) None (λ j. level_in old j l) (λ j. level_in other j l) from (λ j. level_in now j l) place (λ v. nothing_taken mode v strong) (λ k past. ap (λ o. level_of o l) (list-past k (omega (arith, past, all)))) (b.levels l) g
 
   pub lists_widths : (now left : Lists X) (place : ℕ) → ListsBehind mode from old other now left place → length other ≤ place → (g : ℕ) → width_in now g ≡ max (width_in old g) (cond (nat_lt g from) 0 (width_in other (g - from)))
   lists_widths now left place b all g = goes_end max 0 (width_in old) (width_in other) from (width_in now) place (λ v. omega arith) (λ k past. ap width_of (list-past k (omega (arith, past, all)))) b.widths g

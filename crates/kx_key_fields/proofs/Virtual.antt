@@ -4,7 +4,7 @@ use Rattle.std.specs.Option.{option_map}
 use Rattle.kx_virtual_mods.specs.Masks.{joined}
 use Rattle.kx_parse.specs.declared.tree.Operation.{Operation}
 use Rattle.kx_key_fields.specs.VirtualMasks.{term_virtual, with_term}
-use Rattle.kx_key_fields.proofs.Going.{drop_next}
+use Rattle.kx_merge.proofs.Going.{drop_next}
 
 module _ (names : List (List ℕ)) where
   pub none_stays : (os : List Operation) → fold (with_term names) None os ≡ None

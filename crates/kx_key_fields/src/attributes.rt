@@ -2,16 +2,16 @@
 ghost use Rattle.std.specs.Prelude.{◌≡◌, IfOk, IfSome, None, OnOk, false};
 ghost use Rattle.std.specs.Option.{option_map};
 ghost use Rattle.kx_merge.specs.Moved.{moved_value};
-ghost use Rattle.kx_merge.specs.Offers.{is_replace, taken};
+ghost use Rattle.kx_merge.specs.Offers.{is_replace, merged_value};
 ghost use Rattle.kx_tables.specs.Sound.{RangeHolds};
 ghost use Rattle.kx_key_fields.specs.Attributes.{no_settings, attribute_in, attribute_moves, type_at, with_given};
 
 use crate::cells::AttributeCell;
 use crate::given::Given;
-use crate::group_types::{GroupTypes, copied};
+use crate::group_types::{GroupTypes, try_clone};
 use crate::key_range::KeyRange;
 use kx_lex::Bytes;
-use kx_merge::taken;
+use kx_merge::merged_value;
 use kx_parse::Mode;
 use kx_tables::Range;
 use kx_virtual_mods::NameSet;
@@ -109,12 +109,12 @@ impl KeyAttributes {
     }
 
     /// The same settings again.
-    pub(crate) fn copied(&self, alloc: Global) -> Result<KeyAttributes, AllocError>
+    pub(crate) fn try_clone(&self, alloc: Global) -> Result<KeyAttributes, AllocError>
         ensures { IfOk result (λ settings. settings ≡ self.now) }
     {
         Ok(KeyAttributes {
-            group_types: self.group_types.copied(alloc)?,
-            key_type: copied(alloc, &self.key_type)?,
+            group_types: self.group_types.try_clone(alloc)?,
+            key_type: try_clone(alloc, &self.key_type)?,
             virtual_mods: self.virtual_mods,
             range: self.range,
         })
@@ -128,31 +128,31 @@ impl KeyAttributes {
     {
         Ok(KeyAttributes {
             group_types: self.group_types.moved(alloc, group)?,
-            key_type: copied(alloc, &self.key_type)?,
+            key_type: try_clone(alloc, &self.key_type)?,
             virtual_mods: self.virtual_mods,
             range: self.range,
         })
     }
 
     /// Takes up what a later statement or include says under a mode that isn't replace.
-    fn join_cells(&mut self, other: KeyAttributes, mode: Mode) -> Result<(), AllocError>
+    fn merge_cells(&mut self, other: KeyAttributes, mode: Mode) -> Result<(), AllocError>
         requires { is_replace mode ≡ false }
         ensures { OnOk result ((cell : AttributeCell)
-            → attribute_in self.new cell ≡ taken mode (attribute_in self.old cell)
+            → attribute_in self.new cell ≡ merged_value mode (attribute_in self.old cell)
             (attribute_in other cell)) }
     {
-        self.group_types.absorb(other.group_types, mode)?;
+        self.group_types.merge(other.group_types, mode)?;
         let key_type = self.key_type.take();
-        self.key_type = taken(mode, key_type, other.key_type);
-        self.virtual_mods = taken(mode, self.virtual_mods, other.virtual_mods);
-        self.range = taken(mode, self.range, other.range);
+        self.key_type = merged_value(mode, key_type, other.key_type);
+        self.virtual_mods = merged_value(mode, self.virtual_mods, other.virtual_mods);
+        self.range = merged_value(mode, self.range, other.range);
         Ok(())
     }
 
     /// Takes up what a later statement or include says.
-    pub fn join(&mut self, other: KeyAttributes, mode: Mode) -> Result<(), AllocError>
+    pub fn merge(&mut self, other: KeyAttributes, mode: Mode) -> Result<(), AllocError>
         ensures { OnOk result ((cell : AttributeCell)
-            → attribute_in self.new cell ≡ taken mode (attribute_in self.old cell)
+            → attribute_in self.new cell ≡ merged_value mode (attribute_in self.old cell)
             (attribute_in other cell)) }
     {
         match mode {
@@ -160,14 +160,14 @@ impl KeyAttributes {
                 *self = other;
                 Ok(())
             }
-            Mode::Augment => self.join_cells(other, mode),
-            Mode::Override => self.join_cells(other, mode),
+            Mode::Augment => self.merge_cells(other, mode),
+            Mode::Override => self.merge_cells(other, mode),
         }
     }
 
     /// Takes up what a record of an included map says, as it stands where its map is moved to a group, counted from 1: the
     /// type of its first group is that of this group, and those of its other groups go. As it is where it isn't moved.
-    pub fn join_moved(
+    pub fn merge_moved(
         &mut self,
         alloc: Global,
         other: &KeyAttributes,
@@ -175,10 +175,10 @@ impl KeyAttributes {
         mode: Mode,
     ) -> Result<(), AllocError>
         ensures { OnOk result ((cell : AttributeCell)
-            → attribute_in self.new cell ≡ taken mode (attribute_in self.old cell)
+            → attribute_in self.new cell ≡ merged_value mode (attribute_in self.old cell)
             (moved_value attribute_moves group (attribute_in other.now) cell)) }
     {
         let moved = other.moved(alloc, group)?;
-        self.join(moved, mode)
+        self.merge(moved, mode)
     }
 }

@@ -32,30 +32,6 @@ fn read_default(names: &ModNames, file: u32, field: &Field) -> Result<Option<Giv
     }
 }
 
-/// Looks for faults in a field of a section as a default for keys, as `key.type = "TWO_LEVEL";`.
-///
-/// # Errors
-/// `UnknownField` at the word before the point where it isn't `key`, or where there is no point; at the word after it where
-/// it is no field of keys, `symbols` or `actions`, or where it has an index and takes none; else the faults of the value, as
-/// [`read_settings`](crate::read_settings) has them.
-pub fn check_default(names: &ModNames, file: u32, field: &Field) -> Result<(), Fault>
-    ensures faultless { OnOk result (default_faults file names.now.names field.now ≡ []) }
-    ensures fault { IfErr result (λ e. Contains (default_faults file names.now.names field.now) e) }
-{
-    read_default(names, file, field)?;
-    Ok(())
-}
-
-/// What a field gives as a default, where it has no fault.
-fn default_given(names: &ModNames, field: &Field) -> Option<Given>
-    ensures { result ≡ default_given names.now.names field.now }
-{
-    match read_default(names, 0, field) {
-        Ok(given) => given,
-        Err(_) => None,
-    }
-}
-
 /// What the default statements of a section give keys besides lists.
 #[derive(Debug, Drop)]
 pub struct KeyDefaults {
@@ -71,10 +47,10 @@ impl Model for KeyDefaults {
 }
 
 impl KeyDefaults {
-    ghost use Rattle.std.specs.Prelude.{◌≡◌, List, IfErr, IfOk};
+    ghost use Rattle.std.specs.Prelude.{◌≡◌, ◌∷◌, [], Contains, List, IfErr, IfOk, OnOk};
     ghost use Rattle.kx_lex.specs.declared.fault.Fault.TheVariants.{Memory};
     ghost use Rattle.kx_parse.specs.declared.tree.Field.{Field as FieldValue};
-    ghost use Rattle.kx_key_fields.specs.KeyFields.{cell_default, defaults_behind, next_defaults};
+    ghost use Rattle.kx_key_fields.specs.KeyFields.{cell_default, default_faults, defaults_behind, next_defaults};
     ghost use Rattle.kx_key_fields.specs.Attributes.{no_settings, attribute_in};
     ghost use Rattle.kx_merge.specs.Last.{last_given};
 
@@ -91,23 +67,34 @@ impl KeyDefaults {
     pub(crate) fn settings(&self, alloc: Global) -> Result<KeyAttributes, AllocError>
         ensures { IfOk result (λ settings. settings ≡ self.now) }
     {
-        self.settings.copied(alloc)
+        self.settings.try_clone(alloc)
     }
 
-    /// The defaults after one more statement of the section, of which one with a fault changes nothing: after statements
-    /// each cell has what the last of those gives that give it anything.
+    /// The defaults after one more statement of the section, a field as `key.type = "TWO_LEVEL";`: after statements each
+    /// cell has what the last of those gives that give it anything.
     ///
     /// # Errors
-    /// `Memory`.
-    pub fn next(self, alloc: Global, names: &ModNames, field: &Field) -> Result<KeyDefaults, Fault>
-        ensures next { IfOk result (λ d. d ≡ next_defaults names.now.names self field.now) }
+    /// `UnknownField` at the word before the point where it isn't `key`, or where there is no point; at the word after it
+    /// where it is no field of keys, `symbols` or `actions`, or where it has an index and takes none; else the faults of the
+    /// value, as [`read_settings`](crate::read_settings) has them; `Memory`.
+    pub fn behind(
+        self,
+        alloc: Global,
+        names: &ModNames,
+        file: u32,
+        field: &Field,
+    ) -> Result<KeyDefaults, Fault>
+        ensures value { IfOk result (λ d. d ≡ next_defaults names.now.names self field.now) }
         ensures last { (statements : List FieldValue) (cell : AttributeCell)
             → attribute_in (defaults_behind names.now.names statements) cell
             ≡ last_given (cell_default names.now.names cell) statements }
-        ensures err { IfErr result (λ e. e ≡ Memory) }
+        ensures faultless { OnOk result (default_faults file names.now.names field.now ≡ []) }
+        ensures fault { IfErr result (λ e.
+            Contains (Memory ∷ default_faults file names.now.names field.now) e) }
     {
+        let given = read_default(names, file, field)?;
         let mut settings = self.settings;
-        settings.put(alloc, &default_given(names, field))?;
+        settings.put(alloc, &given)?;
         Ok(KeyDefaults { settings })
     }
 }

@@ -1,12 +1,12 @@
 //! The types of a key's groups.
 ghost use Rattle.std.specs.Prelude.{◌≡◌, ◌+◌, ◌==◌, ◌≤◌, [], ℕ, IfOk, None, OnOk, false, length, max, nat_eq, if◌then◌else◌};
 ghost use Rattle.std.specs.Option.{option_map};
-ghost use Rattle.kx_merge.specs.Offers.{is_replace, taken};
+ghost use Rattle.kx_merge.specs.Offers.{is_replace, merged_value};
 ghost use Rattle.kx_key_fields.specs.Attributes.{type_at, widened_to, with_type};
 ghost use Rattle.kx_key_fields.specs.TypesMoved.{type_moved};
 
 use kx_lex::Bytes;
-use kx_merge::taken;
+use kx_merge::merged_value;
 use kx_parse::Mode;
 use std::alloc::{AllocError, Global};
 use std::marker::Model;
@@ -27,7 +27,7 @@ impl Model for GroupTypes {
 }
 
 /// The same name again.
-pub(crate) fn copied(alloc: Global, name: &Option<Bytes>) -> Result<Option<Bytes>, AllocError>
+pub(crate) fn try_clone(alloc: Global, name: &Option<Bytes>) -> Result<Option<Bytes>, AllocError>
     ensures { IfOk result (λ copy. copy ≡ name.now) }
 {
     match name {
@@ -78,7 +78,7 @@ impl GroupTypes {
     }
 
     /// Takes up a later type at a place, the next at most.
-    fn absorb_type(
+    fn merge_type(
         &mut self,
         place: usize,
         name: Option<Bytes>,
@@ -86,13 +86,13 @@ impl GroupTypes {
     ) -> Result<(), AllocError>
         requires { place ≤ length self.old }
         ensures types { OnOk result ((g : ℕ)
-            → type_at self.new g ≡ (if nat_eq g place then taken mode (type_at self.old place) name
+            → type_at self.new g ≡ (if nat_eq g place then merged_value mode (type_at self.old place) name
             else type_at self.old g)) }
         ensures long { OnOk result (length self.new ≡ max (length self.old) (place + 1)) }
     {
         if place < self.types.len() {
             let old = self.types[place].take();
-            self.types[place] = taken(mode, old, name);
+            self.types[place] = merged_value(mode, old, name);
             Ok(())
         } else {
             self.types.push(name)?;
@@ -101,26 +101,26 @@ impl GroupTypes {
     }
 
     /// Takes up later types under a mode that isn't replace.
-    pub(crate) fn absorb(&mut self, other: GroupTypes, mode: Mode) -> Result<(), AllocError>
+    pub(crate) fn merge(&mut self, other: GroupTypes, mode: Mode) -> Result<(), AllocError>
         requires { is_replace mode ≡ false }
         ensures { OnOk result ((g : ℕ)
-            → type_at self.new g ≡ taken mode (type_at self.old g) (type_at other g)) }
+            → type_at self.new g ≡ merged_value mode (type_at self.old g) (type_at other g)) }
     {
         let mut later = other.types;
         'types: for place in 0..later.len() {
             let name = later[place].take();
-            self.absorb_type(place, name, mode)?;
+            self.merge_type(place, name, mode)?;
         }
         Ok(())
     }
 
     /// The same types again.
-    pub(crate) fn copied(&self, alloc: Global) -> Result<GroupTypes, AllocError>
+    pub(crate) fn try_clone(&self, alloc: Global) -> Result<GroupTypes, AllocError>
         ensures { IfOk result (λ types. types ≡ self.now) }
     {
         let mut types = Vec::new(alloc);
         'types: for name in &self.types {
-            types.push(copied(alloc, name)?)?;
+            types.push(try_clone(alloc, name)?)?;
         }
         Ok(GroupTypes { types })
     }
@@ -142,7 +142,7 @@ impl GroupTypes {
         ensures { IfOk result (λ types. (g : ℕ) → type_at types g ≡ type_moved group self.now g) }
     {
         match group {
-            None => self.copied(alloc),
+            None => self.try_clone(alloc),
             Some(0) => Ok(GroupTypes::none(alloc)),
             Some(group) => self.first_at(alloc, group - 1),
         }

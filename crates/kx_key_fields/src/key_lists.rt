@@ -4,10 +4,10 @@ ghost use Rattle.std.specs.List.{list_any};
 ghost use Rattle.std.specs.Option.{option_map};
 ghost use Rattle.kx_key_fields.specs.Lists.{has_level};
 ghost use Rattle.kx_key_fields.specs.Records.{HasValue, list_in_key, moved_in, moved_width_in, value_in, width_in_key};
-ghost use Rattle.kx_merge.specs.Offers.{is_replace, taken, widened};
+ghost use Rattle.kx_merge.specs.Offers.{is_replace, merged_value, merged_width};
 
-use crate::absorbing::{absorb_lists, absorb_lists_copied};
 use crate::levels::{LevelValue, Levels};
+use crate::merging::{merge_groups, merge_groups_copied};
 use kx_parse::Mode;
 use std::alloc::{AllocError, Global};
 use std::marker::Model;
@@ -105,11 +105,11 @@ impl<X: LevelValue> GroupLists<X> {
     }
 
     /// Takes up what a later statement or include gives.
-    pub fn join(&mut self, other: GroupLists<X>, mode: Mode) -> Result<(), AllocError>
+    pub fn merge(&mut self, other: GroupLists<X>, mode: Mode) -> Result<(), AllocError>
         ensures cells { OnOk result ((g l : ℕ)
-            → value_in self.new g l ≡ taken mode (value_in self.old g l) (value_in other g l)) }
+            → value_in self.new g l ≡ merged_value mode (value_in self.old g l) (value_in other g l)) }
         ensures widths { OnOk result ((g : ℕ)
-            → width_in_key self.new g ≡ widened mode (width_in_key self.old g)
+            → width_in_key self.new g ≡ merged_width mode (width_in_key self.old g)
             (width_in_key other g)) }
     {
         match mode {
@@ -117,21 +117,21 @@ impl<X: LevelValue> GroupLists<X> {
                 *self = other;
                 Ok(())
             }
-            Mode::Augment => self.join_lists(other, mode),
-            Mode::Override => self.join_lists(other, mode),
+            Mode::Augment => self.merge_lists(other, mode),
+            Mode::Override => self.merge_lists(other, mode),
         }
     }
 
     /// Takes up what a later statement or include gives under a mode that isn't replace.
-    fn join_lists(&mut self, other: GroupLists<X>, mode: Mode) -> Result<(), AllocError>
+    fn merge_lists(&mut self, other: GroupLists<X>, mode: Mode) -> Result<(), AllocError>
         requires { is_replace mode ≡ false }
         ensures cells { OnOk result ((g l : ℕ)
-            → value_in self.new g l ≡ taken mode (value_in self.old g l) (value_in other g l)) }
+            → value_in self.new g l ≡ merged_value mode (value_in self.old g l) (value_in other g l)) }
         ensures widths { OnOk result ((g : ℕ)
             → width_in_key self.new g ≡ max (width_in_key self.old g) (width_in_key other g)) }
     {
         self.settle()?;
-        absorb_lists(&mut self.lists, usize::from(other.from), other.lists, mode)?;
+        merge_groups(&mut self.lists, usize::from(other.from), other.lists, mode)?;
         Ok(())
     }
 
@@ -175,7 +175,7 @@ impl<X: LevelValue> GroupLists<X> {
 
     /// Takes up what the lists of an included map give, as they stand where the map is moved to a group, counted from 1;
     /// as they are where it isn't moved.
-    pub fn join_moved(
+    pub fn merge_moved(
         &mut self,
         alloc: Global,
         other: &GroupLists<X>,
@@ -183,25 +183,25 @@ impl<X: LevelValue> GroupLists<X> {
         mode: Mode,
     ) -> Result<(), AllocError>
         ensures cells { OnOk result ((g l : ℕ)
-            → value_in self.new g l ≡ taken mode (value_in self.old g l)
+            → value_in self.new g l ≡ merged_value mode (value_in self.old g l)
             (moved_in group other.now g l)) }
         ensures widths { OnOk result ((g : ℕ)
-            → width_in_key self.new g ≡ widened mode (width_in_key self.old g)
+            → width_in_key self.new g ≡ merged_width mode (width_in_key self.old g)
             (moved_width_in group other.now g)) }
     {
         let (from, later) = other.placed(group);
         match mode {
             Mode::Replace => {
                 self.clear();
-                self.join_copied(alloc, from, later, Mode::Override)
+                self.merge_copied(alloc, from, later, Mode::Override)
             }
-            Mode::Augment => self.join_copied(alloc, from, later, mode),
-            Mode::Override => self.join_copied(alloc, from, later, mode),
+            Mode::Augment => self.merge_copied(alloc, from, later, mode),
+            Mode::Override => self.merge_copied(alloc, from, later, mode),
         }
     }
 
     /// Takes up later lists, of which the first is that of a group, under a mode that isn't replace.
-    fn join_copied(
+    fn merge_copied(
         &mut self,
         alloc: Global,
         from: u8,
@@ -210,14 +210,14 @@ impl<X: LevelValue> GroupLists<X> {
     ) -> Result<(), AllocError>
         requires { is_replace mode ≡ false }
         ensures cells { OnOk result ((g l : ℕ)
-            → value_in self.new g l ≡ taken mode (value_in self.old g l)
+            → value_in self.new g l ≡ merged_value mode (value_in self.old g l)
             (value_in (record { from = from; lists = later.now }) g l)) }
         ensures widths { OnOk result ((g : ℕ)
             → width_in_key self.new g ≡ max (width_in_key self.old g)
             (width_in_key (record { from = from; lists = later.now }) g)) }
     {
         self.settle()?;
-        absorb_lists_copied(alloc, &mut self.lists, usize::from(from), later, mode)?;
+        merge_groups_copied(alloc, &mut self.lists, usize::from(from), later, mode)?;
         Ok(())
     }
 }

@@ -3,9 +3,9 @@ ghost use Rattle.std.specs.Prelude.{◌≡◌, ◌+◌, ◌≤◌, [], ℕ, is_s
 ghost use Rattle.std.specs.List.{list_any};
 ghost use Rattle.std.specs.Option.{option_map};
 ghost use Rattle.kx_key_fields.specs.Lists.{level_at};
-ghost use Rattle.kx_merge.specs.Offers.{is_replace, taken};
+ghost use Rattle.kx_merge.specs.Offers.{is_replace, merged_value};
 
-use kx_merge::taken;
+use kx_merge::merged_value;
 use kx_parse::Mode;
 use std::alloc::{AllocError, Global};
 use std::marker::Model;
@@ -13,7 +13,7 @@ use std::marker::Model;
 /// What a level can have.
 pub trait LevelValue: Drop {
     /// One that is the same.
-    fn copied(&self) -> Result<Self, AllocError>
+    fn try_clone(&self) -> Result<Self, AllocError>
         ensures { IfOk result (λ copy. copy ≡ self.now) };
 }
 
@@ -31,11 +31,11 @@ impl<X> Model for Levels<X> {
     ghost view = { λ l. l.levels.items };
 }
 
-fn copied<X: LevelValue>(level: &Option<X>) -> Result<Option<X>, AllocError>
+fn try_clone<X: LevelValue>(level: &Option<X>) -> Result<Option<X>, AllocError>
     ensures { IfOk result (λ copy. copy ≡ level.now) }
 {
     match level {
-        Some(value) => Ok(Some(value.copied()?)),
+        Some(value) => Ok(Some(value.try_clone()?)),
         None => Ok(None),
     }
 }
@@ -73,16 +73,16 @@ impl<X: LevelValue> Levels<X> {
     }
 
     /// Takes up a later level at a place, the next at most.
-    fn absorb_level(&mut self, place: usize, level: Option<X>, mode: Mode) -> Result<(), AllocError>
+    fn merge_level(&mut self, place: usize, level: Option<X>, mode: Mode) -> Result<(), AllocError>
         requires { place ≤ length self.old }
         ensures levels { OnOk result ((l : ℕ)
             → level_at self.new l ≡ (if nat_eq l place
-            then taken mode (level_at self.old place) level else level_at self.old l)) }
+            then merged_value mode (level_at self.old place) level else level_at self.old l)) }
         ensures long { OnOk result (length self.new ≡ max (length self.old) (place + 1)) }
     {
         if place < self.levels.len() {
             let old = self.levels[place].take();
-            self.levels[place] = taken(mode, old, level);
+            self.levels[place] = merged_value(mode, old, level);
             Ok(())
         } else {
             self.levels.push(level)?;
@@ -100,30 +100,30 @@ impl<X: LevelValue> Levels<X> {
     }
 
     /// Takes up later levels under a mode that isn't replace; those stay as they are.
-    pub(crate) fn absorb_copied(&mut self, other: &Levels<X>, mode: Mode) -> Result<(), AllocError>
+    pub(crate) fn merge_copied(&mut self, other: &Levels<X>, mode: Mode) -> Result<(), AllocError>
         requires { is_replace mode ≡ false }
         ensures levels { OnOk result ((l : ℕ)
-            → level_at self.new l ≡ taken mode (level_at self.old l) (level_at other.now l)) }
+            → level_at self.new l ≡ merged_value mode (level_at self.old l) (level_at other.now l)) }
         ensures long { OnOk result (length self.new ≡ max (length self.old) (length other.now)) }
     {
         'levels: for place in 0..other.levels.len() {
-            let level = copied(&other.levels[place])?;
-            self.absorb_level(place, level, mode)?;
+            let level = try_clone(&other.levels[place])?;
+            self.merge_level(place, level, mode)?;
         }
         Ok(())
     }
 
     /// Takes up later levels under a mode that isn't replace.
-    pub(crate) fn absorb(&mut self, other: Levels<X>, mode: Mode) -> Result<(), AllocError>
+    pub(crate) fn merge(&mut self, other: Levels<X>, mode: Mode) -> Result<(), AllocError>
         requires { is_replace mode ≡ false }
         ensures levels { OnOk result ((l : ℕ)
-            → level_at self.new l ≡ taken mode (level_at self.old l) (level_at other l)) }
+            → level_at self.new l ≡ merged_value mode (level_at self.old l) (level_at other l)) }
         ensures long { OnOk result (length self.new ≡ max (length self.old) (length other)) }
     {
         let mut later = other.levels;
         'levels: for place in 0..later.len() {
             let level = later[place].take();
-            self.absorb_level(place, level, mode)?;
+            self.merge_level(place, level, mode)?;
         }
         Ok(())
     }

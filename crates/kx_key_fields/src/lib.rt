@@ -3,7 +3,6 @@
 //! statements give together.
 #![tactic(auto)]
 
-mod absorbing;
 mod attributes;
 mod cells;
 mod defaults;
@@ -14,6 +13,7 @@ mod key_lists;
 mod key_range;
 mod levels;
 mod masks;
+mod merging;
 mod placing;
 mod reading;
 mod statement;
@@ -22,7 +22,7 @@ mod words;
 
 pub use attributes::KeyAttributes;
 pub use cells::{AttributeCell, AttributeValue};
-pub use defaults::{KeyDefaults, check_default};
+pub use defaults::KeyDefaults;
 pub use groups::read_group;
 pub use key_lists::GroupLists;
 pub use levels::{LevelValue, Levels};

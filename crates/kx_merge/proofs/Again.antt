@@ -4,12 +4,12 @@ use Rattle.std.proofs.lemmas.Bool.{false≢true}
 use Rattle.std.specs.Cmp.{IsEquivalence}
 use Rattle.std.specs.List.{list_any}
 use Rattle.std.specs.Option.{option_or}
+use Rattle.std.proofs.lemmas.List.{append-nil, append_assoc}
 use Rattle.kx_parse.specs.declared.tree.Mode.{Mode}
 use Rattle.kx_parse.specs.declared.tree.Mode.TheVariants.{Augment, Override, Replace}
-use Rattle.kx_merge.specs.Offers.{Offer, taken, widened, is_about, value_of, width_of, with_name, names_behind, names_of}
+use Rattle.kx_merge.specs.Offers.{Offer, merged_value, merged_width, is_about, value_of, width_of, with_name, names_behind, names_of}
 use Rattle.kx_merge.specs.Bodies.{gathered}
 use Rattle.kx_merge.specs.Records.{Shows}
-use Rattle.kx_merge.proofs.Movings.{append-none, append-inner}
 use Rattle.kx_merge.proofs.Precedence.{value-other, value-more, width-other, width-more, names_behind-append}
 use Rattle.kx_merge.proofs.OnePart.{Apart, a_key, gathered-names-apart, names, or-first, or-last}
 
@@ -22,15 +22,15 @@ or-again : {X : Type 0} (a v : Option X) → option_or v (option_or v a) ≡ opt
 or-again a (Some x) = refl
 or-again a None = refl
 
-pub taken-again : {X : Type 0} (m : Mode) (a v : Option X) → taken m (taken m a v) v ≡ taken m a v
-taken-again Augment a v = or-same a v
-taken-again Override a v = or-again a v
-taken-again Replace a v = refl
+pub merged-again : {X : Type 0} (m : Mode) (a v : Option X) → merged_value m (merged_value m a v) v ≡ merged_value m a v
+merged-again Augment a v = or-same a v
+merged-again Override a v = or-again a v
+merged-again Replace a v = refl
 
-pub widened-again : (m : Mode) (a n : ℕ) → widened m (widened m a n) n ≡ widened m a n
-widened-again Augment a n = omega arith
-widened-again Override a n = omega arith
-widened-again Replace a n = refl
+pub width-again : (m : Mode) (a n : ℕ) → merged_width m (merged_width m a n) n ≡ merged_width m a n
+width-again Augment a n = omega arith
+width-again Override a n = omega arith
+width-again Replace a n = refl
 
 -- what offers make of something, one by one
 module _ {K C V W : Type 0} (eq : K → K → Bool) (k : K) (step : Offer K C V → W → W) where
@@ -64,32 +64,32 @@ module _ {K C V W : Type 0} (eq : K → K → Bool) (k : K) (step : Offer K C V 
 
 module _ {K C V : Type 0} (eq : K → K → Bool) (k : K) where
   unfoldable pub take : C → Offer K C V → Option V → Option V
-  take c o v = taken o.mode v (o.value c)
+  take c o v = merged_value o.mode v (o.value c)
 
   unfoldable pub widen : ℕ → Offer K C V → ℕ → ℕ
-  widen g o n = widened o.mode n (o.width g)
+  widen g o n = merged_width o.mode n (o.width g)
 
   pub value-behind : (c : C) (os ps : List (Offer K C V)) → value_of eq (os ++ ps) k c ≡ behind eq k (take c) (value_of eq os k c) ps
   unfolding take
-  value-behind c os [] = ap (λ xs. value_of eq xs k c) (append-none os)
+  value-behind c os [] = ap (λ xs. value_of eq xs k c) (append-nil os)
   value-behind c os (o ∷ ps) =
-      ap (λ xs. value_of eq xs k c) (sym (append-inner os (o ∷ []) ps)) ∙ value-behind c (os ++ o ∷ []) ps
+      ap (λ xs. value_of eq xs k c) (sym (append_assoc os (o ∷ []) ps)) ∙ value-behind c (os ++ o ∷ []) ps
       ∙ ap (λ v. behind eq k (take c) v ps) (by (is_about eq k o) refl)
     where
-      by : (b : Bool) → is_about eq k o ≡ b → value_of eq (os ++ o ∷ []) k c ≡ cond (is_about eq k o) (taken o.mode (value_of eq os k c) (o.value c)) (value_of eq os k c)
-      by true e = value-more eq k o o.mode refl e os c ∙ sym (ap (λ b. cond b (taken o.mode (value_of eq os k c) (o.value c)) (value_of eq os k c)) e)
-      by false e = value-other eq k o e os c ∙ sym (ap (λ b. cond b (taken o.mode (value_of eq os k c) (o.value c)) (value_of eq os k c)) e)
+      by : (b : Bool) → is_about eq k o ≡ b → value_of eq (os ++ o ∷ []) k c ≡ cond (is_about eq k o) (merged_value o.mode (value_of eq os k c) (o.value c)) (value_of eq os k c)
+      by true e = value-more eq k o o.mode refl e os c ∙ sym (ap (λ b. cond b (merged_value o.mode (value_of eq os k c) (o.value c)) (value_of eq os k c)) e)
+      by false e = value-other eq k o e os c ∙ sym (ap (λ b. cond b (merged_value o.mode (value_of eq os k c) (o.value c)) (value_of eq os k c)) e)
 
   pub width-behind : (g : ℕ) (os ps : List (Offer K C V)) → width_of eq (os ++ ps) k g ≡ behind eq k (widen g) (width_of eq os k g) ps
   unfolding widen
-  width-behind g os [] = ap (λ xs. width_of eq xs k g) (append-none os)
+  width-behind g os [] = ap (λ xs. width_of eq xs k g) (append-nil os)
   width-behind g os (o ∷ ps) =
-      ap (λ xs. width_of eq xs k g) (sym (append-inner os (o ∷ []) ps)) ∙ width-behind g (os ++ o ∷ []) ps
+      ap (λ xs. width_of eq xs k g) (sym (append_assoc os (o ∷ []) ps)) ∙ width-behind g (os ++ o ∷ []) ps
       ∙ ap (λ v. behind eq k (widen g) v ps) (by (is_about eq k o) refl)
     where
-      by : (b : Bool) → is_about eq k o ≡ b → width_of eq (os ++ o ∷ []) k g ≡ cond (is_about eq k o) (widened o.mode (width_of eq os k g) (o.width g)) (width_of eq os k g)
-      by true e = width-more eq k o o.mode refl e os g ∙ sym (ap (λ b. cond b (widened o.mode (width_of eq os k g) (o.width g)) (width_of eq os k g)) e)
-      by false e = width-other eq k o e os g ∙ sym (ap (λ b. cond b (widened o.mode (width_of eq os k g) (o.width g)) (width_of eq os k g)) e)
+      by : (b : Bool) → is_about eq k o ≡ b → width_of eq (os ++ o ∷ []) k g ≡ cond (is_about eq k o) (merged_width o.mode (width_of eq os k g) (o.width g)) (width_of eq os k g)
+      by true e = width-more eq k o o.mode refl e os g ∙ sym (ap (λ b. cond b (merged_width o.mode (width_of eq os k g) (o.width g)) (width_of eq os k g)) e)
+      by false e = width-other eq k o e os g ∙ sym (ap (λ b. cond b (merged_width o.mode (width_of eq os k g) (o.width g)) (width_of eq os k g)) e)
 
 -- names that are there
 module _ {K : Type 0} (eq : K → K → Bool) (laws : IsEquivalence eq) where
@@ -155,8 +155,8 @@ module _ {K C V R : Type 0} (cell : R → C → Option V) (width : R → ℕ →
   unfolding take widen
   shows-again ns at os g apart shows = record {
     names_are = shows.names_are ∙ sym (names-again eq laws os g);
-    cells_are = λ k c. shows.cells_are k c ∙ sym (value-behind eq k c (os ++ g) g ∙ ap (λ v. behind eq k (take eq k c) v g) (value-behind eq k c os g) ∙ behind-again eq k (take eq k c) same (λ o w. taken-again o.mode w (o.value c)) (value_of eq os k c) g apart ∙ sym (value-behind eq k c os g));
-    widths_are = λ k n. shows.widths_are k n ∙ sym (width-behind eq k n (os ++ g) g ∙ ap (λ v. behind eq k (widen eq k n) v g) (width-behind eq k n os g) ∙ behind-again eq k (widen eq k n) same (λ o w. widened-again o.mode w (o.width n)) (width_of eq os k n) g apart ∙ sym (width-behind eq k n os g));
+    cells_are = λ k c. shows.cells_are k c ∙ sym (value-behind eq k c (os ++ g) g ∙ ap (λ v. behind eq k (take eq k c) v g) (value-behind eq k c os g) ∙ behind-again eq k (take eq k c) same (λ o w. merged-again o.mode w (o.value c)) (value_of eq os k c) g apart ∙ sym (value-behind eq k c os g));
+    widths_are = λ k n. shows.widths_are k n ∙ sym (width-behind eq k n (os ++ g) g ∙ ap (λ v. behind eq k (widen eq k n) v g) (width-behind eq k n os g) ∙ behind-again eq k (widen eq k n) same (λ o w. width-again o.mode w (o.width n)) (width_of eq os k n) g apart ∙ sym (width-behind eq k n os g));
   }
 
   pub gathered_again : (ns : List K) (at : K → Option R) (mode : Mode) (os inner : List (Offer K C V)) → Shows cell width eq ns at (os ++ gathered eq mode inner) → Shows cell width eq ns at ((os ++ gathered eq mode inner) ++ gathered eq mode inner)

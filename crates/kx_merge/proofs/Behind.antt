@@ -1,6 +1,6 @@
 -- Going over a body: what is after is in the records, and has no fault.
 use Rattle.std.proofs.Common.{◌≡◌, ℕ, ◌+◌, ◌<◌, ◌≤◌, zero, suc, Bool, true, List, [], ◌∷◌, ◌++◌, length, drop, get_or, eqb-true, Option, None, Contains, Result, Ok, Err, IfErr, OnOk, refl, sym, ap, ◌∙◌, subst, arith}
-use Rattle.std.proofs.lemmas.List.{drop_all}
+use Rattle.std.proofs.lemmas.List.{append-nil, append_assoc, drop_all}
 use Rattle.std.proofs.lemmas.List.Elements.{Contains-append_left}
 use Rattle.std.specs.Prelude.{◌==◌}
 use Rattle.std.specs.HashMap.{HashMap}
@@ -22,7 +22,7 @@ use Rattle.kx_merge.specs.Gatherings.{Adds, AddsBehind, IsGathered, AreGathered,
 use Rattle.kx_merge.specs.Offers.{Offer}
 use Rattle.kx_merge.specs.Records.{Shows, cell_in, width_in}
 use Rattle.kx_merge.specs.declared.gathering.Merged.{Merged}
-use Rattle.kx_merge.proofs.Movings.{append-none, append-inner}
+use Rattle.kx_merge.proofs.Going.{drop_next}
 
 module _ {K C V D R : Type 0} (cell : R → C → Option V) (width : R → ℕ → ℕ) (eq : K → K → Bool) (rules : Rules K C V D) (moves : Moves K C) where
   -- from records and a body, some of the body is after in the records of now
@@ -33,7 +33,7 @@ module _ {K C V D R : Type 0} (cell : R → C → Option V) (width : R → ℕ �
     pub blamed : faults eq rules moves d whole ≡ faults eq rules moves now_d left
 
   pub left_all : (names : List K) (at : K → Option R) (d : D) (whole : Body) → Left names at d whole names at d whole
-  left_all names at d whole = record { behind = []; shown = λ os shows. subst (Shows cell width eq names at) (sym (append-none os)) shows; offered = refl; blamed = refl }
+  left_all names at d whole = record { behind = []; shown = λ os shows. subst (Shows cell width eq names at) (sym (append-nil os)) shows; offered = refl; blamed = refl }
 
 module _ {K C V D R : Type 0} {cell : R → C → Option V} {width : R → ℕ → ℕ} {eq : K → K → Bool} {rules : Rules K C V D} {moves : Moves K C} {names : List K} {at : K → Option R} {d : D} {whole : Body} where
   unfoldable pub left_step : {n1 n2 : List K} {a1 a2 : K → Option R} {d1 : D} {b1 : Body} {X : Type 0} {added : List (Offer K C V)} {fs : List Fault} {x : X} (d2 : D) (b2 : Body)
@@ -41,22 +41,17 @@ module _ {K C V D R : Type 0} {cell : R → C → Option V} {width : R → ℕ �
       → Adds cell width eq n1 a1 (Ok x) n2 a2 added fs → Left cell width eq rules moves names at d whole n2 a2 d2 b2
   left_step {n2 = n2} {a2 = a2} {added = added} {fs = fs} d2 b2 l os_are fs_are adds = record {
     behind = l.behind ++ added;
-    shown = λ os before. subst (Shows cell width eq n2 a2) (append-inner os l.behind added) (adds.shows (os ++ l.behind) (l.shown os before));
-    offered = l.offered ∙ ap (λ rest. l.behind ++ rest) os_are ∙ sym (append-inner l.behind added (offers eq rules moves d2 b2));
+    shown = λ os before. subst (Shows cell width eq n2 a2) (append_assoc os l.behind added) (adds.shows (os ++ l.behind) (l.shown os before));
+    offered = l.offered ∙ ap (λ rest. l.behind ++ rest) os_are ∙ sym (append_assoc l.behind added (offers eq rules moves d2 b2));
     blamed = l.blamed ∙ fs_are ∙ ap (λ gs. gs ++ faults eq rules moves d2 b2) adds.faultless;
   }
 
   pub left_shown : {n1 : List K} {a1 : K → Option R} {d1 : D} → Left cell width eq rules moves names at d whole n1 a1 d1 End → (os : List (Offer K C V)) → Shows cell width eq names at os → Shows cell width eq n1 a1 (os ++ offers eq rules moves d whole)
-  left_shown {n1 = n1} {a1 = a1} l os before = subst (λ added. Shows cell width eq n1 a1 (os ++ added)) (sym (l.offered ∙ append-none l.behind)) (l.shown os before)
+  left_shown {n1 = n1} {a1 = a1} l os before = subst (λ added. Shows cell width eq n1 a1 (os ++ added)) (sym (l.offered ∙ append-nil l.behind)) (l.shown os before)
 
   pub left_fault : {n1 n2 : List K} {a1 a2 : K → Option R} {d1 : D} {b1 : Body} {X : Type 0} {added : List (Offer K C V)} {fs : List Fault} {e : Fault} (rest : List Fault) → Left cell width eq rules moves names at d whole n1 a1 d1 b1 → faults eq rules moves d1 b1 ≡ fs ++ rest
       → Adds cell width eq {X = X} n1 a1 (Err e) n2 a2 added fs → Contains (Memory ∷ faults eq rules moves d whole) e
   left_fault {fs = fs} {e = e} rest l fs_are adds = subst (λ gs. Contains (Memory ∷ gs) e) (sym (l.blamed ∙ fs_are)) (Contains-append_left (Memory ∷ fs) rest e adds.fault)
-
-pub drop-next : {X : Type 0} (xs : List X) (i : ℕ) (x : X) → i < length xs → x ≡ get_or xs i x → drop i xs ≡ x ∷ drop (i + 1) xs
-drop-next [] i x within h = absurd (omega (arith, within))
-drop-next (y ∷ xs) zero x within h = ap (λ z. z ∷ xs) (sym h)
-drop-next (y ∷ xs) (suc i) x within h = let next : suc i + 1 ≡ suc (i + 1) = omega arith in rw next (drop-next xs i x (omega (arith, within)) h)
 
 module _ {K C V D : Type 0} (eq : K → K → Bool) (rules : Rules K C V D) (moves : Moves K C) (bodies : List Body) where
   pub entry-first : (place : Place) (d : D) (e : Entry) (es : List Entry) (rest : Body) → offers eq rules moves d (entries_body bodies place (e ∷ es) rest) ≡ entry_offers eq rules moves bodies place d e ++ offers eq rules moves (entry_next rules d e) (entries_body bodies place es rest)
@@ -69,16 +64,16 @@ module _ {K C V D : Type 0} (eq : K → K → Bool) (rules : Rules K C V D) (mov
 
   -- at an index of a loop
   pub entry_at : (place : Place) (d : D) (xs : List Entry) (i : ℕ) (x : Entry) → i < length xs → x ≡ get_or xs i x → offers eq rules moves d (entries_body bodies place (drop i xs) End) ≡ entry_offers eq rules moves bodies place d x ++ offers eq rules moves (entry_next rules d x) (entries_body bodies place (drop (i + 1) xs) End)
-  entry_at place d xs i x within is = ap (λ ys. offers eq rules moves d (entries_body bodies place ys End)) (drop-next xs i x within is) ∙ entry-first place d x (drop (i + 1) xs) End
+  entry_at place d xs i x within is = ap (λ ys. offers eq rules moves d (entries_body bodies place ys End)) (drop_next xs i x within is) ∙ entry-first place d x (drop (i + 1) xs) End
 
   pub entry_blamed_at : (place : Place) (d : D) (xs : List Entry) (i : ℕ) (x : Entry) → i < length xs → x ≡ get_or xs i x → faults eq rules moves d (entries_body bodies place (drop i xs) End) ≡ entry_faults eq rules moves bodies place d x ++ faults eq rules moves (entry_next rules d x) (entries_body bodies place (drop (i + 1) xs) End)
-  entry_blamed_at place d xs i x within is = ap (λ ys. faults eq rules moves d (entries_body bodies place ys End)) (drop-next xs i x within is) ∙ entry-blamed place d x (drop (i + 1) xs) End
+  entry_blamed_at place d xs i x within is = ap (λ ys. faults eq rules moves d (entries_body bodies place ys End)) (drop_next xs i x within is) ∙ entry-blamed place d x (drop (i + 1) xs) End
 
   pub link_at : (xs : List Link) (i : ℕ) (x : Link) → i < length xs → x ≡ get_or xs i x → offers eq rules moves rules.start (links_body bodies (drop i xs)) ≡ moved moves x.group (gathered eq x.mode (offers_of eq rules moves (body_at bodies x.map))) ++ offers eq rules moves rules.start (links_body bodies (drop (i + 1) xs))
-  link_at xs i x within is = ap (λ ys. offers eq rules moves rules.start (links_body bodies ys)) (drop-next xs i x within is)
+  link_at xs i x within is = ap (λ ys. offers eq rules moves rules.start (links_body bodies ys)) (drop_next xs i x within is)
 
   pub link_blamed_at : (xs : List Link) (i : ℕ) (x : Link) → i < length xs → x ≡ get_or xs i x → faults eq rules moves rules.start (links_body bodies (drop i xs)) ≡ faults_of eq rules moves (body_at bodies x.map) ++ faults eq rules moves rules.start (links_body bodies (drop (i + 1) xs))
-  link_blamed_at xs i x within is = ap (λ ys. faults eq rules moves rules.start (links_body bodies ys)) (drop-next xs i x within is)
+  link_blamed_at xs i x within is = ap (λ ys. faults eq rules moves rules.start (links_body bodies ys)) (drop_next xs i x within is)
 
   -- a map's items, and what stands after them
   ended : D → List Entry → D
@@ -90,7 +85,7 @@ module _ {K C V D : Type 0} (eq : K → K → Bool) (rules : Rules K C V D) (mov
   entries-append place d [] rest = refl
   entries-append place d (x ∷ xs) rest =
       entry-first place d x xs rest ∙ ap (λ os. entry_offers eq rules moves bodies place d x ++ os) (entries-append place (entry_next rules d x) xs rest)
-      ∙ sym (append-inner (entry_offers eq rules moves bodies place d x) (offers eq rules moves (entry_next rules d x) (entries_body bodies place xs End)) (offers eq rules moves (ended (entry_next rules d x) xs) rest))
+      ∙ sym (append_assoc (entry_offers eq rules moves bodies place d x) (offers eq rules moves (entry_next rules d x) (entries_body bodies place xs End)) (offers eq rules moves (ended (entry_next rules d x) xs) rest))
       ∙ ap (λ os. os ++ offers eq rules moves (ended (entry_next rules d x) xs) rest) (sym (entry-first place d x xs End))
 
   entries-blamed : (place : Place) (d : D) (xs : List Entry) (rest : Body) → faults eq rules moves d (entries_body bodies place xs rest) ≡ faults eq rules moves d (entries_body bodies place xs End) ++ faults eq rules moves (ended d xs) rest
@@ -98,7 +93,7 @@ module _ {K C V D : Type 0} (eq : K → K → Bool) (rules : Rules K C V D) (mov
   entries-blamed place d [] rest = refl
   entries-blamed place d (x ∷ xs) rest =
       entry-blamed place d x xs rest ∙ ap (λ os. entry_faults eq rules moves bodies place d x ++ os) (entries-blamed place (entry_next rules d x) xs rest)
-      ∙ sym (append-inner (entry_faults eq rules moves bodies place d x) (faults eq rules moves (entry_next rules d x) (entries_body bodies place xs End)) (faults eq rules moves (ended (entry_next rules d x) xs) rest))
+      ∙ sym (append_assoc (entry_faults eq rules moves bodies place d x) (faults eq rules moves (entry_next rules d x) (entries_body bodies place xs End)) (faults eq rules moves (ended (entry_next rules d x) xs) rest))
       ∙ ap (λ os. os ++ faults eq rules moves (ended (entry_next rules d x) xs) rest) (sym (entry-blamed place d x xs End))
 
   -- where sections stand, the defaults before them don't count
@@ -113,13 +108,13 @@ module _ {K C V D : Type 0} (eq : K → K → Bool) (rules : Rules K C V D) (mov
   -- a section, and those after it
   pub section_at : (xs : List Map) (i : ℕ) (x : Map) → i < length xs → x ≡ get_or xs i x → offers eq rules moves rules.start (shared_sections bodies (drop i xs)) ≡ offers_of eq rules moves (shared_body bodies x End) ++ offers eq rules moves rules.start (shared_sections bodies (drop (i + 1) xs))
   section_at xs i x within is =
-      ap (λ ys. offers eq rules moves rules.start (shared_sections bodies ys)) (drop-next xs i x within is)
+      ap (λ ys. offers eq rules moves rules.start (shared_sections bodies ys)) (drop_next xs i x within is)
       ∙ entries-append x.place rules.start x.entries.items (shared_sections bodies (drop (i + 1) xs))
       ∙ ap (λ os. offers_of eq rules moves (shared_body bodies x End) ++ os) (restart (ended rules.start x.entries.items) (drop (i + 1) xs))
 
   pub section_blamed_at : (xs : List Map) (i : ℕ) (x : Map) → i < length xs → x ≡ get_or xs i x → faults eq rules moves rules.start (shared_sections bodies (drop i xs)) ≡ faults_of eq rules moves (shared_body bodies x End) ++ faults eq rules moves rules.start (shared_sections bodies (drop (i + 1) xs))
   section_blamed_at xs i x within is =
-      ap (λ ys. faults eq rules moves rules.start (shared_sections bodies ys)) (drop-next xs i x within is)
+      ap (λ ys. faults eq rules moves rules.start (shared_sections bodies ys)) (drop_next xs i x within is)
       ∙ entries-blamed x.place rules.start x.entries.items (shared_sections bodies (drop (i + 1) xs))
       ∙ ap (λ os. faults_of eq rules moves (shared_body bodies x End) ++ os) (restart-blamed (ended rules.start x.entries.items) (drop (i + 1) xs))
 
@@ -156,7 +151,7 @@ module _ {K C V D R N : Type 0} (cell : R → C → Option V) (width : R → ℕ
 -- records that take up nothing, a fault, and what is left where only memory may be wanting
 module _ {K C V R X : Type 0} {cell : R → C → Option V} {width : R → ℕ → ℕ} {eq : K → K → Bool} {n1 : List K} {a1 : K → Option R} {added : List (Offer K C V)} {blamed : List Fault} where
   pub adds_nothing : {x : X} → added ≡ [] → blamed ≡ [] → Adds cell width eq n1 a1 (Ok x) n1 a1 added blamed
-  adds_nothing nothing faultless = record { shows = λ os shows. subst (Shows cell width eq n1 a1) (sym (append-none os) ∙ ap (λ os2. os ++ os2) (sym nothing)) shows; faultless = faultless; fault = tt }
+  adds_nothing nothing faultless = record { shows = λ os shows. subst (Shows cell width eq n1 a1) (sym (append-nil os) ∙ ap (λ os2. os ++ os2) (sym nothing)) shows; faultless = faultless; fault = tt }
 
 module _ {K C V R X : Type 0} {cell : R → C → Option V} {width : R → ℕ → ℕ} {eq : K → K → Bool} {n1 n2 : List K} {a1 a2 : K → Option R} {added : List (Offer K C V)} {blamed : List Fault} where
   pub adds_fault : {e : Fault} → Contains (Memory ∷ blamed) e → Adds cell width eq {X = X} n1 a1 (Err e) n2 a2 added blamed
@@ -196,15 +191,9 @@ alike (x ∷ xs) (y ∷ ys) d long each =
     let tail : xs ≡ ys = alike xs ys d (omega (arith, long)) (λ k within. each (suc k) (omega (arith, within))) in
     λ i. head i ∷ tail i
 
--- an element, however it is read
-pub read_again : {X : Type 0} (xs : List X) (i : ℕ) (d : X) → i < length xs → get_or xs i d ≡ get_or xs i (get_or xs i d)
-read_again [] i d within = absurd (omega (arith, within))
-read_again (x ∷ xs) zero d within = refl
-read_again (x ∷ xs) (suc i) d within = read_again xs i d (omega (arith, within))
-
 -- the next of the maps
 pub behind_at : (bodies : List Body) (xs : List Map) (i : ℕ) (x : Map) → i < length xs → x ≡ get_or xs i x → bodies_behind bodies (drop i xs) ≡ bodies_behind (bodies ++ shared_body bodies x End ∷ []) (drop (i + 1) xs)
-behind_at bodies xs i x within is = ap (bodies_behind bodies) (drop-next xs i x within is)
+behind_at bodies xs i x within is = ap (bodies_behind bodies) (drop_next xs i x within is)
 
 -- records of which there are none
 pub shows_none : {K C V R S : Type 0} (cell : R → C → Option V) (width : R → ℕ → ℕ) (eq : K → K → Bool) (m : HashMap K R S) (os : List (Offer K C V)) → m.entries ≡ [] → os ≡ [] → Shows cell width eq (keys m) (get eq m) os

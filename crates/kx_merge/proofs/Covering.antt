@@ -6,15 +6,15 @@ use Rattle.std.specs.Cmp.{IsEquivalence}
 use Rattle.std.specs.List.{list_any}
 use Rattle.std.specs.Map.{keys_of}
 use Rattle.std.specs.Option.{option_or, option_map_or}
+use Rattle.std.proofs.lemmas.List.{append-nil, append_assoc}
 use Rattle.kx_parse.specs.declared.tree.Mode.{Mode}
 use Rattle.kx_parse.specs.declared.tree.Mode.TheVariants.{Augment, Override, Replace}
 use Rattle.kx_merge.specs.Bodies.{Moves, gather, gathered, moved, moved_to}
 use Rattle.kx_merge.specs.Renewals.{AreGentle, AreGentleTo, AreWeak, Picks, TakesBack, none, more, no_offer, an_offer}
-use Rattle.kx_merge.specs.Offers.{Offer, is_about, is_replace, is_strong, taken, widened, value_of, width_of, names_behind, names_of}
+use Rattle.kx_merge.specs.Offers.{Offer, is_about, is_replace, is_strong, merged_value, merged_width, value_of, width_of, names_behind, names_of}
 use Rattle.kx_merge.specs.Records.{AreOffered, Shows}
 use Rattle.kx_merge.specs.Records.AreOffered.{more as an_offered}
 use Rattle.kx_merge.proofs.Again.{Named, no_name, all-named, behind, named-again, take, value-behind, widen, width-behind}
-use Rattle.kx_merge.proofs.Movings.{append-inner, append-none}
 use Rattle.kx_merge.proofs.Precedence.{names_behind-append}
 use Rattle.kx_merge.proofs.Repeated.{behind-append, named-more}
 use Rattle.kx_merge.proofs.OnePart.{or-both, or-first, or-last}
@@ -34,29 +34,29 @@ or-same (Some x) b = refl
 or-same None None = refl
 or-same None (Some x) = refl
 
-taken-weak : {X : Type 0} (m : Mode) → is_strong m ≡ false → (a b : Option X) → taken m a b ≡ option_or a b
-taken-weak Augment weak a b = refl
-taken-weak Override weak a b = absurd (false≢true (sym weak))
-taken-weak Replace weak a b = absurd (false≢true (sym weak))
+merged-weak : {X : Type 0} (m : Mode) → is_strong m ≡ false → (a b : Option X) → merged_value m a b ≡ option_or a b
+merged-weak Augment weak a b = refl
+merged-weak Override weak a b = absurd (false≢true (sym weak))
+merged-weak Replace weak a b = absurd (false≢true (sym weak))
 
-widened-weak : (m : Mode) → is_strong m ≡ false → (a b : ℕ) → widened m a b ≡ max a b
-widened-weak Augment weak a b = refl
-widened-weak Override weak a b = absurd (false≢true (sym weak))
-widened-weak Replace weak a b = absurd (false≢true (sym weak))
+width-weak : (m : Mode) → is_strong m ≡ false → (a b : ℕ) → merged_width m a b ≡ max a b
+width-weak Augment weak a b = refl
+width-weak Override weak a b = absurd (false≢true (sym weak))
+width-weak Replace weak a b = absurd (false≢true (sym weak))
 
 -- a value that is there stays there
-taken-stays : {X : Type 0} (m : Mode) → is_replace m ≡ false → (a b y : Option X) → option_or a y ≡ a → option_or (taken m a b) y ≡ taken m a b
-taken-stays Augment gentle (Some x) b y e = refl
-taken-stays Augment gentle None None y e = e
-taken-stays Augment gentle None (Some x) y e = refl
-taken-stays Override gentle a None y e = e
-taken-stays Override gentle a (Some x) y e = refl
-taken-stays Replace gentle a b y e = absurd (false≢true (sym gentle))
+merged-stays : {X : Type 0} (m : Mode) → is_replace m ≡ false → (a b y : Option X) → option_or a y ≡ a → option_or (merged_value m a b) y ≡ merged_value m a b
+merged-stays Augment gentle (Some x) b y e = refl
+merged-stays Augment gentle None None y e = e
+merged-stays Augment gentle None (Some x) y e = refl
+merged-stays Override gentle a None y e = e
+merged-stays Override gentle a (Some x) y e = refl
+merged-stays Replace gentle a b y e = absurd (false≢true (sym gentle))
 
-widened-stays : (m : Mode) → is_replace m ≡ false → (a b y : ℕ) → max a y ≡ a → max (widened m a b) y ≡ widened m a b
-widened-stays Augment gentle a b y e = omega (arith, e)
-widened-stays Override gentle a b y e = omega (arith, e)
-widened-stays Replace gentle a b y e = absurd (false≢true (sym gentle))
+width-stays : (m : Mode) → is_replace m ≡ false → (a b y : ℕ) → max a y ≡ a → max (merged_width m a b) y ≡ merged_width m a b
+width-stays Augment gentle a b y e = omega (arith, e)
+width-stays Override gentle a b y e = omega (arith, e)
+width-stays Replace gentle a b y e = absurd (false≢true (sym gentle))
 
 gentle-mode : (m : Mode) → is_strong m ≡ false → is_replace m ≡ false
 gentle-mode Augment weak = refl
@@ -157,10 +157,10 @@ module _ {K C V : Type 0} (eq : K → K → Bool) (k : K) where
       left : Option V
       left = behind eq k (take eq k c) None os
 
-      by : (b : Bool) → ((v : Option V) → behind eq k (take eq k c) v os ≡ option_or v left) → behind eq k (take eq k c) (cond b (taken o.mode w (o.value c)) w) os ≡ option_or w (behind eq k (take eq k c) (cond b (taken o.mode None (o.value c)) None) os)
+      by : (b : Bool) → ((v : Option V) → behind eq k (take eq k c) v os ≡ option_or v left) → behind eq k (take eq k c) (cond b (merged_value o.mode w (o.value c)) w) os ≡ option_or w (behind eq k (take eq k c) (cond b (merged_value o.mode None (o.value c)) None) os)
       by true next =
-          next (taken o.mode w (o.value c)) ∙ ap (λ v. option_or v left) (taken-weak o.mode weak w (o.value c)) ∙ or-inner w (o.value c) left
-          ∙ ap (option_or w) (sym (next (taken o.mode None (o.value c)) ∙ ap (λ v. option_or v left) (taken-weak o.mode weak None (o.value c))))
+          next (merged_value o.mode w (o.value c)) ∙ ap (λ v. option_or v left) (merged-weak o.mode weak w (o.value c)) ∙ or-inner w (o.value c) left
+          ∙ ap (option_or w) (sym (next (merged_value o.mode None (o.value c)) ∙ ap (λ v. option_or v left) (merged-weak o.mode weak None (o.value c))))
       by false next = next w
 
   weak-width : (g : ℕ) (xs : List (Offer K C V)) → AreWeak xs → (w : ℕ) → behind eq k (widen eq k g) w xs ≡ max w (behind eq k (widen eq k g) 0 xs)
@@ -171,29 +171,29 @@ module _ {K C V : Type 0} (eq : K → K → Bool) (k : K) where
       left : ℕ
       left = behind eq k (widen eq k g) 0 os
 
-      by : (b : Bool) → ((v : ℕ) → behind eq k (widen eq k g) v os ≡ max v left) → behind eq k (widen eq k g) (cond b (widened o.mode w (o.width g)) w) os ≡ max w (behind eq k (widen eq k g) (cond b (widened o.mode 0 (o.width g)) 0) os)
+      by : (b : Bool) → ((v : ℕ) → behind eq k (widen eq k g) v os ≡ max v left) → behind eq k (widen eq k g) (cond b (merged_width o.mode w (o.width g)) w) os ≡ max w (behind eq k (widen eq k g) (cond b (merged_width o.mode 0 (o.width g)) 0) os)
       by true next =
-          let first = next (widened o.mode w (o.width g)) ∙ ap (λ n. max n left) (widened-weak o.mode weak w (o.width g)) in
-          let none_first = next (widened o.mode 0 (o.width g)) ∙ ap (λ n. max n left) (widened-weak o.mode weak 0 (o.width g)) in
+          let first = next (merged_width o.mode w (o.width g)) ∙ ap (λ n. max n left) (width-weak o.mode weak w (o.width g)) in
+          let none_first = next (merged_width o.mode 0 (o.width g)) ∙ ap (λ n. max n left) (width-weak o.mode weak 0 (o.width g)) in
           omega (arith, first, none_first)
       by false next = next w
 
   stays-value : (c : C) (os : List (Offer K C V)) → AreGentleTo eq k os → (v y : Option V) → option_or v y ≡ v → option_or (behind eq k (take eq k c) v os) y ≡ behind eq k (take eq k c) v os
   unfolding take
   stays-value c [] none v y e = e
-  stays-value c (o ∷ os) (more gentle rest) v y e = stays-value c os rest (cond (is_about eq k o) (taken o.mode v (o.value c)) v) y (by (is_about eq k o) refl)
+  stays-value c (o ∷ os) (more gentle rest) v y e = stays-value c os rest (cond (is_about eq k o) (merged_value o.mode v (o.value c)) v) y (by (is_about eq k o) refl)
     where
-      by : (b : Bool) → is_about eq k o ≡ b → option_or (cond b (taken o.mode v (o.value c)) v) y ≡ cond b (taken o.mode v (o.value c)) v
-      by true about = taken-stays o.mode (gentle about) v (o.value c) y e
+      by : (b : Bool) → is_about eq k o ≡ b → option_or (cond b (merged_value o.mode v (o.value c)) v) y ≡ cond b (merged_value o.mode v (o.value c)) v
+      by true about = merged-stays o.mode (gentle about) v (o.value c) y e
       by false other = e
 
   stays-width : (g : ℕ) (os : List (Offer K C V)) → AreGentleTo eq k os → (v y : ℕ) → max v y ≡ v → max (behind eq k (widen eq k g) v os) y ≡ behind eq k (widen eq k g) v os
   unfolding widen
   stays-width g [] none v y e = e
-  stays-width g (o ∷ os) (more gentle rest) v y e = stays-width g os rest (cond (is_about eq k o) (widened o.mode v (o.width g)) v) y (by (is_about eq k o) refl)
+  stays-width g (o ∷ os) (more gentle rest) v y e = stays-width g os rest (cond (is_about eq k o) (merged_width o.mode v (o.width g)) v) y (by (is_about eq k o) refl)
     where
-      by : (b : Bool) → is_about eq k o ≡ b → max (cond b (widened o.mode v (o.width g)) v) y ≡ cond b (widened o.mode v (o.width g)) v
-      by true about = widened-stays o.mode (gentle about) v (o.width g) y e
+      by : (b : Bool) → is_about eq k o ≡ b → max (cond b (merged_width o.mode v (o.width g)) v) y ≡ cond b (merged_width o.mode v (o.width g)) v
+      by true about = width-stays o.mode (gentle about) v (o.width g) y e
       by false other = e
 
 pub any-front : {K : Type 0} (test : K → Bool) (js ks : List K) → list_any test (js ++ ks) ≡ false → list_any test js ≡ false
@@ -281,7 +281,7 @@ module _ {K C V : Type 0} (eq : K → K → Bool) (laws : IsEquivalence eq) wher
 
     -- so records that show what stands before, and what is given to those keys, show them all
     pub covers_shown : Shows cell width eq ns at ((os ++ kept) ++ picked) → Shows cell width eq ns at (os ++ (kept ++ xs))
-    covers_shown shows = subst (Shows cell width eq ns at) (append-inner os kept xs) (record {
+    covers_shown shows = subst (Shows cell width eq ns at) (append_assoc os kept xs) (record {
       names_are = shows.names_are ∙ covers-names;
       cells_are = λ k c. shows.cells_are k c ∙ covers-values k c;
       widths_are = λ k g. shows.widths_are k g ∙ covers-widths k g;
@@ -291,8 +291,8 @@ module _ {K C V : Type 0} (eq : K → K → Bool) (laws : IsEquivalence eq) wher
   pub picks_none : (xs : List (Offer K C V)) → Picks eq [] xs []
   picks_none xs = record {
     values_here = λ k c os ps here. absurd (false≢true here);
-    values_away = λ k c os away. ap (λ ys. value_of eq ys k c) (append-none os);
+    values_away = λ k c os away. ap (λ ys. value_of eq ys k c) (append-nil os);
     widths_here = λ k g os ps here. absurd (false≢true here);
-    widths_away = λ k g os away. ap (λ ys. width_of eq ys k g) (append-none os);
+    widths_away = λ k g os away. ap (λ ys. width_of eq ys k g) (append-nil os);
     named = λ ks known. refl;
   }

@@ -1,6 +1,6 @@
 -- Records of one value: none, and one that is given its value.
-use Rattle.std.proofs.Common.{◌≡◌, ℕ, List, [], ◌∷◌, ◌++◌, Some, ap, refl, subst, sym, ◌∙◌}
-use Rattle.kx_merge.specs.Offers.{Offer, plain_offer}
+use Rattle.std.proofs.Common.{◌≡◌, List, [], ◌∷◌, ◌++◌, Some, ap, refl, subst, sym, ◌∙◌}
+use Rattle.kx_merge.specs.Offers.{plain_offer}
 use Rattle.kx_merge.specs.Records.{AreOffered, none, more}
 use Rattle.kx_merge.specs.Single.{single_cell, single_width}
 use Rattle.kx_merge.specs.declared.single.Single.{Single}

@@ -5,17 +5,17 @@ use Rattle.std.proofs.lemmas.List.Elements.{All-cons, All-head, All-nil, All-tai
 use Rattle.std.specs.Cmp.{IsEquivalence}
 use Rattle.std.specs.List.{list_any}
 use Rattle.std.specs.Option.{option_or}
+use Rattle.std.proofs.lemmas.List.{append-nil, append_assoc}
 use Rattle.kx_include.specs.Expansion.{Body}
 use Rattle.kx_include.specs.Shared.{body_at, links_body}
 use Rattle.kx_include.specs.declared.expansion.Link.{Link}
 use Rattle.kx_parse.specs.declared.tree.Mode.TheVariants.{Augment}
 use Rattle.kx_merge.specs.Bodies.{Moves, Rules, gathered, moved, offers_of}
 use Rattle.kx_merge.specs.Renewals.{Picks, TakesUp}
-use Rattle.kx_merge.specs.Offers.{Offer, names_behind, names_of, taken, value_of, widened, width_of, with_name}
+use Rattle.kx_merge.specs.Offers.{Offer, names_behind, names_of, merged_value, value_of, merged_width, width_of, with_name}
 use Rattle.kx_merge.specs.Records.{Shows}
 use Rattle.kx_merge.proofs.Again.{Named, no_name, a_name, all-named, behind-away, named-again, take, value-behind, widen, width-behind}
 use Rattle.kx_merge.proofs.Covering.{or-none}
-use Rattle.kx_merge.proofs.Movings.{append-inner, append-none}
 use Rattle.kx_merge.proofs.Picking.{named_by, value_given, width_given}
 use Rattle.kx_merge.proofs.Precedence.{names_behind-append}
 use Rattle.kx_merge.proofs.OnePart.{names, names-of-gathered, or-both}
@@ -33,25 +33,25 @@ module _ {K C V : Type 0} (eq : K → K → Bool) (laws : IsEquivalence eq) wher
 
   picks-nothing : (keys : List K) → Picks {C = C} {V = V} eq keys [] []
   picks-nothing keys = record {
-    values_here = λ k c os ps here e. ap (λ ys. value_of eq ys k c) (append-none os) ∙ e ∙ sym (ap (λ ys. value_of eq ys k c) (append-none ps));
-    values_away = λ k c os away. ap (λ ys. value_of eq ys k c) (append-none os);
-    widths_here = λ k g os ps here e. ap (λ ys. width_of eq ys k g) (append-none os) ∙ e ∙ sym (ap (λ ys. width_of eq ys k g) (append-none ps));
-    widths_away = λ k g os away. ap (λ ys. width_of eq ys k g) (append-none os);
+    values_here = λ k c os ps here e. ap (λ ys. value_of eq ys k c) (append-nil os) ∙ e ∙ sym (ap (λ ys. value_of eq ys k c) (append-nil ps));
+    values_away = λ k c os away. ap (λ ys. value_of eq ys k c) (append-nil os);
+    widths_here = λ k g os ps here e. ap (λ ys. width_of eq ys k g) (append-nil os) ∙ e ∙ sym (ap (λ ys. width_of eq ys k g) (append-nil ps));
+    widths_away = λ k g os away. ap (λ ys. width_of eq ys k g) (append-nil os);
     named = λ js known. refl;
   }
 
   picks-both : (keys : List K) (xs ys ps qs : List (Offer K C V)) → Picks eq keys xs ps → Picks eq keys ys qs → Picks eq keys (xs ++ ys) (ps ++ qs)
   picks-both keys xs ys ps qs first last = record {
     values_here = λ k c os rs here e.
-        ap (λ zs. value_of eq zs k c) (sym (append-inner os ps qs))
+        ap (λ zs. value_of eq zs k c) (sym (append_assoc os ps qs))
         ∙ last.values_here k c (os ++ ps) (rs ++ xs) here (first.values_here k c os rs here e)
-        ∙ ap (λ zs. value_of eq zs k c) (append-inner rs xs ys);
-    values_away = λ k c os away. ap (λ zs. value_of eq zs k c) (sym (append-inner os ps qs)) ∙ last.values_away k c (os ++ ps) away ∙ first.values_away k c os away;
+        ∙ ap (λ zs. value_of eq zs k c) (append_assoc rs xs ys);
+    values_away = λ k c os away. ap (λ zs. value_of eq zs k c) (sym (append_assoc os ps qs)) ∙ last.values_away k c (os ++ ps) away ∙ first.values_away k c os away;
     widths_here = λ k g os rs here e.
-        ap (λ zs. width_of eq zs k g) (sym (append-inner os ps qs))
+        ap (λ zs. width_of eq zs k g) (sym (append_assoc os ps qs))
         ∙ last.widths_here k g (os ++ ps) (rs ++ xs) here (first.widths_here k g os rs here e)
-        ∙ ap (λ zs. width_of eq zs k g) (append-inner rs xs ys);
-    widths_away = λ k g os away. ap (λ zs. width_of eq zs k g) (sym (append-inner os ps qs)) ∙ last.widths_away k g (os ++ ps) away ∙ first.widths_away k g os away;
+        ∙ ap (λ zs. width_of eq zs k g) (append_assoc rs xs ys);
+    widths_away = λ k g os away. ap (λ zs. width_of eq zs k g) (sym (append_assoc os ps qs)) ∙ last.widths_away k g (os ++ ps) away ∙ first.widths_away k g os away;
     named = λ js known.
         let all = subst (λ is. Named eq laws is (xs ++ ys)) known (all-named eq laws js (xs ++ ys)) in
         names_behind-append eq js ps qs
@@ -61,22 +61,22 @@ module _ {K C V : Type 0} (eq : K → K → Bool) (laws : IsEquivalence eq) wher
 
   module _ {R : Type 0} (cell : R → C → Option V) (width : R → ℕ → ℕ) (keys : List K) (n0 : List K) (a0 : K → Option R) where
     pub takes_nothing : TakesUp cell width eq keys n0 a0 n0 a0 []
-    takes_nothing = record { picked = []; picks = picks-nothing keys; shows = λ os before. subst (Shows cell width eq n0 a0) (sym (append-none os)) before }
+    takes_nothing = record { picked = []; picks = picks-nothing keys; shows = λ os before. subst (Shows cell width eq n0 a0) (sym (append-nil os)) before }
 
     pub takes_both : (n1 n2 : List K) (a1 a2 : K → Option R) (xs ys : List (Offer K C V)) → TakesUp cell width eq keys n0 a0 n1 a1 xs → TakesUp cell width eq keys n1 a1 n2 a2 ys → TakesUp cell width eq keys n0 a0 n2 a2 (xs ++ ys)
     takes_both n1 n2 a1 a2 xs ys first last = record {
       picked = first.picked ++ last.picked;
       picks = picks-both keys xs ys first.picked last.picked first.picks last.picks;
-      shows = λ os before. subst (Shows cell width eq n2 a2) (append-inner os first.picked last.picked) (last.shows (os ++ first.picked) (first.shows os before));
+      shows = λ os before. subst (Shows cell width eq n2 a2) (append_assoc os first.picked last.picked) (last.shows (os ++ first.picked) (first.shows os before));
     }
 
 pub offers_more : {K C V D : Type 0} (eq : K → K → Bool) (rules : Rules K C V D) (moves : Moves K C) (bodies : List Body) (ls : List Link) (x : Link)
     → offers_of eq rules moves (links_body bodies (ls ++ x ∷ [])) ≡ offers_of eq rules moves (links_body bodies ls) ++ moved moves x.group (gathered eq x.mode (offers_of eq rules moves (body_at bodies x.map)))
-offers_more eq rules moves bodies [] x = append-none (moved moves x.group (gathered eq x.mode (offers_of eq rules moves (body_at bodies x.map))))
+offers_more eq rules moves bodies [] x = append-nil (moved moves x.group (gathered eq x.mode (offers_of eq rules moves (body_at bodies x.map))))
 offers_more eq rules moves bodies (l ∷ ls) x =
     let first = moved moves l.group (gathered eq l.mode (offers_of eq rules moves (body_at bodies l.map))) in
     let last = moved moves x.group (gathered eq x.mode (offers_of eq rules moves (body_at bodies x.map))) in
-    ap (λ os. first ++ os) (offers_more eq rules moves bodies ls x) ∙ sym (append-inner first (offers_of eq rules moves (links_body bodies ls)) last)
+    ap (λ os. first ++ os) (offers_more eq rules moves bodies ls x) ∙ sym (append_assoc first (offers_of eq rules moves (links_body bodies ls)) last)
 
 -- ---- Names that are there
 
@@ -141,7 +141,7 @@ module _ {K C V : Type 0} (eq : K → K → Bool) (laws : IsEquivalence eq) (sam
         w : Option V
         w = value_of eq os k c
 
-        by : (b : Bool) → list_any (eq k) (names_of eq inner) ≡ b → cond b (taken Augment w (value_of eq inner k c)) w ≡ option_or w (value_of eq inner k c)
+        by : (b : Bool) → list_any (eq k) (names_of eq inner) ≡ b → cond b (merged_value Augment w (value_of eq inner k c)) w ≡ option_or w (value_of eq inner k c)
         by true among = refl
         by false out =
             sym (ap (option_or w) (value-behind eq k c [] inner ∙ behind-away eq k (take eq k c) None inner (unnamed (names_of eq inner) inner k (all-named eq laws [] inner) out)) ∙ or-none w)
@@ -152,7 +152,7 @@ module _ {K C V : Type 0} (eq : K → K → Bool) (laws : IsEquivalence eq) (sam
         w : ℕ
         w = width_of eq os k g
 
-        by : (b : Bool) → list_any (eq k) (names_of eq inner) ≡ b → cond b (widened Augment w (width_of eq inner k g)) w ≡ max w (width_of eq inner k g)
+        by : (b : Bool) → list_any (eq k) (names_of eq inner) ≡ b → cond b (merged_width Augment w (width_of eq inner k g)) w ≡ max w (width_of eq inner k g)
         by true among = refl
         by false out =
             let none = width-behind eq k g [] inner ∙ behind-away eq k (widen eq k g) 0 inner (unnamed (names_of eq inner) inner k (all-named eq laws [] inner) out) in

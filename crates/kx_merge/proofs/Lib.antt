@@ -1,3 +1,4 @@
+pub mod Going
 pub mod Precedence
 pub mod Given
 pub mod Steps

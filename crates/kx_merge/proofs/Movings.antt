@@ -6,20 +6,13 @@ use Rattle.std.specs.HashMap.{HashMap, IsUnique}
 use Rattle.std.specs.List.{flat_map, slice_get}
 use Rattle.std.specs.Map.{keys_of}
 use Rattle.std.specs.Option.{option_and_then, option_map_or}
+use Rattle.std.proofs.lemmas.List.{append_assoc}
 use Rattle.indexmap.specs.IndexMap.{get, keys}
 use Rattle.kx_parse.specs.declared.tree.Mode.{Mode}
 use Rattle.kx_merge.specs.Bodies.{Moves, moved, moved_to, gather}
 use Rattle.kx_merge.specs.Moved.{moved_one, moved_key, IsOfferedMoved}
 use Rattle.kx_merge.specs.Offers.{Offer, value_of, width_of}
 use Rattle.kx_merge.specs.Records.{IsOffered, IsGood, AreOffered, none, more, Shows, cell_in, width_in}
-
-pub append-none : {X : Type 0} (xs : List X) → xs ++ [] ≡ xs
-append-none [] = refl
-append-none (x ∷ xs) = ap (λ ys. x ∷ ys) (append-none xs)
-
-pub append-inner : {X : Type 0} (xs ys zs : List X) → (xs ++ ys) ++ zs ≡ xs ++ (ys ++ zs)
-append-inner [] ys zs = refl
-append-inner (x ∷ xs) ys zs = ap (λ ws. x ∷ ws) (append-inner xs ys zs)
 
 module _ {K C V R : Type 0} (mode : Mode) (cell : R → C → Option V) (width : R → ℕ → ℕ) where
   -- the last of records that are offered
@@ -73,7 +66,7 @@ module _ {K C V : Type 0} (moves : Moves K C) where
   flat-append n [] qs = refl
   flat-append n (p ∷ ps) qs =
       ap (λ rest. moved_one moves n p (moves.key n p.name) ++ rest) (flat-append n ps qs)
-      ∙ sym (append-inner (moved_one moves n p (moves.key n p.name)) (flat_map (λ q. moved_one moves n q (moves.key n q.name)) ps) (flat_map (λ q. moved_one moves n q (moves.key n q.name)) qs))
+      ∙ sym (append_assoc (moved_one moves n p (moves.key n p.name)) (flat_map (λ q. moved_one moves n q (moves.key n q.name)) ps) (flat_map (λ q. moved_one moves n q (moves.key n q.name)) qs))
 
   pub moved-append : (group : Option ℕ) (ps qs : List (Offer K C V)) → moved moves group (ps ++ qs) ≡ moved moves group ps ++ moved moves group qs
   moved-append None ps qs = refl

@@ -4,11 +4,11 @@ use Rattle.std.proofs.lemmas.Bool.{false≢true}
 use Rattle.std.specs.Cmp.{IsEquivalence}
 use Rattle.std.specs.List.{flat_map, list_any}
 use Rattle.std.specs.Option.{option_or}
+use Rattle.std.proofs.lemmas.List.{append-nil, append_assoc}
 use Rattle.kx_parse.specs.declared.tree.Mode.{Mode}
 use Rattle.kx_merge.specs.Moved.{moved_one}
 use Rattle.kx_merge.specs.Bodies.{Moves, moved, gather, gathered}
 use Rattle.kx_merge.specs.Offers.{Offer, is_replace, is_hidden, is_strong, seen, last_strong, first_weak, value_of, greatest, width_of, with_name, names_behind, names_of}
-use Rattle.kx_merge.proofs.Movings.{append-none, append-inner}
 
 abbrev pub names : {K C V : Type 0} → List (Offer K C V) → List K
 names os = map (λ o. o.name) os
@@ -80,11 +80,11 @@ module _ {K : Type 0} (eq : K → K → Bool) (laws : IsEquivalence eq) where
   apart-before k (x ∷ xs) ys (a_key first rest) = or-both (eq k x) (list_any (eq k) xs) (laws.symm k x ∙ away-at (eq x) k xs ys first) (apart-before k xs ys rest)
 
   names-kept : {C V : Type 0} (ks : List K) (os : List (Offer K C V)) → Apart eq (ks ++ names os) → names_behind eq ks os ≡ ks ++ names os
-  names-kept ks [] apart = sym (append-none ks)
+  names-kept ks [] apart = sym (append-nil ks)
   names-kept ks (o ∷ os) apart =
       ap (λ b. names_behind eq (cond b ks (ks ++ o.name ∷ [])) os) (apart-before o.name ks (names os) apart)
-      ∙ names-kept (ks ++ o.name ∷ []) os (subst (Apart eq) (sym (append-inner ks (o.name ∷ []) (names os))) apart)
-      ∙ append-inner ks (o.name ∷ []) (names os)
+      ∙ names-kept (ks ++ o.name ∷ []) os (subst (Apart eq) (sym (append_assoc ks (o.name ∷ []) (names os))) apart)
+      ∙ append_assoc ks (o.name ∷ []) (names os)
 
   -- of offers of which no two are about one record each is the only one of its record
   module _ {C V : Type 0} where
@@ -185,6 +185,6 @@ module _ {K C V : Type 0} (eq : K → K → Bool) (laws : IsEquivalence eq) (sam
   single_part group m mode =
       let ks = names_of eq os in
       let gs = moved moves group (map (gather eq m os) ks) in
-      ap (gathered eq mode) (append-none gs)
+      ap (gathered eq mode) (append-nil gs)
       ∙ gathered-apart eq laws mode gs (moved-apart group m ks (names-apart eq laws [] os no_key))
       ∙ moved-under group m mode ks

@@ -2,6 +2,7 @@
 use Rattle.std.proofs.Common.{◌≡◌, ℕ, ◌+◌, ◌<◌, ◌≤◌, zero, suc, Bool, true, false, cond, List, [], ◌∷◌, ◌++◌, length, drop, get_or, slice_get, Option, Some, Ok, refl, sym, ap, ◌∙◌, subst, arith}
 use Rattle.std.proofs.lemmas.Option.{same_Some}
 use Rattle.std.specs.Cmp.{IsEquivalence}
+use Rattle.std.proofs.lemmas.List.{append-nil, append_assoc}
 use Rattle.kx_lex.specs.declared.fault.Fault.{Fault}
 use Rattle.kx_include.specs.Expansion.{Body}
 use Rattle.kx_include.specs.Shared.{body_at, links_body}
@@ -13,7 +14,6 @@ use Rattle.kx_merge.specs.Offers.{Offer, is_replace, is_strong}
 use Rattle.kx_merge.specs.Records.{Shows}
 use Rattle.kx_merge.proofs.Behind.{Left, left_all, left_step, link_at, link_blamed_at}
 use Rattle.kx_merge.proofs.Covering.{Covers, covers_more, covers_self, covers_shown, gentle_gathered, gentle_moved, gentle_to, picks_none, weak_gathered, weak_moved}
-use Rattle.kx_merge.proofs.Movings.{append-none, append-inner}
 use Rattle.kx_merge.proofs.Marks.{at-last}
 
 got : {X : Type 0} (xs : List X) (i : ℕ) (x : X) → i < length xs → x ≡ get_or xs i x → slice_get xs i ≡ Some x
@@ -69,8 +69,8 @@ module _ {K C V D R : Type 0} (cell : R → C → Option V) (width : R → ℕ �
     parted_past x p within is stands = record {
       left = record {
         behind = p.left.behind ++ link_offers x;
-        shown = λ os before. covers_shown eq laws cell width [] n1 a1 os p.left.behind (link_offers x) [] (weak-part x stands.weak) found.0 (picks_none eq laws (link_offers x)) (subst (Shows cell width eq n1 a1) (sym (append-none (os ++ p.left.behind))) (p.left.shown os before));
-        offered = p.left.offered ∙ ap (λ rest. p.left.behind ++ rest) (link_at eq rules moves bodies xs i x within is) ∙ sym (append-inner p.left.behind (link_offers x) (offers eq rules moves rules.start (links_body bodies (drop (i + 1) xs))));
+        shown = λ os before. covers_shown eq laws cell width [] n1 a1 os p.left.behind (link_offers x) [] (weak-part x stands.weak) found.0 (picks_none eq laws (link_offers x)) (subst (Shows cell width eq n1 a1) (sym (append-nil (os ++ p.left.behind))) (p.left.shown os before));
+        offered = p.left.offered ∙ ap (λ rest. p.left.behind ++ rest) (link_at eq rules moves bodies xs i x within is) ∙ sym (append_assoc p.left.behind (link_offers x) (offers eq rules moves rules.start (links_body bodies (drop (i + 1) xs))));
         blamed = p.left.blamed ∙ link_blamed_at eq rules moves bodies xs i x within is ∙ ap (λ fs. fs ++ faults eq rules moves rules.start (links_body bodies (drop (i + 1) xs))) found.1;
       };
       covers = covered-next p.left.behind since i x within is found.1 p.covers (is_replace x.mode) refl;

@@ -1,7 +1,7 @@
 -- Going over the entries of a map, where an include may be passed over that stands before and after, too.
 use Rattle.std.proofs.Common.{◌≡◌, ℕ, ◌+◌, ◌<◌, ◌≤◌, zero, suc, Bool, true, false, cond, List, [], ◌∷◌, ◌++◌, length, drop, get_or, Option, Some, is_some, Contains, Ok, Err, refl, sym, ap, ◌∙◌, subst, arith}
 use Rattle.std.proofs.lemmas.Bool.{false≢true}
-use Rattle.std.proofs.lemmas.List.{drop_all}
+use Rattle.std.proofs.lemmas.List.{append-nil, append_assoc, drop_all}
 use Rattle.std.proofs.lemmas.List.Elements.{Contains-append_left}
 use Rattle.std.proofs.lemmas.Option.{same_Some}
 use Rattle.std.specs.Cmp.{IsEquivalence}
@@ -24,7 +24,6 @@ use Rattle.kx_merge.specs.Records.{Shows}
 use Rattle.kx_merge.proofs.Behind.{entry-first, entry_at, entry_blamed_at}
 use Rattle.kx_merge.proofs.Covering.{Covers, covers_more, covers_none, covers_self, covers_shown, gentle_gathered, gentle_to, weak_gathered}
 use Rattle.kx_merge.proofs.Marks.{Marked, at-last, length-both, marked_next, marked_none, since_more, since_same}
-use Rattle.kx_merge.proofs.Movings.{append-none, append-inner}
 use Rattle.kx_merge.proofs.Precedence.{names_behind-append}
 use Rattle.kx_merge.proofs.Repeated.{names_passed, values_passed, widths_passed}
 
@@ -52,7 +51,7 @@ included_faults eq rules moves bodies x = faults_of eq rules moves (links_body b
 
 module _ {K C V D : Type 0} (eq : K → K → Bool) (rules : Rules K C V D) (moves : Moves K C) (bodies : List Body) (place : Place) where
   ends-with : (base : List (Offer K C V)) (d : D) (e : Entry) → (front : List (Offer K C V)) × (base ++ entry_offers eq rules moves bodies place d e ≡ front ++ included_offers eq rules moves bodies (included_by e))
-  ends-with base d (Own item) = (base ++ rules.offers d place item.now, sym (append-none (base ++ rules.offers d place item.now)))
+  ends-with base d (Own item) = (base ++ rules.offers d place item.now, sym (append-nil (base ++ rules.offers d place item.now)))
   ends-with base d (Include mode links) = (base, refl)
 
   clean-by : (d : D) (e : Entry) → entry_faults eq rules moves bodies place d e ≡ [] → included_faults eq rules moves bodies (included_by e) ≡ []
@@ -81,7 +80,7 @@ module _ {K C V D : Type 0} (eq : K → K → Bool) (rules : Rules K C V D) (mov
       record {
         before = first ++ h.before;
         after = h.after;
-        is = entry-first eq rules moves bodies place d e es End ∙ ap (λ os. first ++ os) h.is ∙ sym (append-inner first h.before (included_offers eq rules moves bodies x ++ h.after));
+        is = entry-first eq rules moves bodies place d e es End ∙ ap (λ os. first ++ os) h.is ∙ sym (append_assoc first h.before (included_offers eq rules moves bodies x ++ h.after));
       }
 
   -- an include whose offers are among some, and that has no fault
@@ -93,7 +92,7 @@ module _ {K C V D : Type 0} (eq : K → K → Bool) (rules : Rules K C V D) (mov
   past-more all added x p =
       let xs = included_offers eq rules moves bodies x in
       record {
-        has = record { before = p.has.before; after = p.has.after ++ added; is = ap (λ os. os ++ added) p.has.is ∙ append-inner p.has.before (xs ++ p.has.after) added ∙ ap (λ os. p.has.before ++ os) (append-inner xs p.has.after added) };
+        has = record { before = p.has.before; after = p.has.after ++ added; is = ap (λ os. os ++ added) p.has.is ∙ append_assoc p.has.before (xs ++ p.has.after) added ∙ ap (λ os. p.has.before ++ os) (append_assoc xs p.has.after added) };
         clean = p.clean;
       }
 
@@ -101,7 +100,7 @@ module _ {K C V D : Type 0} (eq : K → K → Bool) (rules : Rules K C V D) (mov
   past-last all d e clean =
       let xs = included_offers eq rules moves bodies (included_by e) in
       let h = ends-with all d e in
-      record { has = record { before = h.0; after = []; is = h.1 ∙ ap (λ os. h.0 ++ os) (sym (append-none xs)) }; clean = clean-by d e clean }
+      record { has = record { before = h.0; after = []; is = h.1 ∙ ap (λ os. h.0 ++ os) (sym (append-nil xs)) }; clean = clean-by d e clean }
 
 -- ---- Going over entries
 
@@ -131,7 +130,7 @@ module _ {K C V D R : Type 0} (cell : R → C → Option V) (width : R → ℕ �
   going_first names at = record {
     kept = [];
     all = [];
-    shown = λ os shows. subst (Shows cell width eq names at) (sym (append-none os)) shows;
+    shown = λ os shows. subst (Shows cell width eq names at) (sym (append-nil os)) shows;
     offered = refl;
     blamed = refl;
     names_same = λ os. refl;
@@ -159,9 +158,9 @@ module _ {K C V D R : Type 0} (cell : R → C → Option V) (width : R → ℕ �
       kept = l.kept ++ added;
       all = l.all ++ added;
       shown = shown;
-      offered = l.offered ∙ ap (λ os. l.all ++ os) os_are ∙ sym (append-inner l.all added next);
+      offered = l.offered ∙ ap (λ os. l.all ++ os) os_are ∙ sym (append_assoc l.all added next);
       blamed = l.blamed ∙ entry_blamed_at eq rules moves bodies place d xs i e within is ∙ ap (λ fs. fs ++ faults eq rules moves (entry_next rules d e) (entries_body bodies place (drop (i + 1) xs) End)) adds.faultless;
-      names_same = λ os. ap (names_of eq) (sym (append-inner os l.kept added)) ∙ names_behind-append eq [] (os ++ l.kept) added ∙ ap (λ ks. names_behind eq ks added) (l.names_same os) ∙ sym (names_behind-append eq [] (os ++ l.all) added) ∙ ap (names_of eq) (append-inner os l.all added);
+      names_same = λ os. ap (names_of eq) (sym (append_assoc os l.kept added)) ∙ names_behind-append eq [] (os ++ l.kept) added ∙ ap (λ ks. names_behind eq ks added) (l.names_same os) ∙ sym (names_behind-append eq [] (os ++ l.all) added) ∙ ap (names_of eq) (append_assoc os l.all added);
       values_same = λ os k c. ap (λ ys. value_of eq (os ++ ys) k c) more ∙ l.values_same os k c;
       widths_same = λ os k g. ap (λ ys. width_of eq (os ++ ys) k g) more ∙ l.widths_same os k g;
       front = (ends-with eq rules moves bodies place l.kept d e).0;
@@ -180,13 +179,13 @@ module _ {K C V D R : Type 0} (cell : R → C → Option V) (width : R → ℕ �
         os_are = entry_at eq rules moves bodies place d xs i e within is
 
         more : (l.kept ++ added) ++ next ≡ l.kept ++ ahead d i
-        more = append-inner l.kept added next ∙ ap (λ os. l.kept ++ os) (sym os_are)
+        more = append_assoc l.kept added next ∙ ap (λ os. l.kept ++ os) (sym os_are)
 
         kept-is : (os : List (Offer K C V)) → os ++ l.kept ≡ (os ++ l.front) ++ included_offers eq rules moves bodies last
-        kept-is os = ap (λ b. os ++ b) l.ends ∙ sym (append-inner os l.front (included_offers eq rules moves bodies last))
+        kept-is os = ap (λ b. os ++ b) l.ends ∙ sym (append_assoc os l.front (included_offers eq rules moves bodies last))
 
         shown : (os : List (Offer K C V)) → Shows cell width eq names at os → Shows cell width eq n2 a2 (os ++ (l.kept ++ added))
-        shown os before = subst (Shows cell width eq n2 a2) (ap (λ b. b ++ added) (sym (kept-is os)) ∙ append-inner os l.kept added) (adds.shows (os ++ l.front) (subst (Shows cell width eq n1 a1) (kept-is os) (l.shown os before)))
+        shown os before = subst (Shows cell width eq n2 a2) (ap (λ b. b ++ added) (sym (kept-is os)) ∙ append_assoc os l.kept added) (adds.shows (os ++ l.front) (subst (Shows cell width eq n1 a1) (kept-is os) (l.shown os before)))
 
     -- an include is passed over that stands before and after, too
     pub going_past : (laws : IsEquivalence eq) (same : (j k : K) → eq j k ≡ true → j ≡ k) (e : Entry) → Going names at last i d n1 a1 → i < length xs → e ≡ get_or xs i e → StandsBetween xs i (included_by e) → Going names at last (i + 1) d n1 a1
@@ -195,7 +194,7 @@ module _ {K C V D R : Type 0} (cell : R → C → Option V) (width : R → ℕ �
       kept = l.kept;
       all = l.all ++ added;
       shown = l.shown;
-      offered = l.offered ∙ ap (λ os. l.all ++ os) os_are ∙ sym (append-inner l.all added next);
+      offered = l.offered ∙ ap (λ os. l.all ++ os) os_are ∙ sym (append_assoc l.all added next);
       blamed = l.blamed ∙ entry_blamed_at eq rules moves bodies place d xs i (Include mode links) within is ∙ ap (λ fs. fs ++ faults eq rules moves d (entries_body bodies place (drop (i + 1) xs) End)) earlier.clean;
       names_same = λ os. l.names_same os ∙ ap (λ ys. names_of eq (os ++ ys)) earlier.has.is ∙ sym (names_passed eq laws os earlier.has.before added earlier.has.after) ∙ ap (λ ys. names_of eq (os ++ (ys ++ added))) (sym earlier.has.is);
       values_same = λ os k c.
@@ -229,15 +228,15 @@ module _ {K C V D R : Type 0} (cell : R → C → Option V) (width : R → ℕ �
         later = has-later eq rules moves bodies place d (drop (i + 1) xs) found.0 (mode, links.items) (sym found.1 ∙ stands.last_is)
 
         less : (os : List (Offer K C V)) → os ++ (l.kept ++ next) ≡ (os ++ l.kept) ++ (later.before ++ (added ++ later.after))
-        less os = sym (append-inner os l.kept next) ∙ ap (λ ys. (os ++ l.kept) ++ ys) later.is
+        less os = sym (append_assoc os l.kept next) ∙ ap (λ ys. (os ++ l.kept) ++ ys) later.is
 
         more : (os : List (Offer K C V)) → (os ++ l.kept) ++ (added ++ (later.before ++ (added ++ later.after))) ≡ os ++ (l.kept ++ ahead d i)
-        more os = ap (λ ys. (os ++ l.kept) ++ (added ++ ys)) (sym later.is) ∙ append-inner os l.kept (added ++ next) ∙ ap (λ ys. os ++ (l.kept ++ ys)) (sym os_are)
+        more os = ap (λ ys. (os ++ l.kept) ++ (added ++ ys)) (sym later.is) ∙ append_assoc os l.kept (added ++ next) ∙ ap (λ ys. os ++ (l.kept ++ ys)) (sym os_are)
 
     -- where no entry is left
     pub going_shown : Going names at last i d n1 a1 → length xs ≤ i → (os : List (Offer K C V)) → Shows cell width eq names at os → Shows cell width eq n1 a1 (os ++ whole)
     going_shown l over os before = record {
-      names_are = (l.shown os before).names_are ∙ l.names_same os ∙ ap (λ ys. names_of eq (os ++ ys)) (sym (l.offered ∙ ap (λ ys. l.all ++ ys) none_left ∙ append-none l.all));
+      names_are = (l.shown os before).names_are ∙ l.names_same os ∙ ap (λ ys. names_of eq (os ++ ys)) (sym (l.offered ∙ ap (λ ys. l.all ++ ys) none_left ∙ append-nil l.all));
       cells_are = λ k c. (l.shown os before).cells_are k c ∙ ap (λ ys. value_of eq (os ++ ys) k c) all-kept ∙ l.values_same os k c;
       widths_are = λ k g. (l.shown os before).widths_are k g ∙ ap (λ ys. width_of eq (os ++ ys) k g) all-kept ∙ l.widths_same os k g;
     }
@@ -246,7 +245,7 @@ module _ {K C V D R : Type 0} (cell : R → C → Option V) (width : R → ℕ �
         none_left = ap (λ ys. offers eq rules moves d (entries_body bodies place ys End)) (drop_all i xs over)
 
         all-kept : l.kept ≡ l.kept ++ ahead d i
-        all-kept = sym (ap (λ ys. l.kept ++ ys) none_left ∙ append-none l.kept)
+        all-kept = sym (ap (λ ys. l.kept ++ ys) none_left ∙ append-nil l.kept)
 
     pub going_clean : Going names at last i d n1 a1 → length xs ≤ i → faults eq rules moves rules.start (entries_body bodies place xs End) ≡ []
     going_clean l over = l.blamed ∙ ap (λ ys. faults eq rules moves d (entries_body bodies place ys End)) (drop_all i xs over)
@@ -351,9 +350,9 @@ module _ {K C V D R : Type 0} (cell : R → C → Option V) (width : R → ℕ �
         kept = k.kept ++ added;
         all = k.all ++ added;
         shown = λ os first. covers_shown eq laws cell width (keys_since marks noted before) n2 a2 os k.kept added up.picked (weak_gathered eq mode (offers_of eq rules moves (links_body bodies links.items)) stood.weak) found up.picks (up.shows (os ++ k.kept) (k.shown os first));
-        offered = k.offered ∙ ap (λ os. k.all ++ os) os_are ∙ sym (append-inner k.all added next);
+        offered = k.offered ∙ ap (λ os. k.all ++ os) os_are ∙ sym (append_assoc k.all added next);
         blamed = k.blamed ∙ entry_blamed_at eq rules moves bodies place d xs i (Include mode links) within is ∙ ap (λ fs. fs ++ faults eq rules moves d (entries_body bodies place (drop (i + 1) xs) End)) earlier.clean;
-        names_same = λ os. ap (names_of eq) (sym (append-inner os k.kept added)) ∙ names_behind-append eq [] (os ++ k.kept) added ∙ ap (λ ks. names_behind eq ks added) (k.names_same os) ∙ sym (names_behind-append eq [] (os ++ k.all) added) ∙ ap (names_of eq) (append-inner os k.all added);
+        names_same = λ os. ap (names_of eq) (sym (append_assoc os k.kept added)) ∙ names_behind-append eq [] (os ++ k.kept) added ∙ ap (λ ks. names_behind eq ks added) (k.names_same os) ∙ sym (names_behind-append eq [] (os ++ k.all) added) ∙ ap (names_of eq) (append_assoc os k.all added);
         values_same = λ os j c. ap (λ ys. value_of eq (os ++ ys) j c) rest ∙ k.values_same os j c;
         widths_same = λ os j g. ap (λ ys. width_of eq (os ++ ys) j g) rest ∙ k.widths_same os j g;
         front = k.kept;
@@ -362,7 +361,7 @@ module _ {K C V D R : Type 0} (cell : R → C → Option V) (width : R → ℕ �
         past = past-next cell width eq rules moves bodies place xs k.all i d (Include mode links) within is earlier.clean k.past;
       };
       marked = marked_next (length noted) (omega arith) l.marked;
-      covers = subst (λ ks. (n : ℕ) (x : Mode × List Link) → cond (is_replace mode) (i + 1) since ≤ n → n < i + 1 → included_at xs n ≡ Some x → is_strong x.0 ≡ false → Covers eq laws (keys_since (marks ++ length ks ∷ []) ks n) (k.kept ++ added) (offers_by x)) (append-none noted)
+      covers = subst (λ ks. (n : ℕ) (x : Mode × List Link) → cond (is_replace mode) (i + 1) since ≤ n → n < i + 1 → included_at xs n ≡ Some x → is_strong x.0 ≡ false → Covers eq laws (keys_since (marks ++ length ks ∷ []) ks n) (k.kept ++ added) (offers_by x)) (append-nil noted)
           (covered-next k.kept since marks noted [] i d (Include mode links) within is l.marked l.covers (is_replace mode) refl (λ gentle j away. gentle_to eq j added (gentle_gathered eq mode (offers_of eq rules moves (links_body bodies links.items)) gentle)));
     }
       where
@@ -382,7 +381,7 @@ module _ {K C V D R : Type 0} (cell : R → C → Option V) (width : R → ℕ �
         os_are = entry_at eq rules moves bodies place d xs i (Include mode links) within is
 
         rest : (k.kept ++ added) ++ next ≡ k.kept ++ offers eq rules moves d (entries_body bodies place (drop i xs) End)
-        rest = append-inner k.kept added next ∙ ap (λ os. k.kept ++ os) (sym os_are)
+        rest = append_assoc k.kept added next ∙ ap (λ os. k.kept ++ os) (sym os_are)
 
         found : Covers eq laws (keys_since marks noted before) k.kept added
         found = l.covers before (mode, links.items) stood.from stood.before stood.is stood.weak

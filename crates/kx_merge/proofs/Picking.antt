@@ -2,7 +2,7 @@
 use Rattle.std.proofs.Common.{◌≡◌, ℕ, Bool, true, false, ◌||◌, cond, List, [], ◌∷◌, ◌++◌, map, Option, None, Some, All, is_some, refl, sym, ap, ◌∙◌, subst}
 use Rattle.std.proofs.lemmas.Bool.{false≢true}
 use Rattle.std.proofs.lemmas.List.Elements.{All-cons, All-head, All-nil, All-tail}
-use Rattle.std.proofs.lemmas.List.{map-append}
+use Rattle.std.proofs.lemmas.List.{append_assoc, map-append}
 use Rattle.std.proofs.lemmas.Option.{same_Some}
 use Rattle.std.specs.Cmp.{IsEquivalence}
 use Rattle.std.specs.List.{list_any}
@@ -10,10 +10,10 @@ use Rattle.kx_parse.specs.declared.tree.Mode.{Mode}
 use Rattle.kx_merge.specs.Bodies.{Moves, gather, moved}
 use Rattle.kx_merge.specs.Renewals.{Picks, held}
 use Rattle.kx_merge.specs.Moved.{IsOfferedMoved, moved_key, moved_value, moved_width}
-use Rattle.kx_merge.specs.Offers.{Offer, is_about, taken, widened, value_of, width_of}
+use Rattle.kx_merge.specs.Offers.{Offer, is_about, merged_value, merged_width, value_of, width_of}
 use Rattle.kx_merge.specs.Records.{IsGood, Shows, cell_in, width_in}
-use Rattle.kx_merge.proofs.Again.{Named, no_name, a_name, all-named, behind, behind-away, named-again, take, taken-again, value-behind, widen, widened-again, width-behind}
-use Rattle.kx_merge.proofs.Movings.{append-inner, moved-append, moved-none, nothing_offered, offered_moved}
+use Rattle.kx_merge.proofs.Again.{Named, no_name, a_name, all-named, behind, behind-away, named-again, take, merged-again, value-behind, widen, width-again, width-behind}
+use Rattle.kx_merge.proofs.Movings.{moved-append, moved-none, nothing_offered, offered_moved}
 use Rattle.kx_merge.proofs.Repeated.{behind-append}
 use Rattle.kx_merge.proofs.OnePart.{names, or-both, or-first, or-last}
 
@@ -202,19 +202,19 @@ module _ {K C V : Type 0} (eq : K → K → Bool) (laws : IsEquivalence eq) (sam
                   ap (λ b. behind eq k step (cond b (step one.0 w) w) (given_to ks)) (about false e) ∙ next
                   ∙ sym (ap (λ b. cond (b || list_any (eq k) ks) full w) (not-other j to goes e (eq k j) refl))
 
-    pub value_given : (c : C) (w : Option V) (ks : List K) → behind eq k (take eq k c) w (given_to ks) ≡ cond (list_any (eq k) ks) (taken mode w (moved_value moves group (value_of eq inner k) c)) w
+    pub value_given : (c : C) (w : Option V) (ks : List K) → behind eq k (take eq k c) w (given_to ks) ≡ cond (list_any (eq k) ks) (merged_value mode w (moved_value moves group (value_of eq inner k) c)) w
     unfolding take
     value_given c w ks =
         let v = moved_value moves group (value_of eq inner k) c in
-        given-step (take eq k c) (taken mode w v) (λ o is. ap (λ m. taken m (taken mode w v) (o.value c)) is.mode_is ∙ ap (taken mode (taken mode w v)) (is.value_is c) ∙ taken-again mode w v)
-        w (λ o is. ap (λ m. taken m w (o.value c)) is.mode_is ∙ ap (taken mode w) (is.value_is c)) ks
+        given-step (take eq k c) (merged_value mode w v) (λ o is. ap (λ m. merged_value m (merged_value mode w v) (o.value c)) is.mode_is ∙ ap (merged_value mode (merged_value mode w v)) (is.value_is c) ∙ merged-again mode w v)
+        w (λ o is. ap (λ m. merged_value m w (o.value c)) is.mode_is ∙ ap (merged_value mode w) (is.value_is c)) ks
 
-    pub width_given : (g w : ℕ) (ks : List K) → behind eq k (widen eq k g) w (given_to ks) ≡ cond (list_any (eq k) ks) (widened mode w (moved_width moves group (width_of eq inner k) g)) w
+    pub width_given : (g w : ℕ) (ks : List K) → behind eq k (widen eq k g) w (given_to ks) ≡ cond (list_any (eq k) ks) (merged_width mode w (moved_width moves group (width_of eq inner k) g)) w
     unfolding widen
     width_given g w ks =
         let v = moved_width moves group (width_of eq inner k) g in
-        given-step (widen eq k g) (widened mode w v) (λ o is. ap (λ m. widened m (widened mode w v) (o.width g)) is.mode_is ∙ ap (widened mode (widened mode w v)) (is.width_is g) ∙ widened-again mode w v)
-        w (λ o is. ap (λ m. widened m w (o.width g)) is.mode_is ∙ ap (widened mode w) (is.width_is g)) ks
+        given-step (widen eq k g) (merged_width mode w v) (λ o is. ap (λ m. merged_width m (merged_width mode w v) (o.width g)) is.mode_is ∙ ap (merged_width mode (merged_width mode w v)) (is.width_is g) ∙ width-again mode w v)
+        w (λ o is. ap (λ m. merged_width m w (o.width g)) is.mode_is ∙ ap (merged_width mode w) (is.width_is g)) ks
 
     -- a record that is given something is among names that have all
     named-given : (js ks : List K) → Named eq laws js (given_to ks) → list_any (eq k) ks ≡ true → list_any (eq k) js ≡ true
@@ -260,8 +260,8 @@ module _ {K C V : Type 0} (eq : K → K → Bool) (laws : IsEquivalence eq) (sam
         let v = moved_value moves group (value_of eq inner k) c in
         let w = value_of eq os k c in
         value-behind eq k c os (given_to some) ∙ value_given k stays c w some
-        ∙ ap (λ b. cond b (taken mode w v) w) (held-same eq same ns k keys here)
-        ∙ ap (λ u. cond (list_any (eq k) ns) (taken mode u v) u) e
+        ∙ ap (λ b. cond b (merged_value mode w v) w) (held-same eq same ns k keys here)
+        ∙ ap (λ u. cond (list_any (eq k) ns) (merged_value mode u v) u) e
         ∙ sym (value-behind eq k c ps (given_to ns) ∙ value_given k stays c (value_of eq ps k c) ns);
     values_away = λ k c os away. value-behind eq k c os (given_to some) ∙ behind-away eq k (take eq k c) (value_of eq os k c) (given_to some) (unnamed k away);
     widths_here = λ k g os ps here e.
@@ -269,8 +269,8 @@ module _ {K C V : Type 0} (eq : K → K → Bool) (laws : IsEquivalence eq) (sam
         let v = moved_width moves group (width_of eq inner k) g in
         let w = width_of eq os k g in
         width-behind eq k g os (given_to some) ∙ width_given k stays g w some
-        ∙ ap (λ b. cond b (widened mode w v) w) (held-same eq same ns k keys here)
-        ∙ ap (λ u. cond (list_any (eq k) ns) (widened mode u v) u) e
+        ∙ ap (λ b. cond b (merged_width mode w v) w) (held-same eq same ns k keys here)
+        ∙ ap (λ u. cond (list_any (eq k) ns) (merged_width mode u v) u) e
         ∙ sym (width-behind eq k g ps (given_to ns) ∙ width_given k stays g (width_of eq ps k g) ns);
     widths_away = λ k g os away. width-behind eq k g os (given_to some) ∙ behind-away eq k (widen eq k g) (width_of eq os k g) (given_to some) (unnamed k away);
     named = λ js known.
@@ -302,5 +302,5 @@ pub given_more : {K C V : Type 0} (eq : K → K → Bool) (moves : Moves K C) (m
 given_more eq moves mode inner group os ks k =
     let before = map (gather eq mode inner) ks in
     let one = gather eq mode inner k ∷ [] in
-    append-inner os (moved moves group before) (moved moves group one)
+    append_assoc os (moved moves group before) (moved moves group one)
     ∙ ap (λ added. os ++ added) (sym (moved-append moves group before one) ∙ ap (moved moves group) (sym (map-append (gather eq mode inner) ks (k ∷ []))))

@@ -3,7 +3,7 @@ use Rattle.std.proofs.Common.{◌≡◌, ℕ, Bool, true, false, not, ◌&&◌, 
 use Rattle.std.specs.Option.{option_or}
 use Rattle.kx_parse.specs.declared.tree.Mode.{Mode}
 use Rattle.kx_parse.specs.declared.tree.Mode.TheVariants.{Augment, Override, Replace}
-use Rattle.kx_merge.specs.Offers.{Offer, taken, widened, is_replace, is_strong, is_about, is_hidden, seen, last_strong, first_weak, value_of, greatest, width_of, with_name, names_behind, names_of}
+use Rattle.kx_merge.specs.Offers.{Offer, merged_value, merged_width, is_replace, is_strong, is_about, is_hidden, seen, last_strong, first_weak, value_of, greatest, width_of, with_name, names_behind, names_of}
 
 option_or-assoc : {X : Type 0} (a b c : Option X) → option_or (option_or a b) c ≡ option_or a (option_or b c)
 option_or-assoc (Some x) b c = refl
@@ -41,7 +41,7 @@ module _ {K C V : Type 0} (c : C) (o : Offer K C V) where
   first_weak-more (p ∷ os) = ap (option_or (cond (is_strong p.mode) None (p.value c))) (first_weak-more os) ∙ sym (option_or-assoc (cond (is_strong p.mode) None (p.value c)) (first_weak c os) (cond (is_strong o.mode) None (o.value c)))
 
   -- the value of offers with one more after them
-  value-step : (m : Mode) → o.mode ≡ m → is_replace m ≡ false → (os : List (Offer K C V)) → option_or (last_strong c (os ++ o ∷ [])) (first_weak c (os ++ o ∷ [])) ≡ taken m (option_or (last_strong c os) (first_weak c os)) (o.value c)
+  value-step : (m : Mode) → o.mode ≡ m → is_replace m ≡ false → (os : List (Offer K C V)) → option_or (last_strong c (os ++ o ∷ [])) (first_weak c (os ++ o ∷ [])) ≡ merged_value m (option_or (last_strong c os) (first_weak c os)) (o.value c)
   value-step Augment e r os =
       let strong : cond (is_strong o.mode) (o.value c) None ≡ None = ap (λ n. cond (is_strong n) (o.value c) None) e in
       let weak : cond (is_strong o.mode) None (o.value c) ≡ o.value c = ap (λ n. cond (is_strong n) None (o.value c)) e in
@@ -110,7 +110,7 @@ module _ {K C V : Type 0} (eq : K → K → Bool) (k : K) (o : Offer K C V) wher
   width-other h os g = ap (greatest g) (seen-other h os)
 
   -- of its record they are taken by its mode
-  pub value-more : (m : Mode) → o.mode ≡ m → is_about eq k o ≡ true → (os : List (Offer K C V)) (c : C) → value_of eq (os ++ o ∷ []) k c ≡ taken m (value_of eq os k c) (o.value c)
+  pub value-more : (m : Mode) → o.mode ≡ m → is_about eq k o ≡ true → (os : List (Offer K C V)) (c : C) → value_of eq (os ++ o ∷ []) k c ≡ merged_value m (value_of eq os k c) (o.value c)
   value-more Augment e h os c = ap (λ xs. option_or (last_strong c xs) (first_weak c xs)) (seen-kept h (ap is_replace e) os) ∙ value-step c o Augment e refl (seen eq k os)
   value-more Override e h os c = ap (λ xs. option_or (last_strong c xs) (first_weak c xs)) (seen-kept h (ap is_replace e) os) ∙ value-step c o Override e refl (seen eq k os)
   value-more Replace e h os c =
@@ -118,7 +118,7 @@ module _ {K C V : Type 0} (eq : K → K → Bool) (k : K) (o : Offer K C V) wher
       ∙ ap (λ n. option_or (option_or None (cond (is_strong n) (o.value c) None)) (option_or (cond (is_strong n) None (o.value c)) None)) e
       ∙ option_or-none (o.value c)
 
-  pub width-more : (m : Mode) → o.mode ≡ m → is_about eq k o ≡ true → (os : List (Offer K C V)) (g : ℕ) → width_of eq (os ++ o ∷ []) k g ≡ widened m (width_of eq os k g) (o.width g)
+  pub width-more : (m : Mode) → o.mode ≡ m → is_about eq k o ≡ true → (os : List (Offer K C V)) (g : ℕ) → width_of eq (os ++ o ∷ []) k g ≡ merged_width m (width_of eq os k g) (o.width g)
   width-more Augment e h os g = ap (greatest g) (seen-kept h (ap is_replace e) os) ∙ greatest-more g o (seen eq k os)
   width-more Override e h os g = ap (greatest g) (seen-kept h (ap is_replace e) os) ∙ greatest-more g o (seen eq k os)
   width-more Replace e h os g = ap (greatest g) (seen-replaced h (ap is_replace e) os) ∙ max-none (o.width g)

@@ -4,27 +4,27 @@ use Rattle.std.proofs.Common.{◌≡◌, ℕ, Bool, true, false, cond, List, [],
 use Rattle.std.proofs.lemmas.Bool.{false≢true}
 use Rattle.std.specs.Cmp.{IsEquivalence}
 use Rattle.std.specs.List.{list_any}
+use Rattle.std.proofs.lemmas.List.{append_assoc}
 use Rattle.kx_parse.specs.declared.tree.Mode.{Mode}
 use Rattle.kx_parse.specs.declared.tree.Mode.TheVariants.{Augment, Override, Replace}
 use Rattle.kx_merge.specs.Bodies.{gather, gathered}
-use Rattle.kx_merge.specs.Offers.{Offer, is_about, is_strong, taken, widened, value_of, width_of, names_behind, names_of}
-use Rattle.kx_merge.proofs.Again.{Named, no_name, a_name, all-named, behind, behind-away, named-again, still-named, take, taken-again, value-behind, widen, widened-again, width-behind}
-use Rattle.kx_merge.proofs.Movings.{append-inner}
+use Rattle.kx_merge.specs.Offers.{Offer, is_about, is_strong, merged_value, merged_width, value_of, width_of, names_behind, names_of}
+use Rattle.kx_merge.proofs.Again.{Named, no_name, a_name, all-named, behind, behind-away, named-again, still-named, take, merged-again, value-behind, widen, width-again, width-behind}
 use Rattle.kx_merge.proofs.Precedence.{names_behind-append}
 use Rattle.kx_merge.proofs.OnePart.{Apart, a_key, names, names-apart, names-of-gathered, no_key}
 
-taken-keeps : {X : Type 0} (m n : Mode) → is_strong m ≡ true → (a b u v : Option X) → taken m a v ≡ taken m b v → taken m (taken n a u) v ≡ taken m (taken n b u) v
-taken-keeps Augment n strong a b u v e = absurd (false≢true strong)
-taken-keeps Override n strong a b u None e = ap (λ x. taken n x u) e
-taken-keeps Override n strong a b u (Some x) e = refl
-taken-keeps Replace n strong a b u v e = refl
+merged-keeps : {X : Type 0} (m n : Mode) → is_strong m ≡ true → (a b u v : Option X) → merged_value m a v ≡ merged_value m b v → merged_value m (merged_value n a u) v ≡ merged_value m (merged_value n b u) v
+merged-keeps Augment n strong a b u v e = absurd (false≢true strong)
+merged-keeps Override n strong a b u None e = ap (λ x. merged_value n x u) e
+merged-keeps Override n strong a b u (Some x) e = refl
+merged-keeps Replace n strong a b u v e = refl
 
-widened-keeps : (m n : Mode) → is_strong m ≡ true → (a b u v : ℕ) → widened m a v ≡ widened m b v → widened m (widened n a u) v ≡ widened m (widened n b u) v
-widened-keeps Augment n strong a b u v e = absurd (false≢true strong)
-widened-keeps Override Augment strong a b u v e = omega (arith, e)
-widened-keeps Override Override strong a b u v e = omega (arith, e)
-widened-keeps Override Replace strong a b u v e = refl
-widened-keeps Replace n strong a b u v e = refl
+width-keeps : (m n : Mode) → is_strong m ≡ true → (a b u v : ℕ) → merged_width m a v ≡ merged_width m b v → merged_width m (merged_width n a u) v ≡ merged_width m (merged_width n b u) v
+width-keeps Augment n strong a b u v e = absurd (false≢true strong)
+width-keeps Override Augment strong a b u v e = omega (arith, e)
+width-keeps Override Override strong a b u v e = omega (arith, e)
+width-keeps Override Replace strong a b u v e = refl
+width-keeps Replace n strong a b u v e = refl
 
 module _ {K C V W : Type 0} (eq : K → K → Bool) (k : K) (step : Offer K C V → W → W) where
   pub behind-append : (w : W) (os ps : List (Offer K C V)) → behind eq k step w (os ++ ps) ≡ behind eq k step (behind eq k step w os) ps
@@ -85,7 +85,7 @@ module _ {K C V : Type 0} (eq : K → K → Bool) (laws : IsEquivalence eq) wher
   -- names that are there stay, in their order
   pub names_passed : (os before xs after : List (Offer K C V)) → names_of eq (os ++ ((before ++ (xs ++ after)) ++ xs)) ≡ names_of eq (os ++ (before ++ (xs ++ after)))
   names_passed os before xs after =
-      ap (names_of eq) (sym (append-inner os (before ++ (xs ++ after)) xs)) ∙ names_behind-append eq [] (os ++ (before ++ (xs ++ after))) xs
+      ap (names_of eq) (sym (append_assoc os (before ++ (xs ++ after)) xs)) ∙ names_behind-append eq [] (os ++ (before ++ (xs ++ after))) xs
       ∙ named-again eq laws (names_of eq (os ++ (before ++ (xs ++ after)))) xs (subst (λ ks. Named eq laws ks xs) (sym ordered) (named-more (names_behind eq front xs) xs after (all-named eq laws front xs)))
     where
       front : List K
@@ -100,7 +100,7 @@ module _ {K C V : Type 0} (eq : K → K → Bool) (laws : IsEquivalence eq) wher
     values_passed k c os ps qs =
         let xs = gathered eq mode inner in
         value-behind eq k c os (xs ++ (ps ++ (xs ++ qs)))
-        ∙ behind-passed eq k (take eq k c) (λ o w. taken-again o.mode w (o.value c)) (λ o p s w v e. taken-keeps o.mode p.mode s w v (p.value c) (o.value c) e) xs (acts-of eq k (take eq k c) laws same mode strong inner (names_of eq inner) (names-apart eq laws [] inner no_key)) (value_of eq os k c) ps qs
+        ∙ behind-passed eq k (take eq k c) (λ o w. merged-again o.mode w (o.value c)) (λ o p s w v e. merged-keeps o.mode p.mode s w v (p.value c) (o.value c) e) xs (acts-of eq k (take eq k c) laws same mode strong inner (names_of eq inner) (names-apart eq laws [] inner no_key)) (value_of eq os k c) ps qs
         ∙ sym (value-behind eq k c os (ps ++ (xs ++ qs)))
 
     pub widths_passed : (k : K) (g : ℕ) (os ps qs : List (Offer K C V)) → width_of eq (os ++ (gathered eq mode inner ++ (ps ++ (gathered eq mode inner ++ qs)))) k g ≡ width_of eq (os ++ (ps ++ (gathered eq mode inner ++ qs))) k g
@@ -108,5 +108,5 @@ module _ {K C V : Type 0} (eq : K → K → Bool) (laws : IsEquivalence eq) wher
     widths_passed k g os ps qs =
         let xs = gathered eq mode inner in
         width-behind eq k g os (xs ++ (ps ++ (xs ++ qs)))
-        ∙ behind-passed eq k (widen eq k g) (λ o w. widened-again o.mode w (o.width g)) (λ o p s w v e. widened-keeps o.mode p.mode s w v (p.width g) (o.width g) e) xs (acts-of eq k (widen eq k g) laws same mode strong inner (names_of eq inner) (names-apart eq laws [] inner no_key)) (width_of eq os k g) ps qs
+        ∙ behind-passed eq k (widen eq k g) (λ o w. width-again o.mode w (o.width g)) (λ o p s w v e. width-keeps o.mode p.mode s w v (p.width g) (o.width g) e) xs (acts-of eq k (widen eq k g) laws same mode strong inner (names_of eq inner) (names-apart eq laws [] inner no_key)) (width_of eq os k g) ps qs
         ∙ sym (width-behind eq k g os (ps ++ (xs ++ qs)))

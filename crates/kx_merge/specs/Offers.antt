@@ -70,12 +70,12 @@ module _ {K C V : Type 0} (eq : K → K → Bool) where
   names_of os = names_behind [] os
 
 -- what a later value makes of the one before it
-abbrev pub taken : {X : Type 0} → Mode → Option X → Option X → Option X
-taken Augment old new = option_or old new
-taken Override old new = option_or new old
-taken Replace old new = new
+abbrev pub merged_value : {X : Type 0} → Mode → Option X → Option X → Option X
+merged_value Augment old new = option_or old new
+merged_value Override old new = option_or new old
+merged_value Replace old new = new
 
-abbrev pub widened : Mode → ℕ → ℕ → ℕ
-widened Augment old new = max old new
-widened Override old new = max old new
-widened Replace old new = new
+abbrev pub merged_width : Mode → ℕ → ℕ → ℕ
+merged_width Augment old new = max old new
+merged_width Override old new = max old new
+merged_width Replace old new = new

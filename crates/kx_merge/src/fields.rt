@@ -3,7 +3,7 @@ ghost use Rattle.kx_merge.specs.Records.{AreOffered, mode_of};
 ghost use Rattle.kx_lex.specs.declared.fault.Fault.TheVariants.{Memory};
 ghost use Rattle.kx_merge.specs.Bodies.{Rules, Moves};
 ghost use Rattle.kx_merge.specs.Moved.{moved_key, moved_value, moved_width};
-ghost use Rattle.kx_merge.specs.Offers.{taken, widened};
+ghost use Rattle.kx_merge.specs.Offers.{merged_value, merged_width};
 
 use kx_include::Place;
 use kx_lex::Fault;
@@ -36,40 +36,32 @@ pub trait Fields<C>: Drop {
     fn start(alloc: Global, context: &C) -> Self::Defaults
         ensures { result ≡ (rules context.now).start };
 
-    /// The defaults after a statement.
-    fn next(
-        alloc: Global,
-        context: &C,
-        defaults: Self::Defaults,
-        item: &Item,
-    ) -> Result<Self::Defaults, Fault>
-        ensures next { IfOk result (λ d. d ≡ (rules context.now).next defaults item.now) }
-        ensures err { IfErr result (λ e. e ≡ Memory) };
-
-    /// What a statement gives, with the record that each is given to, under the defaults before it in its section. What
-    /// is noted of it is added to `notes`.
+    /// What a statement gives, with the record that each is given to, under the defaults before it in its section, and
+    /// the defaults after it. What is noted of it is added to `notes`.
     fn read(
         alloc: Global,
         context: &C,
-        defaults: &Self::Defaults,
+        defaults: Self::Defaults,
         place: Place,
         item: &Item,
         notes: &mut Self::Notes,
-    ) -> Result<Vec<(Self::Key, Self)>, Fault>
-        ensures records { IfOk result (λ records.
-            AreOffered (mode_of item.now) (cell) (width) records.items
-            ((rules context.now).offers defaults.now place item.now)) }
+    ) -> Result<(Vec<(Self::Key, Self)>, Self::Defaults), Fault>
+        ensures records { IfOk result (λ said.
+            AreOffered (mode_of item.now) (cell) (width) said.0.items
+            ((rules context.now).offers defaults place item.now)) }
+        ensures next { IfOk result (λ said.
+            said.1 ≡ (rules context.now).next defaults item.now) }
         ensures faultless { OnOk result
-            ((rules context.now).faults defaults.now place item.now ≡ []) }
+            ((rules context.now).faults defaults place item.now ≡ []) }
         ensures fault { IfErr result (λ e. Contains
-            (Memory ∷ (rules context.now).faults defaults.now place item.now) e) };
+            (Memory ∷ (rules context.now).faults defaults place item.now) e) };
 
     /// Takes up what a later record gives.
-    fn absorb(&mut self, alloc: Global, other: Self, mode: Mode) -> Result<(), Fault>
+    fn merge(&mut self, alloc: Global, other: Self, mode: Mode) -> Result<(), Fault>
         ensures cells { OnOk result ((c : Self.Cell)
-            → cell self.new c ≡ taken mode (cell self.old c) (cell other c)) }
+            → cell self.new c ≡ merged_value mode (cell self.old c) (cell other c)) }
         ensures widths { OnOk result ((g : ℕ)
-            → width self.new g ≡ widened mode (width self.old g) (width other g)) }
+            → width self.new g ≡ merged_width mode (width self.old g) (width other g)) }
         ensures err { IfErr result (λ e. e ≡ Memory) };
 
     /// A record that nothing was given yet.
@@ -79,7 +71,7 @@ pub trait Fields<C>: Drop {
 
     /// Takes up what a record of an included map gives, as it stands where its map is moved to a group; as it is where
     /// it isn't moved.
-    fn absorb_moved(
+    fn merge_moved(
         &mut self,
         alloc: Global,
         other: &Self,
@@ -87,10 +79,10 @@ pub trait Fields<C>: Drop {
         mode: Mode,
     ) -> Result<(), Fault>
         ensures cells { OnOk result ((c : Self.Cell)
-            → cell self.new c ≡ taken mode (cell self.old c)
+            → cell self.new c ≡ merged_value mode (cell self.old c)
             (moved_value moves group (cell other.now) c)) }
         ensures widths { OnOk result ((g : ℕ)
-            → width self.new g ≡ widened mode (width self.old g)
+            → width self.new g ≡ merged_width mode (width self.old g)
             (moved_width moves group (width other.now) g)) }
         ensures err { IfErr result (λ e. e ≡ Memory) };
 

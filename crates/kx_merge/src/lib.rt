@@ -15,7 +15,7 @@ mod words;
 pub use faults::{bad_value, expression_of, unknown_field};
 pub use fields::Fields;
 pub use gathering::{Merged, merge};
-pub use merging::taken;
+pub use merging::merged_value;
 pub use numbers::Counted;
 pub use single::{Single, SingleValue, none_given, one_given};
 pub use words::{lone_word, truth_named};

@@ -6,7 +6,7 @@ ghost use Rattle.kx_merge.specs.Bodies.{moved, gather, gathered};
 ghost use Rattle.kx_merge.specs.Gatherings.{TableAdds};
 ghost use Rattle.kx_merge.specs.Renewals.{TakesBack, held};
 ghost use Rattle.kx_merge.specs.Moved.{IsOfferedMoved, moved_key};
-ghost use Rattle.kx_merge.specs.Offers.{Offer, is_replace, taken};
+ghost use Rattle.kx_merge.specs.Offers.{Offer, is_replace, merged_value};
 ghost use Rattle.kx_merge.specs.Records.{AreOffered, IsGood, IsOffered, TableShows, mode_of};
 
 use crate::fields::Fields;
@@ -17,8 +17,8 @@ use kx_parse::{Item, Mode};
 use std::alloc::Global;
 
 /// What a value under a mode makes of the one before it.
-pub fn taken<V: Drop>(mode: Mode, old: Option<V>, new: Option<V>) -> Option<V>
-    ensures { result ≡ taken mode old new }
+pub fn merged_value<V: Drop>(mode: Mode, old: Option<V>, new: Option<V>) -> Option<V>
+    ensures { result ≡ merged_value mode old new }
 {
     match mode {
         Mode::Augment => old.or(new),
@@ -44,7 +44,7 @@ fn add_one<C, R: Fields<C>>(
 {
     match records.push_new(key, given)? {
         None => Ok(()),
-        Some((place, given)) => records.value_mut(place).absorb(alloc, given, mode),
+        Some((place, given)) => records.value_mut(place).merge(alloc, given, mode),
     }
 }
 
@@ -103,10 +103,10 @@ fn add_moved<C, R: Fields<C>>(
     ensures err { IfErr result (λ e. e ≡ Memory) }
 {
     if let Some(old) = records.get_mut(&key) {
-        return old.absorb_moved(alloc, one, group, mode);
+        return old.merge_moved(alloc, one, group, mode);
     }
     let mut made = R::none(alloc);
-    made.absorb_moved(alloc, one, group, mode)?;
+    made.merge_moved(alloc, one, group, mode)?;
     records.push(key, made)?;
     Ok(())
 }
@@ -258,9 +258,9 @@ pub(crate) fn merge_own<C, R: Fields<C>>(
         ((R.rules context.now).offers defaults place item.now)) }
     ensures next { IfOk result (λ d. d ≡ (R.rules context.now).next defaults item.now) }
 {
-    let given = R::read(alloc, context, &defaults, place, item, notes)?;
+    let (given, next) = R::read(alloc, context, defaults, place, item, notes)?;
     let mode = mode_of(item);
     note_replaced::<C, R>(replaced, mode, given.as_slice())?;
     add_all::<C, R>(alloc, records, mode, given)?;
-    R::next(alloc, context, defaults, item)
+    Ok(next)
 }

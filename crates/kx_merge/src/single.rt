@@ -4,14 +4,14 @@ ghost use Rattle.kx_include.specs.declared.place.Place.{Place as PlaceValue};
 ghost use Rattle.kx_lex.specs.declared.fault.Fault.{Fault as FaultValue};
 ghost use Rattle.kx_lex.specs.declared.fault.Fault.TheVariants.{Memory};
 ghost use Rattle.kx_merge.specs.Moved.{moved_key, moved_value, moved_width};
-ghost use Rattle.kx_merge.specs.Offers.{Offer, plain_offer, taken, widened};
+ghost use Rattle.kx_merge.specs.Offers.{Offer, plain_offer, merged_value, merged_width};
 ghost use Rattle.kx_merge.specs.Records.{AreOffered, mode_of};
 ghost use Rattle.kx_merge.specs.Single.{single_cell, single_moves, single_rules, single_width};
 ghost use Rattle.kx_parse.specs.declared.tree.Item.{Item as ItemValue};
 ghost use Rattle.kx_parse.specs.declared.tree.Mode.{Mode as ModeValue};
 
 use crate::fields::Fields;
-use crate::merging::taken;
+use crate::merging::merged_value;
 use kx_include::Place;
 use kx_lex::Fault;
 use kx_ordered::TableKey;
@@ -51,7 +51,7 @@ pub trait SingleValue<C>: Drop {
             Contains (Memory ∷ faults context.now place item.now) e) };
 
     /// The same value.
-    fn copied(&self, alloc: Global) -> Result<Self, Fault>
+    fn try_clone(&self, alloc: Global) -> Result<Self, Fault>
         ensures value { IfOk result (λ copy. copy ≡ self.now) }
         ensures err { IfErr result (λ e. e ≡ Memory) };
 
@@ -92,13 +92,13 @@ pub fn one_given<K: Drop, V: Drop>(
     Ok(records)
 }
 
-fn copied<C, V: SingleValue<C>>(alloc: Global, value: &Option<V>) -> Result<Option<V>, Fault>
+fn try_clone<C, V: SingleValue<C>>(alloc: Global, value: &Option<V>) -> Result<Option<V>, Fault>
     ensures value { IfOk result (λ copy. copy ≡ value.now) }
     ensures err { IfErr result (λ e. e ≡ Memory) }
 {
     match value {
         None => Ok(None),
-        Some(value) => Ok(Some(value.copied(alloc)?)),
+        Some(value) => Ok(Some(value.try_clone(alloc)?)),
     }
 }
 
@@ -123,30 +123,26 @@ impl<C, V: SingleValue<C>> Fields<C> for Single<V> {
 
     fn start(_alloc: Global, _context: &C) {}
 
-    fn next(_alloc: Global, _context: &C, _defaults: (), _item: &Item) -> Result<(), Fault> {
-        Ok(())
-    }
-
     fn read(
         alloc: Global,
         context: &C,
-        _defaults: &(),
+        _defaults: (),
         place: Place,
         item: &Item,
         _notes: &mut (),
-    ) -> Result<Vec<(V::Key, Single<V>)>, Fault> {
-        V::read(alloc, context, place, item)
+    ) -> Result<(Vec<(V::Key, Single<V>)>, ()), Fault> {
+        Ok((V::read(alloc, context, place, item)?, ()))
     }
 
-    fn absorb(&mut self, _alloc: Global, other: Single<V>, mode: Mode) -> Result<(), Fault>
+    fn merge(&mut self, _alloc: Global, other: Single<V>, mode: Mode) -> Result<(), Fault>
         ensures cells { OnOk result ((c : Unit {0})
-            → single_cell self.new c ≡ taken mode (single_cell self.old c) (single_cell other c)) }
+            → single_cell self.new c ≡ merged_value mode (single_cell self.old c) (single_cell other c)) }
         ensures widths { OnOk result ((g : ℕ)
-            → single_width self.new g ≡ widened mode (single_width self.old g)
+            → single_width self.new g ≡ merged_width mode (single_width self.old g)
             (single_width other g)) }
         ensures err { IfErr result (λ e. e ≡ Memory) }
     {
-        self.value = taken(mode, self.value.take(), other.value);
+        self.value = merged_value(mode, self.value.take(), other.value);
         Ok(())
     }
 
@@ -157,7 +153,7 @@ impl<C, V: SingleValue<C>> Fields<C> for Single<V> {
         Single { value: None }
     }
 
-    fn absorb_moved(
+    fn merge_moved(
         &mut self,
         alloc: Global,
         other: &Single<V>,
@@ -165,15 +161,19 @@ impl<C, V: SingleValue<C>> Fields<C> for Single<V> {
         mode: Mode,
     ) -> Result<(), Fault>
         ensures cells { OnOk result ((c : Unit {0})
-            → single_cell self.new c ≡ taken mode (single_cell self.old c)
+            → single_cell self.new c ≡ merged_value mode (single_cell self.old c)
             (moved_value (single_moves V.moved) _group (single_cell other.now) c)) }
         ensures widths { OnOk result ((g : ℕ)
-            → single_width self.new g ≡ widened mode (single_width self.old g)
+            → single_width self.new g ≡ merged_width mode (single_width self.old g)
             (moved_width (single_moves V.moved) _group (single_width other.now) g)) }
         ensures err { IfErr result (λ e. e ≡ Memory) }
     {
-        let value = copied::<C, V>(alloc, &other.value)?;
-        self.value = taken(mode, self.value.take(), value);
+        // what stays isn't copied for
+        if mode == Mode::Augment && self.value.is_some() {
+            return Ok(());
+        }
+        let value = try_clone::<C, V>(alloc, &other.value)?;
+        self.value = merged_value(mode, self.value.take(), value);
         Ok(())
     }
 

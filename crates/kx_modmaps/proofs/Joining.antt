@@ -5,7 +5,7 @@ use Rattle.std.specs.Option.{option_map, option_or}
 use Rattle.std.proofs.lemmas.Bool.Decides.{nat_tests}
 use Rattle.std.proofs.lemmas.Nat.Bits.{bit_at-lt, bit_at_or}
 use Rattle.kx_virtual_mods.specs.Sets.{has, union}
-use Rattle.kx_merge.specs.Offers.{taken}
+use Rattle.kx_merge.specs.Offers.{merged_value}
 use Rattle.kx_mods.specs.Mods.{mask}
 use Rattle.kx_mods.specs.declared.mods.Mods.{Mods}
 use Rattle.kx_parse.specs.declared.tree.Mode.{Mode}
@@ -37,14 +37,14 @@ first-only (Some m) b = refl
 first-only None b = refl
 
 module _ (old new got : Assigned) (mode : Mode) (whole : mask got.present ≡ bit_or (mask old.present) (mask new.present)) where
-  pub joined_weak : mode ≡ Augment → got.only ≡ option_or old.only new.only → (c : Cell) → assigned_cell got c ≡ taken mode (assigned_cell old c) (assigned_cell new c)
+  pub joined_weak : mode ≡ Augment → got.only ≡ option_or old.only new.only → (c : Cell) → assigned_cell got c ≡ merged_value mode (assigned_cell old c) (assigned_cell new c)
   joined_weak is only (Present r) =
       ap (λ m. present m r) whole ∙ ap (λ b. cond b (Some (2 ^ r)) None) (has-union (mask old.present) (mask new.present) r) ∙ either (has (mask old.present) r) (has (mask new.present) r) (2 ^ r)
-      ∙ ap (λ m. taken m (present (mask old.present) r) (present (mask new.present) r)) (sym is)
-  joined_weak is only Only = ap (option_map mask) only ∙ first-only old.only new.only ∙ ap (λ m. taken m (option_map mask old.only) (option_map mask new.only)) (sym is)
+      ∙ ap (λ m. merged_value m (present (mask old.present) r) (present (mask new.present) r)) (sym is)
+  joined_weak is only Only = ap (option_map mask) only ∙ first-only old.only new.only ∙ ap (λ m. merged_value m (option_map mask old.only) (option_map mask new.only)) (sym is)
 
-  pub joined_strong : mode ≡ Override → got.only ≡ option_or new.only old.only → (c : Cell) → assigned_cell got c ≡ taken mode (assigned_cell old c) (assigned_cell new c)
+  pub joined_strong : mode ≡ Override → got.only ≡ option_or new.only old.only → (c : Cell) → assigned_cell got c ≡ merged_value mode (assigned_cell old c) (assigned_cell new c)
   joined_strong is only (Present r) =
       ap (λ m. present m r) whole ∙ ap (λ b. cond b (Some (2 ^ r)) None) (has-union (mask old.present) (mask new.present) r) ∙ other (has (mask old.present) r) (has (mask new.present) r) (2 ^ r)
-      ∙ ap (λ m. taken m (present (mask old.present) r) (present (mask new.present) r)) (sym is)
-  joined_strong is only Only = ap (option_map mask) only ∙ first-only new.only old.only ∙ ap (λ m. taken m (option_map mask old.only) (option_map mask new.only)) (sym is)
+      ∙ ap (λ m. merged_value m (present (mask old.present) r) (present (mask new.present) r)) (sym is)
+  joined_strong is only Only = ap (option_map mask) only ∙ first-only new.only old.only ∙ ap (λ m. merged_value m (option_map mask old.only) (option_map mask new.only)) (sym is)

@@ -6,12 +6,12 @@ use Rattle.std.specs.List.{drop-map, flat_map}
 use Rattle.std.specs.Option.{option_map_or}
 use Rattle.std.proofs.Math.Path.{fun_ext}
 use Rattle.std.proofs.lemmas.Nat.Bits.{bit_at_above}
+use Rattle.std.proofs.lemmas.List.{append_assoc}
 use Rattle.indexmap.specs.IndexMap.{IndexMap, get, keys}
 use Rattle.ks_core.specs.Entry.{Entry as Named}
 use Rattle.kx_codes.specs.Codes.{Codes}
 use Rattle.kx_include.specs.Expansion.{Body}
-use Rattle.kx_merge.proofs.Behind.{drop-next, read_again}
-use Rattle.kx_merge.proofs.Movings.{append-inner}
+use Rattle.kx_merge.proofs.Going.{drop_next, read_again}
 use Rattle.kx_merge.specs.Bodies.{offers_of}
 use Rattle.kx_merge.specs.Offers.{Offer}
 use Rattle.kx_merge.specs.Records.{Shows, cell_in}
@@ -62,10 +62,10 @@ pub given_more : {K V A : Type 0} (f : K → List A) (es items : List (K × V)) 
     → flat_map f (keys_of es) ≡ before ++ flat_map f (drop i (keys_of es)) → after ≡ before ++ f (get_or items i d).0 → flat_map f (keys_of es) ≡ after ++ flat_map f (drop (i + 1) (keys_of es))
 given_more {K} {V} f es items i d before after same within is added =
     is ∙ ap (λ ks. before ++ flat_map f ks) (subst (λ xs. drop i (keys_of xs) ≡ one.0 ∷ drop (i + 1) (keys_of xs)) same left)
-    ∙ sym (append-inner before (f one.0) (flat_map f (drop (i + 1) (keys_of es)))) ∙ ap (λ xs. xs ++ flat_map f (drop (i + 1) (keys_of es))) (sym added)
+    ∙ sym (append_assoc before (f one.0) (flat_map f (drop (i + 1) (keys_of es)))) ∙ ap (λ xs. xs ++ flat_map f (drop (i + 1) (keys_of es))) (sym added)
   where
     one : K × V
     one = get_or items i d
 
     left : drop i (keys_of items) ≡ one.0 ∷ drop (i + 1) (keys_of items)
-    left = drop-map (λ x. x.0) i items ∙ ap (map (λ x. x.0)) (drop-next items i one within (read_again items i d within)) ∙ ap (λ ks. one.0 ∷ ks) (sym (drop-map (λ x. x.0) (i + 1) items))
+    left = drop-map (λ x. x.0) i items ∙ ap (map (λ x. x.0)) (drop_next items i one within (read_again items i d within)) ∙ ap (λ ks. one.0 ∷ ks) (sym (drop-map (λ x. x.0) (i + 1) items))

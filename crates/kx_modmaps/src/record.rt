@@ -5,7 +5,7 @@ ghost use Rattle.std.proofs.Common.{◌∙◌, ap, rules, sym};
 ghost use Rattle.kx_lex.specs.declared.fault.Fault.TheVariants.{Memory};
 ghost use Rattle.kx_parse.specs.declared.tree.Mode.{Mode as ModeValue};
 ghost use Rattle.kx_merge.specs.Moved.{moved_key, moved_value, moved_width};
-ghost use Rattle.kx_merge.specs.Offers.{Offer, taken, widened};
+ghost use Rattle.kx_merge.specs.Offers.{Offer, merged_value, merged_width};
 ghost use Rattle.kx_merge.specs.Records.{mode_of};
 ghost use Rattle.kx_mods.specs.Mods.{mask};
 ghost use Rattle.kx_modmaps.specs.Entries.{entry_faults, item_faults, targets_of, word_faults, word_mask};
@@ -59,9 +59,9 @@ impl Assigned {
     }
 
     /// What is given once more is given under a mode.
-    fn joined(self, other: Assigned, mode: Mode) -> Assigned
+    fn merged_with(self, other: Assigned, mode: Mode) -> Assigned
         ensures { (c : Cell)
-            → assigned_cell result c ≡ taken mode (assigned_cell self c) (assigned_cell other c) }
+            → assigned_cell result c ≡ merged_value mode (assigned_cell self c) (assigned_cell other c) }
     {
         match mode {
             Mode::Augment => Assigned {
@@ -205,24 +205,15 @@ impl<'a, 'l> Fields<Context<'a, 'l>> for Assigned {
 
     fn start(_alloc: Global, _context: &Context<'a, 'l>) {}
 
-    fn next(
-        _alloc: Global,
-        _context: &Context<'a, 'l>,
-        _defaults: (),
-        _item: &Item,
-    ) -> Result<(), Fault> {
-        Ok(())
-    }
-
     fn read(
         alloc: Global,
         context: &Context<'a, 'l>,
-        _defaults: &(),
+        _defaults: (),
         place: Place,
         item: &Item,
         notes: &mut Notes,
-    ) -> Result<Vec<(Target, Assigned)>, Fault> {
-        read_item(
+    ) -> Result<(Vec<(Target, Assigned)>, ()), Fault> {
+        let records = read_item(
             alloc,
             context.codes,
             context.names,
@@ -230,19 +221,20 @@ impl<'a, 'l> Fields<Context<'a, 'l>> for Assigned {
             place.file,
             item,
             notes,
-        )
+        )?;
+        Ok((records, ()))
     }
 
-    fn absorb(&mut self, _alloc: Global, other: Assigned, mode: Mode) -> Result<(), Fault>
+    fn merge(&mut self, _alloc: Global, other: Assigned, mode: Mode) -> Result<(), Fault>
         ensures cells { OnOk result ((c : Cell)
-            → assigned_cell self.new c ≡ taken mode (assigned_cell self.old c)
+            → assigned_cell self.new c ≡ merged_value mode (assigned_cell self.old c)
             (assigned_cell other c)) }
         ensures widths { OnOk result ((g : ℕ)
-            → assigned_width self.new g ≡ widened mode (assigned_width self.old g)
+            → assigned_width self.new g ≡ merged_width mode (assigned_width self.old g)
             (assigned_width other g)) }
         ensures err { IfErr result (λ e. e ≡ Memory) }
     {
-        *self = self.joined(other, mode);
+        *self = self.merged_with(other, mode);
         Ok(())
     }
 
@@ -256,7 +248,7 @@ impl<'a, 'l> Fields<Context<'a, 'l>> for Assigned {
         }
     }
 
-    fn absorb_moved(
+    fn merge_moved(
         &mut self,
         _alloc: Global,
         other: &Assigned,
@@ -264,14 +256,14 @@ impl<'a, 'l> Fields<Context<'a, 'l>> for Assigned {
         mode: Mode,
     ) -> Result<(), Fault>
         ensures cells { OnOk result ((c : Cell)
-            → assigned_cell self.new c ≡ taken mode (assigned_cell self.old c)
+            → assigned_cell self.new c ≡ merged_value mode (assigned_cell self.old c)
             (moved_value map_moves _group (assigned_cell other.now) c)) }
         ensures widths { OnOk result ((g : ℕ)
-            → assigned_width self.new g ≡ widened mode (assigned_width self.old g)
+            → assigned_width self.new g ≡ merged_width mode (assigned_width self.old g)
             (moved_width map_moves _group (assigned_width other.now) g)) }
         ensures err { IfErr result (λ e. e ≡ Memory) }
     {
-        *self = self.joined(*other, mode);
+        *self = self.merged_with(*other, mode);
         Ok(())
     }
 

@@ -4,7 +4,7 @@ use Rattle.std.specs.Option.{option_and_then, option_map}
 use Rattle.kx_key_fields.specs.Records.{moved_in, value_in}
 use Rattle.kx_merge.specs.ByGroup.{group_before}
 use Rattle.kx_merge.specs.Moved.{moved_value}
-use Rattle.kx_merge.specs.Offers.{taken}
+use Rattle.kx_merge.specs.Offers.{merged_value}
 use Rattle.kx_parse.specs.declared.tree.Mode.{Mode}
 use Rattle.kx_parse.specs.declared.tree.Mode.TheVariants.{Augment, Override, Replace}
 use Rattle.kx_key_fields.specs.Attributes.{attribute_before, attribute_in, attribute_moves}
@@ -14,7 +14,7 @@ use Rattle.kx_symbols.specs.declared.cells.Cell.{Cell}
 use Rattle.kx_symbols.specs.declared.cells.Cell.TheVariants as cells
 use Rattle.kx_symbols.specs.declared.cells.CellValue.TheVariants as values
 
-taken_map : {X Y : Type 0} (f : X → Y) (mode : Mode) (a b : Option X) → option_map f (taken mode a b) ≡ taken mode (option_map f a) (option_map f b)
+taken_map : {X Y : Type 0} (f : X → Y) (mode : Mode) (a b : Option X) → option_map f (merged_value mode a b) ≡ merged_value mode (option_map f a) (option_map f b)
 taken_map f Augment None b = refl
 taken_map f Augment (Some x) b = refl
 taken_map f Override a None = refl
@@ -22,8 +22,8 @@ taken_map f Override a (Some y) = refl
 taken_map f Replace a b = refl
 
 module _ (mode : Mode) (old new other : KeyContent) where
-  pub joined_cells : ((g l : ℕ) → value_in new.symbols g l ≡ taken mode (value_in old.symbols g l) (value_in other.symbols g l)) → ((g l : ℕ) → value_in new.actions g l ≡ taken mode (value_in old.actions g l) (value_in other.actions g l))
-      → ((cell : AttributeCell) → attribute_in new.settings cell ≡ taken mode (attribute_in old.settings cell) (attribute_in other.settings cell)) → (c : Cell) → cell_in new c ≡ taken mode (cell_in old c) (cell_in other c)
+  pub joined_cells : ((g l : ℕ) → value_in new.symbols g l ≡ merged_value mode (value_in old.symbols g l) (value_in other.symbols g l)) → ((g l : ℕ) → value_in new.actions g l ≡ merged_value mode (value_in old.actions g l) (value_in other.actions g l))
+      → ((cell : AttributeCell) → attribute_in new.settings cell ≡ merged_value mode (attribute_in old.settings cell) (attribute_in other.settings cell)) → (c : Cell) → cell_in new c ≡ merged_value mode (cell_in old c) (cell_in other c)
   joined_cells symbols actions settings (cells.Keysyms g l) = ap (option_map values.Keysyms) (symbols g l) ∙ taken_map values.Keysyms mode (value_in old.symbols g l) (value_in other.symbols g l)
   joined_cells symbols actions settings (cells.Action g l) = ap (option_map values.Action) (actions g l) ∙ taken_map values.Action mode (value_in old.actions g l) (value_in other.actions g l)
   joined_cells symbols actions settings (cells.Setting c) = ap (option_map values.Setting) (settings c) ∙ taken_map values.Setting mode (attribute_in old.settings c) (attribute_in other.settings c)
@@ -54,8 +54,8 @@ module _ (key : KeyContent) where
   action_moved (Some n) g l = action_before l (group_before n g)
 
 module _ (mode : Mode) (group : Option ℕ) (old new other : KeyContent) where
-  pub moved_cells : ((g l : ℕ) → value_in new.symbols g l ≡ taken mode (value_in old.symbols g l) (moved_in group other.symbols g l)) → ((g l : ℕ) → value_in new.actions g l ≡ taken mode (value_in old.actions g l) (moved_in group other.actions g l))
-      → ((cell : AttributeCell) → attribute_in new.settings cell ≡ taken mode (attribute_in old.settings cell) (moved_value attribute_moves group (attribute_in other.settings) cell)) → (c : Cell) → cell_in new c ≡ taken mode (cell_in old c) (moved_value key_moves group (cell_in other) c)
-  moved_cells symbols actions settings (cells.Keysyms g l) = ap (option_map values.Keysyms) (symbols g l) ∙ taken_map values.Keysyms mode (value_in old.symbols g l) (moved_in group other.symbols g l) ∙ ap (taken mode (cell_in old (cells.Keysyms g l))) (keysyms_moved other group g l)
-  moved_cells symbols actions settings (cells.Action g l) = ap (option_map values.Action) (actions g l) ∙ taken_map values.Action mode (value_in old.actions g l) (moved_in group other.actions g l) ∙ ap (taken mode (cell_in old (cells.Action g l))) (action_moved other group g l)
-  moved_cells symbols actions settings (cells.Setting c) = ap (option_map values.Setting) (settings c) ∙ taken_map values.Setting mode (attribute_in old.settings c) (moved_value attribute_moves group (attribute_in other.settings) c) ∙ ap (taken mode (cell_in old (cells.Setting c))) (attribute_moved other group c)
+  pub moved_cells : ((g l : ℕ) → value_in new.symbols g l ≡ merged_value mode (value_in old.symbols g l) (moved_in group other.symbols g l)) → ((g l : ℕ) → value_in new.actions g l ≡ merged_value mode (value_in old.actions g l) (moved_in group other.actions g l))
+      → ((cell : AttributeCell) → attribute_in new.settings cell ≡ merged_value mode (attribute_in old.settings cell) (moved_value attribute_moves group (attribute_in other.settings) cell)) → (c : Cell) → cell_in new c ≡ merged_value mode (cell_in old c) (moved_value key_moves group (cell_in other) c)
+  moved_cells symbols actions settings (cells.Keysyms g l) = ap (option_map values.Keysyms) (symbols g l) ∙ taken_map values.Keysyms mode (value_in old.symbols g l) (moved_in group other.symbols g l) ∙ ap (merged_value mode (cell_in old (cells.Keysyms g l))) (keysyms_moved other group g l)
+  moved_cells symbols actions settings (cells.Action g l) = ap (option_map values.Action) (actions g l) ∙ taken_map values.Action mode (value_in old.actions g l) (moved_in group other.actions g l) ∙ ap (merged_value mode (cell_in old (cells.Action g l))) (action_moved other group g l)
+  moved_cells symbols actions settings (cells.Setting c) = ap (option_map values.Setting) (settings c) ∙ taken_map values.Setting mode (attribute_in old.settings c) (moved_value attribute_moves group (attribute_in other.settings) c) ∙ ap (merged_value mode (cell_in old (cells.Setting c))) (attribute_moved other group c)

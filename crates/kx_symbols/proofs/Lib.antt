@@ -1,6 +1,5 @@
 mod Contents
 mod Given
-mod Loops
 mod Statements
 mod Texts
 mod Unsaid

@@ -139,5 +139,8 @@ module _ (file : ℕ) where
 abbrev pub said_faults : ℕ → Known → Said → Span → Span → Option (Name × List KeyField) → List Fault
 said_faults file known statement word whole key = option_map_or (λ k. name_faults file whole k.0 ++ content_faults file known whole k.1) key (other_faults file known.modifiers word statement)
 
+abbrev pub default_faults : (file : ℕ) → List (List ℕ) → Field → List Fault
+default_faults file modifiers field = if is_key_word field.place.word.bytes then key_default_faults file modifiers field else action_default_faults file modifiers field
+
 abbrev pub section_field_faults : (file : ℕ) → List (List ℕ) → Field → List Fault
-section_field_faults file modifiers field = if is_group_name field.place then [] else if is_key_word field.place.word.bytes then key_default_faults file modifiers field else action_default_faults file modifiers field
+section_field_faults file modifiers field = if is_group_name field.place then [] else default_faults file modifiers field

@@ -128,5 +128,8 @@ pub record KeysShow (keys : List (ℕ × KeyContent)) (codes : Codes) (names : L
 abbrev pub behind_field : (modifiers : List (List ℕ)) → Defaults → Field → Defaults
 behind_field modifiers d field = record { actions = next_action_defaults modifiers d.actions field; keys = next_key_defaults modifiers d.keys field }
 
+abbrev pub said_next : (modifiers : List (List ℕ)) → Defaults → Option Field → Defaults
+said_next modifiers d field = option_map_or (behind_field modifiers d) field d
+
 abbrev pub given_width : (known : Known) → (fs : List KeyField) → ℕ → ℕ
 given_width known fs group = max (width_in (lists_of known fs).symbols group) (width_in (lists_of known fs).actions group)

@@ -30,7 +30,7 @@ impl Model for LevelAction {
 }
 
 impl LevelValue for LevelAction {
-    fn copied(&self) -> Result<LevelAction, AllocError> {
+    fn try_clone(&self) -> Result<LevelAction, AllocError> {
         Ok(LevelAction {
             action: self.action,
         })

@@ -1,15 +1,16 @@
 //! The defaults of a section.
-ghost use Rattle.std.specs.Prelude.{◌≡◌, IfErr, IfOk};
-ghost use Rattle.std.specs.Option.{option_map, option_map_or};
+ghost use Rattle.std.specs.Prelude.{◌≡◌, ◌∷◌, [], Contains, IfErr, IfOk, OnOk};
+ghost use Rattle.std.specs.Option.{option_map_or};
 ghost use Rattle.kx_lex.specs.declared.fault.Fault.TheVariants.{Memory};
 ghost use Rattle.kx_key_fields.specs.Attributes.{no_settings};
 ghost use Rattle.kx_symbols.specs.Known.{no_defaults};
-ghost use Rattle.kx_symbols.specs.Keys.{behind_field, field_in, item_next};
+ghost use Rattle.kx_symbols.specs.Keys.{behind_field, field_in, said_next};
+ghost use Rattle.kx_symbols.specs.KeyFaults.{default_faults, other_faults, section_field_faults};
 
 use kx_actions::ActionDefaults;
-use kx_key_fields::KeyDefaults;
-use kx_lex::Fault;
-use kx_parse::{Field, Item, Statement};
+use kx_key_fields::{KeyDefaults, is_group_name, is_key_word};
+use kx_lex::{At, Fault, Span};
+use kx_parse::{Field, Statement};
 use kx_virtual_mods::ModNames;
 use std::alloc::{AllocError, Global};
 use std::marker::Model;
@@ -44,16 +45,6 @@ impl Model for SectionDefaults {
     ghost view = { λ d. option_map_or (λ gathered. gathered.value) d.gathered no_defaults };
 }
 
-/// The field of a statement that is one.
-fn field_in(statement: &Statement) -> Option<&Field>
-    ensures { option_map (λ f. f.now) result ≡ field_in statement.now }
-{
-    match statement {
-        Statement::Field(field) => Some(field.get()),
-        _ => None,
-    }
-}
-
 impl Gathered {
     fn none(alloc: Global) -> Gathered
         ensures { result ≡ no_defaults }
@@ -76,14 +67,31 @@ impl Gathered {
         &self.keys
     }
 
-    /// The defaults after a field of the section.
-    fn behind(self, alloc: Global, modifiers: &ModNames, field: &Field) -> Result<Gathered, Fault>
+    /// The defaults after a field of the section that is one for keys or for an action.
+    fn behind(
+        self,
+        alloc: Global,
+        modifiers: &ModNames,
+        file: u32,
+        field: &Field,
+    ) -> Result<Gathered, Fault>
         ensures next { IfOk result (λ d. d ≡ behind_field modifiers.now.names self field.now) }
-        ensures err { IfErr result (λ e. e ≡ Memory) }
+        ensures faultless { OnOk result (default_faults file modifiers.now.names field.now ≡ []) }
+        ensures fault { IfErr result (λ e.
+            Contains (Memory ∷ default_faults file modifiers.now.names field.now) e) }
     {
-        let actions = self.actions.next(modifiers, field);
-        let keys = self.keys.next(alloc, modifiers, field)?;
-        Ok(Gathered { actions, keys })
+        if is_key_word(field.place.word.bytes.as_slice()) {
+            let keys = self.keys.behind(alloc, modifiers, file, field)?;
+            return Ok(Gathered {
+                actions: self.actions,
+                keys,
+            });
+        }
+        let actions = self.actions.behind(modifiers, file, field)?;
+        Ok(Gathered {
+            actions,
+            keys: self.keys,
+        })
     }
 }
 
@@ -131,36 +139,48 @@ impl SectionDefaults {
         }
     }
 
-    /// The defaults after a field of the section.
+    /// The defaults after a field that stands by itself in the section.
     fn behind(
         self,
         alloc: Global,
         modifiers: &ModNames,
+        file: u32,
         field: &Field,
     ) -> Result<SectionDefaults, Fault>
         ensures next { IfOk result (λ d. d ≡ behind_field modifiers.now.names self field.now) }
-        ensures err { IfErr result (λ e. e ≡ Memory) }
+        ensures faultless { OnOk result
+            (section_field_faults file modifiers.now.names field.now ≡ []) }
+        ensures fault { IfErr result (λ e.
+            Contains (Memory ∷ section_field_faults file modifiers.now.names field.now) e) }
     {
-        let gathered = self.unboxed(alloc).behind(alloc, modifiers, field)?;
+        if is_group_name(&field.place) {
+            return Ok(self);
+        }
+        let gathered = self.unboxed(alloc).behind(alloc, modifiers, file, field)?;
         Ok(SectionDefaults::boxed(alloc, gathered)?)
     }
 
-    /// The defaults after an item of the section.
-    pub(crate) fn next(
+    /// The defaults after a statement of the section that is about no key; a fault of its name is at a word.
+    pub(crate) fn after(
         self,
         alloc: Global,
         modifiers: &ModNames,
-        item: &Item,
+        file: u32,
+        word: Span,
+        statement: &Statement,
     ) -> Result<SectionDefaults, Fault>
-        ensures next { IfOk result (λ d. d ≡ item_next modifiers.now.names self item.now) }
-        ensures err { IfErr result (λ e. e ≡ Memory) }
+        ensures next { IfOk result (λ d.
+            d ≡ said_next modifiers.now.names self (field_in statement.now)) }
+        ensures faultless { OnOk result
+            (other_faults file modifiers.now.names word statement.now ≡ []) }
+        ensures fault { IfErr result (λ e.
+            Contains (Memory ∷ other_faults file modifiers.now.names word statement.now) e) }
     {
-        match item {
-            Item::Include { .. } => Ok(self),
-            Item::Statement { statement, .. } => match field_in(statement) {
-                Some(field) => self.behind(alloc, modifiers, field),
-                None => Ok(self),
-            },
+        match statement {
+            Statement::VirtualModifiers(_) => Ok(self),
+            Statement::ModifierMap { .. } => Ok(self),
+            Statement::Field(field) => self.behind(alloc, modifiers, file, field.get()),
+            _ => Err(Fault::UnknownField(At { file, span: word })),
         }
     }
 }

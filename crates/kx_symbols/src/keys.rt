@@ -7,15 +7,14 @@ ghost use Rattle.kx_lex.specs.declared.fault.Fault.TheVariants.{Memory};
 ghost use Rattle.kx_parse.specs.declared.tree.Mode.{Mode as ModeValue};
 ghost use Rattle.kx_merge.specs.Bodies.{faults_of};
 ghost use Rattle.kx_merge.specs.Moved.{moved_key, moved_value, moved_width};
-ghost use Rattle.kx_merge.specs.Offers.{Offer, taken, widened};
+ghost use Rattle.kx_merge.specs.Offers.{Offer, merged_value, merged_width};
 ghost use Rattle.kx_merge.specs.Records.{AreOffered, IsOffered, mode_of};
 ghost use Rattle.kx_symbols.specs.KeyFaults.{content_faults, item_faults, key_in, said_faults};
 ghost use Rattle.kx_merge.specs.Faults.{name_faults};
 ghost use Rattle.kx_codes.specs.Codes.{code_of};
-ghost use Rattle.kx_symbols.specs.Keys.{KeysShow, cell_in, item_offers, key_at, key_moves, key_offer, key_rules, offered, said_offers, width_in_key};
+ghost use Rattle.kx_symbols.specs.Keys.{KeysShow, cell_in, field_in, item_next, item_offers, key_at, key_moves, key_offer, key_rules, known_under, offered, said_next, said_offers, width_in_key};
 
 use crate::cells::{Cell, CellValue};
-use crate::checks::check_other;
 use crate::defaults::SectionDefaults;
 use crate::fields::read_lists;
 use crate::known::{Known, StatementSite};
@@ -122,55 +121,75 @@ fn read_key(
     }
 }
 
-/// What a statement gives; a fault of its name is at a word.
+/// What a statement gives, and the defaults after it; a fault of its name is at a word.
 fn read_statement(
     alloc: Global,
-    codes: &Codes,
-    known: &Known,
+    context: &Context,
+    defaults: SectionDefaults,
     site: StatementSite,
     word: Span,
     statement: &Statement,
     notes: &mut Notes,
-) -> Result<Vec<(u16, KeyRecord)>, Fault>
+) -> Result<(Vec<(u16, KeyRecord)>, SectionDefaults), Fault>
     ensures records { (mode : ModeValue)
-        → IfOk result (λ records. AreOffered mode (cell_in) (width_in_key) records.items
-        (said_offers codes.now known.now mode (key_in statement.now))) }
+        → IfOk result (λ said. AreOffered mode (cell_in) (width_in_key) said.0.items
+        (said_offers context.now.codes.now (known_under context.now.codes.now
+        context.now.names.now context.now.modifiers.now.names defaults) mode
+        (key_in statement.now))) }
+    ensures next { IfOk result (λ said.
+        said.1 ≡ said_next context.now.modifiers.now.names defaults (field_in statement.now)) }
     ensures faultless { OnOk result
-        (said_faults site.file known.now statement.now word site.whole (key_in statement.now)
-        ≡ []) }
+        (said_faults site.file (known_under context.now.codes.now
+        context.now.names.now context.now.modifiers.now.names defaults) statement.now word
+        site.whole (key_in statement.now) ≡ []) }
     ensures fault { IfErr result (λ e.
-        Contains (Memory ∷ said_faults site.file known.now statement.now word site.whole
-        (key_in statement.now)) e) }
+        Contains (Memory ∷ said_faults site.file (known_under context.now.codes.now
+        context.now.names.now context.now.modifiers.now.names defaults)
+        statement.now word site.whole (key_in statement.now)) e) }
 {
     match key_in(statement) {
         None => {
-            check_other(known.modifiers, site.file, word, statement)?;
-            Ok(no_records(alloc))
+            let next = defaults.after(alloc, context.modifiers, site.file, word, statement)?;
+            Ok((no_records(alloc), next))
         }
         Some((name, fields)) => {
-            read_key(alloc, codes, known, site, name, fields.as_slice(), notes)
+            let known = Known {
+                names: context.names,
+                modifiers: context.modifiers,
+                defaults: &defaults,
+            };
+            let fields = fields.as_slice();
+            let records = read_key(alloc, context.codes, &known, site, name, fields, notes)?;
+            Ok((records, defaults))
         }
     }
 }
 
-/// What an item of a symbols section gives.
+/// What an item of a symbols section gives, and the defaults after it.
 fn read_item(
     alloc: Global,
-    codes: &Codes,
-    known: &Known,
+    context: &Context,
+    defaults: SectionDefaults,
     place: Place,
     item: &Item,
     notes: &mut Notes,
-) -> Result<Vec<(u16, KeyRecord)>, Fault>
-    ensures records { IfOk result (λ records.
-        AreOffered (mode_of item.now) (cell_in) (width_in_key) records.items
-        (item_offers codes.now known.now item.now)) }
-    ensures faultless { OnOk result (item_faults place.file known.now item.now ≡ []) }
+) -> Result<(Vec<(u16, KeyRecord)>, SectionDefaults), Fault>
+    ensures records { IfOk result (λ said.
+        AreOffered (mode_of item.now) (cell_in) (width_in_key) said.0.items
+        (item_offers context.now.codes.now (known_under context.now.codes.now
+        context.now.names.now context.now.modifiers.now.names defaults) item.now)) }
+    ensures next { IfOk result (λ said.
+        said.1 ≡ item_next context.now.modifiers.now.names defaults item.now) }
+    ensures faultless { OnOk result
+        (item_faults place.file (known_under context.now.codes.now
+        context.now.names.now context.now.modifiers.now.names defaults) item.now ≡ []) }
     ensures fault { IfErr result (λ e.
-        Contains (Memory ∷ item_faults place.file known.now item.now) e) }
+        Contains (Memory ∷ item_faults place.file (known_under context.now.codes.now
+        context.now.names.now context.now.modifiers.now.names defaults) item.now)
+        e) }
 {
     match item {
-        Item::Include { .. } => Ok(no_records(alloc)),
+        Item::Include { .. } => Ok((no_records(alloc), defaults)),
         Item::Statement {
             statement,
             span,
@@ -181,7 +200,7 @@ fn read_item(
                 whole: *span,
             };
             let word = item.word_span();
-            read_statement(alloc, codes, known, site, word, statement, notes)
+            read_statement(alloc, context, defaults, site, word, statement, notes)
         }
     }
 }
@@ -210,40 +229,26 @@ impl<'a, 'l> Fields<Context<'a, 'l>> for KeyRecord {
         SectionDefaults::none()
     }
 
-    fn next(
-        alloc: Global,
-        context: &Context<'a, 'l>,
-        defaults: SectionDefaults,
-        item: &Item,
-    ) -> Result<SectionDefaults, Fault> {
-        defaults.next(alloc, context.modifiers, item)
-    }
-
     fn read(
         alloc: Global,
         context: &Context<'a, 'l>,
-        defaults: &SectionDefaults,
+        defaults: SectionDefaults,
         place: Place,
         item: &Item,
         notes: &mut Notes,
-    ) -> Result<Vec<(u16, KeyRecord)>, Fault> {
-        let known = Known {
-            names: context.names,
-            modifiers: context.modifiers,
-            defaults,
-        };
-        read_item(alloc, context.codes, &known, place, item, notes)
+    ) -> Result<(Vec<(u16, KeyRecord)>, SectionDefaults), Fault> {
+        read_item(alloc, context, defaults, place, item, notes)
     }
 
-    fn absorb(&mut self, _alloc: Global, other: KeyRecord, mode: Mode) -> Result<(), Fault>
+    fn merge(&mut self, _alloc: Global, other: KeyRecord, mode: Mode) -> Result<(), Fault>
         ensures cells { OnOk result ((c : Cell)
-            → cell_in self.new c ≡ taken mode (cell_in self.old c) (cell_in other c)) }
+            → cell_in self.new c ≡ merged_value mode (cell_in self.old c) (cell_in other c)) }
         ensures widths { OnOk result ((g : ℕ)
-            → width_in_key self.new g ≡ widened mode (width_in_key self.old g)
+            → width_in_key self.new g ≡ merged_width mode (width_in_key self.old g)
             (width_in_key other g)) }
         ensures err { IfErr result (λ e. e ≡ Memory) }
     {
-        self.join(other, mode)?;
+        self.merge_content(other, mode)?;
         Ok(())
     }
 
@@ -254,7 +259,7 @@ impl<'a, 'l> Fields<Context<'a, 'l>> for KeyRecord {
         KeyRecord::none(alloc)
     }
 
-    fn absorb_moved(
+    fn merge_moved(
         &mut self,
         alloc: Global,
         other: &KeyRecord,
@@ -262,14 +267,14 @@ impl<'a, 'l> Fields<Context<'a, 'l>> for KeyRecord {
         mode: Mode,
     ) -> Result<(), Fault>
         ensures cells { OnOk result ((c : Cell)
-            → cell_in self.new c ≡ taken mode (cell_in self.old c)
+            → cell_in self.new c ≡ merged_value mode (cell_in self.old c)
             (moved_value key_moves group (cell_in other.now) c)) }
         ensures widths { OnOk result ((g : ℕ)
-            → width_in_key self.new g ≡ widened mode (width_in_key self.old g)
+            → width_in_key self.new g ≡ merged_width mode (width_in_key self.old g)
             (moved_width key_moves group (width_in_key other.now) g)) }
         ensures err { IfErr result (λ e. e ≡ Memory) }
     {
-        self.join_moved(alloc, other, group, mode)?;
+        self.merge_content_moved(alloc, other, group, mode)?;
         Ok(())
     }
 

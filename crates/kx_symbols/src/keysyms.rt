@@ -65,7 +65,7 @@ impl BracedKeysyms {
         self.numbers.as_slice()
     }
 
-    fn copied(&self) -> Result<BracedKeysyms, AllocError>
+    fn try_clone(&self) -> Result<BracedKeysyms, AllocError>
         ensures { IfOk result (λ copy. copy ≡ self.now) }
     {
         Ok(BracedKeysyms {
@@ -100,11 +100,11 @@ impl Model for Keysyms {
 }
 
 impl LevelValue for Keysyms {
-    fn copied(&self) -> Result<Keysyms, AllocError> {
+    fn try_clone(&self) -> Result<Keysyms, AllocError> {
         let kept = match &self.kept {
             KeptKeysyms::One(keysym) => KeptKeysyms::One(*keysym),
             KeptKeysyms::Several(keysyms) => {
-                KeptKeysyms::Several(Box::new(*Box::allocator(keysyms), keysyms.copied()?)?)
+                KeptKeysyms::Several(Box::new(*Box::allocator(keysyms), keysyms.try_clone()?)?)
             }
         };
         Ok(Keysyms { kept })

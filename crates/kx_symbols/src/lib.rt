@@ -3,7 +3,6 @@
 
 mod actions;
 mod cells;
-mod checks;
 mod defaults;
 mod fields;
 mod keys;

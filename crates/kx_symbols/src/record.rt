@@ -2,7 +2,7 @@
 ghost use Rattle.std.specs.Prelude.{◌≡◌, ◌≤◌, ℕ, None, IsTrue, OnOk, false, max};
 ghost use Rattle.std.specs.Option.{option_map};
 ghost use Rattle.kx_merge.specs.Moved.{moved_value, moved_width};
-ghost use Rattle.kx_merge.specs.Offers.{taken, widened};
+ghost use Rattle.kx_merge.specs.Offers.{merged_value, merged_width};
 ghost use Rattle.kx_key_fields.specs.Attributes.{attribute_in};
 ghost use Rattle.kx_symbols.specs.Keys.{HasAction, cell_in, content_of, key_moves, width_in_key};
 ghost use Rattle.kx_symbols.specs.declared.cells.Cell.TheVariants.{Keysyms as KeysymsOf, Action as ActionOf, Setting as AttributeOf};
@@ -116,21 +116,21 @@ impl KeyRecord {
     }
 
     /// Takes up what a later statement or include gives.
-    pub(crate) fn join(&mut self, other: KeyRecord, mode: Mode) -> Result<(), AllocError>
+    pub(crate) fn merge_content(&mut self, other: KeyRecord, mode: Mode) -> Result<(), AllocError>
         ensures cells { OnOk result ((c : Cell)
-            → cell_in self.new c ≡ taken mode (cell_in self.old c) (cell_in other c)) }
+            → cell_in self.new c ≡ merged_value mode (cell_in self.old c) (cell_in other c)) }
         ensures widths { OnOk result ((g : ℕ)
-            → width_in_key self.new g ≡ widened mode (width_in_key self.old g)
+            → width_in_key self.new g ≡ merged_width mode (width_in_key self.old g)
             (width_in_key other g)) }
     {
-        self.symbols.join(other.symbols, mode)?;
-        self.actions.join(other.actions, mode)?;
-        self.settings.join(other.settings, mode)?;
+        self.symbols.merge(other.symbols, mode)?;
+        self.actions.merge(other.actions, mode)?;
+        self.settings.merge(other.settings, mode)?;
         Ok(())
     }
 
     /// Takes up what a record of an included map gives, as it stands where its map is moved to a group.
-    pub(crate) fn join_moved(
+    pub(crate) fn merge_content_moved(
         &mut self,
         alloc: Global,
         other: &KeyRecord,
@@ -138,16 +138,18 @@ impl KeyRecord {
         mode: Mode,
     ) -> Result<(), AllocError>
         ensures cells { OnOk result ((c : Cell)
-            → cell_in self.new c ≡ taken mode (cell_in self.old c)
+            → cell_in self.new c ≡ merged_value mode (cell_in self.old c)
             (moved_value key_moves group (cell_in other.now) c)) }
         ensures widths { OnOk result ((g : ℕ)
-            → width_in_key self.new g ≡ widened mode (width_in_key self.old g)
+            → width_in_key self.new g ≡ merged_width mode (width_in_key self.old g)
             (moved_width key_moves group (width_in_key other.now) g)) }
     {
-        self.symbols.join_moved(alloc, &other.symbols, group, mode)?;
-        self.actions.join_moved(alloc, &other.actions, group, mode)?;
+        self.symbols
+            .merge_moved(alloc, &other.symbols, group, mode)?;
+        self.actions
+            .merge_moved(alloc, &other.actions, group, mode)?;
         self.settings
-            .join_moved(alloc, &other.settings, group, mode)?;
+            .merge_moved(alloc, &other.settings, group, mode)?;
         Ok(())
     }
 }

@@ -1,4 +1,3 @@
-mod Blames
 mod Few
 mod Given
 mod Laws

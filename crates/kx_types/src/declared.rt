@@ -153,8 +153,8 @@ impl SingleValue<ModNames> for KeyType {
         read_item(alloc, modifiers, place, item)
     }
 
-    fn copied(&self, alloc: Global) -> Result<KeyType, Fault> {
-        Ok(self.again(alloc)?)
+    fn try_clone(&self, alloc: Global) -> Result<KeyType, Fault> {
+        Ok(KeyType::try_clone(self, alloc)?)
     }
 
     fn key_in(key: &ShortName, _group: Option<u8>) -> Option<ShortName> {

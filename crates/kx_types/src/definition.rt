@@ -258,8 +258,8 @@ impl KeyType {
         }
     }
 
-    /// The same type again.
-    pub(crate) fn again(&self, alloc: Global) -> Result<KeyType, AllocError>
+    /// The same type.
+    pub(crate) fn try_clone(&self, alloc: Global) -> Result<KeyType, AllocError>
         ensures { IfOk result (λ t. t ≡ self.now) }
     {
         Ok(KeyType {

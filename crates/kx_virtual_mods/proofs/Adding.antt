@@ -1,8 +1,8 @@
 -- Going over statements: those that are after have added their names.
-use Rattle.std.proofs.Common.{◌≡◌, ℕ, ◌+◌, ◌≤◌, ◌<◌, Bool, true, false, cond, List, [], ◌∷◌, ◌++◌, Contains, IfErr, OnOk, Result, Ok, Err, ◌⊎◌, ⊎_elim, inl, inr, zero, suc, set, drop, get_or, unwrap_or, Option, None, fold, length, nat_lt, refl, sym, ap, ◌∙◌, subst, arith, Some}
+use Rattle.std.proofs.Common.{◌≡◌, ℕ, ◌+◌, ◌≤◌, ◌<◌, Bool, true, false, cond, List, [], ◌∷◌, ◌++◌, Contains, IfErr, OnOk, Result, Ok, Err, ◌⊎◌, inl, inr, zero, suc, set, drop, get_or, unwrap_or, Option, None, length, nat_lt, refl, sym, ap, ◌∙◌, subst, arith, Some}
 use Rattle.std.specs.List.{flat_map, slice_get}
 use Rattle.std.specs.Result.{IsErrAnd}
-use Rattle.std.proofs.lemmas.List.{drop_all}
+use Rattle.std.proofs.lemmas.List.{append-nil, drop_all}
 use Rattle.std.proofs.lemmas.List.Elements.{Contains-append_left}
 use Rattle.std.proofs.lemmas.List.Sums.{fold-append}
 use Rattle.kx_include.specs.declared.expansion.Map.{Map}
@@ -14,7 +14,7 @@ use Rattle.kx_parse.specs.declared.tree.Item.{Item}
 use Rattle.kx_virtual_mods.specs.Counted.{Said, Text, crossing, names_behind, names_with, statements_of, whole_span}
 use Rattle.kx_virtual_mods.specs.Tallies.{Adds, AreDone, HasAll, bodies_of}
 use Rattle.kx_virtual_mods.specs.declared.counted.Tally.{Tally}
-use Rattle.kx_virtual_mods.proofs.Going.{append_none, drop_next}
+use Rattle.kx_merge.proofs.Going.{drop_next}
 use Rattle.kx_virtual_mods.proofs.There.{all_adds, all_behind, all_cross, all_now, few_cross}
 
 -- faults after others count only where there are none of these
@@ -167,7 +167,7 @@ module _ (names : Item → List Text) (limit : ℕ) where
     second_blamed n1 e one has = counting_blames n1 three (b ++ (c ++ [])) b (c ++ []) e refl (first-counted n1 one) has
 
     pub third_names : (n1 n2 : List Text) → Passed [] n1 a → Passed n1 n2 b → names_behind names n2 c ≡ names_behind names [] three
-    third_names n1 n2 one two = ap (names_behind names n2) (sym (append_none c)) ∙ (second-counted n1 n2 one two).names_go
+    third_names n1 n2 one two = ap (names_behind names n2) (sym (append-nil c)) ∙ (second-counted n1 n2 one two).names_go
 
     pub third_faults : (n1 n2 : List Text) → Passed [] n1 a → Passed n1 n2 b → crossing names limit n2 c ≡ crossing names limit [] three
-    third_faults n1 n2 one two = ap (crossing names limit n2) (sym (append_none c)) ∙ sym (second-counted n1 n2 one two).faults_go
+    third_faults n1 n2 one two = ap (crossing names limit n2) (sym (append-nil c)) ∙ sym (second-counted n1 n2 one two).faults_go

@@ -1,48 +1,10 @@
--- Loops over a list: what is left of it gives what is still to come.
-use Rattle.std.proofs.Common.{◌≡◌, ℕ, ◌+◌, ◌<◌, ◌≤◌, zero, suc, List, [], ◌∷◌, ◌++◌, length, drop, get_or, Contains, Result, Ok, Err, IfErr, refl, sym, ap, ◌∙◌, subst, arith}
-use Rattle.std.specs.List.{flat_map}
-use Rattle.std.specs.Result.{IsErrAnd}
-use Rattle.std.proofs.lemmas.List.{drop_all, drop_more}
-use Rattle.std.proofs.lemmas.List.Elements.{Contains-append_left, Contains-append_right}
-
-pub drop_next : {X : Type 0} (xs : List X) (i : ℕ) (x : X) → i < length xs → x ≡ get_or xs i x → drop i xs ≡ x ∷ drop (i + 1) xs
-drop_next xs i x within h = drop_more xs i x within ∙ ap (λ y. y ∷ drop (i + 1) xs) (sym h)
-
-pub append_inner : {X : Type 0} (xs ys zs : List X) → (xs ++ ys) ++ zs ≡ xs ++ (ys ++ zs)
-append_inner [] ys zs = refl
-append_inner (x ∷ xs) ys zs = ap (λ rest. x ∷ rest) (append_inner xs ys zs)
-
-pub append_none : {X : Type 0} (xs : List X) → xs ++ [] ≡ xs
-append_none [] = refl
-append_none (x ∷ xs) = ap (λ rest. x ∷ rest) (append_none xs)
-
-pub read_again : {X : Type 0} (xs : List X) (i : ℕ) (d : X) → i < length xs → get_or xs i d ≡ get_or xs i (get_or xs i d)
-read_again [] i d h = absurd (omega (arith, h))
-read_again (x ∷ xs) zero d h = refl
-read_again (x ∷ xs) (suc i) d h = read_again xs i d (omega (arith, h))
-
--- nothing came of what is after, and this comes of the next
-pub none_blames : {X Y : Type 0} (f : X → List Y) (xs : List X) (i : ℕ) (x : X) (e : Y) → i < length xs → x ≡ get_or xs i x → flat_map f xs ≡ flat_map f (drop i xs) → Contains (f x) e → Contains (flat_map f xs) e
-none_blames f xs i x e within is left has = subst (λ ys. Contains ys e) (sym (left ∙ ap (flat_map f) (drop_next xs i x within is))) (Contains-append_left (f x) (flat_map f (drop (i + 1) xs)) e has)
-
--- an Err that is answered for another is one of the same
-pub passed : {X F : Type 0} (r : Result X F) (fs : List F) (e : F) → IsErrAnd r (λ y. y ≡ e) → Contains fs e → IfErr r (λ y. Contains fs y)
-passed (Ok x) fs e is has = absurd is
-passed (Err y) fs e is has = subst (Contains fs) (sym is) has
-
--- what is blamed is one of more
-pub blamed : {F : Type 0} (m : F) (fs : List F) (e : F) → Contains fs e → Contains (m ∷ fs) e
-blamed m fs e has = Contains-append_right (m ∷ []) fs e has
-
-pub blamed_front : {F : Type 0} (m : F) (fs gs : List F) (e : F) → Contains fs e → Contains (m ∷ (fs ++ gs)) e
-blamed_front m fs gs e has = blamed m (fs ++ gs) e (Contains-append_left fs gs e has)
+-- A fault of a part is one of the whole.
+use Rattle.std.proofs.Common.{◌≡◌, ◌+◌, List, [], ◌∷◌, ◌++◌, Contains, sym, subst}
+use Rattle.std.proofs.lemmas.List.Elements.{Contains-append_left}
+use Rattle.kx_merge.proofs.Going.{blamed}
 
 pub blamed_back : {F : Type 0} (m : F) (fs gs : List F) (e : F) → fs ≡ [] → Contains gs e → Contains (m ∷ (fs ++ gs)) e
 blamed_back m fs gs e none has = subst (λ hs. Contains (m ∷ (hs ++ gs)) e) (sym none) (blamed m gs e has)
-
--- of what each element gives, so much is after
-pub flat_blames : {X Y : Type 0} (f : X → List Y) (xs : List X) (i : ℕ) (x : X) (m e : Y) → i < length xs → x ≡ get_or xs i x → flat_map f xs ≡ flat_map f (drop i xs) → Contains (m ∷ f x) e → Contains (m ∷ flat_map f xs) e
-flat_blames f xs i x m e within is left has = subst (λ ys. Contains (m ∷ ys) e) (sym (left ∙ ap (flat_map f) (drop_next xs i x within is))) (Contains-append_left (m ∷ f x) (flat_map f (drop (i + 1) xs)) e has)
 
 pub blamed_second : {F : Type 0} (m : F) (fs gs hs : List F) (e : F) → fs ≡ [] → Contains (m ∷ gs) e → Contains (m ∷ (fs ++ (gs ++ hs))) e
 blamed_second m fs gs hs e none has = subst (λ xs. Contains (m ∷ (xs ++ (gs ++ hs))) e) (sym none) (Contains-append_left (m ∷ gs) hs e has)

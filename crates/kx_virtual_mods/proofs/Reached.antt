@@ -1,18 +1,17 @@
 -- The statements of the maps that an expansion has.
-use Rattle.std.proofs.Common.{◌≡◌, ℕ, ◌+◌, ◌≤◌, ◌<◌, zero, suc, Bool, true, false, List, [], ◌∷◌, ◌++◌, length, take, get_or, Some, None, Option, refl, sym, ap, ◌∙◌, subst, arith}
+use Rattle.std.proofs.Common.{◌≡◌, ℕ, ◌+◌, ◌≤◌, ◌<◌, zero, suc, List, [], ◌∷◌, ◌++◌, length, take, get_or, Some, None, Option, refl, sym, ap, ◌∙◌, arith}
 use Rattle.std.specs.List.{flat_map, slice_get}
 use Rattle.std.proofs.Math.Seq.{take-append_seam}
-use Rattle.std.proofs.lemmas.List.{length-append, take_all}
-use Rattle.kx_include.specs.Expansion.{Body, End, Inc, Own}
+use Rattle.std.proofs.lemmas.List.{append-nil, append_assoc, length-append, take_all}
+use Rattle.kx_include.specs.Expansion.{Body, End, Own}
 use Rattle.kx_include.specs.Shared.{bodies_behind, body_at, entries_body, links_body, shared_body, shared_sections}
 use Rattle.kx_include.specs.declared.expansion.Entry.{Entry}
 use Rattle.kx_include.specs.declared.expansion.Entry.TheVariants as entry
 use Rattle.kx_include.specs.declared.expansion.Link.{Link}
 use Rattle.kx_include.specs.declared.expansion.Map.{Map}
 use Rattle.kx_include.specs.declared.place.Place.{Place}
-use Rattle.kx_virtual_mods.specs.Counted.{Said, statements_of}
+use Rattle.kx_virtual_mods.specs.Counted.{statements_of}
 use Rattle.kx_virtual_mods.specs.Tallies.{bodies_of, entry_statements, links_statements, map_statements}
-use Rattle.kx_virtual_mods.proofs.Going.{append_inner, append_none}
 
 module _ (bodies : List Body) where
   links-said : (ls : List Link) → statements_of (links_body bodies ls) ≡ links_statements bodies ls
@@ -25,7 +24,7 @@ module _ (bodies : List Body) where
   entries-said place (entry.Include mode links ∷ es) rest =
       ap (λ xs. xs ++ statements_of (entries_body bodies place es rest)) (links-said links.items)
       ∙ ap (λ xs. links_statements bodies links.items ++ xs) (entries-said place es rest)
-      ∙ sym (append_inner (links_statements bodies links.items) (flat_map (entry_statements bodies place) es) (statements_of rest))
+      ∙ sym (append_assoc (links_statements bodies links.items) (flat_map (entry_statements bodies place) es) (statements_of rest))
 
   pub map_said : (m : Map) (rest : Body) → statements_of (shared_body bodies m rest) ≡ map_statements bodies m ++ statements_of rest
   map_said m rest = entries-said m.place m.entries.items rest
@@ -35,10 +34,10 @@ module _ (bodies : List Body) where
   sections_said (m ∷ ms) = map_said m (shared_sections bodies ms) ∙ ap (λ xs. map_statements bodies m ++ xs) (sections_said ms)
 
 behind-grows : (bs : List Body) (ms : List Map) → (more : List Body) × (bodies_behind bs ms ≡ bs ++ more)
-behind-grows bs [] = ([], sym (append_none bs))
+behind-grows bs [] = ([], sym (append-nil bs))
 behind-grows bs (m ∷ ms) =
     let rest = behind-grows (bs ++ shared_body bs m End ∷ []) ms in
-    (shared_body bs m End ∷ rest.0, rest.1 ∙ append_inner bs (shared_body bs m End ∷ []) rest.0)
+    (shared_body bs m End ∷ rest.0, rest.1 ∙ append_assoc bs (shared_body bs m End ∷ []) rest.0)
 
 length-behind : (bs : List Body) (ms : List Map) → length (bodies_behind bs ms) ≡ length bs + length ms
 length-behind bs [] = omega arith
@@ -55,7 +54,7 @@ at-behind : (bs : List Body) (ms : List Map) (n k : ℕ) (d : Map) → n < lengt
 at-behind bs [] n k d within is = absurd (omega (arith, within))
 at-behind bs (m ∷ ms) zero k d within is =
     let grown = behind-grows (bs ++ shared_body bs m End ∷ []) ms in
-    let all : bodies_behind bs (m ∷ ms) ≡ bs ++ shared_body bs m End ∷ grown.0 = grown.1 ∙ append_inner bs (shared_body bs m End ∷ []) grown.0 in
+    let all : bodies_behind bs (m ∷ ms) ≡ bs ++ shared_body bs m End ∷ grown.0 = grown.1 ∙ append_assoc bs (shared_body bs m End ∷ []) grown.0 in
     let here : k ≡ length bs = omega arith in
     ap (λ xs. body_at xs k) all ∙ ap (body_at (bs ++ shared_body bs m End ∷ grown.0)) here ∙ at-seam bs grown.0 (shared_body bs m End)
     ∙ ap (λ xs. shared_body xs m End) (sym (take-append_seam bs (shared_body bs m End ∷ grown.0)))
@@ -95,7 +94,7 @@ whole_front maps = let long = length-behind [] maps in take_all (length maps) (b
 
 -- the statements of the map of a number
 pub number_said : (maps : List Map) (n : ℕ) (d : Map) → n < length maps → statements_of (body_at (bodies_of maps) n) ≡ map_statements (take n (bodies_of maps)) (get_or maps n d)
-number_said maps n d within = ap statements_of (at-behind [] maps n n d within (omega arith)) ∙ map_said (take n (bodies_of maps)) (get_or maps n d) End ∙ append_none (map_statements (take n (bodies_of maps)) (get_or maps n d))
+number_said maps n d within = ap statements_of (at-behind [] maps n n d within (omega arith)) ∙ map_said (take n (bodies_of maps)) (get_or maps n d) End ∙ append-nil (map_statements (take n (bodies_of maps)) (get_or maps n d))
 
 -- those of an included map, where it is below a number
 pub included_is : (maps : List Map) (below n : ℕ) (m : Map) → n < below → below ≤ length maps → m ≡ get_or maps n m → statements_of (body_at (take below (bodies_of maps)) n) ≡ map_statements (take n (bodies_of maps)) m

@@ -1,19 +1,18 @@
 -- Names that are there stay there, and add nothing.
-use Rattle.std.proofs.Common.{◌≡◌, ℕ, ◌+◌, ◌≤◌, ◌<◌, Bool, true, false, cond, ◌||◌, List, [], ◌∷◌, ◌++◌, fold, length, nat_lt, drop, get_or, refl, sym, ap, ◌∙◌, subst, arith}
+use Rattle.std.proofs.Common.{◌≡◌, ℕ, ◌+◌, ◌≤◌, ◌<◌, Bool, true, false, cond, ◌||◌, List, [], ◌∷◌, ◌++◌, length, nat_lt, drop, get_or, refl, sym, ap, ◌∙◌, subst, arith}
 use Rattle.std.specs.List.{flat_map, list_any}
 use Rattle.std.specs.Str.{bytes_eq}
 use Rattle.std.proofs.lemmas.Bool.Decides.{nat_tests}
 use Rattle.std.proofs.lemmas.List.Folds.{list_any-append}
 use Rattle.std.proofs.lemmas.List.Sums.{fold-append}
 use Rattle.std.proofs.lemmas.Slice.Eq.{bytes_eq-Decides}
-use Rattle.kx_lex.specs.declared.fault.Fault.{Fault}
 use Rattle.kx_lex.specs.declared.fault.Fault.TheVariants.{TooMany}
 use Rattle.kx_include.specs.IncludeFaults.{at}
 use Rattle.kx_merge.specs.Offers.{with_name}
 use Rattle.kx_parse.specs.declared.tree.Item.{Item}
 use Rattle.kx_virtual_mods.specs.Counted.{Said, Text, crossing, names_behind, names_with, whole_span, with_names}
 use Rattle.kx_virtual_mods.specs.Tallies.{HasAll, HasEach}
-use Rattle.kx_virtual_mods.proofs.Going.{drop_next}
+use Rattle.kx_merge.proofs.Going.{drop_next}
 
 abbrev is_there : List Text → Text → Bool
 is_there there name = list_any (bytes_eq name) there

@@ -272,7 +272,7 @@ impl SingleValue<Names> for u8 {
         read_item(alloc, names, place.file, item)
     }
 
-    fn copied(&self, _alloc: Global) -> Result<u8, Fault> {
+    fn try_clone(&self, _alloc: Global) -> Result<u8, Fault> {
         Ok(*self)
     }
 

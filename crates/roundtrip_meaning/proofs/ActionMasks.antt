@@ -6,7 +6,7 @@ use Rattle.std.specs.Int.RustNames.{bit_or}
 use Rattle.std.specs.List.{list_all, flat_map, range_with_len}
 use Rattle.std.specs.Option.{option_or, option_map, option_map_or, unwrap_or}
 use Rattle.std.specs.Str.{str_eq_ignore_ascii_case}
-use Rattle.kx_actions.specs.Values.{is_modmap, is_faultless, mods_of}
+use Rattle.kx_actions.specs.Values.{is_modmap, mods_of}
 use Rattle.kx_actions.specs.declared.action.ActionMods.{ActionMods}
 use Rattle.kx_actions.specs.declared.action.ActionMods.TheVariants.{Named, OfKey}
 use Rattle.kx_include.specs.IncludeFaults.{at}
@@ -126,8 +126,7 @@ module _ (names : List (List ℕ)) where
         faultless = λ file. words_faultless file w ws e all is;
       }
 
-  pub mods_back : (m : ℕ) → m < 256 → (e : Expression) → AreWordsOf (set_words mod_names m) e → mods_of names e ≡ Some (Named m)
+  pub mods_back : (m : ℕ) → m < 256 → (e : Expression) → AreWordsOf (set_words mod_names m) e → mods_of names e ≡ Named m
   mods_back m small e is =
       let k = mask_back m small e is in
-      ap (λ t. let o : Option ActionMods = cond t (Some OfKey) (cond (is_faultless (mask_faults 0 names e)) (Some (Named (mask_set names e))) None) in o) k.no_modmap_is
-      ∙ ap₂ (λ (fs : List Fault) n. let o : Option ActionMods = cond (is_faultless fs) (Some (Named n)) None in o) (k.faultless 0) k.set_is
+      ap (λ t. let o : ActionMods = cond t OfKey (Named (mask_set names e)) in o) k.no_modmap_is ∙ ap (λ n. let o : ActionMods = Named n in o) k.set_is

@@ -2,7 +2,7 @@ use Rattle.std.proofs.Common.{◌+◌, ap, drop, sym, ◌∙◌}
 use Rattle.std.specs.List.{flat_map}
 use Rattle.kx_actions.specs.Arguments.{argument_faults, argument_given}
 use Rattle.kx_actions.specs.Settings.{last_settings}
-use Rattle.kx_actions.proofs.Going.{none_blames, none_goes, passed}
+use Rattle.kx_merge.proofs.Going.{none_blames, none_goes, passed}
 use Rattle.kx_actions.proofs.Last.{last_goes}
 use Rattle.kx_actions.proofs.arguments.read_arguments.Goals as goal
 

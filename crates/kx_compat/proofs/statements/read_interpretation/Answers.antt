@@ -4,7 +4,7 @@ use Rattle.kx_lex.specs.declared.fault.Fault.TheVariants.{Memory}
 use Rattle.kx_symbols.specs.KeyFaults.{symbol_faults}
 use Rattle.kx_compat.specs.Sections.{own_faults, values_of}
 use Rattle.kx_compat.specs.Matches.{predicate_faults, match_of}
-use Rattle.kx_compat.proofs.Going.{blamed_behind, blamed_front, passed}
+use Rattle.kx_merge.proofs.Going.{blamed_behind, blamed_front, passed}
 use Rattle.kx_compat.proofs.Offering.{same_offered}
 use Rattle.kx_compat.proofs.statements.read_interpretation.Goals as goal
 

@@ -2,7 +2,7 @@ use Rattle.std.proofs.Common.{◌∷◌, ◌++◌}
 use Rattle.kx_lex.specs.declared.fault.Fault.TheVariants.{Memory}
 use Rattle.kx_symbols.specs.KeyFaults.{symbol_faults}
 use Rattle.kx_compat.specs.Matches.{predicate_faults}
-use Rattle.kx_compat.proofs.Going.{blamed_behind, passed}
+use Rattle.kx_merge.proofs.Going.{blamed_behind, passed}
 use Rattle.kx_compat.proofs.statements.read_match.Goals as goal
 
 pub returns-in_err-condition-clause-fault : goal.returns-in_err-condition-clause-fault

@@ -1,7 +1,7 @@
 use Rattle.std.proofs.Common.{◌∷◌}
 use Rattle.kx_lex.specs.declared.fault.Fault.TheVariants.{Memory}
 use Rattle.kx_group_names.specs.Fields.{field_faults}
-use Rattle.kx_group_names.proofs.Going.{blamed, passed}
+use Rattle.kx_merge.proofs.Going.{blamed, passed}
 use Rattle.kx_group_names.proofs.record.read_field.Goals as goal
 
 pub returns-in_err-group-clause-fault : goal.returns-in_err-group-clause-fault

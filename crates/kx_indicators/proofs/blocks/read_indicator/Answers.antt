@@ -3,7 +3,7 @@ use Rattle.std.specs.List.{flat_map}
 use Rattle.std.specs.Str.{bytes_eq}
 use Rattle.kx_lex.specs.declared.fault.Fault.TheVariants.{Memory}
 use Rattle.kx_indicators.specs.Blocks.{own_faults, values_of}
-use Rattle.kx_indicators.proofs.Going.{blamed_behind, passed}
+use Rattle.kx_merge.proofs.Going.{blamed_behind, passed}
 use Rattle.kx_indicators.proofs.Offering.{same_offered}
 use Rattle.kx_indicators.proofs.blocks.read_indicator.Goals as goal
 use Rattle.kx_merge.specs.Faults.{name_faults}

@@ -2,7 +2,7 @@ use Rattle.std.proofs.Common.{◌+◌, ap, drop, sym, ◌∙◌}
 use Rattle.std.specs.List.{flat_map}
 use Rattle.kx_indicators.specs.Blocks.{own_faults, own_value}
 use Rattle.kx_indicators.specs.Giving.{last_values}
-use Rattle.kx_indicators.proofs.Going.{none_blames, none_goes, passed}
+use Rattle.kx_merge.proofs.Going.{none_blames, none_goes, passed}
 use Rattle.kx_indicators.proofs.Lasting.{last_goes}
 use Rattle.kx_indicators.proofs.blocks.read_values.Goals as goal
 

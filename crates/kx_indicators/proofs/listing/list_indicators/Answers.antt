@@ -5,7 +5,8 @@ use Rattle.kx_virtual_mods.specs.Counted.{names_behind, statements_of}
 use Rattle.kx_indicators.specs.Blocks.{indicator_map_names}
 use Rattle.kx_indicators.specs.Bounds.{NamesAreValid}
 use Rattle.kx_indicators.specs.Meaning.{indicator_maps_faults}
-use Rattle.kx_indicators.proofs.Going.{memory_beside, passed}
+use Rattle.kx_merge.proofs.Going.{passed}
+use Rattle.kx_indicators.proofs.Going.{memory_beside}
 use Rattle.kx_indicators.proofs.Longest.{names_valid}
 use Rattle.kx_indicators.proofs.listing.list_indicators.Goals as goal
 

@@ -3,7 +3,8 @@ use Rattle.std.specs.List.{flat_map}
 use Rattle.kx_virtual_mods.specs.Masks.{joined}
 use Rattle.kx_indicators.specs.IndicatorMapMasks.{operated, operation_faults, width}
 use Rattle.kx_indicators.proofs.Bits.{joined_within}
-use Rattle.kx_indicators.proofs.Going.{fold_goes, none_blames, none_goes, passed}
+use Rattle.kx_merge.proofs.Going.{none_blames, none_goes, passed}
+use Rattle.kx_indicators.proofs.Going.{fold_goes}
 use Rattle.kx_indicators.proofs.masks.read_operations.Goals as goal
 
 pub operations-preserved : goal.operations-preserved

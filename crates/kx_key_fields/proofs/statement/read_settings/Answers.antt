@@ -2,7 +2,7 @@ use Rattle.std.proofs.Common.{◌∷◌, refl}
 use Rattle.kx_lex.specs.declared.fault.Fault.TheVariants.{Memory}
 use Rattle.kx_key_fields.specs.KeyFields.{key_field_faults, key_given, setting_faults}
 use Rattle.kx_key_fields.proofs.Cellwise.{settings_go}
-use Rattle.kx_key_fields.proofs.Going.{any_blames, none_goes, passed}
+use Rattle.kx_merge.proofs.Going.{any_blames, none_goes, passed}
 use Rattle.kx_key_fields.proofs.statement.read_settings.Goals as goal
 
 pub returns-in_err-take_field-clause-fault : goal.returns-in_err-take_field-clause-fault

@@ -1,7 +1,7 @@
 use Rattle.std.proofs.Common.{◌∷◌, Contains, sym, subst}
 use Rattle.kx_lex.specs.declared.fault.Fault.TheVariants.{Memory}
 use Rattle.kx_key_fields.specs.KeyFields.{key_field_faults, own_faults}
-use Rattle.kx_key_fields.proofs.Going.{blamed, passed}
+use Rattle.kx_merge.proofs.Going.{blamed, passed}
 use Rattle.kx_key_fields.proofs.statement.take_field.Goals as goal
 
 pub returns-in_err-given-in-Field-clause-fault : goal.returns-in_err-given-in-Field-clause-fault

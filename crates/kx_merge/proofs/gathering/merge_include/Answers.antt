@@ -1,4 +1,5 @@
 use Rattle.std.proofs.Common.{get_or, None, sym, subst}
+use Rattle.std.proofs.lemmas.List.{append-nil}
 use Rattle.indexmap.specs.IndexMap.{get, keys}
 use Rattle.kx_include.specs.Shared.{body_at, links_body}
 use Rattle.kx_include.specs.declared.expansion.Link.{Link}
@@ -6,7 +7,6 @@ use Rattle.kx_parse.specs.declared.tree.Mode.TheVariants.{Augment}
 use Rattle.kx_merge.specs.Bodies.{faults_of, gathered, offers_of}
 use Rattle.kx_merge.specs.Gatherings.{Adds}
 use Rattle.kx_merge.proofs.Behind.{adds_same, only}
-use Rattle.kx_merge.proofs.Movings.{append-none}
 use Rattle.kx_merge.proofs.OnePart.{single_part}
 use Rattle.kx_merge.proofs.gathering.merge_include.Goals as goal
 
@@ -22,4 +22,4 @@ returns-in-len1 g c = λ rules bodies are.
     let new = c.merge_link.new.records in
     subst (λ ls. Adds g.R.Fields.cell g.R.Fields.width eq (keys old) (get eq old) c.merge_link.result (keys new) (get eq new) (gathered eq c.args.mode (offers_of eq rules moves (links_body bodies ls))) (faults_of eq rules moves (links_body bodies ls)))
     (sym (only xs none c.in-len1.len_at_least c.in-len1.len_below))
-    (adds_same (sym (single_part eq g.met.R.Key.Eq.laws g.met.R.Fields.same moves g.met.R.Fields.apart os x.group x.mode c.args.mode)) (sym (append-none (faults_of eq rules moves (body_at bodies x.map)))) (c.merge_link.ensures rules bodies are))
+    (adds_same (sym (single_part eq g.met.R.Key.Eq.laws g.met.R.Fields.same moves g.met.R.Fields.apart os x.group x.mode c.args.mode)) (sym (append-nil (faults_of eq rules moves (body_at bodies x.map)))) (c.merge_link.ensures rules bodies are))

@@ -1,5 +1,6 @@
 use Rattle.std.proofs.Common.{◌≡◌, [], get_or, None, sym, subst}
 use Rattle.std.proofs.lemmas.Result.{IfOk-weaker}
+use Rattle.std.proofs.lemmas.List.{append-nil}
 use Rattle.indexmap.specs.IndexMap.{get, keys}
 use Rattle.kx_include.specs.Shared.{body_at, links_body}
 use Rattle.kx_include.specs.declared.expansion.Link.{Link}
@@ -9,7 +10,6 @@ use Rattle.kx_merge.specs.Records.{Shows}
 use Rattle.kx_merge.specs.Renewals.{Picks, TakesUp}
 use Rattle.kx_merge.proofs.Behind.{empty, only}
 use Rattle.kx_merge.proofs.Covering.{picks_none}
-use Rattle.kx_merge.proofs.Movings.{append-none}
 use Rattle.kx_merge.proofs.OnePart.{single_part}
 use Rattle.kx_merge.proofs.gathering.merge_keys.Goals as goal
 
@@ -22,7 +22,7 @@ returns-then-is_empty-clause-again g c = λ yes rules bodies are.
     record {
       picked = [];
       picks = subst (λ ks. Picks eq ks all []) (sym none) (picks_none eq g.met.R.Key.Eq.laws all);
-      shows = λ os before. subst (Shows g.R.Fields.cell g.R.Fields.width eq (keys now) (get eq now)) (sym (append-none os)) before;
+      shows = λ os before. subst (Shows g.R.Fields.cell g.R.Fields.width eq (keys now) (get eq now)) (sym (append-nil os)) before;
     }
 
 pub returns-in-len1-clause-again : goal.returns-in-len1-clause-again

@@ -5,7 +5,8 @@ use Rattle.kx_include.specs.declared.expansion.Link.{Link}
 use Rattle.kx_parse.specs.declared.tree.Mode.TheVariants.{Augment}
 use Rattle.kx_merge.specs.Bodies.{faults}
 use Rattle.kx_merge.specs.Offers.{is_replace}
-use Rattle.kx_merge.proofs.Behind.{adds_passed, left_fault, link_blamed_at, read_again}
+use Rattle.kx_merge.proofs.Going.{read_again}
+use Rattle.kx_merge.proofs.Behind.{adds_passed, left_fault, link_blamed_at}
 use Rattle.kx_merge.proofs.Parting.{Parted, parted_first, parted_on, parted_past}
 use Rattle.kx_merge.proofs.gathering.merge_links.Goals as goal
 use Rattle.kx_merge.proofs.gathering.merge_links.Goals.{then-stands_since, else-stands_since+in_ok-merge_link+in_ok-add}

@@ -1,7 +1,8 @@
 use Rattle.std.proofs.Common.{◌++◌, ◌∷◌, [], sym, subst}
+use Rattle.std.proofs.lemmas.List.{append-nil, append_assoc}
 use Rattle.indexmap.specs.IndexMap.{get, keys}
 use Rattle.kx_merge.specs.Records.{Shows}
-use Rattle.kx_merge.proofs.Movings.{append-none, append-inner, last_offered, none_offered}
+use Rattle.kx_merge.proofs.Movings.{last_offered, none_offered}
 use Rattle.kx_merge.proofs.merging.add_all.Goals as goal
 
 pub records-init : goal.records-init
@@ -10,7 +11,7 @@ records-init g c = λ os front shows are.
     let width = g.R.Fields.width in
     let eq = g.R.Key.PartialEq.eq in
     let e = none_offered c.args.mode cell width front are in
-    subst (λ f. Shows cell width eq (keys c.args.records.now) (get eq c.args.records.now) (os ++ f)) (sym e) (subst (Shows cell width eq (keys c.args.records.now) (get eq c.args.records.now)) (sym (append-none os)) shows)
+    subst (λ f. Shows cell width eq (keys c.args.records.now) (get eq c.args.records.now) (os ++ f)) (sym e) (subst (Shows cell width eq (keys c.args.records.now) (get eq c.args.records.now)) (sym (append-nil os)) shows)
 
 pub records-preserved : goal.records-preserved
 records-preserved g c = λ os front shows are.
@@ -19,4 +20,4 @@ records-preserved g c = λ os front shows are.
     let eq = g.R.Key.PartialEq.eq in
     let r = last_offered c.args.mode cell width c.records.yielded (c.in-Some.key, c.in-Some.one) front are in
     let new = c.add_one.new.records in
-    subst (λ f. Shows cell width eq (keys new) (get eq new) (os ++ f)) (sym r.2) (subst (Shows cell width eq (keys new) (get eq new)) (append-inner os r.0 (r.1 ∷ [])) (c.in_ok-add_one.ensures.shows (os ++ r.0) r.1 (c.records.invariant os r.0 shows r.3) r.4))
+    subst (λ f. Shows cell width eq (keys new) (get eq new) (os ++ f)) (sym r.2) (subst (Shows cell width eq (keys new) (get eq new)) (append_assoc os r.0 (r.1 ∷ [])) (c.in_ok-add_one.ensures.shows (os ++ r.0) r.1 (c.records.invariant os r.0 shows r.3) r.4))

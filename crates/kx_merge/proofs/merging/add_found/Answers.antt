@@ -1,7 +1,8 @@
 use Rattle.std.proofs.Common.{OnOk, ◌++◌, sym, ap, ◌∙◌, subst}
+use Rattle.std.proofs.lemmas.List.{append-nil}
 use Rattle.indexmap.specs.IndexMap.{get, keys}
 use Rattle.kx_merge.specs.Records.{Shows}
-use Rattle.kx_merge.proofs.Movings.{append-none, nothing_offered, offered_moved}
+use Rattle.kx_merge.proofs.Movings.{nothing_offered, offered_moved}
 use Rattle.kx_merge.proofs.merging.add_found.Goals as goal
 
 pub returns-in-None-clause-shows : goal.returns-in-None-clause-shows
@@ -10,7 +11,7 @@ returns-in-None-clause-shows g c = λ os inner shows good.
     let width = g.R.Fields.width in
     let eq = g.R.Key.PartialEq.eq in
     let none = nothing_offered cell width eq g.R.Fields.moves inner c.args.mode c.args.key.now c.args.one.now good c.args.group (sym c.key_in.ensures ∙ c.in-None.is) in
-    subst (Shows cell width eq (keys c.args.records.now) (get eq c.args.records.now)) (sym (append-none os) ∙ ap (λ added. os ++ added) (sym none)) shows
+    subst (Shows cell width eq (keys c.args.records.now) (get eq c.args.records.now)) (sym (append-nil os) ∙ ap (λ added. os ++ added) (sym none)) shows
 
 pub returns-in-Some-clause-shows : goal.returns-in-Some-clause-shows
 returns-in-Some-clause-shows g c = λ os inner shows good.

@@ -1,14 +1,14 @@
 use Rattle.std.proofs.Common.{◌≡◌, ◌+◌, [], ◌∷◌, ◌++◌, map, take, sym, ap, subst, ◌∙◌}
-use Rattle.std.proofs.lemmas.List.{take_all, take_more}
+use Rattle.std.proofs.lemmas.List.{append-nil, append_assoc, take_all, take_more}
 use Rattle.std.specs.Map.{keys_of}
 use Rattle.indexmap.specs.IndexMap.{get, keys}
 use Rattle.kx_merge.specs.Bodies.{gather, moved}
 use Rattle.kx_merge.specs.Records.{Shows}
-use Rattle.kx_merge.proofs.Movings.{AllGood, append-none, append-inner, last_good, shown_good, map-more, moved-append, moved-none}
+use Rattle.kx_merge.proofs.Movings.{AllGood, last_good, shown_good, map-more, moved-append, moved-none}
 use Rattle.kx_merge.proofs.merging.add_included.Goals as goal
 
 pub records-init : goal.records-init
-records-init g c = (c.as_slice-entry-items.ensures.value, λ os inner shows good. subst (Shows g.R.Fields.cell g.R.Fields.width g.R.Key.PartialEq.eq (keys c.args.records.now) (get g.R.Key.PartialEq.eq c.args.records.now)) (sym (append-none os) ∙ ap (λ added. os ++ added) (sym (moved-none g.R.Fields.moves c.args.group))) shows)
+records-init g c = (c.as_slice-entry-items.ensures.value, λ os inner shows good. subst (Shows g.R.Fields.cell g.R.Fields.width g.R.Key.PartialEq.eq (keys c.args.records.now) (get g.R.Key.PartialEq.eq c.args.records.now)) (sym (append-nil os) ∙ ap (λ added. os ++ added) (sym (moved-none g.R.Fields.moves c.args.group))) shows)
 
 pub records-preserved : goal.records-preserved
 records-preserved g c =
@@ -30,7 +30,7 @@ records-preserved g c =
           let before = map (gather eq mode inner) (keys_of (take index items)) in
           let o = gather eq mode inner one.0 in
           subst (λ es. Shows cell width eq (keys new) (get eq new) (os ++ moved moves group (map (gather eq mode inner) (keys_of es)))) (sym more)
-          (subst (λ os. Shows cell width eq (keys new) (get eq new) os) (append-inner os (moved moves group before) (moved moves group (o ∷ [])) ∙ ap (λ added. os ++ added) (sym (moved-append moves group before (o ∷ [])) ∙ ap (moved moves group) (sym (map-more cell width eq inner mode (take index items) one))))
+          (subst (λ os. Shows cell width eq (keys new) (get eq new) os) (append_assoc os (moved moves group before) (moved moves group (o ∷ [])) ∙ ap (λ added. os ++ added) (sym (moved-append moves group before (o ∷ [])) ∙ ap (moved moves group) (sym (map-more cell width eq inner mode (take index items) one))))
           (c.in_ok-add_found.ensures.shows (os ++ moved moves group before) inner (y.1 os inner shows r.0) r.1)),
     )
 

@@ -4,7 +4,7 @@ use Rattle.std.specs.List.{position}
 use Rattle.std.specs.Map.{keys_of, lookup}
 use Rattle.std.specs.Option.{option_map}
 use Rattle.indexmap.specs.IndexMap.{get, keys}
-use Rattle.kx_merge.specs.Offers.{taken, widened}
+use Rattle.kx_merge.specs.Offers.{merged_value, merged_width}
 use Rattle.kx_merge.specs.Records.{TableShows, cell_in, width_in}
 use Rattle.kx_merge.proofs.Steps.{shows_more, shows_first, keys-put, keys-there, on_both}
 use Rattle.kx_ordered.specs.KeyPlaces.{place_in}
@@ -21,16 +21,16 @@ returns-in-Some-clause-shows g c = λ os o shows is.
     let there = c.push_new.new.self in
     let es = there.entries in
     let place = c.in-Some.place in
-    let made = c.absorb.new.self in
+    let made = c.merge.new.self in
     let back : (c.in-Some.given ≡ c.args.given) × (there ≡ c.args.records.now) = subst (λ found. IfSome found (λ f. (f.1 ≡ c.args.given) × (there ≡ c.args.records.now))) c.in-Some.is c.in_ok-push_new.ensures.back in
     let at : place_in (eq key) es ≡ Some place = sym (place_is (eq key) es) ∙ ap (λ m. position (eq key) (keys m)) back.1 ∙ sym c.in_ok-push_new.ensures.place ∙ ap (option_map (λ f. f.0)) c.in-Some.is in
     let old = sym c.value_mut.ensures.value ∙ slice_get-map (λ x. x.1) es place ∙ sym (found (eq key) es place at) in
-    on_both c.absorb.result c.absorb.ensures.cells c.absorb.ensures.widths (λ cells widths.
+    on_both c.merge.result c.merge.ensures.cells c.merge.ensures.widths (λ cells widths.
     shows_more cell width eq g.met.R.Key.Eq.laws g.met.R.Fields.same (keys there) _ (get eq there) _ os mode key c.args.given made o (subst (λ m. TableShows cell width eq m os) (sym back.1) shows) is
     (keys-with_value es place made ∙ sym (keys-there eq es key c.value_mut.result.now old))
     (written eq g.met.R.Key.Eq.laws key made es place at)
-    (λ at. cells at ∙ ap (λ found. taken mode (cell_in cell found at) (cell c.in-Some.given at)) old ∙ ap (λ given. taken mode (cell_in cell (lookup (eq key) es) at) (cell given at)) back.0)
-    (λ group. widths group ∙ ap (λ found. widened mode (width_in width found group) (width c.in-Some.given group)) old ∙ ap (λ given. widened mode (width_in width (lookup (eq key) es) group) (width given group)) back.0))
+    (λ at. cells at ∙ ap (λ found. merged_value mode (cell_in cell found at) (cell c.in-Some.given at)) old ∙ ap (λ given. merged_value mode (cell_in cell (lookup (eq key) es) at) (cell given at)) back.0)
+    (λ group. widths group ∙ ap (λ found. merged_width mode (width_in width found group) (width c.in-Some.given group)) old ∙ ap (λ given. merged_width mode (width_in width (lookup (eq key) es) group) (width given group)) back.0))
 
 pub returns-in-None-clause-shows : goal.returns-in-None-clause-shows
 returns-in-None-clause-shows g c = λ os o shows is.

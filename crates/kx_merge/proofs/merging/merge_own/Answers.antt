@@ -2,7 +2,7 @@ use Rattle.std.proofs.Common.{[], ◌++◌, ap, cond, ◌∙◌}
 use Rattle.std.specs.Map.{keys_of}
 use Rattle.kx_merge.specs.Offers.{is_replace}
 use Rattle.kx_merge.specs.Records.{mode_of}
-use Rattle.kx_merge.proofs.Covering.{on_ok, takes_back}
+use Rattle.kx_merge.proofs.Covering.{takes_back}
 use Rattle.kx_merge.proofs.merging.merge_own.Goals as goal
 
 pub returns-clause-back : goal.returns-clause-back
@@ -14,4 +14,4 @@ returns-clause-back g c =
     let noted =
     c.in_ok-note_replaced.ensures.noted ∙ ap (λ m. old ++ cond (is_replace m) (keys_of c.as_slice.result.now) []) c.mode_of-mode.ensures
     ∙ ap (λ rs. old ++ cond (is_replace mode) (keys_of rs) []) c.as_slice.ensures.value in
-    on_ok c.next.result (takes_back g.R.Key.PartialEq.eq mode given ((g.R.Fields.rules c.args.context.now).offers c.args.defaults c.args.place c.args.item.now) old new c.in_ok-given.ensures.records noted)
+    takes_back g.R.Key.PartialEq.eq mode given ((g.R.Fields.rules c.args.context.now).offers c.args.defaults c.args.place c.args.item.now) old new c.in_ok-given.ensures.records noted

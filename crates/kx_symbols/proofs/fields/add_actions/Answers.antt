@@ -3,7 +3,7 @@ use Rattle.kx_lex.specs.declared.fault.Fault.TheVariants.{Memory}
 use Rattle.kx_key_fields.specs.Places.{place_faults}
 use Rattle.kx_symbols.specs.KeyFaults.{actions_faults}
 use Rattle.kx_symbols.proofs.Statements.{front_blames}
-use Rattle.kx_symbols.proofs.Loops.{passed}
+use Rattle.kx_merge.proofs.Going.{passed}
 use Rattle.kx_symbols.proofs.fields.add_actions.Goals as goal
 
 pub returns-in_err-group-clause-fault : goal.returns-in_err-group-clause-fault

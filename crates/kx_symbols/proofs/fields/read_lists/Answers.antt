@@ -3,7 +3,7 @@ use Rattle.kx_lex.specs.declared.fault.Fault.TheVariants.{Memory}
 use Rattle.kx_symbols.specs.KeyFaults.{fields_faults}
 use Rattle.kx_symbols.specs.Lists.{no_lists}
 use Rattle.kx_symbols.proofs.Statements.{field_blames}
-use Rattle.kx_symbols.proofs.Loops.{passed}
+use Rattle.kx_merge.proofs.Going.{passed}
 use Rattle.kx_symbols.proofs.fields.read_lists.Goals as goal
 
 pub returns-in_err-add_field-clause-fault : goal.returns-in_err-add_field-clause-fault

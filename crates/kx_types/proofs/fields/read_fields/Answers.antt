@@ -2,7 +2,7 @@ use Rattle.std.proofs.Common.{◌∷◌}
 use Rattle.std.specs.List.{flat_map}
 use Rattle.kx_lex.specs.declared.fault.Fault.TheVariants.{Memory}
 use Rattle.kx_types.specs.TypeFields.{field_faults}
-use Rattle.kx_types.proofs.Blames.{beside, of_element, passed}
+use Rattle.kx_merge.proofs.Going.{blamed, of_element, passed}
 use Rattle.kx_types.proofs.fields.read_fields.Goals as goal
 
 pub returns-in_err-read_field-clause-fault : goal.returns-in_err-read_field-clause-fault
@@ -11,4 +11,4 @@ returns-in_err-read_field-clause-fault c =
     let all = flat_map faults c.args.fields.now in
     let e = c.in_err-read_field.field-0.0 in
     passed c.from_residual-in_err-read_field.result (Memory ∷ all) e c.from_residual-in_err-read_field.ensures.1
-    (beside Memory all e (of_element faults c.args.fields.now c.fields.field-index c.field-item.result e c.fields-test.true c.field-item.is c.in_err-read_field.ensures.fault))
+    (blamed Memory all e (of_element faults c.args.fields.now c.fields.field-index c.field-item.result e c.fields-test.true c.field-item.is c.in_err-read_field.ensures.fault))

@@ -1,4 +1,4 @@
-use Rattle.std.proofs.Common.{◌≡◌, ◌<◌, ◌+◌, ◌∷◌, [], Contains, None, drop, get_or, length, refl, subst, sym, take}
+use Rattle.std.proofs.Common.{◌≡◌, ◌<◌, ◌+◌, ◌∷◌, Contains, None, drop, get_or, length, refl, subst, sym, take}
 use Rattle.std.specs.List.{flat_map, slice_get}
 use Rattle.kx_include.specs.Shared.{body_at}
 use Rattle.kx_include.specs.declared.expansion.Link.{Link}
@@ -8,7 +8,7 @@ use Rattle.kx_virtual_mods.specs.Counted.{crossing, statements_of}
 use Rattle.kx_virtual_mods.specs.declared.counted.Tally.{Tally}
 use Rattle.kx_virtual_mods.specs.Tallies.{Adds, HasAll, bodies_of, entry_statements, links_statements, map_statements}
 use Rattle.kx_virtual_mods.proofs.Adding.{adds_err, adds_marked, adds_none, adds_statement, flat_next, going_blames, going_on, is_marked}
-use Rattle.kx_virtual_mods.proofs.Going.{read_again}
+use Rattle.kx_merge.proofs.Going.{read_again}
 use Rattle.kx_virtual_mods.proofs.Reached.{included_at, included_is}
 use Rattle.kx_virtual_mods.proofs.counted.+statements.Goals as goal
 

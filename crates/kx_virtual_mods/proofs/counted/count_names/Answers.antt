@@ -1,11 +1,11 @@
-use Rattle.std.proofs.Common.{◌≡◌, ◌<◌, ◌≤◌, ◌+◌, ◌∷◌, [], ◌∙◌, Contains, Ok, ap, drop, get_or, length, subst, sym, take}
+use Rattle.std.proofs.Common.{◌≡◌, ◌<◌, ◌≤◌, ◌+◌, ◌∷◌, ◌∙◌, Contains, Ok, ap, drop, get_or, length, subst, sym, take}
 use Rattle.std.specs.List.{flat_map}
 use Rattle.kx_lex.specs.declared.fault.Fault.TheVariants.{Memory}
 use Rattle.kx_include.specs.Shared.{expanded_body}
 use Rattle.kx_virtual_mods.specs.Counted.{crossing, names_behind, statements_of}
 use Rattle.kx_virtual_mods.specs.Tallies.{Adds, bodies_of, map_statements}
 use Rattle.kx_virtual_mods.proofs.Adding.{flat_done, flat_next, going_blames, going_on}
-use Rattle.kx_virtual_mods.proofs.Going.{passed}
+use Rattle.kx_merge.proofs.Going.{passed}
 use Rattle.kx_virtual_mods.proofs.Reached.{expansion_said}
 use Rattle.kx_virtual_mods.proofs.counted.count_names.Goals as goal
 

@@ -1,6 +1,6 @@
 use Rattle.std.proofs.Common.{ℕ, get_or, sym}
 use Rattle.kx_merge.specs.declared.single.Single.{Single}
-use Rattle.kx_virtual_mods.proofs.Going.{read_again}
+use Rattle.kx_merge.proofs.Going.{read_again}
 use Rattle.kx_virtual_mods.proofs.Offering.{next_offered, nothing_offered}
 use Rattle.kx_virtual_mods.proofs.declared.records_for.Goals as goal
 

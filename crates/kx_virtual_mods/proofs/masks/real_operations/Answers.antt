@@ -1,6 +1,6 @@
 use Rattle.std.specs.List.{flat_map}
 use Rattle.kx_virtual_mods.specs.Masks.{operation_faults, real_word_faults}
-use Rattle.kx_virtual_mods.proofs.Going.{none_blames, passed}
+use Rattle.kx_merge.proofs.Going.{none_blames, passed}
 use Rattle.kx_virtual_mods.proofs.masks.real_operations.Goals as goal
 
 pub returns-in_err-other-clause-fault : goal.returns-in_err-other-clause-fault

@@ -4,7 +4,8 @@ use Rattle.kx_include.specs.Shared.{expanded_body}
 use Rattle.kx_lex.specs.declared.fault.Fault.TheVariants.{Memory}
 use Rattle.kx_merge.specs.Bodies.{faults_of, no_moves}
 use Rattle.kx_virtual_mods.specs.Declarations.{mask_rules, modifier_bodies}
-use Rattle.kx_virtual_mods.proofs.Going.{blamed_second, passed}
+use Rattle.kx_merge.proofs.Going.{passed}
+use Rattle.kx_virtual_mods.proofs.Going.{blamed_second}
 use Rattle.kx_virtual_mods.proofs.mod_names.declared_masks.Goals as goal
 
 pub returns-in_err-compat-clause-fault : goal.returns-in_err-compat-clause-fault

@@ -1,11 +1,11 @@
-use Rattle.std.proofs.Common.{◌≡◌, ◌≤◌, ◌∷◌, [], Contains, IfErr, IfOk, List, OnOk, length, subst, sym}
+use Rattle.std.proofs.Common.{◌≡◌, ◌∷◌, [], Contains, IfErr, IfOk, List, OnOk, subst}
 use Rattle.kx_include.specs.Shared.{expanded_body}
 use Rattle.kx_lex.specs.declared.fault.Fault.{Fault}
 use Rattle.kx_lex.specs.declared.fault.Fault.TheVariants.{Memory}
-use Rattle.kx_virtual_mods.specs.Counted.{Said, Text, all_statements, count_faults, crossing, names_behind, statements_of}
+use Rattle.kx_virtual_mods.specs.Counted.{Text, all_statements, count_faults, crossing, statements_of}
 use Rattle.kx_virtual_mods.specs.Declarations.{modifier_bodies, named_in}
 use Rattle.kx_virtual_mods.proofs.Adding.{Passed, first_blamed, second_blamed, third_faults, third_names}
-use Rattle.kx_virtual_mods.proofs.Going.{passed}
+use Rattle.kx_merge.proofs.Going.{passed}
 use Rattle.kx_virtual_mods.proofs.mod_names.modifier_names.Goals as goal
 
 pub returns-in_err-types-clause-fault : goal.returns-in_err-types-clause-fault

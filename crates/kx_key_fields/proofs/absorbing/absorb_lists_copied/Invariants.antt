@@ -1,5 +1,0 @@
-use Rattle.kx_key_fields.proofs.TakenUp.{ListsBehind}
-use Rattle.kx_key_fields.proofs.absorbing.absorb_lists_copied.Given as goal
-
-abbrev pub invariant-lists : goal.invariant-lists
-invariant-lists t l = ListsBehind l.mode l.from l.initial.lists.items l.later l.lists.items l.later l.place
