@@ -4,6 +4,7 @@ ghost use Rattle.std.specs.List.{flat_map};
 ghost use Rattle.std.specs.Result.{result_ok};
 ghost use Rattle.kx_actions.specs.Arguments.{action_faults, action_of, action_with, argument_faults, argument_given};
 ghost use Rattle.kx_actions.specs.Settings.{last_settings};
+ghost use Rattle.kx_merge.specs.Reports.{Reports};
 
 use crate::action::{ActionGroup, ActionMods, Affect, KeyAction};
 use crate::defaults::ActionDefaults;
@@ -24,9 +25,7 @@ fn read_argument(
 ) -> Result<Given, Fault>
     ensures value { IfOk result (λ given.
         Some given ≡ argument_given names.now.names kind placed.now) }
-    ensures faultless { OnOk result (argument_faults file names.now.names kind placed.now ≡ []) }
-    ensures fault { IfErr result (λ e.
-        Contains (argument_faults file names.now.names kind placed.now) e) }
+    ensures faults { Reports result (argument_faults file names.now.names kind placed.now) }
 {
     match &placed.argument {
         Argument::Off(word) => {
@@ -57,10 +56,8 @@ fn read_arguments(
 ) -> Result<Settings, Fault>
     ensures value { IfOk result (λ s.
         s ≡ last_settings (argument_given names.now.names kind) defaults arguments.now) }
-    ensures faultless { OnOk result
-        (flat_map (argument_faults file names.now.names kind) arguments.now ≡ []) }
-    ensures fault { IfErr result (λ e.
-        Contains (flat_map (argument_faults file names.now.names kind) arguments.now) e) }
+    ensures faults { Reports result
+        (flat_map (argument_faults file names.now.names kind) arguments.now) }
 {
     let mut settings = defaults;
     'arguments: for placed in arguments {
@@ -118,8 +115,7 @@ pub fn read(
     defaults: &ActionDefaults,
 ) -> Result<KeyAction, Fault>
     ensures value { IfOk result (λ a. a ≡ action_of names.now.names defaults.now call.now) }
-    ensures faultless { OnOk result (action_faults file names.now.names call.now ≡ []) }
-    ensures fault { IfErr result (λ e. Contains (action_faults file names.now.names call.now) e) }
+    ensures faults { Reports result (action_faults file names.now.names call.now) }
 {
     match kind_named(call.word.bytes.as_slice()) {
         None => Ok(KeyAction::Other),

@@ -3,6 +3,7 @@ ghost use Rattle.std.specs.Prelude.{◌≡◌, [], Contains, IfErr, IfOk, OnOk, 
 ghost use Rattle.kx_actions.specs.Defaults.{default_for, kind_of, settings_for, with_settings};
 ghost use Rattle.kx_actions.specs.Values.{member_faults, member_given};
 ghost use Rattle.std.specs.Result.{result_ok};
+ghost use Rattle.kx_merge.specs.Reports.{Reports};
 
 use crate::kinds::{ActionKind, kind_named};
 use crate::settings::{Given, Settings};
@@ -39,12 +40,9 @@ fn read_member(
 ) -> Result<Given, Fault>
     ensures value { IfOk result (λ given. Some given
         ≡ member_given names.now.names kind member.now field.now.place.index field.now.setting) }
-    ensures faultless { OnOk result
+    ensures faults { Reports result
         (member_faults file names.now.names kind member.now field.now.place.index field.now.span
-        field.now.setting ≡ []) }
-    ensures fault { IfErr result (λ e.
-        Contains (member_faults file names.now.names kind member.now field.now.place.index
-        field.now.span field.now.setting) e) }
+        field.now.setting) }
 {
     let known = known_field(file, kind, member, &field.place.index)?;
     match &field.setting {
@@ -61,6 +59,7 @@ impl ActionDefaults {
     ghost use Rattle.kx_parse.specs.declared.tree.Field.{Field as FieldValue};
     ghost use Rattle.kx_actions.specs.Defaults.{default_faults, defaulted, defaults_behind, next_defaults, no_defaults, settings_for, with_settings};
     ghost use Rattle.kx_actions.specs.declared.kinds.ActionKind.{ActionKind as Kind};
+    ghost use Rattle.kx_merge.specs.Reports.{Reports};
 
     /// No defaults: those at the start of a section.
     pub fn none() -> ActionDefaults
@@ -119,9 +118,7 @@ impl ActionDefaults {
         ensures last { (statements : List FieldValue) (kind : Kind)
             → settings_for (defaults_behind names.now.names statements) kind
             ≡ defaulted names.now.names statements kind }
-        ensures faultless { OnOk result (default_faults file names.now.names field.now ≡ []) }
-        ensures fault { IfErr result (λ e.
-            Contains (default_faults file names.now.names field.now) e) }
+        ensures faults { Reports result (default_faults file names.now.names field.now) }
     {
         let unknown = Fault::UnknownField(At {
             file,

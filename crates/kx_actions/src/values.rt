@@ -7,6 +7,7 @@ ghost use Rattle.kx_lex.specs.declared.fault.Fault.TheVariants.{BadValue, Unknow
 ghost use Rattle.kx_actions.specs.Groups.{change_of, term_written, written};
 ghost use Rattle.kx_merge.specs.Words.{among, meaning_among, truth_words};
 ghost use Rattle.kx_actions.specs.Values.{affect_words, bad_unless, flag_given, is_modmap, known_field, mods_faults, mods_of, value_faults, value_given, written_faults};
+ghost use Rattle.kx_merge.specs.Reports.{Reports};
 
 use crate::action::{ActionGroup, ActionMods, Affect};
 use crate::groups::{absolute, relative};
@@ -44,8 +45,7 @@ fn is_modmap(expression: &Expression) -> bool
 
 fn mods_of(names: &ModNames, file: u32, value: &Expression) -> Result<ActionMods, Fault>
     ensures value { IfOk result (λ mods. mods ≡ mods_of names.now.names value.now) }
-    ensures faultless { OnOk result (mods_faults file names.now.names value.now ≡ []) }
-    ensures fault { IfErr result (λ e. Contains (mods_faults file names.now.names value.now) e) }
+    ensures faults { Reports result (mods_faults file names.now.names value.now) }
 {
     if is_modmap(value) {
         return Ok(ActionMods::OfKey);
@@ -58,11 +58,8 @@ fn mods_of(names: &ModNames, file: u32, value: &Expression) -> Result<ActionMods
 
 fn truth_of(file: u32, value: &Expression) -> Result<bool, Fault>
     ensures value { result_ok result ≡ meaning_among truth_words value.now }
-    ensures faultless { OnOk result
-        (bad_unless file (is_some (meaning_among truth_words value.now)) value.now.span ≡ []) }
-    ensures fault { IfErr result (λ e.
-        Contains (bad_unless file (is_some (meaning_among truth_words value.now)) value.now.span)
-        e) }
+    ensures faults { Reports result
+        (bad_unless file (is_some (meaning_among truth_words value.now)) value.now.span) }
 {
     let word = lone_word(value).ok_or(bad_value(file, value.span))?;
     truth_named(word.bytes.as_slice()).ok_or(bad_value(file, value.span))
@@ -70,11 +67,8 @@ fn truth_of(file: u32, value: &Expression) -> Result<bool, Fault>
 
 fn affect_of(file: u32, value: &Expression) -> Result<Affect, Fault>
     ensures value { result_ok result ≡ meaning_among affect_words value.now }
-    ensures faultless { OnOk result
-        (bad_unless file (is_some (meaning_among affect_words value.now)) value.now.span ≡ []) }
-    ensures fault { IfErr result (λ e.
-        Contains (bad_unless file (is_some (meaning_among affect_words value.now)) value.now.span)
-        e) }
+    ensures faults { Reports result
+        (bad_unless file (is_some (meaning_among affect_words value.now)) value.now.span) }
 {
     let word = lone_word(value).ok_or(bad_value(file, value.span))?;
     affect_named(word.bytes.as_slice()).ok_or(bad_value(file, value.span))
@@ -107,9 +101,7 @@ fn change_written(value: &Expression) -> Option<Option<ActionGroup>>
 
 fn read_action_group(file: u32, value: &Expression) -> Result<ActionGroup, Fault>
     ensures value { result_ok result ≡ option_and_then change_of (written value.now) }
-    ensures faultless { OnOk result (written_faults file value.now.span (written value.now) ≡ []) }
-    ensures fault { IfErr result (λ e.
-        Contains (written_faults file value.now.span (written value.now)) e) }
+    ensures faults { Reports result (written_faults file value.now.span (written value.now)) }
 {
     match change_written(value) {
         Some(Some(group)) => Ok(group),
@@ -129,9 +121,7 @@ pub(crate) fn value_given(
     value: &Expression,
 ) -> Result<Given, Fault>
     ensures value { IfOk result (λ given. Some given ≡ value_given names.now.names field value.now) }
-    ensures faultless { OnOk result (value_faults file names.now.names field value.now ≡ []) }
-    ensures fault { IfErr result (λ e.
-        Contains (value_faults file names.now.names field value.now) e) }
+    ensures faults { Reports result (value_faults file names.now.names field value.now) }
 {
     match field {
         ActionField::Modifiers => Ok(Given::Modifiers(mods_of(names, file, value)?)),
@@ -150,9 +140,7 @@ pub(crate) fn flag_given(
     whole: Span,
 ) -> Result<Given, Fault>
     ensures value { result_ok result ≡ flag_given field on }
-    ensures faultless { OnOk result (bad_unless file (is_some (flag_given field on)) whole ≡ []) }
-    ensures fault { IfErr result (λ e.
-        Contains (bad_unless file (is_some (flag_given field on)) whole) e) }
+    ensures faults { Reports result (bad_unless file (is_some (flag_given field on)) whole) }
 {
     match field {
         ActionField::ClearLocks => Ok(Given::ClearLocks(on)),

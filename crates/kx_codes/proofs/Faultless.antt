@@ -11,7 +11,8 @@ use Rattle.kx_parse.specs.declared.tree.Item.{Item}
 use Rattle.kx_parse.specs.declared.tree.Item.TheVariants.{Include, Statement}
 use Rattle.kx_parse.specs.declared.tree.Statement.{Statement as Said}
 use Rattle.kx_parse.specs.declared.tree.Statement.TheVariants as said
-use Rattle.kx_codes.proofs.Behind.{err_passed}
+use Rattle.kx_merge.specs.Reports.{ReportsOrRunsOut}
+use Rattle.kx_merge.proofs.Going.{reported_or_out}
 use Rattle.kx_codes.specs.Aliases.{alias_in, alias_rules, item_name_faults, said_name_faults}
 use Rattle.kx_codes.specs.CodeFaults.{faults_of, own_faults, said_faults}
 
@@ -41,5 +42,5 @@ aliases_faultless (Own place item rest) none = none-both (item_name_faults place
 aliases_faultless (Inc mode group body rest) none = none-both (faults bytes_eq alias_rules no_moves tt body) (faults bytes_eq alias_rules no_moves tt rest) (aliases_faultless body (none-left (faults_of body) (faults_of rest) none)) (aliases_faultless rest (none-right (faults_of body) (faults_of rest) none))
 
 -- what aliases are refused for is lack of memory there
-pub refused : {X : Type 0} (r : Result X Fault) (body : Body) (e : Fault) → IsErrAnd r (λ y. y ≡ e) → faults_of body ≡ [] → Contains (Memory ∷ faults bytes_eq alias_rules no_moves tt body) e → IfErr r (λ y. Contains (Memory ∷ faults_of body) y)
-refused r body e is none has = err_passed r (λ y. Contains (Memory ∷ faults_of body) y) e is (subst (λ fs. Contains (Memory ∷ fs) e) (aliases_faultless body none ∙ sym none) has)
+pub refused : {X : Type 0} (r : Result X Fault) (body : Body) (e : Fault) → IsErrAnd r (λ y. y ≡ e) → faults_of body ≡ [] → Contains (Memory ∷ faults bytes_eq alias_rules no_moves tt body) e → ReportsOrRunsOut r (faults_of body)
+refused r body e is none has = reported_or_out r (faults_of body) e is (subst (λ fs. Contains (Memory ∷ fs) e) (aliases_faultless body none ∙ sym none) has)

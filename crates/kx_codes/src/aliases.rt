@@ -9,6 +9,7 @@ ghost use Rattle.kx_merge.specs.Records.{AreOffered, mode_of};
 ghost use Rattle.kx_merge.specs.Single.{single_cell, single_width};
 ghost use Rattle.kx_parse.specs.declared.tree.Mode.{Mode as ModeValue};
 ghost use Rattle.kx_codes.specs.Aliases.{alias_in, alias_offer, item_name_faults, item_offers};
+ghost use Rattle.kx_merge.specs.Reports.{ReportsOrRunsOut};
 
 use crate::checks::check_name;
 use crate::name::AliasTarget;
@@ -53,8 +54,7 @@ fn read_item(
 ) -> Result<Vec<(ShortName, Single<AliasTarget>)>, Fault>
     ensures records { IfOk result (λ records.
         AreOffered (mode_of item.now) single_cell single_width records.items (item_offers item.now)) }
-    ensures faultless { OnOk result (item_name_faults file item.now ≡ []) }
-    ensures fault { IfErr result (λ e. Contains (Memory ∷ item_name_faults file item.now) e) }
+    ensures faults { ReportsOrRunsOut result (item_name_faults file item.now) }
 {
     match item {
         Item::Include { .. } => Ok(none_given(alloc)),

@@ -3,6 +3,7 @@ ghost use Rattle.kx_lex.specs.declared.fault.Fault.TheVariants.{Memory};
 ghost use Rattle.kx_codes.specs.CodeFaults.{code_faults, is_limit};
 ghost use Rattle.kx_merge.specs.Faults.{name_faults};
 ghost use Rattle.kx_basics.specs.KeyNames.{IsKeyName};
+ghost use Rattle.kx_merge.specs.Reports.{ReportsOrRunsOut};
 
 use kx_basics::{GREATEST_CODE, MOST_NAME_BYTES};
 use kx_lex::{At, Fault, Span};
@@ -12,8 +13,7 @@ use kx_parse::{FieldPlace, KeyName, Number};
 pub(crate) fn check_name(file: u32, whole: Span, name: &KeyName) -> Result<&[u8], Fault>
     ensures value { IfOk result (λ bytes. bytes.now ≡ name.now.bytes) }
     ensures valid { IfOk result (λ bytes. IsKeyName bytes.now) }
-    ensures faultless { OnOk result (name_faults file whole name.now ≡ []) }
-    ensures fault { IfErr result (λ e. Contains (Memory ∷ name_faults file whole name.now) e) }
+    ensures faults { ReportsOrRunsOut result (name_faults file whole name.now) }
 {
     let bytes = name.as_slice();
     if bytes.len() > MOST_NAME_BYTES {
@@ -24,8 +24,7 @@ pub(crate) fn check_name(file: u32, whole: Span, name: &KeyName) -> Result<&[u8]
 
 pub(crate) fn check_code(file: u32, code: Number) -> Result<u16, Fault>
     ensures value { IfOk result (λ c. c ≡ code.value) }
-    ensures faultless { OnOk result (code_faults file code ≡ []) }
-    ensures fault { IfErr result (λ e. Contains (Memory ∷ code_faults file code) e) }
+    ensures faults { ReportsOrRunsOut result (code_faults file code) }
 {
     if code.value > u32::from(GREATEST_CODE) {
         return Err(Fault::CodeRange(At {

@@ -3,6 +3,7 @@ ghost use Rattle.kx_include.specs.Shared.{expanded_body};
 ghost use Rattle.kx_lex.specs.declared.fault.Fault.TheVariants.{Memory};
 ghost use Rattle.kx_codes.specs.CodeFaults.{faults_of};
 ghost use Rattle.kx_codes.specs.Codes.{CodesShow, name_of, paired};
+ghost use Rattle.kx_merge.specs.Reports.{ReportsOrRunsOut};
 
 use crate::name::AliasTarget;
 use crate::named::NamedPairs;
@@ -23,9 +24,7 @@ pub fn codes<'l>(alloc: Global, expansion: &Expansion<'l>) -> Result<Codes<'l>, 
     ensures shows { IfOk result (λ c. CodesShow c (expanded_body expansion.now)) }
     ensures joined { IfOk result (λ c. (code : ℕ) (name : List ℕ)
         → (name_of c code ≡ Some name) ↔ (paired c name ≡ Some code)) }
-    ensures faultless { OnOk result (faults_of (expanded_body expansion.now) ≡ []) }
-    ensures fault { IfErr result (λ e.
-        Contains (Memory ∷ faults_of (expanded_body expansion.now)) e) }
+    ensures faults { ReportsOrRunsOut result (faults_of (expanded_body expansion.now)) }
 {
     let mut names = Names::new(alloc);
     let gathered = gather(alloc, &mut names, expansion)?;

@@ -3,6 +3,7 @@ ghost use Rattle.kx_lex.specs.declared.fault.Fault.TheVariants.{Memory};
 ghost use Rattle.kx_codes.specs.CodeFaults.{own_faults, said_faults};
 ghost use Rattle.kx_codes.specs.Numbers.{Grows, IsOnce, StandsIn};
 ghost use Rattle.kx_codes.specs.Pairs.{Pair, own_pairs, said_pairs};
+ghost use Rattle.kx_merge.specs.Reports.{ReportsOrRunsOut};
 
 use crate::checks::{check_code, check_name, is_limit};
 use crate::numbers::Names;
@@ -21,8 +22,7 @@ pub(crate) fn take_item<'l>(
     ensures took { OnOk result ((ps : List Pair) → StandsIn names.old pairs.old ps
         → StandsIn names.new pairs.new (own_pairs item.now ps)) }
     ensures grows { IsOnce names.old → Grows names.old names.new }
-    ensures faultless { OnOk result (own_faults place.file item.now ≡ []) }
-    ensures fault { IfErr result (λ e. Contains (Memory ∷ own_faults place.file item.now) e) }
+    ensures faults { ReportsOrRunsOut result (own_faults place.file item.now) }
 {
     match item {
         Item::Statement {
@@ -48,9 +48,7 @@ fn take_said<'l>(
     ensures took { OnOk result ((ps : List Pair) → StandsIn names.old pairs.old ps
         → StandsIn names.new pairs.new (said_pairs mode statement.now ps)) }
     ensures grows { IsOnce names.old → Grows names.old names.new }
-    ensures faultless { OnOk result (said_faults file statement.now first whole ≡ []) }
-    ensures fault { IfErr result (λ e.
-        Contains (Memory ∷ said_faults file statement.now first whole) e) }
+    ensures faults { ReportsOrRunsOut result (said_faults file statement.now first whole) }
 {
     match statement {
         Statement::Keycode { name, code } => {

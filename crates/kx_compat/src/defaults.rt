@@ -3,6 +3,7 @@ ghost use Rattle.std.specs.Prelude.{◌≡◌, [], Contains, IfErr, IfOk, OnOk, 
 ghost use Rattle.std.specs.Option.{option_map};
 ghost use Rattle.kx_compat.specs.Sections.{alone_faults, is_indicator, is_interpret, is_other, lone_faults, member_faults, next_said};
 ghost use Rattle.kx_symbols.specs.Keys.{field_in};
+ghost use Rattle.kx_merge.specs.Reports.{Reports};
 
 use crate::fields::read_field;
 use crate::values::FieldValues;
@@ -59,6 +60,7 @@ fn is_indicator(word: &[u8]) -> bool
 impl CompatDefaults {
     ghost use Rattle.std.specs.Prelude.{◌≡◌};
     ghost use Rattle.kx_compat.specs.Sections.{no_defaults};
+    ghost use Rattle.kx_merge.specs.Reports.{Reports};
 
     /// Those at the start of a section.
     pub(crate) fn none() -> CompatDefaults
@@ -80,10 +82,8 @@ impl CompatDefaults {
     ) -> Result<CompatDefaults, Fault>
         requires { is_interpret field.now.place.word.bytes ≡ true }
         ensures next { IfOk result (λ d. d ≡ next_said names.now.names self (Some field.now)) }
-        ensures faultless { OnOk result
-            (member_faults file names.now.names field.now field.now.place.member ≡ []) }
-        ensures fault { IfErr result (λ e.
-            Contains (member_faults file names.now.names field.now field.now.place.member) e) }
+        ensures faults { Reports result
+            (member_faults file names.now.names field.now field.now.place.member) }
     {
         let Some(member) = &field.place.member else {
             return Err(unknown_field(file, &field.place.word));
@@ -104,9 +104,7 @@ impl CompatDefaults {
         notes: &mut Notes,
     ) -> Result<CompatDefaults, Fault>
         ensures next { IfOk result (λ d. d ≡ next_said names.now.names self (Some field.now)) }
-        ensures faultless { OnOk result (lone_faults file names.now.names field.now ≡ []) }
-        ensures fault { IfErr result (λ e.
-            Contains (lone_faults file names.now.names field.now) e) }
+        ensures faults { Reports result (lone_faults file names.now.names field.now) }
     {
         let word = field.place.word.bytes.as_slice();
         if is_interpret(word) {
@@ -136,11 +134,8 @@ impl CompatDefaults {
     ) -> Result<CompatDefaults, Fault>
         ensures next { IfOk result (λ d.
             d ≡ next_said names.now.names self (field_in statement.now)) }
-        ensures faultless { OnOk result
-            (alone_faults file names.now.names statement.now word (field_in statement.now) ≡ []) }
-        ensures fault { IfErr result (λ e.
-            Contains (alone_faults file names.now.names statement.now word
-            (field_in statement.now)) e) }
+        ensures faults { Reports result
+            (alone_faults file names.now.names statement.now word (field_in statement.now)) }
     {
         match field_in(statement) {
             Some(field) => self.behind(names, file, field, notes),

@@ -4,6 +4,7 @@ ghost use Rattle.kx_actions.specs.Arguments.{action_faults, action_of};
 ghost use Rattle.kx_merge.specs.Faults.{value_faults};
 ghost use Rattle.kx_merge.specs.Words.{among, meaning_among};
 ghost use Rattle.kx_compat.specs.FieldWords.{action_value, call_faults, field_faults, field_named, field_value, field_words, indexed, level_words, levels_faults, levels_value, modifier_faults, modifier_of, modifier_value, setting_faults, setting_value, word_faults, word_modifier};
+ghost use Rattle.kx_merge.specs.Reports.{Reports};
 
 use crate::action::GivenAction;
 use crate::modifier::GivenModifier;
@@ -96,8 +97,7 @@ fn read_action(
 ) -> Result<KeyAction, Fault>
     ensures value { IfOk result (λ action.
         action ≡ action_of names.now.names actions.now call.now) }
-    ensures faultless { OnOk result (action_faults file names.now.names call.now ≡ []) }
-    ensures fault { IfErr result (λ e. Contains (action_faults file names.now.names call.now) e) }
+    ensures faults { Reports result (action_faults file names.now.names call.now) }
 {
     if !is_action_word(call.word.bytes.as_slice()) {
         notes.count(Note::IdleAction);
@@ -113,9 +113,7 @@ fn read_word_modifier(
     word: &Name,
 ) -> Result<GivenModifier, Fault>
     ensures value { IfOk result (λ number. Some number ≡ word_modifier names.now.names word.now) }
-    ensures faultless { OnOk result (word_faults file names.now.names whole (Some word.now) ≡ []) }
-    ensures fault { IfErr result (λ e.
-        Contains (word_faults file names.now.names whole (Some word.now)) e) }
+    ensures faults { Reports result (word_faults file names.now.names whole (Some word.now)) }
 {
     let bytes = word.bytes.as_slice();
     if real_mask(bytes).is_some() {
@@ -138,9 +136,7 @@ fn read_modifier(
 ) -> Result<GivenModifier, Fault>
     ensures value { IfOk result (λ number.
         Some number ≡ modifier_of names.now.names expression.now) }
-    ensures faultless { OnOk result (modifier_faults file names.now.names expression.now ≡ []) }
-    ensures fault { IfErr result (λ e.
-        Contains (modifier_faults file names.now.names expression.now) e) }
+    ensures faults { Reports result (modifier_faults file names.now.names expression.now) }
 {
     match lone_word(expression) {
         Some(word) => read_word_modifier(names, file, expression.span, word),
@@ -151,8 +147,7 @@ fn read_modifier(
 /// Whether modifiers are seen at the first level alone.
 fn read_levels(file: u32, expression: &Expression) -> Result<bool, Fault>
     ensures value { IfOk result (λ only. Some only ≡ meaning_among level_words expression.now) }
-    ensures faultless { OnOk result (levels_faults file expression.now ≡ []) }
-    ensures fault { IfErr result (λ e. Contains (levels_faults file expression.now) e) }
+    ensures faults { Reports result (levels_faults file expression.now) }
 {
     let word = lone_word(expression).ok_or(bad_value(file, expression.span))?;
     level_named(word.bytes.as_slice()).ok_or(bad_value(file, expression.span))
@@ -169,10 +164,8 @@ fn action_setting(
 ) -> Result<FieldValue, Fault>
     ensures value { IfOk result (λ value.
         Some value ≡ action_value names.now.names actions.now setting.now) }
-    ensures faultless { OnOk result
-        (call_faults file (action_faults file names.now.names) whole setting.now ≡ []) }
-    ensures fault { IfErr result (λ e.
-        Contains (call_faults file (action_faults file names.now.names) whole setting.now) e) }
+    ensures faults { Reports result
+        (call_faults file (action_faults file names.now.names) whole setting.now) }
 {
     match setting {
         Setting::To(Value::Call(call)) => {
@@ -193,10 +186,8 @@ fn modifier_setting(
     setting: &Setting,
 ) -> Result<FieldValue, Fault>
     ensures value { IfOk result (λ value. Some value ≡ modifier_value names.now.names setting.now) }
-    ensures faultless { OnOk result
-        (value_faults file (modifier_faults file names.now.names) whole setting.now ≡ []) }
-    ensures fault { IfErr result (λ e.
-        Contains (value_faults file (modifier_faults file names.now.names) whole setting.now) e) }
+    ensures faults { Reports result
+        (value_faults file (modifier_faults file names.now.names) whole setting.now) }
 {
     let expression = expression_of(file, whole, setting)?;
     let modifier = read_modifier(names, file, expression)?;
@@ -206,10 +197,7 @@ fn modifier_setting(
 /// Whether a field is set to the first level alone.
 fn levels_setting(file: u32, whole: Span, setting: &Setting) -> Result<FieldValue, Fault>
     ensures value { IfOk result (λ value. Some value ≡ levels_value setting.now) }
-    ensures faultless { OnOk result
-        (value_faults file (levels_faults file) whole setting.now ≡ []) }
-    ensures fault { IfErr result (λ e.
-        Contains (value_faults file (levels_faults file) whole setting.now) e) }
+    ensures faults { Reports result (value_faults file (levels_faults file) whole setting.now) }
 {
     let expression = expression_of(file, whole, setting)?;
     let only = read_levels(file, expression)?;
@@ -228,10 +216,7 @@ fn known_setting(
 ) -> Result<Option<FieldValue>, Fault>
     ensures value { IfOk result (λ value.
         value ≡ setting_value names.now.names actions.now setting.now known) }
-    ensures faultless { OnOk result
-        (setting_faults file names.now.names whole setting.now known ≡ []) }
-    ensures fault { IfErr result (λ e.
-        Contains (setting_faults file names.now.names whole setting.now known) e) }
+    ensures faults { Reports result (setting_faults file names.now.names whole setting.now known) }
 {
     match known {
         InterpretField::Action => Ok(Some(action_setting(
@@ -255,9 +240,7 @@ pub(crate) fn read_field(
 ) -> Result<Option<FieldValue>, Fault>
     ensures value { IfOk result (λ value.
         value ≡ field_value names.now.names actions.now word.now field.now) }
-    ensures faultless { OnOk result (field_faults file names.now.names word.now field.now ≡ []) }
-    ensures fault { IfErr result (λ e.
-        Contains (field_faults file names.now.names word.now field.now) e) }
+    ensures faults { Reports result (field_faults file names.now.names word.now field.now) }
 {
     match field_named(word.bytes.as_slice(), &field.place.index) {
         None => Err(unknown_field(file, word)),

@@ -9,6 +9,7 @@ ghost use Rattle.kx_compat.specs.Meaning.{compat_faults, compat_rules, interpret
 ghost use Rattle.kx_compat.specs.Sections.{DefaultsAreLast};
 ghost use Rattle.kx_compat.specs.SameMatch.{same_match};
 ghost use Rattle.kx_compat.specs.Shown.{interpretation_recorded};
+ghost use Rattle.kx_merge.specs.Reports.{ReportsOrRunsOut};
 
 use crate::index::Interpretations;
 use crate::interpretation::Interpretation;
@@ -87,11 +88,8 @@ pub fn interpretations(
         found.0 ≡ interpretations_of table.now names.now.names (expanded_body expansion.now)) }
     ensures defaults { DefaultsAreLast names.now.names }
     ensures once { OffersOnce same_match (compat_rules table.now names.now.names) }
-    ensures faultless { OnOk result
-        (compat_faults table.now names.now.names (expanded_body expansion.now) ≡ []) }
-    ensures fault { IfErr result (λ e.
-        Contains (Memory ∷ compat_faults table.now names.now.names (expanded_body expansion.now))
-        e) }
+    ensures faults { ReportsOrRunsOut result
+        (compat_faults table.now names.now.names (expanded_body expansion.now)) }
 {
     let context = Context { table, names };
     let merged = merge::<Context, FieldValues>(alloc, &context, expansion)?;

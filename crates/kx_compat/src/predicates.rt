@@ -7,6 +7,7 @@ ghost use Rattle.kx_virtual_mods.specs.Masks.{mask_set};
 ghost use Rattle.kx_mods.specs.Mods.{mask};
 ghost use Rattle.kx_symbols.specs.KeyFaults.{symbol_faults};
 ghost use Rattle.kx_compat.specs.Matches.{call_wants, condition_faults, condition_words, is_any, is_any_word, keysym_among, mask_predicate_faults, mask_wants, only_mask, only_mask_faults, plain_mask, predicate_faults, predicate_wants, wanted_keysym};
+ghost use Rattle.kx_merge.specs.Reports.{Reports, ReportsOrRunsOut};
 
 use crate::interpretation_match::{Condition, WantedKeysym};
 use ks_core::{NameTable, Notes};
@@ -53,8 +54,7 @@ pub(crate) fn read_keysym(
     notes: &mut Notes,
 ) -> Result<Option<WantedKeysym>, Fault>
     ensures value { IfOk result (λ wanted. wanted ≡ wanted_keysym table.now symbol.now) }
-    ensures faultless { OnOk result (symbol_faults file symbol.now ≡ []) }
-    ensures fault { IfErr result (λ e. Contains (Memory ∷ symbol_faults file symbol.now) e) }
+    ensures faults { ReportsOrRunsOut result (symbol_faults file symbol.now) }
 {
     let keysym = symbol_keysym(table, file, symbol, notes)?;
     Ok(keysym_among(symbol, keysym))
@@ -102,11 +102,8 @@ fn only_mask(arguments: &[PlacedArgument]) -> Option<&Expression>
 fn read_only_mask(names: &ModNames, file: u32, call: &Call) -> Result<Mods, Fault>
     ensures value { IfOk result (λ mods.
         Some (mask mods) ≡ option_map (mask_set []) (only_mask call.now.arguments)) }
-    ensures faultless { OnOk result
-        (only_mask_faults file names.now.names call.now (only_mask call.now.arguments) ≡ []) }
-    ensures fault { IfErr result (λ e.
-        Contains (only_mask_faults file names.now.names call.now (only_mask call.now.arguments))
-        e) }
+    ensures faults { Reports result
+        (only_mask_faults file names.now.names call.now (only_mask call.now.arguments)) }
 {
     match only_mask(call.arguments.as_slice()) {
         Some(expression) => names.real_mask_of(file, expression),
@@ -117,12 +114,9 @@ fn read_only_mask(names: &ModNames, file: u32, call: &Call) -> Result<Mods, Faul
 /// The condition and the modifiers of a call.
 fn read_call(names: &ModNames, file: u32, call: &Call) -> Result<(Condition, Mods), Fault>
     ensures value { IfOk result (λ wanted. Some (wanted.0, mask wanted.1) ≡ call_wants call.now) }
-    ensures faultless { OnOk result
-        (condition_faults file names.now.names call.now (among condition_words call.now.word.bytes)
-        ≡ []) }
-    ensures fault { IfErr result (λ e.
-        Contains (condition_faults file names.now.names call.now
-        (among condition_words call.now.word.bytes)) e) }
+    ensures faults { Reports result
+        (condition_faults file names.now.names call.now
+        (among condition_words call.now.word.bytes)) }
 {
     match condition_named(call.word.bytes.as_slice()) {
         Some(condition) => Ok((condition, read_only_mask(names, file, call)?)),
@@ -146,10 +140,7 @@ fn read_mask(
     expression: &Expression,
 ) -> Result<(Condition, Mods), Fault>
     ensures value { IfOk result (λ wanted. (wanted.0, mask wanted.1) ≡ mask_wants expression.now) }
-    ensures faultless { OnOk result
-        (mask_predicate_faults file names.now.names expression.now ≡ []) }
-    ensures fault { IfErr result (λ e.
-        Contains (mask_predicate_faults file names.now.names expression.now) e) }
+    ensures faults { Reports result (mask_predicate_faults file names.now.names expression.now) }
 {
     if is_any_word(expression) {
         return Ok((Condition::AnyOf, Mods::from_mask(255)));
@@ -165,9 +156,7 @@ pub(crate) fn read_predicate(
 ) -> Result<(Condition, Mods), Fault>
     ensures value { IfOk result (λ wanted.
         Some (wanted.0, mask wanted.1) ≡ predicate_wants predicate.now) }
-    ensures faultless { OnOk result (predicate_faults file names.now.names predicate.now ≡ []) }
-    ensures fault { IfErr result (λ e.
-        Contains (predicate_faults file names.now.names predicate.now) e) }
+    ensures faults { Reports result (predicate_faults file names.now.names predicate.now) }
 {
     match predicate {
         None => Ok((Condition::AnyOfOrNone, Mods::from_mask(255))),

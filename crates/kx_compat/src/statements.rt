@@ -12,6 +12,7 @@ ghost use Rattle.kx_symbols.specs.Keys.{field_in};
 ghost use Rattle.kx_compat.specs.Matches.{predicate_faults, match_of, match_with};
 ghost use Rattle.kx_compat.specs.Giving.{values_cell, values_width};
 ghost use Rattle.kx_mods.specs.Mods.{mask};
+ghost use Rattle.kx_merge.specs.Reports.{Reports, ReportsOrRunsOut};
 
 use crate::defaults::CompatDefaults;
 use crate::fields::read_field;
@@ -71,12 +72,8 @@ fn read_match(
 ) -> Result<Option<InterpretationMatch>, Fault>
     ensures value { IfOk result (λ interpretation_match.
         interpretation_match ≡ match_of table.now symbol.now predicate.now) }
-    ensures faultless { OnOk result
-        (symbol_faults file symbol.now ++ predicate_faults file names.now.names predicate.now
-        ≡ []) }
-    ensures fault { IfErr result (λ e.
-        Contains (Memory ∷ (symbol_faults file symbol.now
-        ++ predicate_faults file names.now.names predicate.now)) e) }
+    ensures faults { ReportsOrRunsOut result
+        (symbol_faults file symbol.now ++ predicate_faults file names.now.names predicate.now) }
 {
     let keysym = read_keysym(table, file, symbol, notes)?;
     let (condition, mods) = read_predicate(names, file, predicate)?;
@@ -93,8 +90,7 @@ fn read_own(
 ) -> Result<Option<FieldValue>, Fault>
     ensures value { IfOk result (λ value.
         value ≡ own_value names.now.names defaults.now field.now) }
-    ensures faultless { OnOk result (own_faults file names.now.names field.now ≡ []) }
-    ensures fault { IfErr result (λ e. Contains (own_faults file names.now.names field.now) e) }
+    ensures faults { Reports result (own_faults file names.now.names field.now) }
 {
     let word = &field.place.word;
     if field.place.member.is_some() {
@@ -113,9 +109,7 @@ fn read_values(
 ) -> Result<FieldValues, Fault>
     ensures value { IfOk result (λ values.
         values ≡ values_of names.now.names defaults.now fields.now) }
-    ensures faultless { OnOk result (flat_map (own_faults file names.now.names) fields.now ≡ []) }
-    ensures fault { IfErr result (λ e.
-        Contains (flat_map (own_faults file names.now.names) fields.now) e) }
+    ensures faults { Reports result (flat_map (own_faults file names.now.names) fields.now) }
 {
     let mut values = defaults.values;
     'fields: for field in fields {
@@ -178,11 +172,8 @@ fn read_interpretation(
         → IfOk result (λ records. AreOffered mode (values_cell) (values_width) records.items
         (said_offers table.now names.now.names defaults.now mode
         (Some (symbol.now, predicate.now, fields.now)))) }
-    ensures faultless { OnOk result
-        (interpretation_faults file names.now.names (symbol.now, predicate.now, fields.now) ≡ []) }
-    ensures fault { IfErr result (λ e.
-        Contains (Memory ∷ interpretation_faults file names.now.names
-        (symbol.now, predicate.now, fields.now)) e) }
+    ensures faults { ReportsOrRunsOut result
+        (interpretation_faults file names.now.names (symbol.now, predicate.now, fields.now)) }
 {
     let interpretation_match = read_match(table, names, file, symbol, predicate, notes)?;
     let values = read_values(names, file, defaults, fields, notes)?;
@@ -205,12 +196,8 @@ fn read_statement(
         (said_offers table.now names.now.names defaults mode (interpretation_in statement.now))) }
     ensures next { IfOk result (λ said.
         said.1 ≡ next_said names.now.names defaults (field_in statement.now)) }
-    ensures faultless { OnOk result
-        (said_faults file names.now.names statement.now word (interpretation_in statement.now)
-        ≡ []) }
-    ensures fault { IfErr result (λ e.
-        Contains (Memory ∷ said_faults file names.now.names statement.now word
-        (interpretation_in statement.now)) e) }
+    ensures faults { ReportsOrRunsOut result
+        (said_faults file names.now.names statement.now word (interpretation_in statement.now)) }
 {
     match interpretation_in(statement) {
         Some((symbol, predicate, fields)) => {
@@ -249,9 +236,7 @@ pub(crate) fn read_item(
         (item_offers table.now names.now.names defaults item.now)) }
     ensures next { IfOk result (λ said.
         said.1 ≡ next_default names.now.names defaults item.now) }
-    ensures faultless { OnOk result (item_faults file names.now.names item.now ≡ []) }
-    ensures fault { IfErr result (λ e.
-        Contains (Memory ∷ item_faults file names.now.names item.now) e) }
+    ensures faults { ReportsOrRunsOut result (item_faults file names.now.names item.now) }
 {
     let word = item.word_span();
     match item {

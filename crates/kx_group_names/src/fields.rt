@@ -5,6 +5,7 @@ ghost use Rattle.kx_basics.specs.declared.limits.TheConstants.{MOST_NAME_BYTES};
 ghost use Rattle.kx_group_names.specs.Fields.{expression_faults, field_faults, index_faults, indexed_group, name_in, set_text, text_faults};
 ghost use Rattle.kx_merge.specs.Faults.{value_faults};
 ghost use Rattle.kx_merge.specs.Words.{lone_text, term_text};
+ghost use Rattle.kx_merge.specs.Reports.{Reports};
 
 use kx_basics::MOST_NAME_BYTES;
 use kx_key_fields::is_group_name;
@@ -32,8 +33,7 @@ pub(crate) fn name_in(statement: &Statement) -> Option<&Field>
 /// The group, counted from 1, that an index after a word names.
 fn read_group(file: u32, word: &Name, index: &Option<Boxed<Index>>) -> Result<u8, Fault>
     ensures value { IfOk result (λ group. Some group ≡ indexed_group index.now) }
-    ensures faultless { OnOk result (index_faults file word.now index.now ≡ []) }
-    ensures fault { IfErr result (λ e. Contains (index_faults file word.now index.now) e) }
+    ensures faults { Reports result (index_faults file word.now index.now) }
 {
     match index {
         None => Err(unknown_field(file, word)),
@@ -71,10 +71,8 @@ fn expression_text<'a>(
 ) -> Result<&'a [u8], Fault>
     ensures value { IfOk result (λ text. Some text.now ≡ lone_text expression.now) }
     ensures short { IfOk result (λ text. length text.now ≤ MOST_NAME_BYTES) }
-    ensures faultless { OnOk result
-        (text_faults file whole expression.now.span (lone_text expression.now) ≡ []) }
-    ensures fault { IfErr result (λ e.
-        Contains (text_faults file whole expression.now.span (lone_text expression.now)) e) }
+    ensures faults { Reports result
+        (text_faults file whole expression.now.span (lone_text expression.now)) }
 {
     match text_of(expression) {
         None => Err(bad_value(file, expression.span)),
@@ -91,11 +89,8 @@ fn expression_text<'a>(
 fn read_text<'a>(file: u32, whole: Span, field: &'a Field) -> Result<&'a [u8], Fault>
     ensures value { IfOk result (λ text. Some text.now ≡ set_text field.now.setting) }
     ensures short { IfOk result (λ text. length text.now ≤ MOST_NAME_BYTES) }
-    ensures faultless { OnOk result
-        (value_faults file (expression_faults file whole) field.now.span field.now.setting ≡ []) }
-    ensures fault { IfErr result (λ e.
-        Contains (value_faults file (expression_faults file whole) field.now.span field.now.setting)
-        e) }
+    ensures faults { Reports result
+        (value_faults file (expression_faults file whole) field.now.span field.now.setting) }
 {
     let expression = expression_of(file, field.span, &field.setting)?;
     expression_text(file, whole, expression)
@@ -110,8 +105,7 @@ pub(crate) fn read_name<'a>(
     ensures group { IfOk result (λ name. Some name.0 ≡ indexed_group field.now.place.index) }
     ensures text { IfOk result (λ name. Some name.1.now ≡ set_text field.now.setting) }
     ensures short { IfOk result (λ name. length name.1.now ≤ MOST_NAME_BYTES) }
-    ensures faultless { OnOk result (field_faults file whole field.now ≡ []) }
-    ensures fault { IfErr result (λ e. Contains (field_faults file whole field.now) e) }
+    ensures faults { Reports result (field_faults file whole field.now) }
 {
     let group = read_group(file, &field.place.word, &field.place.index)?;
     let text = read_text(file, whole, field)?;

@@ -5,6 +5,7 @@ ghost use Rattle.kx_include.specs.Shared.{expanded_body};
 ghost use Rattle.kx_lex.specs.declared.fault.Fault.TheVariants.{Memory};
 ghost use Rattle.kx_merge.specs.Bodies.{faults_of};
 ghost use Rattle.kx_group_names.specs.Names.{AreCut, AreGroupNames, name_at, name_moves, name_recorded, name_rules};
+ghost use Rattle.kx_merge.specs.Reports.{ReportsOrRunsOut};
 
 use crate::text::NameText;
 use kx_basics::MOST_GROUPS;
@@ -140,11 +141,8 @@ fn named(names: Vec<NameText>) -> Vec<NameText>
 /// 32; `TooMany` at a statement whose text has over 255 bytes; `Memory`.
 pub fn group_names(alloc: Global, expansion: &Expansion) -> Result<GroupNames, Fault>
     ensures names { IfOk result (λ names. AreGroupNames names (expanded_body expansion.now)) }
-    ensures faultless { OnOk result
-        (faults_of nat_eq name_rules name_moves (expanded_body expansion.now) ≡ []) }
-    ensures fault { IfErr result (λ e.
-        Contains (Memory ∷ faults_of nat_eq name_rules name_moves (expanded_body expansion.now))
-        e) }
+    ensures faults { ReportsOrRunsOut result
+        (faults_of nat_eq name_rules name_moves (expanded_body expansion.now)) }
 {
     let merged = merge::<(), Single<NameText>>(alloc, &(), expansion)?;
     let names = named(all_names(alloc, &merged.records)?);

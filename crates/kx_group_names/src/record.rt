@@ -10,6 +10,7 @@ ghost use Rattle.kx_merge.specs.Records.{AreOffered, mode_of};
 ghost use Rattle.kx_merge.specs.Single.{single_cell, single_moves, single_width};
 ghost use Rattle.kx_group_names.specs.Fields.{field_faults, item_faults};
 ghost use Rattle.kx_group_names.specs.Names.{item_offers, moved_group, name_offer, named_offers};
+ghost use Rattle.kx_merge.specs.Reports.{ReportsOrRunsOut};
 
 use crate::fields::{name_in, read_name};
 use crate::text::NameText;
@@ -40,8 +41,7 @@ fn read_field(
     ensures records { (mode : ModeValue)
         → IfOk result (λ records. AreOffered mode single_cell single_width records.items
         (named_offers mode (Some field.now))) }
-    ensures faultless { OnOk result (field_faults file whole field.now ≡ []) }
-    ensures fault { IfErr result (λ e. Contains (Memory ∷ field_faults file whole field.now) e) }
+    ensures faults { ReportsOrRunsOut result (field_faults file whole field.now) }
 {
     let (group, text) = read_name(file, whole, field)?;
     one_record(alloc, group, text)
@@ -52,8 +52,7 @@ fn read_item(alloc: Global, file: u32, item: &Item) -> Result<Vec<(u8, Single<Na
     ensures records { IfOk result (λ records.
         AreOffered (mode_of item.now) single_cell single_width records.items
         (item_offers item.now)) }
-    ensures faultless { OnOk result (item_faults file item.now ≡ []) }
-    ensures fault { IfErr result (λ e. Contains (Memory ∷ item_faults file item.now) e) }
+    ensures faults { ReportsOrRunsOut result (item_faults file item.now) }
 {
     match item {
         Item::Include { .. } => Ok(none_given(alloc)),

@@ -8,6 +8,7 @@ ghost use Rattle.kx_indicators.specs.Blocks.{default_faults, default_in, given_v
 ghost use Rattle.kx_indicators.specs.Giving.{values_cell, values_width, with_value};
 ghost use Rattle.kx_indicators.specs.Meaning.{item_offers, offers_to, said_offers, values_offer};
 ghost use Rattle.kx_merge.specs.Faults.{name_faults};
+ghost use Rattle.kx_merge.specs.Reports.{Reports, ReportsOrRunsOut};
 
 use crate::defaults::default_in;
 use crate::fields::read_field;
@@ -22,8 +23,7 @@ use std::alloc::Global;
 /// What a field in an indicator gives it.
 fn read_own(names: &ModNames, file: u32, field: &Field) -> Result<Option<IndicatorMapValue>, Fault>
     ensures value { IfOk result (λ value. value ≡ own_value names.now.names field.now) }
-    ensures faultless { OnOk result (own_faults file names.now.names field.now ≡ []) }
-    ensures fault { IfErr result (λ e. Contains (own_faults file names.now.names field.now) e) }
+    ensures faults { Reports result (own_faults file names.now.names field.now) }
 {
     if field.place.member.is_some() {
         return Ok(None);
@@ -39,9 +39,7 @@ fn read_values(
     fields: &[Field],
 ) -> Result<IndicatorMapValues, Fault>
     ensures value { IfOk result (λ values. values ≡ values_of names.now.names defaults fields.now) }
-    ensures faultless { OnOk result (flat_map (own_faults file names.now.names) fields.now ≡ []) }
-    ensures fault { IfErr result (λ e.
-        Contains (flat_map (own_faults file names.now.names) fields.now) e) }
+    ensures faults { Reports result (flat_map (own_faults file names.now.names) fields.now) }
 {
     let mut values = defaults;
     'fields: for field in fields {
@@ -103,12 +101,8 @@ fn read_indicator(
         → IfOk result (λ records. AreOffered mode (values_cell) (values_width) records.items
         (said_offers indicator_maps.now names.now.names defaults mode
         (Some (name.now, fields.now)))) }
-    ensures faultless { OnOk result
-        (name_faults file whole name.now ++ flat_map (own_faults file names.now.names) fields.now
-        ≡ []) }
-    ensures fault { IfErr result (λ e.
-        Contains (Memory ∷ (name_faults file whole name.now
-        ++ flat_map (own_faults file names.now.names) fields.now)) e) }
+    ensures faults { ReportsOrRunsOut result
+        (name_faults file whole name.now ++ flat_map (own_faults file names.now.names) fields.now) }
 {
     let bytes = name.bytes.as_slice();
     if bytes.len() > MOST_NAME_BYTES {
@@ -127,10 +121,8 @@ fn read_default(
 ) -> Result<IndicatorMapValues, Fault>
     ensures next { IfOk result (λ d.
         d ≡ with_value defaults (given_value names.now.names (default_in statement.now))) }
-    ensures faultless { OnOk result
-        (default_faults file names.now.names (default_in statement.now) ≡ []) }
-    ensures fault { IfErr result (λ e.
-        Contains (default_faults file names.now.names (default_in statement.now)) e) }
+    ensures faults { Reports result
+        (default_faults file names.now.names (default_in statement.now)) }
 {
     match default_in(statement) {
         None => Ok(defaults),
@@ -154,11 +146,8 @@ fn read_statement(
         (indicator_in statement.now))) }
     ensures next { IfOk result (λ said.
         said.1 ≡ with_value defaults (given_value names.now.names (default_in statement.now))) }
-    ensures faultless { OnOk result
-        (said_faults file names.now.names statement.now whole (indicator_in statement.now) ≡ []) }
-    ensures fault { IfErr result (λ e.
-        Contains (Memory ∷ said_faults file names.now.names statement.now whole
-        (indicator_in statement.now)) e) }
+    ensures faults { ReportsOrRunsOut result
+        (said_faults file names.now.names statement.now whole (indicator_in statement.now)) }
 {
     match indicator_in(statement) {
         Some((name, fields)) => {
@@ -195,9 +184,7 @@ pub(crate) fn read_item(
         (item_offers indicator_maps.now names.now.names defaults item.now)) }
     ensures next { IfOk result (λ said.
         said.1 ≡ next_default names.now.names defaults item.now) }
-    ensures faultless { OnOk result (item_faults file names.now.names item.now ≡ []) }
-    ensures fault { IfErr result (λ e.
-        Contains (Memory ∷ item_faults file names.now.names item.now) e) }
+    ensures faults { ReportsOrRunsOut result (item_faults file names.now.names item.now) }
 {
     match item {
         Item::Include { .. } => Ok((no_records(alloc), defaults)),

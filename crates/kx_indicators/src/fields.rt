@@ -3,6 +3,7 @@ ghost use Rattle.std.specs.Prelude.{◌≡◌, [], Contains, IfErr, IfOk, OnOk, 
 ghost use Rattle.kx_indicators.specs.IndicatorMapFields.{expression_faults, expression_value, field_faults, field_value, field_words, known_value, placed_faults};
 ghost use Rattle.kx_merge.specs.Faults.{value_faults};
 ghost use Rattle.kx_merge.specs.Words.{among};
+ghost use Rattle.kx_merge.specs.Reports.{Reports};
 
 use crate::masks::{MaskKind, read_mask};
 use crate::states::GivenStates;
@@ -39,10 +40,7 @@ fn read_expression(
 ) -> Result<IndicatorMapValue, Fault>
     ensures value { IfOk result (λ value.
         value ≡ expression_value names.now.names known expression.now) }
-    ensures faultless { OnOk result
-        (expression_faults file names.now.names known expression.now ≡ []) }
-    ensures fault { IfErr result (λ e.
-        Contains (expression_faults file names.now.names known expression.now) e) }
+    ensures faults { Reports result (expression_faults file names.now.names known expression.now) }
 {
     match known {
         IndicatorMapField::Modifiers => Ok(IndicatorMapValue::Modifiers(names.mask_of(
@@ -73,12 +71,9 @@ fn read_setting(
 ) -> Result<IndicatorMapValue, Fault>
     ensures value { IfOk result (λ value.
         Some value ≡ known_value names.now.names field.now.setting (Some known)) }
-    ensures faultless { OnOk result
+    ensures faults { Reports result
         (value_faults file (expression_faults file names.now.names known) field.now.span
-        field.now.setting ≡ []) }
-    ensures fault { IfErr result (λ e.
-        Contains (value_faults file (expression_faults file names.now.names known) field.now.span
-        field.now.setting) e) }
+        field.now.setting) }
 {
     let expression = expression_of(file, field.span, &field.setting)?;
     read_expression(names, file, known, expression)
@@ -94,11 +89,8 @@ fn read_known(
 ) -> Result<IndicatorMapValue, Fault>
     ensures value { IfOk result (λ value.
         Some value ≡ known_value names.now.names field.now.setting (Some known)) }
-    ensures faultless { OnOk result
-        (placed_faults file names.now.names word.now field.now known field.now.place.index ≡ []) }
-    ensures fault { IfErr result (λ e.
-        Contains (placed_faults file names.now.names word.now field.now known field.now.place.index)
-        e) }
+    ensures faults { Reports result
+        (placed_faults file names.now.names word.now field.now known field.now.place.index) }
 {
     match &field.place.index {
         None => read_setting(names, file, known, field),
@@ -117,9 +109,7 @@ pub(crate) fn read_field(
     field: &Field,
 ) -> Result<Option<IndicatorMapValue>, Fault>
     ensures value { IfOk result (λ value. value ≡ field_value names.now.names word.now field.now) }
-    ensures faultless { OnOk result (field_faults file names.now.names word.now field.now ≡ []) }
-    ensures fault { IfErr result (λ e.
-        Contains (field_faults file names.now.names word.now field.now) e) }
+    ensures faults { Reports result (field_faults file names.now.names word.now field.now) }
 {
     match field_named(word.bytes.as_slice()) {
         None => Ok(None),

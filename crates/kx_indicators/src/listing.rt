@@ -8,6 +8,7 @@ ghost use Rattle.kx_indicators.specs.Blocks.{DefaultsAreLast};
 ghost use Rattle.kx_indicators.specs.Bounds.{NamesAreValid};
 ghost use Rattle.kx_indicators.specs.Meaning.{AreIndicators, indicator_map_rules, indicator_maps_faults};
 ghost use Rattle.kx_indicators.specs.Shown.{indicator_map_recorded};
+ghost use Rattle.kx_merge.specs.Reports.{ReportsOrRunsOut};
 
 use crate::indicator_map::IndicatorMap;
 use crate::limits::MOST_INDICATORS;
@@ -69,10 +70,8 @@ pub fn indicators(
     ensures defaults { DefaultsAreLast names.now.names }
     ensures once { (indicator_maps : List (List ℕ))
         → OffersOnce nat_eq (indicator_map_rules indicator_maps names.now.names) }
-    ensures faultless { OnOk result
-        (indicator_maps_faults names.now.names (expanded_body expansion.now) ≡ []) }
-    ensures fault { IfErr result (λ e.
-        Contains (Memory ∷ indicator_maps_faults names.now.names (expanded_body expansion.now)) e) }
+    ensures faults { ReportsOrRunsOut result
+        (indicator_maps_faults names.now.names (expanded_body expansion.now)) }
 {
     list_indicators(alloc, expansion, names)
 }
@@ -85,10 +84,8 @@ fn list_indicators(
     ensures shows { IfOk result (λ found.
         AreIndicators found names.now.names (expanded_body expansion.now)) }
     ensures valid { IfOk result (λ found. NamesAreValid found.names) }
-    ensures faultless { OnOk result
-        (indicator_maps_faults names.now.names (expanded_body expansion.now) ≡ []) }
-    ensures fault { IfErr result (λ e.
-        Contains (Memory ∷ indicator_maps_faults names.now.names (expanded_body expansion.now)) e) }
+    ensures faults { ReportsOrRunsOut result
+        (indicator_maps_faults names.now.names (expanded_body expansion.now)) }
 {
     let indicator_maps = count_names::<IndicatorMapNaming>(
         alloc,

@@ -9,6 +9,7 @@ ghost use Rattle.kx_indicators.specs.declared.masks.MaskKind.TheVariants.{Groups
 ghost use Rattle.kx_indicators.specs.IndicatorMapMasks.{group_bit, group_in, mask_faults, mask_of, named_group, number_mask, operated, operation_faults, other_faults, term_faults, term_mask, width, word_mask, words};
 ghost use Rattle.kx_merge.specs.Words.{among};
 ghost use Rattle.kx_merge.specs.Terms.{term_span};
+ghost use Rattle.kx_merge.specs.Reports.{Reports};
 
 use kx_lex::{At, Fault, Span};
 use kx_merge::Counted;
@@ -81,6 +82,7 @@ fn groups_named(word: &[u8]) -> Option<u32>
 impl MaskKind {
     ghost use Rattle.std.specs.Prelude.{◌≡◌, ◌<◌, ◌^◌, IfSome, is_some};
     ghost use Rattle.kx_indicators.specs.IndicatorMapMasks.{named_group, number_mask, term_mask, width, word_mask};
+    ghost use Rattle.kx_merge.specs.Reports.{Reports};
 
     /// The mask that a word stands for.
     fn word_mask(self, word: &[u8]) -> Option<u32>
@@ -172,8 +174,7 @@ fn term_fault(kind: MaskKind, file: u32, term: &Term) -> Fault
 fn read_term(kind: MaskKind, file: u32, term: &Term) -> Result<u32, Fault>
     ensures value { IfOk result (λ mask. Some mask ≡ term_mask kind term.now) }
     ensures within { IfOk result (λ mask. mask < 2 ^ width kind) }
-    ensures faultless { OnOk result (term_faults file kind term.now ≡ []) }
-    ensures fault { IfErr result (λ e. Contains (term_faults file kind term.now) e) }
+    ensures faults { Reports result (term_faults file kind term.now) }
 {
     match kind.term_mask(term) {
         Some(mask) => Ok(mask),
@@ -200,9 +201,7 @@ fn read_operations(
     requires { before < 2 ^ width kind }
     ensures value { IfOk result (λ mask. mask ≡ fold (operated kind) before operations.now) }
     ensures within { IfOk result (λ mask. mask < 2 ^ width kind) }
-    ensures faultless { OnOk result (flat_map (operation_faults file kind) operations.now ≡ []) }
-    ensures fault { IfErr result (λ e.
-        Contains (flat_map (operation_faults file kind) operations.now) e) }
+    ensures faults { Reports result (flat_map (operation_faults file kind) operations.now) }
 {
     let mut mask = before;
     'operations: for operation in operations {
@@ -216,8 +215,7 @@ fn read_operations(
 pub(crate) fn read_mask(kind: MaskKind, file: u32, expression: &Expression) -> Result<u32, Fault>
     ensures value { IfOk result (λ mask. mask ≡ mask_of kind expression.now) }
     ensures within { IfOk result (λ mask. mask < 2 ^ width kind) }
-    ensures faultless { OnOk result (mask_faults file kind expression.now ≡ []) }
-    ensures fault { IfErr result (λ e. Contains (mask_faults file kind expression.now) e) }
+    ensures faults { Reports result (mask_faults file kind expression.now) }
 {
     let first = read_term(kind, file, &expression.first)?;
     read_operations(kind, file, first, expression.rest.as_slice())

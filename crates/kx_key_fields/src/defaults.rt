@@ -3,6 +3,7 @@ ghost use Rattle.std.specs.Prelude.{◌≡◌, [], Contains, IfErr, IfOk, OnOk};
 ghost use Rattle.std.specs.Result.{result_ok};
 ghost use Rattle.kx_key_fields.specs.KeyFields.{default_faults, default_given};
 ghost use Rattle.kx_key_fields.specs.AttributeFields.{given_any};
+ghost use Rattle.kx_merge.specs.Reports.{Reports, ReportsOrRunsOut};
 
 use crate::attributes::KeyAttributes;
 use crate::cells::AttributeCell;
@@ -19,8 +20,7 @@ use std::marker::Model;
 /// What a field of a section gives keys as a default.
 fn read_default(names: &ModNames, file: u32, field: &Field) -> Result<Option<Given>, Fault>
     ensures value { given_any (result_ok result) ≡ default_given names.now.names field.now }
-    ensures faultless { OnOk result (default_faults file names.now.names field.now ≡ []) }
-    ensures fault { IfErr result (λ e. Contains (default_faults file names.now.names field.now) e) }
+    ensures faults { Reports result (default_faults file names.now.names field.now) }
 {
     let word = &field.place.word;
     if !is_key_word(word.bytes.as_slice()) {
@@ -53,6 +53,7 @@ impl KeyDefaults {
     ghost use Rattle.kx_key_fields.specs.KeyFields.{cell_default, default_faults, defaults_behind, next_defaults};
     ghost use Rattle.kx_key_fields.specs.Attributes.{no_settings, attribute_in};
     ghost use Rattle.kx_merge.specs.Last.{last_given};
+    ghost use Rattle.kx_merge.specs.Reports.{ReportsOrRunsOut};
 
     /// No defaults: those at the start of a section.
     pub fn none(alloc: Global) -> KeyDefaults
@@ -88,9 +89,7 @@ impl KeyDefaults {
         ensures last { (statements : List FieldValue) (cell : AttributeCell)
             → attribute_in (defaults_behind names.now.names statements) cell
             ≡ last_given (cell_default names.now.names cell) statements }
-        ensures faultless { OnOk result (default_faults file names.now.names field.now ≡ []) }
-        ensures fault { IfErr result (λ e.
-            Contains (Memory ∷ default_faults file names.now.names field.now) e) }
+        ensures faults { ReportsOrRunsOut result (default_faults file names.now.names field.now) }
     {
         let given = read_default(names, file, field)?;
         let mut settings = self.settings;

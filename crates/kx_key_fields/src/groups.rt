@@ -4,6 +4,7 @@ ghost use Rattle.std.specs.Result.{result_ok};
 ghost use Rattle.kx_key_fields.specs.Groups.{group_at};
 ghost use Rattle.kx_merge.specs.Numbers.{number_faults};
 ghost use Rattle.kx_merge.specs.declared.numbers.Counted.TheVariants.{Group};
+ghost use Rattle.kx_merge.specs.Reports.{Reports};
 
 use kx_basics::MOST_GROUPS;
 use kx_lex::Fault;
@@ -18,8 +19,7 @@ use kx_parse::Expression;
 pub fn read_group(file: u32, expression: &Expression) -> Result<u8, Fault>
     ensures value { result_ok result ≡ group_at expression.now }
     ensures within { IfOk result (λ group. group < MOST_GROUPS) }
-    ensures faultless { OnOk result (number_faults file Group expression.now ≡ []) }
-    ensures fault { IfErr result (λ e. Contains (number_faults file Group expression.now) e) }
+    ensures faults { Reports result (number_faults file Group expression.now) }
 {
     let number = Counted::Group.read(file, expression)?;
     Ok(number - 1)

@@ -4,6 +4,7 @@ ghost use Rattle.std.specs.List.{flat_map};
 ghost use Rattle.std.specs.Result.{result_ok};
 ghost use Rattle.kx_virtual_mods.specs.Masks.{joined, real_mask};
 ghost use Rattle.kx_key_fields.specs.VirtualMasks.{term_virtual, virtual_mask, virtual_mask_faults, virtual_operation_faults, virtual_term_faults, virtual_word_faults, with_term, word_virtual};
+ghost use Rattle.kx_merge.specs.Reports.{Reports};
 
 use kx_lex::{At, Fault, Name};
 use kx_parse::{Expression, Operation, Sign, Term};
@@ -18,9 +19,7 @@ fn is_real(word: &[u8]) -> bool
 /// The set of a virtual modifier's name.
 fn word_set(names: &ModNames, file: u32, word: &Name) -> Result<NameSet, Fault>
     ensures value { result_ok result ≡ word_virtual names.now.names word.now.bytes }
-    ensures faultless { OnOk result (virtual_word_faults names.now.names file word.now ≡ []) }
-    ensures fault { IfErr result (λ e.
-        Contains (virtual_word_faults names.now.names file word.now) e) }
+    ensures faults { Reports result (virtual_word_faults names.now.names file word.now) }
 {
     let bytes = word.bytes.as_slice();
     let at = At {
@@ -38,9 +37,7 @@ fn word_set(names: &ModNames, file: u32, word: &Name) -> Result<NameSet, Fault>
 
 fn term_set(names: &ModNames, file: u32, term: &Term) -> Result<NameSet, Fault>
     ensures value { result_ok result ≡ term_virtual names.now.names term.now }
-    ensures faultless { OnOk result (virtual_term_faults names.now.names file term.now ≡ []) }
-    ensures fault { IfErr result (λ e.
-        Contains (virtual_term_faults names.now.names file term.now) e) }
+    ensures faults { Reports result (virtual_term_faults names.now.names file term.now) }
 {
     let span = match term {
         Term::Word(word) => return word_set(names, file, word),
@@ -70,10 +67,8 @@ fn operations_set(
 ) -> Result<NameSet, Fault>
     ensures value { result_ok result
         ≡ fold (with_term names.now.names) (Some before) operations.now }
-    ensures faultless { OnOk result
-        (flat_map (virtual_operation_faults names.now.names file) operations.now ≡ []) }
-    ensures fault { IfErr result (λ e.
-        Contains (flat_map (virtual_operation_faults names.now.names file) operations.now) e) }
+    ensures faults { Reports result
+        (flat_map (virtual_operation_faults names.now.names file) operations.now) }
 {
     let mut set = before;
     'operations: for operation in operations {
@@ -90,9 +85,7 @@ pub(crate) fn virtual_mask(
     expression: &Expression,
 ) -> Result<NameSet, Fault>
     ensures value { result_ok result ≡ virtual_mask names.now.names expression.now }
-    ensures faultless { OnOk result (virtual_mask_faults names.now.names file expression.now ≡ []) }
-    ensures fault { IfErr result (λ e.
-        Contains (virtual_mask_faults names.now.names file expression.now) e) }
+    ensures faults { Reports result (virtual_mask_faults names.now.names file expression.now) }
 {
     let first = term_set(names, file, &expression.first)?;
     operations_set(names, file, first, expression.rest.as_slice())

@@ -6,6 +6,7 @@ ghost use Rattle.kx_key_fields.specs.Places.{group_for, open_group, place_faults
 ghost use Rattle.kx_merge.specs.Numbers.{number_faults};
 ghost use Rattle.kx_merge.specs.declared.numbers.Counted.TheVariants.{Group};
 ghost use Rattle.kx_key_fields.specs.Groups.{group_at};
+ghost use Rattle.kx_merge.specs.Reports.{Reports};
 
 use crate::groups::read_group;
 use crate::levels::{LevelValue, Levels};
@@ -78,12 +79,9 @@ fn indexed_group<X: LevelValue>(
 ) -> Result<usize, Fault>
     ensures small { IfOk result (λ group. group < MOST_GROUPS) }
     ensures value { IfOk result (λ group. Some group ≡ open_group lists.now (group_at index.now)) }
-    ensures faultless { OnOk result
+    ensures faults { Reports result
         (number_faults file Group index.now
-        ++ second_faults file lists.now list.now (group_at index.now) ≡ []) }
-    ensures fault { IfErr result (λ e.
-        Contains (number_faults file Group index.now
-        ++ second_faults file lists.now list.now (group_at index.now)) e) }
+        ++ second_faults file lists.now list.now (group_at index.now)) }
 {
     let group = usize::from(read_group(file, index)?);
     if has_list(lists, group) {
@@ -109,9 +107,7 @@ pub fn group_for<X: LevelValue>(
 ) -> Result<usize, Fault>
     ensures small { IfOk result (λ group. group < MOST_GROUPS) }
     ensures value { IfOk result (λ group. Some group ≡ group_for lists.now (index.now)) }
-    ensures faultless { OnOk result (place_faults file lists.now (index.now) list.now ≡ []) }
-    ensures fault { IfErr result (λ e.
-        Contains (place_faults file lists.now (index.now) list.now) e) }
+    ensures faults { Reports result (place_faults file lists.now (index.now) list.now) }
 {
     match index {
         Some(index) => indexed_group(file, lists, list, &index.get().value),

@@ -4,6 +4,7 @@ ghost use Rattle.std.specs.Result.{result_ok};
 ghost use Rattle.kx_key_fields.specs.AttributeFields.{field_faults, field_given, given_any, mods_faults, mods_in, named_faults, name_in, named_given, range_faults, range_in, term_text, text_faults, text_of, type_faults, type_given};
 ghost use Rattle.kx_merge.specs.Faults.{value_faults};
 ghost use Rattle.kx_key_fields.specs.declared.words.RangeField.TheVariants as words;
+ghost use Rattle.kx_merge.specs.Reports.{Reports};
 
 use crate::given::{Given, KeptName};
 use crate::groups::read_group;
@@ -40,8 +41,7 @@ fn text_of(expression: &Expression) -> Option<KeptName>
 
 fn expression_text(file: u32, expression: &Expression) -> Result<KeptName, Fault>
     ensures value { result_ok result ≡ text_of expression.now }
-    ensures faultless { OnOk result (text_faults file expression.now ≡ []) }
-    ensures fault { IfErr result (λ e. Contains (text_faults file expression.now) e) }
+    ensures faults { Reports result (text_faults file expression.now) }
 {
     match text_of(expression) {
         Some(text) => Ok(text),
@@ -52,10 +52,8 @@ fn expression_text(file: u32, expression: &Expression) -> Result<KeptName, Fault
 /// The name of a type that a field is set to.
 fn read_text(file: u32, field: &Field) -> Result<KeptName, Fault>
     ensures value { result_ok result ≡ name_in field.now.setting }
-    ensures faultless { OnOk result
-        (value_faults file (text_faults file) field.now.span field.now.setting ≡ []) }
-    ensures fault { IfErr result (λ e.
-        Contains (value_faults file (text_faults file) field.now.span field.now.setting) e) }
+    ensures faults { Reports result
+        (value_faults file (text_faults file) field.now.span field.now.setting) }
 {
     let expression = expression_of(file, field.span, &field.setting)?;
     expression_text(file, expression)
@@ -64,8 +62,7 @@ fn read_text(file: u32, field: &Field) -> Result<KeptName, Fault>
 /// The type that a field gives the key, or with an index a group.
 fn read_type(file: u32, field: &Field) -> Result<Given, Fault>
     ensures value { result_ok result ≡ type_given field.now.place.index field.now.setting }
-    ensures faultless { OnOk result (type_faults file field.now ≡ []) }
-    ensures fault { IfErr result (λ e. Contains (type_faults file field.now) e) }
+    ensures faults { Reports result (type_faults file field.now) }
 {
     match &field.place.index {
         None => Ok(Given::KeyType(read_text(file, field)?)),
@@ -78,8 +75,7 @@ fn read_type(file: u32, field: &Field) -> Result<Given, Fault>
 
 fn read_mods(names: &ModNames, file: u32, field: &Field) -> Result<NameSet, Fault>
     ensures value { result_ok result ≡ mods_in names.now.names field.now.setting }
-    ensures faultless { OnOk result (mods_faults file names.now.names field.now ≡ []) }
-    ensures fault { IfErr result (λ e. Contains (mods_faults file names.now.names field.now) e) }
+    ensures faults { Reports result (mods_faults file names.now.names field.now) }
 {
     let expression = expression_of(file, field.span, &field.setting)?;
     virtual_mask(names, file, expression)
@@ -87,8 +83,7 @@ fn read_mods(names: &ModNames, file: u32, field: &Field) -> Result<NameSet, Faul
 
 fn read_redirect(file: u32, field: &Field) -> Result<KeyRange, Fault>
     ensures value { result_ok result ≡ range_in words.Redirect field.now.setting }
-    ensures faultless { OnOk result (range_faults file words.Redirect field.now ≡ []) }
-    ensures fault { IfErr result (λ e. Contains (range_faults file words.Redirect field.now) e) }
+    ensures faults { Reports result (range_faults file words.Redirect field.now) }
 {
     let expression = expression_of(file, field.span, &field.setting)?;
     let group = read_group(file, expression)?;
@@ -97,8 +92,7 @@ fn read_redirect(file: u32, field: &Field) -> Result<KeyRange, Fault>
 
 fn read_range(file: u32, which: RangeField, field: &Field) -> Result<KeyRange, Fault>
     ensures value { result_ok result ≡ range_in which field.now.setting }
-    ensures faultless { OnOk result (range_faults file which field.now ≡ []) }
-    ensures fault { IfErr result (λ e. Contains (range_faults file which field.now) e) }
+    ensures faults { Reports result (range_faults file which field.now) }
 {
     match which {
         RangeField::Wrap => Ok(KeyRange::wrap_if(read_flag(file, field)?)),
@@ -117,10 +111,8 @@ fn read_field(
 ) -> Result<Option<Given>, Fault>
     ensures value { given_any (result_ok result)
         ≡ field_given names.now.names (Some kind) field.now.place.index field.now.setting }
-    ensures faultless { OnOk result
-        (field_faults file names.now.names word.now field.now (Some kind) ≡ []) }
-    ensures fault { IfErr result (λ e.
-        Contains (field_faults file names.now.names word.now field.now (Some kind)) e) }
+    ensures faults { Reports result
+        (field_faults file names.now.names word.now field.now (Some kind)) }
 {
     let indexed = field.place.index.is_some();
     match kind {
@@ -149,9 +141,7 @@ pub(crate) fn read_named(
     field: &Field,
 ) -> Result<Option<Given>, Fault>
     ensures value { given_any (result_ok result) ≡ named_given names.now.names word.now field.now }
-    ensures faultless { OnOk result (named_faults file names.now.names word.now field.now ≡ []) }
-    ensures fault { IfErr result (λ e.
-        Contains (named_faults file names.now.names word.now field.now) e) }
+    ensures faults { Reports result (named_faults file names.now.names word.now field.now) }
 {
     match field_named(word.bytes.as_slice()) {
         Some(kind) => read_field(names, file, word, kind, field),

@@ -5,6 +5,7 @@ ghost use Rattle.kx_lex.specs.declared.fault.Fault.TheVariants.{Memory};
 ghost use Rattle.kx_key_fields.specs.KeyFields.{effective, key_field_faults, key_given, own_faults, own_given, setting_faults};
 ghost use Rattle.kx_key_fields.specs.Attributes.{attribute_in, with_given};
 ghost use Rattle.kx_key_fields.specs.AttributeFields.{given_any};
+ghost use Rattle.kx_merge.specs.Reports.{Reports, ReportsOrRunsOut};
 
 use crate::attributes::KeyAttributes;
 use crate::cells::AttributeCell;
@@ -21,8 +22,7 @@ use std::alloc::Global;
 /// What a field inside a key gives; nothing where it gives a list.
 fn read_own(names: &ModNames, file: u32, field: &Field) -> Result<Option<Given>, Fault>
     ensures value { given_any (result_ok result) ≡ own_given names.now.names field.now }
-    ensures faultless { OnOk result (own_faults file names.now.names field.now ≡ []) }
-    ensures fault { IfErr result (λ e. Contains (own_faults file names.now.names field.now) e) }
+    ensures faults { Reports result (own_faults file names.now.names field.now) }
 {
     let word = &field.place.word;
     if field.place.member.is_some() {
@@ -44,9 +44,7 @@ fn take_field(
 ) -> Result<(), Fault>
     ensures taken { OnOk result (settings.new
         ≡ with_given settings.old (key_given names.now.names field.now)) }
-    ensures faultless { OnOk result (key_field_faults file names.now.names field.now ≡ []) }
-    ensures fault { IfErr result (λ e.
-        Contains (Memory ∷ key_field_faults file names.now.names field.now) e) }
+    ensures faults { ReportsOrRunsOut result (key_field_faults file names.now.names field.now) }
 {
     match field {
         KeyField::Field(field) => {
@@ -76,9 +74,7 @@ pub fn read_settings(
 ) -> Result<KeyAttributes, Fault>
     ensures cells { IfOk result (λ settings. (cell : AttributeCell)
         → attribute_in settings cell ≡ effective names.now.names defaults.now fields.now cell) }
-    ensures faultless { OnOk result (setting_faults file names.now.names fields.now ≡ []) }
-    ensures fault { IfErr result (λ e.
-        Contains (Memory ∷ setting_faults file names.now.names fields.now) e) }
+    ensures faults { ReportsOrRunsOut result (setting_faults file names.now.names fields.now) }
 {
     let mut settings = defaults.settings(alloc)?;
     'fields: for field in fields {

@@ -207,11 +207,3 @@ shows_none cell width eq m os empty nothing = subst (Shows cell width eq (keys m
 pub memory_passed : {X : Type 0} (r : Result X Fault) (fs : List Fault) → IsErrAnd r (λ y. y ≡ Memory) → IfErr r (λ e. Contains (Memory ∷ fs) e)
 memory_passed (Ok x) fs is = absurd is
 memory_passed (Err e) fs is = (0, omega arith, sym is)
-
-pub memory_answered : {X : Type 0} (r : Result X Fault) (fs : List Fault) → IfErr r (λ y. y ≡ Memory) → IfErr r (λ e. Contains (Memory ∷ fs) e)
-memory_answered (Ok x) fs is = is
-memory_answered (Err e) fs is = (0, omega arith, sym is)
-
-pub fault_passed : {X : Type 0} (r : Result X Fault) (fs : List Fault) (e : Fault) → IsErrAnd r (λ y. y ≡ e) → Contains (Memory ∷ fs) e → IfErr r (λ y. Contains (Memory ∷ fs) y)
-fault_passed (Ok x) fs e is has = absurd is
-fault_passed (Err y) fs e is has = subst (Contains (Memory ∷ fs)) (sym is) has

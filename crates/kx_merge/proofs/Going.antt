@@ -4,6 +4,9 @@ use Rattle.std.specs.List.{flat_map}
 use Rattle.std.specs.Result.{IsErrAnd}
 use Rattle.std.proofs.lemmas.List.{drop_more}
 use Rattle.std.proofs.lemmas.List.Elements.{Contains-append_left, Contains-append_right}
+use Rattle.kx_lex.specs.declared.fault.Fault.{Fault}
+use Rattle.kx_lex.specs.declared.fault.Fault.TheVariants.{Memory}
+use Rattle.kx_merge.specs.Reports.{Reports, ReportsOrRunsOut}
 
 pub drop_next : {X : Type 0} (xs : List X) (i : ℕ) (x : X) → i < length xs → x ≡ get_or xs i x → drop i xs ≡ x ∷ drop (i + 1) xs
 drop_next xs i x within h = drop_more xs i x within ∙ ap (λ y. y ∷ drop (i + 1) xs) (sym h)
@@ -29,6 +32,20 @@ any_blames f xs i x m e within is left has = subst (λ ys. Contains (m ∷ ys) e
 pub passed : {X F : Type 0} (r : Result X F) (fs : List F) (e : F) → IsErrAnd r (λ y. y ≡ e) → Contains fs e → IfErr r (λ y. Contains fs y)
 passed (Ok x) fs e is has = absurd is
 passed (Err y) fs e is has = subst (Contains fs) (sym is) has
+
+-- so is one that reports a fault
+pub reported : {X : Type 0} (r : Result X Fault) (fs : List Fault) (e : Fault) → IsErrAnd r (λ y. y ≡ e) → Contains fs e → Reports r fs
+reported (Ok x) fs e is has = absurd is
+reported (Err y) fs e is has = (tt, subst (Contains fs) (sym is) has)
+
+pub reported_or_out : {X : Type 0} (r : Result X Fault) (fs : List Fault) (e : Fault) → IsErrAnd r (λ y. y ≡ e) → Contains (Memory ∷ fs) e → ReportsOrRunsOut r fs
+reported_or_out (Ok x) fs e is has = absurd is
+reported_or_out (Err y) fs e is has = (tt, subst (Contains (Memory ∷ fs)) (sym is) has)
+
+-- where there are none, it may have run out of memory
+pub out_alone : {X : Type 0} (r : Result X Fault) (fs : List Fault) → fs ≡ [] → IfErr r (λ e. e ≡ Memory) → ReportsOrRunsOut r fs
+out_alone (Ok x) fs none is = (none, tt)
+out_alone (Err e) fs none is = (tt, (0, omega arith, sym is))
 
 -- what is blamed is one of more
 pub blamed : {F : Type 0} (m : F) (fs : List F) (e : F) → Contains fs e → Contains (m ∷ fs) e

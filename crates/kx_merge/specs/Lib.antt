@@ -1,6 +1,7 @@
 pub mod Words
 pub mod Numbers
 pub mod Faults
+pub mod Reports
 pub mod Last
 pub mod Terms
 pub mod ByGroup

@@ -5,6 +5,7 @@ ghost use Rattle.std.specs.Result.{result_ok};
 ghost use Rattle.kx_include.specs.IncludeFaults.{at};
 ghost use Rattle.kx_lex.specs.declared.fault.Fault.TheVariants.{BadValue, UnknownField};
 ghost use Rattle.kx_merge.specs.Faults.{expression_in, other_faults};
+ghost use Rattle.kx_merge.specs.Reports.{Reports};
 
 use kx_lex::{At, Fault, Name, Span};
 use kx_parse::{Expression, Setting, Value};
@@ -32,8 +33,7 @@ pub fn unknown_field(file: u32, word: &Name) -> Fault
 /// `BadValue` at a value of another kind; at the field where it has none.
 pub fn expression_of(file: u32, whole: Span, setting: &Setting) -> Result<&Expression, Fault>
     ensures value { option_map (λ e. e.now) (result_ok result) ≡ expression_in setting.now }
-    ensures faultless { OnOk result (other_faults file whole setting.now ≡ []) }
-    ensures fault { IfErr result (λ e. Contains (other_faults file whole setting.now) e) }
+    ensures faults { Reports result (other_faults file whole setting.now) }
 {
     match setting {
         Setting::To(Value::Expression(expression)) => Ok(expression),

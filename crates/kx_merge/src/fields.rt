@@ -4,6 +4,7 @@ ghost use Rattle.kx_lex.specs.declared.fault.Fault.TheVariants.{Memory};
 ghost use Rattle.kx_merge.specs.Bodies.{Rules, Moves};
 ghost use Rattle.kx_merge.specs.Moved.{moved_key, moved_value, moved_width};
 ghost use Rattle.kx_merge.specs.Offers.{merged_value, merged_width};
+ghost use Rattle.kx_merge.specs.Reports.{ReportsOrRunsOut};
 
 use kx_include::Place;
 use kx_lex::Fault;
@@ -51,10 +52,8 @@ pub trait Fields<C>: Drop {
             ((rules context.now).offers defaults place item.now)) }
         ensures next { IfOk result (λ said.
             said.1 ≡ (rules context.now).next defaults item.now) }
-        ensures faultless { OnOk result
-            ((rules context.now).faults defaults place item.now ≡ []) }
-        ensures fault { IfErr result (λ e. Contains
-            (Memory ∷ (rules context.now).faults defaults place item.now) e) };
+        ensures faults { ReportsOrRunsOut result
+            ((rules context.now).faults defaults place item.now) };
 
     /// Takes up what a later record gives.
     fn merge(&mut self, alloc: Global, other: Self, mode: Mode) -> Result<(), Fault>

@@ -8,6 +8,7 @@ ghost use Rattle.kx_merge.specs.Gatherings.{AreGathered, IsGathered, TableAdds, 
 ghost use Rattle.kx_merge.specs.Renewals.{TableTakesUp, TakesBack, keys_since};
 ghost use Rattle.kx_merge.specs.Offers.{is_replace};
 ghost use Rattle.kx_merge.specs.Records.{TableShows};
+ghost use Rattle.kx_merge.specs.Reports.{ReportsOrRunsOut};
 
 use crate::fields::Fields;
 use crate::merging::{add_again, add_included, add_joined, are_kept, merge_own};
@@ -40,11 +41,8 @@ pub fn merge<C, R: Fields<C>>(
 ) -> Result<Merged<R::Key, R, R::Notes>, Fault>
     ensures shows { IfOk result (λ m. TableShows R.cell R.width R.Key.eq m.records
         (offers_of R.Key.eq (R.rules context.now) R.moves (expanded_body expansion.now))) }
-    ensures faultless { OnOk result
-        (faults_of R.Key.eq (R.rules context.now) R.moves (expanded_body expansion.now) ≡ []) }
-    ensures fault { IfErr result (λ e. Contains
-        (Memory ∷ faults_of R.Key.eq (R.rules context.now) R.moves (expanded_body expansion.now))
-        e) }
+    ensures faults { ReportsOrRunsOut result
+        (faults_of R.Key.eq (R.rules context.now) R.moves (expanded_body expansion.now)) }
 {
     let done = gather_maps::<C, R>(alloc, context, expansion.maps.as_slice())?;
     let mut records = Ordered::new(alloc);

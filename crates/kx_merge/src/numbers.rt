@@ -3,6 +3,7 @@ ghost use Rattle.std.specs.Prelude.{◌≡◌};
 ghost use Rattle.std.specs.Char.{is_ascii_digit};
 ghost use Rattle.std.specs.List.{list_all};
 ghost use Rattle.kx_include.specs.IncludeText.{is_number};
+ghost use Rattle.kx_merge.specs.Reports.{Reports};
 
 use kx_basics::{MOST_GROUPS, MOST_LEVELS, digits_value};
 use kx_lex::{At, Fault};
@@ -33,6 +34,7 @@ impl Counted {
     ghost use Rattle.std.specs.Result.{result_ok};
     ghost use Rattle.std.specs.Str.{str_eq_ignore_ascii_case};
     ghost use Rattle.kx_merge.specs.Numbers.{counted_word, is_within, most_of, number_at, number_faults, number_named, range_fault, term_number, word_number};
+    ghost use Rattle.kx_merge.specs.Reports.{Reports};
 
     /// The number after the word, in capital letters or small, or 2^32 where it is greater.
     pub fn in_word(self, word: &[u8]) -> Option<u64>
@@ -115,8 +117,7 @@ impl Counted {
         ensures value { result_ok result ≡ number_at self expression.now }
         ensures named { IfOk result (λ n. number_named self expression.now ≡ Some n) }
         ensures within { IfOk result (λ n. (1 ≤ n) × (n ≤ most_of self)) }
-        ensures faultless { OnOk result (number_faults file self expression.now ≡ []) }
-        ensures fault { IfErr result (λ e. Contains (number_faults file self expression.now) e) }
+        ensures faults { Reports result (number_faults file self expression.now) }
     {
         let at = At {
             file,

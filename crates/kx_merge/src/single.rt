@@ -9,6 +9,7 @@ ghost use Rattle.kx_merge.specs.Records.{AreOffered, mode_of};
 ghost use Rattle.kx_merge.specs.Single.{single_cell, single_moves, single_rules, single_width};
 ghost use Rattle.kx_parse.specs.declared.tree.Item.{Item as ItemValue};
 ghost use Rattle.kx_parse.specs.declared.tree.Mode.{Mode as ModeValue};
+ghost use Rattle.kx_merge.specs.Reports.{ReportsOrRunsOut};
 
 use crate::fields::Fields;
 use crate::merging::merged_value;
@@ -46,9 +47,7 @@ pub trait SingleValue<C>: Drop {
         ensures records { IfOk result (λ records.
             AreOffered (mode_of item.now) single_cell single_width records.items
             (offers context.now place item.now)) }
-        ensures faultless { OnOk result (faults context.now place item.now ≡ []) }
-        ensures fault { IfErr result (λ e.
-            Contains (Memory ∷ faults context.now place item.now) e) };
+        ensures faults { ReportsOrRunsOut result (faults context.now place item.now) };
 
     /// The same value.
     fn try_clone(&self, alloc: Global) -> Result<Self, Fault>

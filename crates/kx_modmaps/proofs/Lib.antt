@@ -1,5 +1,4 @@
 mod Given
-mod Going
 mod Joining
 mod Same
 mod Showing

@@ -8,6 +8,7 @@ ghost use Rattle.kx_lex.specs.declared.fault.Fault.TheVariants.{Memory};
 ghost use Rattle.kx_mods.specs.Mods.{mask};
 ghost use Rattle.kx_modmaps.specs.Entries.{entry_faults, entry_target, is_all, map_in, other_faults, targets_of, with_target, word_faults, word_mask};
 ghost use Rattle.kx_modmaps.specs.declared.target.Target.TheVariants.{Key};
+ghost use Rattle.kx_merge.specs.Reports.{Reports, ReportsOrRunsOut};
 
 use crate::target::Target;
 use ks_core::{NameTable, Note, Notes};
@@ -79,8 +80,7 @@ fn other_fault(modifiers: &ModNames, file: u32, word: &Name) -> Fault
 /// The one real modifier that the word of a modifier map names, or none.
 pub(crate) fn read_word(modifiers: &ModNames, file: u32, word: &Name) -> Result<Mods, Fault>
     ensures value { IfOk result (λ mods. Some (mask mods) ≡ word_mask word.now.bytes) }
-    ensures faultless { OnOk result (word_faults file modifiers.now.names word.now ≡ []) }
-    ensures fault { IfErr result (λ e. Contains (word_faults file modifiers.now.names word.now) e) }
+    ensures faults { Reports result (word_faults file modifiers.now.names word.now) }
 {
     match word_mods(word.bytes.as_slice()) {
         Some(mods) => Ok(mods),
@@ -97,9 +97,7 @@ fn key_target(
 ) -> Result<Option<Target>, Fault>
     ensures value { IfOk result (λ target.
         target ≡ option_map (λ code. Key code) (code_of codes.now name.now.bytes)) }
-    ensures faultless { OnOk result (name_faults site.file site.whole name.now ≡ []) }
-    ensures fault { IfErr result (λ e. Contains
-        (Memory ∷ name_faults site.file site.whole name.now) e) }
+    ensures faults { ReportsOrRunsOut result (name_faults site.file site.whole name.now) }
 {
     if name.as_slice().len() > MOST_NAME_BYTES {
         return Err(Fault::TooMany(At {
@@ -125,9 +123,7 @@ fn read_entry(
     notes: &mut Notes,
 ) -> Result<Option<Target>, Fault>
     ensures value { IfOk result (λ target. target ≡ entry_target codes.now names.now entry.now) }
-    ensures faultless { OnOk result (entry_faults site.file site.whole entry.now ≡ []) }
-    ensures fault { IfErr result (λ e. Contains
-        (Memory ∷ entry_faults site.file site.whole entry.now) e) }
+    ensures faults { ReportsOrRunsOut result (entry_faults site.file site.whole entry.now) }
 {
     match entry {
         Entry::KeyName(name) => key_target(codes, site, name, notes),
@@ -159,10 +155,8 @@ pub(crate) fn read_targets(
     notes: &mut Notes,
 ) -> Result<OrderedSet<Target>, Fault>
     ensures value { IfOk result (λ targets. targets ≡ targets_of codes.now names.now entries.now) }
-    ensures faultless { OnOk result
-        (flat_map (entry_faults site.file site.whole) entries.now ≡ []) }
-    ensures fault { IfErr result (λ e. Contains
-        (Memory ∷ flat_map (entry_faults site.file site.whole) entries.now) e) }
+    ensures faults { ReportsOrRunsOut result
+        (flat_map (entry_faults site.file site.whole) entries.now) }
 {
     let mut targets = OrderedSet::new(alloc);
     'entries: for entry in entries {

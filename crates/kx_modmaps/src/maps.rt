@@ -7,6 +7,7 @@ ghost use Rattle.kx_lex.specs.declared.fault.Fault.TheVariants.{Memory};
 ghost use Rattle.kx_mods.specs.Mods.{mask};
 ghost use Rattle.kx_modmaps.specs.Maps.{AreModifierMaps, key_mask, map_faults_of, shown_entry};
 ghost use Rattle.kx_modmaps.specs.Shown.{keysym_recorded, only_recorded};
+ghost use Rattle.kx_merge.specs.Reports.{ReportsOrRunsOut};
 
 use crate::entries::Context;
 use crate::record::Assigned;
@@ -127,12 +128,8 @@ pub fn modifier_maps(
     ensures maps { IfOk result (λ found.
         AreModifierMaps found.0 codes.now names.now modifiers.now.names
         (expanded_body expansion.now)) }
-    ensures faultless { OnOk result
-        (map_faults_of codes.now names.now modifiers.now.names (expanded_body expansion.now) ≡ []) }
-    ensures fault { IfErr result (λ e. Contains
-        (Memory ∷ map_faults_of codes.now names.now modifiers.now.names
-        (expanded_body expansion.now))
-        e) }
+    ensures faults { ReportsOrRunsOut result
+        (map_faults_of codes.now names.now modifiers.now.names (expanded_body expansion.now)) }
 {
     let context = Context {
         codes,

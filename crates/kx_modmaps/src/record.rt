@@ -10,6 +10,7 @@ ghost use Rattle.kx_merge.specs.Records.{mode_of};
 ghost use Rattle.kx_mods.specs.Mods.{mask};
 ghost use Rattle.kx_modmaps.specs.Entries.{entry_faults, item_faults, targets_of, word_faults, word_mask};
 ghost use Rattle.kx_modmaps.specs.Maps.{AreAssigned, assigned_cell, assigned_width, given, item_offers, map_moves, map_offer, map_rules, offers_to, present};
+ghost use Rattle.kx_merge.specs.Reports.{ReportsOrRunsOut};
 
 use crate::entries::{Context, StatementSite, map_in, read_targets, read_word};
 use crate::target::Target;
@@ -125,11 +126,9 @@ fn read_map(
     ensures records { (mode : ModeValue)
         → IfOk result (λ records. AreAssigned mode records.items
         (offers_to mode (word_mask word.now.bytes) (targets_of codes.now names.now entries.now))) }
-    ensures faultless { OnOk result (word_faults site.file modifiers.now.names word.now
-        ++ flat_map (entry_faults site.file site.whole) entries.now ≡ []) }
-    ensures fault { IfErr result (λ e. Contains
-        (Memory ∷ (word_faults site.file modifiers.now.names word.now
-        ++ flat_map (entry_faults site.file site.whole) entries.now)) e) }
+    ensures faults { ReportsOrRunsOut result
+        (word_faults site.file modifiers.now.names word.now
+        ++ flat_map (entry_faults site.file site.whole) entries.now) }
 {
     let mods = read_word(modifiers, site.file, word)?;
     let targets = read_targets(alloc, codes, names, site, entries, notes)?;
@@ -154,9 +153,7 @@ fn read_item(
 ) -> Result<Vec<(Target, Assigned)>, Fault>
     ensures records { IfOk result (λ records. AreAssigned (mode_of item.now) records.items
         (item_offers codes.now names.now item.now)) }
-    ensures faultless { OnOk result (item_faults file modifiers.now.names item.now ≡ []) }
-    ensures fault { IfErr result (λ e. Contains
-        (Memory ∷ item_faults file modifiers.now.names item.now) e) }
+    ensures faults { ReportsOrRunsOut result (item_faults file modifiers.now.names item.now) }
 {
     match item {
         Item::Include { .. } => Ok(no_records(alloc)),

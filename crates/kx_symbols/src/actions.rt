@@ -5,6 +5,7 @@ ghost use Rattle.kx_actions.specs.Arguments.{action_faults};
 ghost use Rattle.kx_lex.specs.declared.fault.Fault.TheVariants.{BadValue, Memory};
 ghost use Rattle.kx_symbols.specs.Actions.{actions_of, call_action, calls_in, defined, element_action, only_action};
 ghost use Rattle.kx_symbols.specs.KeyFaults.{action_element_faults, action_part_faults, actions_faults, several_faults, symbol_span};
+ghost use Rattle.kx_merge.specs.Reports.{Reports, ReportsOrRunsOut};
 
 use crate::known::Known;
 use ks_core::{Note, Notes};
@@ -76,9 +77,7 @@ fn call_action(
     notes: &mut Notes,
 ) -> Result<Option<LevelAction>, Fault>
     ensures value { IfOk result (λ level. level ≡ call_action known.now call.now) }
-    ensures faultless { OnOk result (action_faults file known.now.modifiers call.now ≡ []) }
-    ensures fault { IfErr result (λ e.
-        Contains (action_faults file known.now.modifiers call.now) e) }
+    ensures faults { Reports result (action_faults file known.now.modifiers call.now) }
 {
     let action = read(known.modifiers, file, call, &known.defaults.actions())?;
     Ok(defined(action, notes))
@@ -103,9 +102,7 @@ fn part_action(
 ) -> Result<Option<LevelAction>, Fault>
     ensures value { IfOk result (λ level.
         level ≡ only_action known.now (calls_in (part.now ∷ []))) }
-    ensures faultless { OnOk result (action_part_faults file known.now.modifiers part.now ≡ []) }
-    ensures fault { IfErr result (λ e.
-        Contains (action_part_faults file known.now.modifiers part.now) e) }
+    ensures faults { Reports result (action_part_faults file known.now.modifiers part.now) }
 {
     match part {
         BracePart::Symbol(symbol) => Err(symbol_fault(file, symbol)),
@@ -140,12 +137,9 @@ fn braces_action(
 ) -> Result<Option<LevelAction>, Fault>
     ensures value { IfOk result (λ level.
         level ≡ only_action known.now (calls_in braces.now.parts)) }
-    ensures faultless { OnOk result
+    ensures faults { Reports result
         (several_faults file braces.now
-        ++ flat_map (action_part_faults file known.now.modifiers) braces.now.parts ≡ []) }
-    ensures fault { IfErr result (λ e.
-        Contains (several_faults file braces.now
-        ++ flat_map (action_part_faults file known.now.modifiers) braces.now.parts) e) }
+        ++ flat_map (action_part_faults file known.now.modifiers) braces.now.parts) }
 {
     match braces.parts.as_slice() {
         [] => Ok(None),
@@ -162,10 +156,7 @@ fn element_action(
     notes: &mut Notes,
 ) -> Result<Option<LevelAction>, Fault>
     ensures value { IfOk result (λ level. level ≡ element_action known.now element.now) }
-    ensures faultless { OnOk result
-        (action_element_faults file known.now.modifiers element.now ≡ []) }
-    ensures fault { IfErr result (λ e.
-        Contains (action_element_faults file known.now.modifiers element.now) e) }
+    ensures faults { Reports result (action_element_faults file known.now.modifiers element.now) }
 {
     match element {
         Element::Symbol(symbol) => Err(symbol_fault(file, symbol)),
@@ -183,9 +174,7 @@ pub(crate) fn read_actions(
     notes: &mut Notes,
 ) -> Result<Levels<LevelAction>, Fault>
     ensures value { IfOk result (λ levels. levels ≡ actions_of known.now list.now) }
-    ensures faultless { OnOk result (actions_faults file known.now.modifiers list.now ≡ []) }
-    ensures fault { IfErr result (λ e.
-        Contains (Memory ∷ actions_faults file known.now.modifiers list.now) e) }
+    ensures faults { ReportsOrRunsOut result (actions_faults file known.now.modifiers list.now) }
 {
     let elements = list.elements.as_slice();
     let mut levels = Vec::with_capacity(alloc, elements.len())?;

@@ -6,6 +6,7 @@ ghost use Rattle.kx_key_fields.specs.Attributes.{no_settings};
 ghost use Rattle.kx_symbols.specs.Known.{no_defaults};
 ghost use Rattle.kx_symbols.specs.Keys.{behind_field, field_in, said_next};
 ghost use Rattle.kx_symbols.specs.KeyFaults.{default_faults, other_faults, section_field_faults};
+ghost use Rattle.kx_merge.specs.Reports.{ReportsOrRunsOut};
 
 use kx_actions::ActionDefaults;
 use kx_key_fields::{KeyDefaults, is_group_name, is_key_word};
@@ -76,9 +77,8 @@ impl Gathered {
         field: &Field,
     ) -> Result<Gathered, Fault>
         ensures next { IfOk result (λ d. d ≡ behind_field modifiers.now.names self field.now) }
-        ensures faultless { OnOk result (default_faults file modifiers.now.names field.now ≡ []) }
-        ensures fault { IfErr result (λ e.
-            Contains (Memory ∷ default_faults file modifiers.now.names field.now) e) }
+        ensures faults { ReportsOrRunsOut result
+            (default_faults file modifiers.now.names field.now) }
     {
         if is_key_word(field.place.word.bytes.as_slice()) {
             let keys = self.keys.behind(alloc, modifiers, file, field)?;
@@ -148,10 +148,8 @@ impl SectionDefaults {
         field: &Field,
     ) -> Result<SectionDefaults, Fault>
         ensures next { IfOk result (λ d. d ≡ behind_field modifiers.now.names self field.now) }
-        ensures faultless { OnOk result
-            (section_field_faults file modifiers.now.names field.now ≡ []) }
-        ensures fault { IfErr result (λ e.
-            Contains (Memory ∷ section_field_faults file modifiers.now.names field.now) e) }
+        ensures faults { ReportsOrRunsOut result
+            (section_field_faults file modifiers.now.names field.now) }
     {
         if is_group_name(&field.place) {
             return Ok(self);
@@ -171,10 +169,8 @@ impl SectionDefaults {
     ) -> Result<SectionDefaults, Fault>
         ensures next { IfOk result (λ d.
             d ≡ said_next modifiers.now.names self (field_in statement.now)) }
-        ensures faultless { OnOk result
-            (other_faults file modifiers.now.names word statement.now ≡ []) }
-        ensures fault { IfErr result (λ e.
-            Contains (Memory ∷ other_faults file modifiers.now.names word statement.now) e) }
+        ensures faults { ReportsOrRunsOut result
+            (other_faults file modifiers.now.names word statement.now) }
     {
         match statement {
             Statement::VirtualModifiers(_) => Ok(self),

@@ -6,6 +6,7 @@ ghost use Rattle.kx_symbols.specs.Actions.{actions_of};
 ghost use Rattle.kx_symbols.specs.KeyFaults.{actions_faults, elements_faults, field_faults, fields_faults, list_faults, named_faults, set_faults};
 ghost use Rattle.kx_symbols.specs.Keysyms.{levels_of};
 ghost use Rattle.kx_symbols.specs.Lists.{field_kind, field_lists, lists_of, named_lists, no_lists, set_lists, with_listed};
+ghost use Rattle.kx_merge.specs.Reports.{ReportsOrRunsOut};
 
 use crate::actions::{LevelAction, read_actions};
 use crate::keysyms::{Keysyms, read_levels};
@@ -27,6 +28,7 @@ pub(crate) struct StatementLists {
 
 impl Model for StatementLists {
     ghost use Rattle.kx_symbols.specs.Lists.{StatementLists as ListsValue};
+    ghost use Rattle.kx_merge.specs.Reports.{ReportsOrRunsOut};
 
     ghost Value = { ListsValue };
 
@@ -46,12 +48,9 @@ fn add_symbols(
     ensures value { OnOk result (lists.new.items
         ≡ given_list lists.old.items (group_for lists.old.items (index.now))
         (levels_of names.now list.now)) }
-    ensures faultless { OnOk result
+    ensures faults { ReportsOrRunsOut result
         (place_faults site.file lists.old.items (index.now) list.now
-        ++ elements_faults site.file site.whole list.now ≡ []) }
-    ensures fault { IfErr result (λ e.
-        Contains (Memory ∷ (place_faults site.file lists.old.items (index.now) list.now
-        ++ elements_faults site.file site.whole list.now)) e) }
+        ++ elements_faults site.file site.whole list.now) }
 {
     let group = group_for(site.file, lists.as_slice(), index, list)?;
     let levels = read_levels(alloc, names, site, list, notes)?;
@@ -72,12 +71,9 @@ fn add_actions(
     ensures value { OnOk result (lists.new.items
         ≡ given_list lists.old.items (group_for lists.old.items (index.now))
         (actions_of known.now list.now)) }
-    ensures faultless { OnOk result
+    ensures faults { ReportsOrRunsOut result
         (place_faults site.file lists.old.items (index.now) list.now
-        ++ actions_faults site.file known.now.modifiers list.now ≡ []) }
-    ensures fault { IfErr result (λ e.
-        Contains (Memory ∷ (place_faults site.file lists.old.items (index.now) list.now
-        ++ actions_faults site.file known.now.modifiers list.now)) e) }
+        ++ actions_faults site.file known.now.modifiers list.now) }
 {
     let group = group_for(site.file, lists.as_slice(), index, list)?;
     let levels = read_actions(alloc, known, site.file, list, notes)?;
@@ -98,12 +94,8 @@ fn add_list(
 ) -> Result<(), Fault>
     ensures value { OnOk result (lists.new
         ≡ with_listed known.now lists.old (index.now) list.now kind) }
-    ensures faultless { OnOk result
-        (list_faults site.file known.now.modifiers site.whole lists.old (index.now) list.now kind
-        ≡ []) }
-    ensures fault { IfErr result (λ e.
-        Contains (Memory ∷ list_faults site.file known.now.modifiers site.whole lists.old
-        (index.now) list.now kind) e) }
+    ensures faults { ReportsOrRunsOut result
+        (list_faults site.file known.now.modifiers site.whole lists.old (index.now) list.now kind) }
 {
     match kind {
         ListKind::Symbols => {
@@ -129,12 +121,9 @@ fn add_set(
 ) -> Result<(), Fault>
     ensures value { OnOk result (lists.new
         ≡ set_lists known.now lists.old field.now.place.index kind field.now.setting) }
-    ensures faultless { OnOk result
+    ensures faults { ReportsOrRunsOut result
         (set_faults site.file known.now.modifiers site.whole lists.old field.now.place.index
-        field.now.span kind field.now.setting ≡ []) }
-    ensures fault { IfErr result (λ e.
-        Contains (Memory ∷ set_faults site.file known.now.modifiers site.whole lists.old
-        field.now.place.index field.now.span kind field.now.setting) e) }
+        field.now.span kind field.now.setting) }
 {
     match &field.setting {
         Setting::To(Value::List(list)) => {
@@ -160,12 +149,9 @@ fn add_named(
 ) -> Result<(), Fault>
     ensures value { OnOk result (lists.new
         ≡ named_lists known.now lists.old field.now (field_kind field.now.place)) }
-    ensures faultless { OnOk result
+    ensures faults { ReportsOrRunsOut result
         (named_faults site.file known.now.modifiers site.whole lists.old field.now
-        (field_kind field.now.place) ≡ []) }
-    ensures fault { IfErr result (λ e.
-        Contains (Memory ∷ named_faults site.file known.now.modifiers site.whole lists.old field.now
-        (field_kind field.now.place)) e) }
+        (field_kind field.now.place)) }
 {
     match field_kind(&field.place) {
         None => Ok(()),
@@ -183,11 +169,8 @@ fn add_field(
     notes: &mut Notes,
 ) -> Result<(), Fault>
     ensures value { OnOk result (lists.new ≡ field_lists known.now lists.old field.now) }
-    ensures faultless { OnOk result
-        (field_faults site.file known.now.modifiers site.whole lists.old field.now ≡ []) }
-    ensures fault { IfErr result (λ e.
-        Contains (Memory ∷ field_faults site.file known.now.modifiers site.whole lists.old
-        field.now) e) }
+    ensures faults { ReportsOrRunsOut result
+        (field_faults site.file known.now.modifiers site.whole lists.old field.now) }
 {
     match field {
         KeyField::List(list) => {
@@ -207,10 +190,8 @@ pub(crate) fn read_lists(
     notes: &mut Notes,
 ) -> Result<StatementLists, Fault>
     ensures value { IfOk result (λ lists. lists ≡ lists_of known.now fields.now) }
-    ensures faultless { OnOk result
-        (fields_faults site.file known.now site.whole no_lists fields.now ≡ []) }
-    ensures fault { IfErr result (λ e.
-        Contains (Memory ∷ fields_faults site.file known.now site.whole no_lists fields.now) e) }
+    ensures faults { ReportsOrRunsOut result
+        (fields_faults site.file known.now site.whole no_lists fields.now) }
 {
     let mut lists = StatementLists {
         symbols: Vec::new(alloc),

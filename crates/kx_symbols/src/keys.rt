@@ -13,6 +13,7 @@ ghost use Rattle.kx_symbols.specs.KeyFaults.{content_faults, item_faults, key_in
 ghost use Rattle.kx_merge.specs.Faults.{name_faults};
 ghost use Rattle.kx_codes.specs.Codes.{code_of};
 ghost use Rattle.kx_symbols.specs.Keys.{KeysShow, cell_in, field_in, item_next, item_offers, key_at, key_moves, key_offer, key_rules, known_under, offered, said_next, said_offers, width_in_key};
+ghost use Rattle.kx_merge.specs.Reports.{ReportsOrRunsOut};
 
 use crate::cells::{Cell, CellValue};
 use crate::defaults::SectionDefaults;
@@ -78,10 +79,8 @@ fn read_content(
     ensures offered { (mode : ModeValue) (code : ℕ)
         → IfOk result (λ key. IsOffered mode (cell_in) (width_in_key) code key
         (key_offer known.now fields.now mode code)) }
-    ensures faultless { OnOk result
-        (content_faults site.file known.now site.whole fields.now ≡ []) }
-    ensures fault { IfErr result (λ e.
-        Contains (Memory ∷ content_faults site.file known.now site.whole fields.now) e) }
+    ensures faults { ReportsOrRunsOut result
+        (content_faults site.file known.now site.whole fields.now) }
 {
     let lists = read_lists(alloc, known, site, fields, notes)?;
     let settings = read_besides(alloc, known, site.file, fields)?;
@@ -101,12 +100,9 @@ fn read_key(
     ensures records { (mode : ModeValue)
         → IfOk result (λ records. AreOffered mode (cell_in) (width_in_key) records.items
         (offered known.now fields.now mode (code_of codes.now name.now.bytes))) }
-    ensures faultless { OnOk result
+    ensures faults { ReportsOrRunsOut result
         (name_faults site.file site.whole name.now
-        ++ content_faults site.file known.now site.whole fields.now ≡ []) }
-    ensures fault { IfErr result (λ e.
-        Contains (Memory ∷ (name_faults site.file site.whole name.now
-        ++ content_faults site.file known.now site.whole fields.now)) e) }
+        ++ content_faults site.file known.now site.whole fields.now) }
 {
     if name.as_slice().len() > MOST_NAME_BYTES {
         return Err(Fault::TooMany(site.at(site.whole)));
@@ -138,14 +134,10 @@ fn read_statement(
         (key_in statement.now))) }
     ensures next { IfOk result (λ said.
         said.1 ≡ said_next context.now.modifiers.now.names defaults (field_in statement.now)) }
-    ensures faultless { OnOk result
-        (said_faults site.file (known_under context.now.codes.now
-        context.now.names.now context.now.modifiers.now.names defaults) statement.now word
-        site.whole (key_in statement.now) ≡ []) }
-    ensures fault { IfErr result (λ e.
-        Contains (Memory ∷ said_faults site.file (known_under context.now.codes.now
-        context.now.names.now context.now.modifiers.now.names defaults)
-        statement.now word site.whole (key_in statement.now)) e) }
+    ensures faults { ReportsOrRunsOut result
+        (said_faults site.file
+        (known_under context.now.codes.now context.now.names.now context.now.modifiers.now.names defaults)
+        statement.now word site.whole (key_in statement.now)) }
 {
     match key_in(statement) {
         None => {
@@ -180,13 +172,10 @@ fn read_item(
         context.now.names.now context.now.modifiers.now.names defaults) item.now)) }
     ensures next { IfOk result (λ said.
         said.1 ≡ item_next context.now.modifiers.now.names defaults item.now) }
-    ensures faultless { OnOk result
-        (item_faults place.file (known_under context.now.codes.now
-        context.now.names.now context.now.modifiers.now.names defaults) item.now ≡ []) }
-    ensures fault { IfErr result (λ e.
-        Contains (Memory ∷ item_faults place.file (known_under context.now.codes.now
-        context.now.names.now context.now.modifiers.now.names defaults) item.now)
-        e) }
+    ensures faults { ReportsOrRunsOut result
+        (item_faults place.file
+        (known_under context.now.codes.now context.now.names.now context.now.modifiers.now.names defaults)
+        item.now) }
 {
     match item {
         Item::Include { .. } => Ok((no_records(alloc), defaults)),
@@ -341,12 +330,9 @@ pub fn symbols(
 ) -> Result<(Keys, Notes), Fault>
     ensures shows { IfOk result (λ found.
         KeysShow found.0 codes.now names.now modifiers.now.names (expanded_body expansion.now)) }
-    ensures faultless { OnOk result
+    ensures faults { ReportsOrRunsOut result
         (faults_of nat_eq (key_rules codes.now names.now modifiers.now.names) key_moves
-        (expanded_body expansion.now) ≡ []) }
-    ensures fault { IfErr result (λ e.
-        Contains (Memory ∷ faults_of nat_eq (key_rules codes.now names.now modifiers.now.names)
-        key_moves (expanded_body expansion.now)) e) }
+        (expanded_body expansion.now)) }
 {
     let context = Context {
         codes,

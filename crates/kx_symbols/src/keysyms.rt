@@ -7,6 +7,7 @@ ghost use Rattle.kx_lex.specs.declared.fault.Fault.TheVariants.{Memory};
 ghost use Rattle.kx_symbols.specs.KeyFaults.{count_faults, element_faults, elements_faults, part_faults, symbol_faults};
 ghost use Rattle.kx_basics.specs.Keysyms.{IsKeysym};
 ghost use Rattle.kx_symbols.specs.Keysyms.{element_level, given, keysym_of_text, levels_of, number_keysym, part_keysyms, symbol_keysym, word_keysym};
+ghost use Rattle.kx_merge.specs.Reports.{ReportsOrRunsOut};
 
 use crate::known::StatementSite;
 use arrayvec::ArrayVec;
@@ -207,8 +208,7 @@ pub fn symbol_keysym(
 ) -> Result<Option<u32>, Fault>
     ensures value { IfOk result (λ keysym. keysym ≡ symbol_keysym names.now symbol.now) }
     ensures within { IfOk result (λ keysym. IfSome keysym IsKeysym) }
-    ensures faultless { OnOk result (symbol_faults file symbol.now ≡ []) }
-    ensures fault { IfErr result (λ e. Contains (Memory ∷ symbol_faults file symbol.now) e) }
+    ensures faults { ReportsOrRunsOut result (symbol_faults file symbol.now) }
 {
     match symbol {
         Symbol::Word(word) => Ok(word_keysym(names, word.bytes.as_slice(), notes)),
@@ -235,8 +235,7 @@ fn add_part(
     requires { length keysyms.old < 8 }
     ensures value { OnOk result (keysyms.new ≡ keysyms.old ++ part_keysyms names.now part.now) }
     ensures few { OnOk result (length keysyms.new ≤ length keysyms.old + 1) }
-    ensures faultless { OnOk result (part_faults site.file part.now ≡ []) }
-    ensures fault { IfErr result (λ e. Contains (Memory ∷ part_faults site.file part.now) e) }
+    ensures faults { ReportsOrRunsOut result (part_faults site.file part.now) }
 {
     match part {
         BracePart::Symbol(symbol) => {
@@ -257,12 +256,9 @@ fn braces_keysyms(
     notes: &mut Notes,
 ) -> Result<BracedKeysyms, Fault>
     ensures value { IfOk result (λ keysyms. keysyms ≡ flat_map (part_keysyms names.now) parts.now) }
-    ensures faultless { OnOk result
-        (count_faults site.file site.whole parts.now ++ flat_map (part_faults site.file) parts.now
-        ≡ []) }
-    ensures fault { IfErr result (λ e.
-        Contains (Memory ∷ (count_faults site.file site.whole parts.now
-        ++ flat_map (part_faults site.file) parts.now)) e) }
+    ensures faults { ReportsOrRunsOut result
+        (count_faults site.file site.whole parts.now
+        ++ flat_map (part_faults site.file) parts.now) }
 {
     let mut keysyms = BracedKeysyms::none();
     if parts.len() > MOST_KEYSYMS {
@@ -283,9 +279,7 @@ fn element_level(
     notes: &mut Notes,
 ) -> Result<Option<Keysyms>, Fault>
     ensures value { IfOk result (λ level. level ≡ element_level names.now element.now) }
-    ensures faultless { OnOk result (element_faults site.file site.whole element.now ≡ []) }
-    ensures fault { IfErr result (λ e.
-        Contains (Memory ∷ element_faults site.file site.whole element.now) e) }
+    ensures faults { ReportsOrRunsOut result (element_faults site.file site.whole element.now) }
 {
     match element {
         Element::Symbol(symbol) => match symbol_keysym(names, site.file, symbol, notes)? {
@@ -309,9 +303,7 @@ pub(crate) fn read_levels(
     notes: &mut Notes,
 ) -> Result<Levels<Keysyms>, Fault>
     ensures value { IfOk result (λ levels. levels ≡ levels_of names.now list.now) }
-    ensures faultless { OnOk result (elements_faults site.file site.whole list.now ≡ []) }
-    ensures fault { IfErr result (λ e.
-        Contains (Memory ∷ elements_faults site.file site.whole list.now) e) }
+    ensures faults { ReportsOrRunsOut result (elements_faults site.file site.whole list.now) }
 {
     let elements = list.elements.as_slice();
     let mut levels = Vec::with_capacity(alloc, elements.len())?;

@@ -5,6 +5,7 @@ ghost use Rattle.kx_lex.specs.declared.fault.Fault.TheVariants.{Memory};
 ghost use Rattle.kx_key_fields.specs.KeyFields.{effective, setting_faults};
 ghost use Rattle.kx_key_fields.specs.Attributes.{no_settings, attribute_in};
 ghost use Rattle.kx_symbols.specs.Lists.{is_field};
+ghost use Rattle.kx_merge.specs.Reports.{ReportsOrRunsOut};
 
 use crate::known::Known;
 use kx_key_fields::{AttributeCell, KeyAttributes, KeyDefaults, read_settings};
@@ -33,9 +34,7 @@ fn read_alone(
 ) -> Result<KeyAttributes, Fault>
     ensures cells { IfOk result (λ settings. (cell : AttributeCell)
         → attribute_in settings cell ≡ effective modifiers.now.names no_settings fields.now cell) }
-    ensures faultless { OnOk result (setting_faults file modifiers.now.names fields.now ≡ []) }
-    ensures fault { IfErr result (λ e.
-        Contains (Memory ∷ setting_faults file modifiers.now.names fields.now) e) }
+    ensures faults { ReportsOrRunsOut result (setting_faults file modifiers.now.names fields.now) }
 {
     if has_field(fields) {
         let none = KeyDefaults::none(alloc);
@@ -55,9 +54,7 @@ pub(crate) fn read_besides(
     ensures cells { IfOk result (λ settings. (cell : AttributeCell)
         → attribute_in settings cell ≡ effective known.now.modifiers known.now.defaults.keys
         fields.now cell) }
-    ensures faultless { OnOk result (setting_faults file known.now.modifiers fields.now ≡ []) }
-    ensures fault { IfErr result (λ e.
-        Contains (Memory ∷ setting_faults file known.now.modifiers fields.now) e) }
+    ensures faults { ReportsOrRunsOut result (setting_faults file known.now.modifiers fields.now) }
 {
     match known.defaults.keys() {
         Some(defaults) => read_settings(alloc, known.modifiers, file, fields, defaults),

@@ -17,6 +17,7 @@ ghost use Rattle.kx_types.specs.TypeFaults.{declares_modifiers, item_faults, sai
 ghost use Rattle.kx_types.specs.TypeFields.{field_faults, sayings_of};
 ghost use Rattle.kx_types.specs.Types.{NamedTypes, TypesShow, item_offers, said_offers, type_named, type_names, type_offer, type_rules, types_faults};
 ghost use Rattle.kx_merge.specs.Faults.{name_faults};
+ghost use Rattle.kx_merge.specs.Reports.{ReportsOrRunsOut};
 
 use crate::counting::TypeNaming;
 use crate::definition::KeyType;
@@ -64,12 +65,9 @@ fn read_type(
         → IfOk result (λ records. AreOffered mode single_cell single_width records.items
         (type_offer mode name.now.bytes (definition_of (sayings_of modifiers.now.names fields.now))
         ∷ [])) }
-    ensures faultless { OnOk result
+    ensures faults { ReportsOrRunsOut result
         (name_faults file whole name.now
-        ++ flat_map (field_faults modifiers.now.names file) fields.now ≡ []) }
-    ensures fault { IfErr result (λ e.
-        Contains (Memory ∷ (name_faults file whole name.now
-        ++ flat_map (field_faults modifiers.now.names file) fields.now)) e) }
+        ++ flat_map (field_faults modifiers.now.names file) fields.now) }
 {
     let bytes = name.bytes.as_slice();
     if bytes.len() > MOST_NAME_BYTES {
@@ -92,12 +90,8 @@ fn read_statement(
     ensures records { (mode : ModeValue)
         → IfOk result (λ records. AreOffered mode single_cell single_width records.items
         (said_offers modifiers.now.names mode (type_in statement.now))) }
-    ensures faultless { OnOk result
-        (said_faults modifiers.now.names file (type_in statement.now) statement.now word whole
-        ≡ []) }
-    ensures fault { IfErr result (λ e.
-        Contains (Memory ∷ said_faults modifiers.now.names file (type_in statement.now)
-        statement.now word whole) e) }
+    ensures faults { ReportsOrRunsOut result
+        (said_faults modifiers.now.names file (type_in statement.now) statement.now word whole) }
 {
     match type_in(statement) {
         Some((name, fields)) => read_type(alloc, modifiers, file, whole, name, fields.as_slice()),
@@ -120,9 +114,7 @@ fn read_item(
     ensures records { IfOk result (λ records.
         AreOffered (mode_of item.now) single_cell single_width records.items
         (item_offers modifiers.now.names item.now)) }
-    ensures faultless { OnOk result (item_faults modifiers.now.names place.file item.now ≡ []) }
-    ensures fault { IfErr result (λ e.
-        Contains (Memory ∷ item_faults modifiers.now.names place.file item.now) e) }
+    ensures faults { ReportsOrRunsOut result (item_faults modifiers.now.names place.file item.now) }
 {
     let word = item.word_span();
     match item {
@@ -177,10 +169,8 @@ impl SingleValue<ModNames> for KeyType {
 pub fn types(alloc: Global, expansion: &Expansion, modifiers: &ModNames) -> Result<Types, Fault>
     ensures shows { IfOk result (λ types.
         TypesShow types modifiers.now.names (expanded_body expansion.now)) }
-    ensures faultless { OnOk result
-        (types_faults modifiers.now.names (expanded_body expansion.now) ≡ []) }
-    ensures fault { IfErr result (λ e.
-        Contains (Memory ∷ types_faults modifiers.now.names (expanded_body expansion.now)) e) }
+    ensures faults { ReportsOrRunsOut result
+        (types_faults modifiers.now.names (expanded_body expansion.now)) }
 {
     let _counted = count_names::<TypeNaming>(alloc, MOST_TYPES, Names::new(alloc), expansion)?;
     let merged = merge::<ModNames, Single<KeyType>>(alloc, modifiers, expansion)?;

@@ -11,6 +11,7 @@ ghost use Rattle.kx_merge.specs.Numbers.{number_faults, number_named};
 ghost use Rattle.kx_merge.specs.declared.numbers.Counted.TheVariants.{Level};
 ghost use Rattle.kx_types.specs.TypeFields.{field_faults, is_text, saying_of, sayings_of, slot_faults, slot_of, slot_saying, text_faults};
 ghost use Rattle.kx_types.specs.declared.fields.Slot.TheVariants as slots;
+ghost use Rattle.kx_merge.specs.Reports.{Reports, ReportsOrRunsOut};
 
 use crate::saying::Saying;
 use kx_lex::{At, Fault};
@@ -57,8 +58,7 @@ fn is_text(expression: &Expression) -> bool
 }
 
 fn check_text(file: u32, expression: &Expression) -> Result<(), Fault>
-    ensures faultless { OnOk result (text_faults file expression.now ≡ []) }
-    ensures fault { IfErr result (λ e. Contains (text_faults file expression.now) e) }
+    ensures faults { Reports result (text_faults file expression.now) }
 {
     if is_text(expression) {
         Ok(())
@@ -71,12 +71,9 @@ fn check_text(file: u32, expression: &Expression) -> Result<(), Fault>
 fn value_mask(modifiers: &ModNames, file: u32, field: &Field) -> Result<NameSet, Fault>
     ensures value { IfOk result (λ set.
         option_map (mask_set modifiers.now.names) (expression_in field.now.setting) ≡ Some set) }
-    ensures faultless { OnOk result
-        (value_faults file (mask_faults file modifiers.now.names) field.now.span field.now.setting
-        ≡ []) }
-    ensures fault { IfErr result (λ e.
-        Contains (value_faults file (mask_faults file modifiers.now.names) field.now.span
-        field.now.setting) e) }
+    ensures faults { Reports result
+        (value_faults file (mask_faults file modifiers.now.names) field.now.span
+        field.now.setting) }
 {
     let expression = expression_of(file, field.span, &field.setting)?;
     modifiers.mask_of(file, expression)
@@ -87,21 +84,16 @@ fn value_level(file: u32, field: &Field) -> Result<u8, Fault>
     ensures value { IfOk result (λ level.
         option_and_then (number_named Level) (expression_in field.now.setting) ≡ Some level) }
     ensures within { IfOk result IsLevel }
-    ensures faultless { OnOk result
-        (value_faults file (number_faults file Level) field.now.span field.now.setting ≡ []) }
-    ensures fault { IfErr result (λ e.
-        Contains (value_faults file (number_faults file Level) field.now.span field.now.setting)
-        e) }
+    ensures faults { Reports result
+        (value_faults file (number_faults file Level) field.now.span field.now.setting) }
 {
     let expression = expression_of(file, field.span, &field.setting)?;
     Counted::Level.read(file, expression)
 }
 
 fn check_value_text(file: u32, field: &Field) -> Result<(), Fault>
-    ensures faultless { OnOk result
-        (value_faults file (text_faults file) field.now.span field.now.setting ≡ []) }
-    ensures fault { IfErr result (λ e.
-        Contains (value_faults file (text_faults file) field.now.span field.now.setting) e) }
+    ensures faults { Reports result
+        (value_faults file (text_faults file) field.now.span field.now.setting) }
 {
     let expression = expression_of(file, field.span, &field.setting)?;
     check_text(file, expression)
@@ -111,10 +103,8 @@ fn read_modifiers(modifiers: &ModNames, file: u32, field: &Field) -> Result<Sayi
     ensures value { IfOk result (λ saying.
         slot_saying modifiers.now.names (Some slots.Modifiers) None field.now ≡ Some saying) }
     ensures level { IfOk result NamesLevel }
-    ensures faultless { OnOk result
-        (slot_faults modifiers.now.names file (Some slots.Modifiers) None field.now ≡ []) }
-    ensures fault { IfErr result (λ e.
-        Contains (slot_faults modifiers.now.names file (Some slots.Modifiers) None field.now) e) }
+    ensures faults { Reports result
+        (slot_faults modifiers.now.names file (Some slots.Modifiers) None field.now) }
 {
     Ok(Saying::Modifiers(value_mask(modifiers, file, field)?))
 }
@@ -123,11 +113,8 @@ fn read_map(modifiers: &ModNames, file: u32, index: &Index, field: &Field) -> Re
     ensures value { IfOk result (λ saying.
         slot_saying modifiers.now.names (Some slots.Map) (Some index.now) field.now ≡ Some saying) }
     ensures level { IfOk result NamesLevel }
-    ensures faultless { OnOk result
-        (slot_faults modifiers.now.names file (Some slots.Map) (Some index.now) field.now ≡ []) }
-    ensures fault { IfErr result (λ e.
-        Contains (slot_faults modifiers.now.names file (Some slots.Map) (Some index.now) field.now)
-        e) }
+    ensures faults { Reports result
+        (slot_faults modifiers.now.names file (Some slots.Map) (Some index.now) field.now) }
 {
     let mask = modifiers.mask_of(file, &index.value)?;
     Ok(Saying::Map(mask, value_level(file, field)?))
@@ -143,12 +130,8 @@ fn read_preserve(
         slot_saying modifiers.now.names (Some slots.Preserve) (Some index.now) field.now
         ≡ Some saying) }
     ensures level { IfOk result NamesLevel }
-    ensures faultless { OnOk result
-        (slot_faults modifiers.now.names file (Some slots.Preserve) (Some index.now) field.now
-        ≡ []) }
-    ensures fault { IfErr result (λ e.
-        Contains (slot_faults modifiers.now.names file (Some slots.Preserve) (Some index.now)
-        field.now) e) }
+    ensures faults { Reports result
+        (slot_faults modifiers.now.names file (Some slots.Preserve) (Some index.now) field.now) }
 {
     let mask = modifiers.mask_of(file, &index.value)?;
     Ok(Saying::Preserve(mask, value_mask(modifiers, file, field)?))
@@ -164,12 +147,8 @@ fn read_level_name(
         slot_saying modifiers.now.names (Some slots.LevelName) (Some index.now) field.now
         ≡ Some saying) }
     ensures level { IfOk result NamesLevel }
-    ensures faultless { OnOk result
-        (slot_faults modifiers.now.names file (Some slots.LevelName) (Some index.now) field.now
-        ≡ []) }
-    ensures fault { IfErr result (λ e.
-        Contains (slot_faults modifiers.now.names file (Some slots.LevelName) (Some index.now)
-        field.now) e) }
+    ensures faults { Reports result
+        (slot_faults modifiers.now.names file (Some slots.LevelName) (Some index.now) field.now) }
 {
     let level = Counted::Level.read(file, &index.value)?;
     check_value_text(file, field)?;
@@ -189,9 +168,7 @@ fn unknown_field(file: u32, field: &Field) -> Fault
 fn read_field(modifiers: &ModNames, file: u32, field: &Field) -> Result<Saying, Fault>
     ensures value { IfOk result (λ saying. saying_of modifiers.now.names field.now ≡ Some saying) }
     ensures level { IfOk result NamesLevel }
-    ensures faultless { OnOk result (field_faults modifiers.now.names file field.now ≡ []) }
-    ensures fault { IfErr result (λ e.
-        Contains (field_faults modifiers.now.names file field.now) e) }
+    ensures faults { Reports result (field_faults modifiers.now.names file field.now) }
 {
     let place = &field.place;
     if place.member.is_some() {
@@ -217,10 +194,8 @@ pub(crate) fn read_fields(
 ) -> Result<Vec<Saying>, Fault>
     ensures value { IfOk result (λ said. said.items ≡ sayings_of modifiers.now.names fields.now) }
     ensures levels { IfOk result (λ said. All NamesLevel said.items) }
-    ensures faultless { OnOk result
-        (flat_map (field_faults modifiers.now.names file) fields.now ≡ []) }
-    ensures fault { IfErr result (λ e.
-        Contains (Memory ∷ flat_map (field_faults modifiers.now.names file) fields.now) e) }
+    ensures faults { ReportsOrRunsOut result
+        (flat_map (field_faults modifiers.now.names file) fields.now) }
 {
     let mut said = Vec::with_capacity(alloc, fields.len())?;
     'fields: for field in fields {

@@ -5,6 +5,7 @@ ghost use Rattle.kx_parse.specs.declared.tree.Item.{Item as ItemValue};
 ghost use Rattle.kx_lex.specs.declared.fault.Fault.TheVariants.{Memory};
 ghost use Rattle.kx_virtual_mods.specs.Counted.{crossing, names_behind, statements_of, whole_span, with_names};
 ghost use Rattle.kx_virtual_mods.specs.Tallies.{Adds, AreDone, bodies_of, entry_statements, links_statements, map_statements};
+ghost use Rattle.kx_merge.specs.Reports.{ReportsOrRunsOut};
 
 use crate::names::Names;
 use kx_include::{Entry, Expansion, Link, Map, Place};
@@ -194,11 +195,8 @@ pub fn count_names<N: Naming>(
     ensures names { IfOk result (λ new.
         new ≡ names_behind N.names names (statements_of (expanded_body expansion.now))) }
     ensures few { IfOk result (λ new. length new ≤ limit) }
-    ensures faultless { OnOk result
-        (crossing N.names limit names (statements_of (expanded_body expansion.now)) ≡ []) }
-    ensures fault { IfErr result (λ e.
-        Contains (Memory ∷ crossing N.names limit names
-        (statements_of (expanded_body expansion.now))) e) }
+    ensures faults { ReportsOrRunsOut result
+        (crossing N.names limit names (statements_of (expanded_body expansion.now))) }
 {
     let maps = expansion.maps.as_slice();
     let done = vec![in alloc; false; maps.len()]?;

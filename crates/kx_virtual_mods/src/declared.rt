@@ -11,6 +11,7 @@ ghost use Rattle.kx_parse.specs.declared.tree.Mode.{Mode as ModeValue};
 ghost use Rattle.kx_virtual_mods.specs.Declarations.{declaration_faults, declarations_in, declarations_of, declared_faults, given_by, given_in, item_faults, item_offers, last_mask, mask_offer, mask_offers, name_faults, named_by, named_in, numbers_of};
 ghost use Rattle.kx_virtual_mods.specs.Counted.{with_names};
 ghost use Rattle.kx_virtual_mods.specs.Masks.{mask_set, virtual_number};
+ghost use Rattle.kx_merge.specs.Reports.{Reports, ReportsOrRunsOut};
 
 use crate::counted::Naming;
 use crate::masks::real_mask_of;
@@ -79,8 +80,7 @@ impl Naming for ModifierNaming {
 }
 
 fn check_name(file: u32, word: &Name) -> Result<(), Fault>
-    ensures faultless { OnOk result (name_faults file word.now ≡ []) }
-    ensures fault { IfErr result (λ e. Contains (name_faults file word.now) e) }
+    ensures faults { Reports result (name_faults file word.now) }
 {
     match real_mask(word.bytes.as_slice()) {
         None => Ok(()),
@@ -94,8 +94,7 @@ fn check_name(file: u32, word: &Name) -> Result<(), Fault>
 /// The mask that a declaration writes.
 fn read_mask(names: &Names, file: u32, mask: &Option<Expression>) -> Result<Option<u8>, Fault>
     ensures value { IfOk result (λ m. m ≡ option_map (mask_set []) mask.now) }
-    ensures faultless { OnOk result (declared_faults file names.now mask.now ≡ []) }
-    ensures fault { IfErr result (λ e. Contains (declared_faults file names.now mask.now) e) }
+    ensures faults { Reports result (declared_faults file names.now mask.now) }
 {
     match mask {
         None => Ok(None),
@@ -116,9 +115,7 @@ fn read_declaration(
     ensures value { OnOk result (given.new.items
         ≡ given.old.items ++ given_by (virtual_number names.now declaration.now.word.bytes)
         declaration.now.mask) }
-    ensures faultless { OnOk result (declaration_faults file names.now declaration.now ≡ []) }
-    ensures fault { IfErr result (λ e.
-        Contains (Memory ∷ declaration_faults file names.now declaration.now) e) }
+    ensures faults { ReportsOrRunsOut result (declaration_faults file names.now declaration.now) }
 {
     check_name(file, &declaration.word)?;
     let mask = read_mask(names, file, &declaration.mask)?;
@@ -139,10 +136,8 @@ fn read_declarations(
     declarations: &[Declaration],
 ) -> Result<Vec<(usize, Option<u8>)>, Fault>
     ensures value { IfOk result (λ given. given.items ≡ given_in names.now declarations.now) }
-    ensures faultless { OnOk result
-        (flat_map (declaration_faults file names.now) declarations.now ≡ []) }
-    ensures fault { IfErr result (λ e.
-        Contains (Memory ∷ flat_map (declaration_faults file names.now) declarations.now) e) }
+    ensures faults { ReportsOrRunsOut result
+        (flat_map (declaration_faults file names.now) declarations.now) }
 {
     let mut given = Vec::new(alloc);
     'declarations: for declaration in declarations {
@@ -246,8 +241,7 @@ fn read_item(
     ensures records { IfOk result (λ records.
         AreOffered (mode_of item.now) single_cell single_width records.items
         (item_offers names.now item.now)) }
-    ensures faultless { OnOk result (item_faults file names.now item.now ≡ []) }
-    ensures fault { IfErr result (λ e. Contains (Memory ∷ item_faults file names.now item.now) e) }
+    ensures faults { ReportsOrRunsOut result (item_faults file names.now item.now) }
 {
     let given = read_declarations(alloc, names, file, declarations_of(item))?;
     records_of(alloc, given.as_slice())

@@ -5,6 +5,7 @@ ghost use Rattle.kx_mods.specs.Mods.{mask};
 ghost use Rattle.kx_include.specs.IncludeFaults.{at};
 ghost use Rattle.kx_lex.specs.declared.fault.Fault.TheVariants.{BadValue};
 ghost use Rattle.kx_virtual_mods.specs.Masks.{joined, mask_faults, mask_set, operated, operation_faults, real_mask_faults, real_word_faults, term_faults, term_set, word_faults, word_set};
+ghost use Rattle.kx_merge.specs.Reports.{Reports};
 
 use crate::limits::MOST_VIRTUAL_MODIFIERS;
 use crate::names::Names;
@@ -35,8 +36,7 @@ fn number_mask(file: u32, number: Number) -> Result<Mods, Fault>
 /// The real modifiers that a word stands for.
 fn real_word(names: &Names, file: u32, word: &Name) -> Result<Mods, Fault>
     ensures value { IfOk result (λ m. mask m ≡ unwrap_or (word_set [] word.now.bytes) 0) }
-    ensures faultless { OnOk result (real_word_faults file names.now word.now ≡ []) }
-    ensures fault { IfErr result (λ e. Contains (real_word_faults file names.now word.now) e) }
+    ensures faults { Reports result (real_word_faults file names.now word.now) }
 {
     let bytes = word.bytes.as_slice();
     if let Some(mods) = real_mask(bytes) {
@@ -55,8 +55,7 @@ fn real_word(names: &Names, file: u32, word: &Name) -> Result<Mods, Fault>
 fn word_set(names: &Names, file: u32, word: &Name) -> Result<NameSet, Fault>
     requires { length names.now ≤ MOST_VIRTUAL_MODIFIERS }
     ensures value { IfOk result (λ set. set ≡ unwrap_or (word_set names.now word.now.bytes) 0) }
-    ensures faultless { OnOk result (word_faults file names.now word.now ≡ []) }
-    ensures fault { IfErr result (λ e. Contains (word_faults file names.now word.now) e) }
+    ensures faults { Reports result (word_faults file names.now word.now) }
 {
     let bytes = word.bytes.as_slice();
     if let Some(mods) = real_mask(bytes) {
@@ -73,10 +72,7 @@ fn word_set(names: &Names, file: u32, word: &Name) -> Result<NameSet, Fault>
 
 fn real_term(names: &Names, file: u32, term: &Term) -> Result<Mods, Fault>
     ensures value { IfOk result (λ m. mask m ≡ term_set [] term.now) }
-    ensures faultless { OnOk result
-        (term_faults file (real_word_faults file names.now) term.now ≡ []) }
-    ensures fault { IfErr result (λ e.
-        Contains (term_faults file (real_word_faults file names.now) term.now) e) }
+    ensures faults { Reports result (term_faults file (real_word_faults file names.now) term.now) }
 {
     match term {
         Term::Number(number) => number_mask(file, *number),
@@ -90,9 +86,7 @@ fn real_term(names: &Names, file: u32, term: &Term) -> Result<Mods, Fault>
 fn term_set(names: &Names, file: u32, term: &Term) -> Result<NameSet, Fault>
     requires { length names.now ≤ MOST_VIRTUAL_MODIFIERS }
     ensures value { IfOk result (λ set. set ≡ term_set names.now term.now) }
-    ensures faultless { OnOk result (term_faults file (word_faults file names.now) term.now ≡ []) }
-    ensures fault { IfErr result (λ e.
-        Contains (term_faults file (word_faults file names.now) term.now) e) }
+    ensures faults { Reports result (term_faults file (word_faults file names.now) term.now) }
 {
     match term {
         Term::Number(number) => {
@@ -132,11 +126,8 @@ fn real_operations(
     operations: &[Operation],
 ) -> Result<Mods, Fault>
     ensures value { IfOk result (λ m. mask m ≡ fold (operated []) (mask before) operations.now) }
-    ensures faultless { OnOk result
-        (flat_map (operation_faults file (real_word_faults file names.now)) operations.now ≡ []) }
-    ensures fault { IfErr result (λ e.
-        Contains (flat_map (operation_faults file (real_word_faults file names.now)) operations.now)
-        e) }
+    ensures faults { Reports result
+        (flat_map (operation_faults file (real_word_faults file names.now)) operations.now) }
 {
     let mut mods = before;
     'operations: for operation in operations {
@@ -155,10 +146,8 @@ fn set_operations(
 ) -> Result<NameSet, Fault>
     requires { length names.now ≤ MOST_VIRTUAL_MODIFIERS }
     ensures value { IfOk result (λ set. set ≡ fold (operated names.now) before operations.now) }
-    ensures faultless { OnOk result
-        (flat_map (operation_faults file (word_faults file names.now)) operations.now ≡ []) }
-    ensures fault { IfErr result (λ e.
-        Contains (flat_map (operation_faults file (word_faults file names.now)) operations.now) e) }
+    ensures faults { Reports result
+        (flat_map (operation_faults file (word_faults file names.now)) operations.now) }
 {
     let mut set = before;
     'operations: for operation in operations {
@@ -171,9 +160,7 @@ fn set_operations(
 /// The real modifiers that a mask names, in which virtual modifiers may not stand.
 pub(crate) fn real_mask_of(names: &Names, file: u32, expression: &Expression) -> Result<Mods, Fault>
     ensures value { IfOk result (λ m. mask m ≡ mask_set [] expression.now) }
-    ensures faultless { OnOk result (real_mask_faults file names.now expression.now ≡ []) }
-    ensures fault { IfErr result (λ e.
-        Contains (real_mask_faults file names.now expression.now) e) }
+    ensures faults { Reports result (real_mask_faults file names.now expression.now) }
 {
     let first = real_term(names, file, &expression.first)?;
     real_operations(names, file, first, expression.rest.as_slice())
@@ -183,8 +170,7 @@ pub(crate) fn real_mask_of(names: &Names, file: u32, expression: &Expression) ->
 pub(crate) fn mask_of(names: &Names, file: u32, expression: &Expression) -> Result<NameSet, Fault>
     requires { length names.now ≤ MOST_VIRTUAL_MODIFIERS }
     ensures value { IfOk result (λ set. set ≡ mask_set names.now expression.now) }
-    ensures faultless { OnOk result (mask_faults file names.now expression.now ≡ []) }
-    ensures fault { IfErr result (λ e. Contains (mask_faults file names.now expression.now) e) }
+    ensures faults { Reports result (mask_faults file names.now expression.now) }
 {
     let first = term_set(names, file, &expression.first)?;
     set_operations(names, file, first, expression.rest.as_slice())

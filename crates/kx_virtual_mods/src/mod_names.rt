@@ -13,6 +13,7 @@ ghost use Rattle.kx_virtual_mods.specs.Once.{OffersOnce};
 ghost use Rattle.kx_virtual_mods.specs.Records.{mask_recorded};
 ghost use Rattle.kx_virtual_mods.specs.Masks.{mask_faults, mask_set, real_mask_faults, virtual_number};
 ghost use Rattle.kx_virtual_mods.specs.Sets.{union};
+ghost use Rattle.kx_merge.specs.Reports.{Reports, ReportsOrRunsOut};
 
 use crate::counted::count_names;
 use crate::declared::ModifierNaming;
@@ -36,11 +37,8 @@ const LIMIT: usize = 24;
 fn modifier_names(alloc: Global, bodies: &Bodies) -> Result<Names, Fault>
     ensures names { IfOk result (λ names. names ≡ virtual_names (modifier_bodies bodies.now)) }
     ensures few { IfOk result (λ names. length names ≤ LIMIT) }
-    ensures faultless { OnOk result
-        (count_faults named_in LIMIT (all_statements (modifier_bodies bodies.now)) ≡ []) }
-    ensures fault { IfErr result (λ e.
-        Contains (Memory ∷ count_faults named_in LIMIT
-        (all_statements (modifier_bodies bodies.now))) e) }
+    ensures faults { ReportsOrRunsOut result
+        (count_faults named_in LIMIT (all_statements (modifier_bodies bodies.now))) }
 {
     let none = Names::new(alloc);
     let types = count_names::<ModifierNaming>(alloc, LIMIT, none, &bodies.types)?;
@@ -87,12 +85,8 @@ fn declared_masks(alloc: Global, names: &Names, bodies: &Bodies) -> Result<Vec<M
     ensures masks { IfOk result (λ masks. (number : ℕ) → number < LIMIT
         → option_map_or mask (slice_get masks.items number) 0
         ≡ declared_mask names.now (modifier_bodies bodies.now) number) }
-    ensures faultless { OnOk result
-        (flat_map (faults_of nat_eq (mask_rules names.now) no_moves) (modifier_bodies bodies.now)
-        ≡ []) }
-    ensures fault { IfErr result (λ e.
-        Contains (Memory ∷ flat_map (faults_of nat_eq (mask_rules names.now) no_moves)
-        (modifier_bodies bodies.now)) e) }
+    ensures faults { ReportsOrRunsOut result
+        (flat_map (faults_of nat_eq (mask_rules names.now) no_moves) (modifier_bodies bodies.now)) }
 {
     let types = merge::<Names, Single<u8>>(alloc, names, &bodies.types)?;
     let compat = merge::<Names, Single<u8>>(alloc, names, &bodies.compat)?;
@@ -130,9 +124,7 @@ impl ModNames {
     pub fn of(alloc: Global, bodies: &Bodies) -> Result<ModNames, Fault>
         ensures names { IfOk result (λ m. AreModNames m (modifier_bodies bodies.now)) }
         ensures once { (names : List (List ℕ)) → OffersOnce nat_eq (mask_rules names) }
-        ensures faultless { OnOk result (modifier_faults (modifier_bodies bodies.now) ≡ []) }
-        ensures fault { IfErr result (λ e.
-            Contains (Memory ∷ modifier_faults (modifier_bodies bodies.now)) e) }
+        ensures faults { ReportsOrRunsOut result (modifier_faults (modifier_bodies bodies.now)) }
     {
         let names = modifier_names(alloc, bodies)?;
         let masks = declared_masks(alloc, &names, bodies)?;
@@ -189,9 +181,7 @@ impl ModNames {
     /// from 0 to 255.
     pub fn mask_of(&self, file: u32, expression: &Expression) -> Result<NameSet, Fault>
         ensures value { IfOk result (λ set. set ≡ mask_set self.now.names expression.now) }
-        ensures faultless { OnOk result (mask_faults file self.now.names expression.now ≡ []) }
-        ensures fault { IfErr result (λ e.
-            Contains (mask_faults file self.now.names expression.now) e) }
+        ensures faults { Reports result (mask_faults file self.now.names expression.now) }
     {
         mask_of(&self.names, file, expression)
     }
@@ -203,9 +193,7 @@ impl ModNames {
     /// is no word and no number from 0 to 255.
     pub fn real_mask_of(&self, file: u32, expression: &Expression) -> Result<Mods, Fault>
         ensures value { IfOk result (λ m. mask m ≡ mask_set [] expression.now) }
-        ensures faultless { OnOk result (real_mask_faults file self.now.names expression.now ≡ []) }
-        ensures fault { IfErr result (λ e.
-            Contains (real_mask_faults file self.now.names expression.now) e) }
+        ensures faults { Reports result (real_mask_faults file self.now.names expression.now) }
     {
         real_mask_of(&self.names, file, expression)
     }

@@ -4,23 +4,23 @@ use Rattle.kx_lex.specs.declared.fault.Fault.TheVariants.{Memory}
 use Rattle.kx_symbols.specs.KeyFaults.{symbol_faults}
 use Rattle.kx_compat.specs.Sections.{own_faults, values_of}
 use Rattle.kx_compat.specs.Matches.{predicate_faults, match_of}
-use Rattle.kx_merge.proofs.Going.{blamed_behind, blamed_front, passed}
+use Rattle.kx_merge.proofs.Going.{blamed_behind, blamed_front, reported_or_out}
 use Rattle.kx_compat.proofs.Offering.{same_offered}
 use Rattle.kx_compat.proofs.statements.read_interpretation.Goals as goal
 
-pub returns-in_err-interpretation_match-clause-fault : goal.returns-in_err-interpretation_match-clause-fault
-returns-in_err-interpretation_match-clause-fault c =
+pub returns-in_err-interpretation_match-clause-faults : goal.returns-in_err-interpretation_match-clause-faults
+returns-in_err-interpretation_match-clause-faults c =
     let names = c.args.names.now.names in
     let front = symbol_faults c.args.file c.args.symbol.now ++ predicate_faults c.args.file names c.args.predicate.now in
     let fields = flat_map (own_faults c.args.file names) c.args.fields.now in
-    passed c.from_residual.result (Memory ∷ (front ++ fields)) c.in_err-interpretation_match.field-0.0 c.from_residual.ensures.1 (blamed_front Memory front fields c.in_err-interpretation_match.field-0.0 c.in_err-interpretation_match.ensures.fault)
+    reported_or_out c.from_residual.result (front ++ fields) c.in_err-interpretation_match.field-0.0 c.from_residual.ensures.1 (blamed_front Memory front fields c.in_err-interpretation_match.field-0.0 c.in_err-interpretation_match.ensures.faults.1)
 
-pub returns-in_err-values-clause-fault : goal.returns-in_err-values-clause-fault
-returns-in_err-values-clause-fault c =
+pub returns-in_err-values-clause-faults : goal.returns-in_err-values-clause-faults
+returns-in_err-values-clause-faults c =
     let names = c.args.names.now.names in
     let front = symbol_faults c.args.file c.args.symbol.now ++ predicate_faults c.args.file names c.args.predicate.now in
     let fields = flat_map (own_faults c.args.file names) c.args.fields.now in
-    passed c.from_residual-in_err-values.result (Memory ∷ (front ++ fields)) c.in_err-values.field-0.0 c.from_residual-in_err-values.ensures.1 (blamed_behind Memory front fields c.in_err-values.field-0.0 c.in_err-values.ensures.fault)
+    reported_or_out c.from_residual-in_err-values.result (front ++ fields) c.in_err-values.field-0.0 c.from_residual-in_err-values.ensures.1 (blamed_behind Memory front fields c.in_err-values.field-0.0 c.in_err-values.ensures.faults.1)
 
 pub returns-clause-records : goal.returns-clause-records
 returns-clause-records c = λ mode.

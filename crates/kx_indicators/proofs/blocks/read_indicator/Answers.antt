@@ -3,17 +3,17 @@ use Rattle.std.specs.List.{flat_map}
 use Rattle.std.specs.Str.{bytes_eq}
 use Rattle.kx_lex.specs.declared.fault.Fault.TheVariants.{Memory}
 use Rattle.kx_indicators.specs.Blocks.{own_faults, values_of}
-use Rattle.kx_merge.proofs.Going.{blamed_behind, passed}
+use Rattle.kx_merge.proofs.Going.{blamed_behind, reported_or_out}
 use Rattle.kx_indicators.proofs.Offering.{same_offered}
 use Rattle.kx_indicators.proofs.blocks.read_indicator.Goals as goal
 use Rattle.kx_merge.specs.Faults.{name_faults}
 
-pub returns-in_err-values-clause-fault : goal.returns-in_err-values-clause-fault
-returns-in_err-values-clause-fault c =
+pub returns-in_err-values-clause-faults : goal.returns-in_err-values-clause-faults
+returns-in_err-values-clause-faults c =
     let names = c.args.names.now.names in
     let front = name_faults c.args.file c.args.whole c.args.name.now in
     let fields = flat_map (own_faults c.args.file names) c.args.fields.now in
-    passed c.from_residual.result (Memory ∷ (front ++ fields)) c.in_err-values.field-0.0 c.from_residual.ensures.1 (blamed_behind Memory front fields c.in_err-values.field-0.0 c.in_err-values.ensures.fault)
+    reported_or_out c.from_residual.result (front ++ fields) c.in_err-values.field-0.0 c.from_residual.ensures.1 (blamed_behind Memory front fields c.in_err-values.field-0.0 c.in_err-values.ensures.faults.1)
 
 pub returns-clause-records : goal.returns-clause-records
 returns-clause-records c = λ mode.

@@ -2,7 +2,7 @@ use Rattle.std.proofs.Common.{Ok, ap, subst, sym, ◌∷◌, ◌∙◌, Contains
 use Rattle.std.specs.Option.{option_map}
 use Rattle.kx_lex.specs.declared.fault.Fault.TheVariants.{Memory}
 use Rattle.kx_indicators.specs.Blocks.{default_faults, default_in, indicator_in, said_faults}
-use Rattle.kx_merge.proofs.Going.{blamed, passed}
+use Rattle.kx_merge.proofs.Going.{blamed, reported_or_out}
 use Rattle.kx_indicators.proofs.Offering.{said_offered}
 use Rattle.kx_indicators.proofs.blocks.read_statement.Goals as goal
 
@@ -11,11 +11,11 @@ returns-in_ok-records-in-Some-clause-records c = λ mode.
     said_offered (λ v. v.items) (Ok c.in_ok-records-in-Some.records) mode c.args.indicator_maps.now c.args.names.now.names c.args.defaults c.in-Some.name.now c.in-Some.fields.now c.as_slice.result.now (indicator_in c.args.statement.now)
     (sym (ap (option_map (λ i. (i.0.now, i.1.now))) c.in-Some.is) ∙ c.indicator_in.ensures) c.as_slice.ensures (c.in_ok-records-in-Some.ensures.records mode)
 
-pub returns-in_err-next-in-None-clause-fault : goal.returns-in_err-next-in-None-clause-fault
-returns-in_err-next-in-None-clause-fault c =
+pub returns-in_err-next-in-None-clause-faults : goal.returns-in_err-next-in-None-clause-faults
+returns-in_err-next-in-None-clause-faults c =
     let names = c.args.names.now.names in
     let statement = c.args.statement.now in
     let e = c.in_err-next-in-None.field-0.0 in
     let none = sym (ap (option_map (λ i. (i.0.now, i.1.now))) c.in-None.is) ∙ c.indicator_in.ensures in
-    passed c.from_residual-in_err-next-in-None.result (Memory ∷ said_faults c.args.file names statement c.args.whole (indicator_in statement)) e c.from_residual-in_err-next-in-None.ensures.1
-    (subst (λ i. Contains (Memory ∷ said_faults c.args.file names statement c.args.whole i) e) none (blamed Memory (default_faults c.args.file names (default_in statement)) e c.in_err-next-in-None.ensures.fault))
+    reported_or_out c.from_residual-in_err-next-in-None.result (said_faults c.args.file names statement c.args.whole (indicator_in statement)) e c.from_residual-in_err-next-in-None.ensures.1
+    (subst (λ i. Contains (Memory ∷ said_faults c.args.file names statement c.args.whole i) e) none (blamed Memory (default_faults c.args.file names (default_in statement)) e c.in_err-next-in-None.ensures.faults.1))

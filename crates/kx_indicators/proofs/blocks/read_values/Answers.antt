@@ -2,7 +2,7 @@ use Rattle.std.proofs.Common.{◌+◌, ap, drop, sym, ◌∙◌}
 use Rattle.std.specs.List.{flat_map}
 use Rattle.kx_indicators.specs.Blocks.{own_faults, own_value}
 use Rattle.kx_indicators.specs.Giving.{last_values}
-use Rattle.kx_merge.proofs.Going.{none_blames, none_goes, passed}
+use Rattle.kx_merge.proofs.Going.{none_blames, none_goes, reported}
 use Rattle.kx_indicators.proofs.Lasting.{last_goes}
 use Rattle.kx_indicators.proofs.blocks.read_values.Goals as goal
 
@@ -13,11 +13,11 @@ fields-preserved c =
     record {
       value = last_goes gives c.args.defaults c.fields.values c.args.fields.now c.fields.field-index c.field-item.result c.in_ok-read_own.field-0 c.fields-test.true c.field-item.is c.in_ok-read_own.ensures.value c.fields.invariant.value
           ∙ ap (λ v. last_values gives v (drop (c.fields.field-index + 1) c.args.fields.now)) (sym c.with-values.ensures);
-      faultless = none_goes faults c.args.fields.now c.fields.field-index c.field-item.result c.fields-test.true c.field-item.is c.in_ok-read_own.ensures.faultless c.fields.invariant.faultless;
+      faultless = none_goes faults c.args.fields.now c.fields.field-index c.field-item.result c.fields-test.true c.field-item.is c.in_ok-read_own.ensures.faults.0 c.fields.invariant.faultless;
     }
 
-pub returns-in_err-read_own-clause-fault : goal.returns-in_err-read_own-clause-fault
-returns-in_err-read_own-clause-fault c =
+pub returns-in_err-read_own-clause-faults : goal.returns-in_err-read_own-clause-faults
+returns-in_err-read_own-clause-faults c =
     let faults = own_faults c.args.file c.args.names.now.names in
-    passed c.from_residual.result (flat_map faults c.args.fields.now) c.in_err-read_own.field-0.0 c.from_residual.ensures.1
-    (none_blames faults c.args.fields.now c.fields.field-index c.field-item.result c.in_err-read_own.field-0.0 c.fields-test.true c.field-item.is c.fields.invariant.faultless c.in_err-read_own.ensures.fault)
+    reported c.from_residual.result (flat_map faults c.args.fields.now) c.in_err-read_own.field-0.0 c.from_residual.ensures.1
+    (none_blames faults c.args.fields.now c.fields.field-index c.field-item.result c.in_err-read_own.field-0.0 c.fields-test.true c.field-item.is c.fields.invariant.faultless c.in_err-read_own.ensures.faults.1)

@@ -3,7 +3,8 @@ use Rattle.indexmap.specs.IndexMap.{get, keys}
 use Rattle.kx_include.specs.Shared.{bodies_behind, expanded_body, shared_sections}
 use Rattle.kx_merge.specs.Bodies.{faults, faults_of}
 use Rattle.kx_merge.specs.Gatherings.{AreGathered}
-use Rattle.kx_merge.proofs.Behind.{fault_passed, left_all, left_fault, left_over, left_shown, left_step, section_at, section_blamed_at, shows_none}
+use Rattle.kx_merge.proofs.Behind.{left_all, left_fault, left_over, left_shown, left_step, section_at, section_blamed_at, shows_none}
+use Rattle.kx_merge.proofs.Going.{reported_or_out}
 use Rattle.kx_merge.proofs.gathering.merge.Goals as goal
 
 pub sections-init : goal.sections-init
@@ -11,8 +12,8 @@ sections-init g c =
     let rules = g.R.Fields.rules c.args.context.now in
     left_all g.R.Fields.cell g.R.Fields.width g.R.Key.PartialEq.eq rules g.R.Fields.moves (keys c.new-records.result) (get g.R.Key.PartialEq.eq c.new-records.result) rules.start (expanded_body c.args.expansion.now)
 
-pub returns-in_err-merge_map-clause-fault : goal.returns-in_err-merge_map-clause-fault
-returns-in_err-merge_map-clause-fault g c =
+pub returns-in_err-merge_map-clause-faults : goal.returns-in_err-merge_map-clause-faults
+returns-in_err-merge_map-clause-faults g c =
     let eq = g.R.Key.PartialEq.eq in
     let rules = g.R.Fields.rules c.args.context.now in
     let moves = g.R.Fields.moves in
@@ -24,7 +25,7 @@ returns-in_err-merge_map-clause-fault g c =
     let within = subst (λ ys. i < length ys) value c.sections-test.true in
     let is = subst (λ ys. x ≡ get_or ys i x) value c.section-item.is in
     let are = subst (λ rs. AreGathered g.R.Fields.cell g.R.Fields.width eq rules moves rs bodies) (sym c.as_slice-in-sections.ensures.value) (subst (λ ms. AreGathered g.R.Fields.cell g.R.Fields.width eq rules moves c.in_ok-done.done.items (bodies_behind [] ms)) c.as_slice.ensures.value c.in_ok-done.ensures.gathered) in
-    fault_passed c.from_residual-in_err-merge_map.result (faults_of eq rules moves (expanded_body c.args.expansion.now)) c.in_err-merge_map.field-0.0 c.from_residual-in_err-merge_map.ensures.1
+    reported_or_out c.from_residual-in_err-merge_map.result (faults_of eq rules moves (expanded_body c.args.expansion.now)) c.in_err-merge_map.field-0.0 c.from_residual-in_err-merge_map.ensures.1
     (left_fault (faults eq rules moves rules.start (shared_sections bodies (drop (i + 1) xs))) c.sections.invariant (section_blamed_at eq rules moves bodies xs i x within is) (c.in_err-merge_map.ensures bodies are))
 
 pub sections-preserved : goal.sections-preserved

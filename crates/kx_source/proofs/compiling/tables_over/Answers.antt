@@ -19,14 +19,14 @@ pub returns-in_err-codes-clause-fault : goal.returns-in_err-codes-clause-fault
 returns-in_err-codes-clause-fault c =
     passed c.from_residual.result (λ (e : Fault). (e ≡ Memory) ⊎ HasFaultIn c.args.names.now c.args.library.now e) c.in_err-codes.field-0.0 c.from_residual.ensures.1
     (keycodes_refused c.args.names.now c.args.library.now c.requires.whole c.in_err-codes.field-0.0
-    (subst (λ body. Contains (Memory ∷ keycodes_faults body) c.in_err-codes.field-0.0) c.requires.bodies.keycodes c.in_err-codes.ensures.fault))
+    (subst (λ body. Contains (Memory ∷ keycodes_faults body) c.in_err-codes.field-0.0) c.requires.bodies.keycodes c.in_err-codes.ensures.faults.1))
 
 pub returns-in_err-types-clause-fault : goal.returns-in_err-types-clause-fault
 returns-in_err-types-clause-fault c =
     let same = modifiers_same c.args.library.now c.args.bodies.now c.requires.bodies c.args.modifiers.now c.requires.names in
     passed c.from_residual-in_err-types.result (λ (e : Fault). (e ≡ Memory) ⊎ HasFaultIn c.args.names.now c.args.library.now e) c.in_err-types.field-0.0 c.from_residual-in_err-types.ensures.1
     (types_refused c.args.names.now c.args.library.now c.requires.whole c.in_err-types.field-0.0
-    (subst (λ fs. Contains (Memory ∷ fs) c.in_err-types.field-0.0) (λ i. types_faults (same i) (c.requires.bodies.types i)) c.in_err-types.ensures.fault))
+    (subst (λ fs. Contains (Memory ∷ fs) c.in_err-types.field-0.0) (λ i. types_faults (same i) (c.requires.bodies.types i)) c.in_err-types.ensures.faults.1))
 
 pub returns-in_err-parts-clause-fault : goal.returns-in_err-parts-clause-fault
 returns-in_err-parts-clause-fault c =
@@ -46,7 +46,7 @@ returns-in_err-parts-clause-fault c =
     (λ i.
     (keys_faults_same library bodies are m shows types types_show c.in_ok-codes.codes codes_show names i ++ maps_faults_same library bodies are m shows types types_show c.in_ok-codes.codes codes_show names i)
     ++ (compat_faults names (same i) (are.compat i) ++ (names_faults (are.symbols i) ++ indicator_maps_faults (same i) (are.compat i))))
-    c.in_err-parts.ensures.fault))
+    c.in_err-parts.ensures.faults.1))
 
 pub from_sound-requires : goal.from_sound-requires
 from_sound-requires c = c.in_ok-parts.ensures.sound
@@ -78,8 +78,8 @@ returns-clause-faultless c =
     let types_show = c.in_ok-types.ensures.shows in
     all_faultless names library
     (ap modifier_faults (sym (bodies_same library bodies are)) ∙ c.requires.faultless)
-    (subst (λ body. keycodes_faults body ≡ []) are.keycodes c.in_ok-codes.ensures.faultless)
-    (sym (λ i. types_faults (same i) (are.types i)) ∙ c.in_ok-types.ensures.faultless)
+    (subst (λ body. keycodes_faults body ≡ []) are.keycodes c.in_ok-codes.ensures.faults.0)
+    (sym (λ i. types_faults (same i) (are.types i)) ∙ c.in_ok-types.ensures.faults.0)
     (sym (keys_faults_same library bodies are m shows types types_show c.in_ok-codes.codes codes_show names) ∙ c.in_ok-parts.ensures.faultless_keys)
     (sym (maps_faults_same library bodies are m shows types types_show c.in_ok-codes.codes codes_show names) ∙ c.in_ok-parts.ensures.faultless_maps)
     (sym (λ i. compat_faults names (same i) (are.compat i)) ∙ c.in_ok-parts.ensures.faultless_compat)

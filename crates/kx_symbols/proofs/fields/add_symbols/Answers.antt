@@ -3,12 +3,12 @@ use Rattle.kx_lex.specs.declared.fault.Fault.TheVariants.{Memory}
 use Rattle.kx_key_fields.specs.Places.{place_faults}
 use Rattle.kx_symbols.specs.KeyFaults.{elements_faults}
 use Rattle.kx_symbols.proofs.Statements.{front_blames}
-use Rattle.kx_merge.proofs.Going.{passed}
+use Rattle.kx_merge.proofs.Going.{reported_or_out}
 use Rattle.kx_symbols.proofs.fields.add_symbols.Goals as goal
 
-pub returns-in_err-group-clause-fault : goal.returns-in_err-group-clause-fault
-returns-in_err-group-clause-fault c =
+pub returns-in_err-group-clause-faults : goal.returns-in_err-group-clause-faults
+returns-in_err-group-clause-faults c =
     let front = place_faults c.args.site.file c.args.lists.now.items c.args.index.now c.args.list.now in
     let back = elements_faults c.args.site.file c.args.site.whole c.args.list.now in
-    passed c.from_residual.result (Memory ∷ (front ++ back)) c.in_err-group.field-0.0 c.from_residual.ensures.1
-    (front_blames front back c.in_err-group.field-0.0 (subst (λ ls. Contains (place_faults c.args.site.file ls c.args.index.now c.args.list.now) c.in_err-group.field-0.0) c.as_slice.ensures.value c.in_err-group.ensures.fault))
+    reported_or_out c.from_residual.result (front ++ back) c.in_err-group.field-0.0 c.from_residual.ensures.1
+    (front_blames front back c.in_err-group.field-0.0 (subst (λ ls. Contains (place_faults c.args.site.file ls c.args.index.now c.args.list.now) c.in_err-group.field-0.0) c.as_slice.ensures.value c.in_err-group.ensures.faults.1))

@@ -5,5 +5,5 @@ use Rattle.kx_symbols.proofs.settings.read_alone.Goals as goal
 pub returns-else-has_field-clause-cells : goal.returns-else-has_field-clause-cells
 returns-else-has_field-clause-cells c = λ cell. c.none-else-has_field.ensures.cells cell ∙ sym (unsaid c.args.modifiers.now.names c.args.fields.now (sym c.has_field.ensures ∙ c.if-has_field.false) cell)
 
-pub returns-else-has_field-clause-faultless : goal.returns-else-has_field-clause-faultless
-returns-else-has_field-clause-faultless c = unblamed c.args.file c.args.modifiers.now.names c.args.fields.now (sym c.has_field.ensures ∙ c.if-has_field.false)
+pub returns-else-has_field-clause-faults : goal.returns-else-has_field-clause-faults
+returns-else-has_field-clause-faults c = (unblamed c.args.file c.args.modifiers.now.names c.args.fields.now (sym c.has_field.ensures ∙ c.if-has_field.false), tt)

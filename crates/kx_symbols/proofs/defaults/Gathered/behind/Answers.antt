@@ -9,7 +9,7 @@ use Rattle.kx_lex.specs.declared.fault.Fault.TheVariants.{Memory}
 use Rattle.kx_symbols.specs.KeyFaults.{default_faults}
 use Rattle.kx_symbols.specs.Keys.{behind_field}
 use Rattle.kx_symbols.specs.Known.{Defaults}
-use Rattle.kx_merge.proofs.Going.{passed}
+use Rattle.kx_merge.proofs.Going.{reported_or_out}
 use Rattle.kx_symbols.proofs.Statements.{behind_memory}
 use Rattle.kx_symbols.proofs.defaults.Gathered.behind.Goals as goal
 
@@ -24,11 +24,11 @@ returns-clause-next c =
     let both : new ≡ behind_field names old field = λ i. record { actions = c.in_ok-actions.ensures.value i; keys = sym keys i } in
     both ∙ ap (λ d. behind_field names d field) c.self.view_is
 
-pub returns-in_err-actions-clause-fault : goal.returns-in_err-actions-clause-fault
-returns-in_err-actions-clause-fault c =
+pub returns-in_err-actions-clause-faults : goal.returns-in_err-actions-clause-faults
+returns-in_err-actions-clause-faults c =
     let names = c.args.modifiers.now.names in
     let field = c.args.field.now in
     let e = c.in_err-actions.field-0.0 in
     let no_key : is_key_word field.place.word.bytes ≡ false = ap is_key_word (sym c.as_slice.ensures) ∙ sym c.is_key_word.ensures ∙ c.if-is_key_word.false in
-    passed c.from_residual-in_err-actions.result (Memory ∷ default_faults c.args.file names field) e c.from_residual-in_err-actions.ensures.1
-    (subst (λ b. Contains (Memory ∷ cond b (key_default_faults c.args.file names field) (action_default_faults c.args.file names field)) e) (sym no_key) (behind_memory (action_default_faults c.args.file names field) e c.in_err-actions.ensures.fault))
+    reported_or_out c.from_residual-in_err-actions.result (default_faults c.args.file names field) e c.from_residual-in_err-actions.ensures.1
+    (subst (λ b. Contains (Memory ∷ cond b (key_default_faults c.args.file names field) (action_default_faults c.args.file names field)) e) (sym no_key) (behind_memory (action_default_faults c.args.file names field) e c.in_err-actions.ensures.faults.1))
