@@ -22,10 +22,7 @@ use Rattle.kx_actions.specs.declared.settings.Given.{Given}
 use Rattle.kx_actions.specs.declared.settings.Given.TheVariants as given
 use Rattle.kx_actions.specs.declared.settings.Settings.{Settings}
 use Rattle.kx_merge.proofs.Going.{drop_next}
-
-or_inner : {X : Type 0} (a b c : Option X) → option_or (option_or a b) c ≡ option_or a (option_or b c)
-or_inner None b c = refl
-or_inner (Some x) b c = refl
+use Rattle.kx_merge.proofs.Precedence.{option_or-assoc}
 
 abbrev made : Option ActionMods → Option GroupChange → Option Affect → Option Bool → Option Bool → Settings
 made m g a c l = record { modifiers = m; group = g; affect = a; clear_locks = c; latch_to_lock = l }
@@ -43,21 +40,18 @@ inner : (s : Settings) (m : Option ActionMods) (g : Option GroupChange) (a : Opt
     → made (option_or (option_or m (option_and_then given_modifiers o)) s.modifiers) (option_or (option_or g (option_and_then given_group o)) s.group) (option_or (option_or a (option_and_then given_affect o)) s.affect) (option_or (option_or c (option_and_then given_clear_locks o)) s.clear_locks) (option_or (option_or l (option_and_then given_latch_to_lock o)) s.latch_to_lock)
     ≡ made (option_or m (option_or (option_and_then given_modifiers o) s.modifiers)) (option_or g (option_or (option_and_then given_group o) s.group)) (option_or a (option_or (option_and_then given_affect o) s.affect)) (option_or c (option_or (option_and_then given_clear_locks o) s.clear_locks)) (option_or l (option_or (option_and_then given_latch_to_lock o) s.latch_to_lock))
 inner s m g a c l o = same_made _ _ _ _ _ _ _ _ _ _
-    (or_inner m (option_and_then given_modifiers o) s.modifiers)
-    (or_inner g (option_and_then given_group o) s.group)
-    (or_inner a (option_and_then given_affect o) s.affect)
-    (or_inner c (option_and_then given_clear_locks o) s.clear_locks)
-    (or_inner l (option_and_then given_latch_to_lock o) s.latch_to_lock)
+    (option_or-assoc m (option_and_then given_modifiers o) s.modifiers)
+    (option_or-assoc g (option_and_then given_group o) s.group)
+    (option_or-assoc a (option_and_then given_affect o) s.affect)
+    (option_or-assoc c (option_and_then given_clear_locks o) s.clear_locks)
+    (option_or-assoc l (option_and_then given_latch_to_lock o) s.latch_to_lock)
 
 taken : (s : Settings) (m : Option ActionMods) (g : Option GroupChange) (a : Option Affect) (c l : Option Bool) (o : Option Given)
     → made (option_or m (option_or (option_and_then given_modifiers o) s.modifiers)) (option_or g (option_or (option_and_then given_group o) s.group)) (option_or a (option_or (option_and_then given_affect o) s.affect)) (option_or c (option_or (option_and_then given_clear_locks o) s.clear_locks)) (option_or l (option_or (option_and_then given_latch_to_lock o) s.latch_to_lock))
     ≡ made (option_or m (with_any s o).modifiers) (option_or g (with_any s o).group) (option_or a (with_any s o).affect) (option_or c (with_any s o).clear_locks) (option_or l (with_any s o).latch_to_lock)
 taken s m g a c l None = refl
 taken s m g a c l (Some (given.Modifiers x)) = refl
-taken s m g a c l (Some (given.Group x)) = refl
-taken s m g a c l (Some (given.Affect x)) = refl
-taken s m g a c l (Some (given.ClearLocks x)) = refl
-taken s m g a c l (Some (given.LatchToLock x)) = refl
+taken s m g a c l _ = refl
 
 module _ {X : Type 0} (gives : X → Option Given) where
   pub last_next : (s : Settings) (x : X) (xs : List X) → last_settings gives s (x ∷ xs) ≡ last_settings gives (with_any s (gives x)) xs
@@ -109,11 +103,7 @@ module _ (names : List (List ℕ)) where
   fits kinds.NoAction field None e = tt
   fits kinds.NoAction field (Some g) e = let is : None ≡ Some g = sym (no_default field field.place.member) ∙ e in cc
   fits kinds.SetMods field o e = tt
-  fits kinds.LatchMods field o e = tt
-  fits kinds.LockMods field o e = tt
-  fits kinds.SetGroup field o e = tt
-  fits kinds.LatchGroup field o e = tt
-  fits kinds.LockGroup field o e = tt
+  fits _ field o e = tt
 
   next_one : (d : ActionDefaults) (kind : ActionKind) (field : Field) (k : Option ActionKind) → settings_for (next_for names d field k) kind ≡ with_any (settings_for d kind) (given_as names kind field k)
   next_one d kind field None = refl
@@ -128,12 +118,7 @@ module _ (names : List (List ℕ)) where
 
   none_for : (kind : ActionKind) → settings_for no_defaults kind ≡ no_settings
   none_for kinds.SetMods = refl
-  none_for kinds.LatchMods = refl
-  none_for kinds.LockMods = refl
-  none_for kinds.SetGroup = refl
-  none_for kinds.LatchGroup = refl
-  none_for kinds.LockGroup = refl
-  none_for kinds.NoAction = refl
+  none_for _ = refl
 
   -- of default statements the last counts
   pub last_defaults : (statements : List Field) (kind : ActionKind) → settings_for (defaults_behind names statements) kind ≡ defaulted names statements kind

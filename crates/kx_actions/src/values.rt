@@ -120,7 +120,8 @@ pub(crate) fn value_given(
     field: ActionField,
     value: &Expression,
 ) -> Result<Given, Fault>
-    ensures value { IfOk result (λ given. Some given ≡ value_given names.now.names field value.now) }
+    ensures value { IfOk result (λ given.
+        Some given ≡ value_given names.now.names field value.now) }
     ensures faults { Reports result (value_faults file names.now.names field value.now) }
 {
     match field {

@@ -1,6 +1,6 @@
 -- Going over a body: what is after and what is left of it.
 use Rattle.std.proofs.Common.{IfErr, OnOk, ◌≡◌, true, Some, ℕ, ◌+◌, ◌<◌, ◌≤◌, zero, suc, List, [], ◌∷◌, ◌++◌, length, drop, get_or, Contains, Option, None, Result, Ok, Err, refl, sym, ap, ◌∙◌, subst, arith}
-use Rattle.std.proofs.lemmas.List.{append-nil, append_assoc, drop_all}
+use Rattle.std.proofs.lemmas.List.{append-nil, append_assoc}
 use Rattle.std.proofs.lemmas.List.Elements.{Contains-append_left}
 use Rattle.std.specs.List.{slice_get}
 use Rattle.std.specs.Result.{IsErrAnd}
@@ -43,12 +43,6 @@ module _ (Old : List Pair → Type 0) where
 
   pub going_blames : (whole left one rest : Body) (names : List (List ℕ)) (now : Indexed) (e : Fault) → Splits left one rest → Going Old names now whole left → Blames one e → Blames whole e
   going_blames whole left one rest names now e split g has = subst (λ fs. Contains (Memory ∷ fs) e) (sym (g.faults_go ∙ split.faults_split)) (Contains-append_left (Memory ∷ faults_of one) (faults_of rest) e has)
-
-pub took_all : (before after : List (List ℕ)) (old now : Indexed) (whole : Body) → Going (StandsIn before old) after now whole End → Took before after old now whole
-took_all before after old now whole g = record {
-  pairs_are = λ ps s. subst (StandsIn after now) (g.pairs_go ps s).2 (g.pairs_go ps s).1;
-  faultless = g.faults_go;
-}
 
 pub leaves_all : (names : List (List ℕ)) (now : Indexed) (whole : Body) → Going (λ ps. ps ≡ []) names now whole End → Leaves names whole now
 leaves_all names now whole g = record {
@@ -97,9 +91,6 @@ took_included names once old new g mode group body is pairs = record {
   faultless = ap (λ fs. fs ++ []) is.faultless;
 }
 
-pub took_nothing : (names : List (List ℕ)) (g : Indexed) (mode : Mode) (group : Option ℕ) (body : Body) → body ≡ End → Took names names g g (Inc mode group body End)
-took_nothing names g mode group body is = subst (λ b. Took names names g g (Inc mode group b End)) (sym is) (record { pairs_are = λ ps s. s; faultless = refl })
-
 pub blamed_included : (mode : Mode) (group : Option ℕ) (body : Body) (e : Fault) → Blames body e → Blames (Inc mode group body End) e
 blamed_included mode group body e has = Contains-append_left (Memory ∷ faults_of body) [] e has
 
@@ -126,9 +117,6 @@ length-pushed : {X : Type 0} (xs : List X) (x : X) → length (xs ++ x ∷ []) �
 length-pushed [] x = refl
 length-pushed (y ∷ ys) x = omega (arith, length-pushed ys x)
 
-pub none_gathered : (names : List (List ℕ)) → IsOnce names → AreGathered names [] []
-none_gathered names once = record { once = once; count_is = refl; each_is = λ n. refl }
-
 -- what is gathered stays so where names grow
 module _ (old new : List (List ℕ)) (g : Grows old new) where
   gathered-grow : (body : Body) (r : Result Indexed Fault) → IsGathered old body r → IsGathered new body r
@@ -153,9 +141,6 @@ one_gathered old new g done bodies r b before is =
 
 pub behind_next : (bodies : List Body) (ms : List Map) (i : ℕ) (m : Map) (all : List Body) → i < length ms → m ≡ get_or ms i m → bodies_behind bodies (drop i ms) ≡ all → bodies_behind (bodies ++ shared_body bodies m End ∷ []) (drop (i + 1) ms) ≡ all
 behind_next bodies ms i m all within is before = sym (ap (bodies_behind bodies) (drop_next ms i m within is)) ∙ before
-
-pub behind_all : (bodies : List Body) (ms : List Map) (i : ℕ) (all : List Body) → length ms ≤ i → bodies_behind bodies (drop i ms) ≡ all → bodies ≡ all
-behind_all bodies ms i all over before = sym (ap (bodies_behind bodies) (drop_all i ms over)) ∙ before
 
 -- a single part of an include, taken under the include's mode
 pub took_once : (names : List (List ℕ)) → IsOnce names → (old new : Indexed) (mode inner : Mode) (group : Option ℕ) (body : Body) → Took names names old new (Inc mode group body End) → Took names names old new (Inc mode None (Inc inner group body End) End)

@@ -3,7 +3,7 @@ use Rattle.std.proofs.Common.{◌≡◌, ℕ, Bool, true, false, cond, ◌||◌,
 use Rattle.std.specs.Cmp.{unsigned_Decides}
 use Rattle.std.specs.List.{list_any}
 use Rattle.std.specs.Str.{bytes_eq}
-use Rattle.std.proofs.lemmas.Bool.{false≢true}
+use Rattle.std.proofs.lemmas.Bool.{false≢true, or_from, or_right}
 use Rattle.std.proofs.lemmas.List.Folds.{list_any-append}
 use Rattle.std.proofs.lemmas.Slice.Eq.{bytes_eq-Decides}
 use Rattle.kx_parse.specs.declared.tree.Item.{Item}
@@ -15,6 +15,7 @@ use Rattle.kx_parse.specs.declared.tree.Statement.TheVariants as said
 use Rattle.kx_include.specs.Expansion.{Body, End, Begin, Own, Inc}
 use Rattle.kx_codes.specs.Indexed.{distinct}
 use Rattle.kx_codes.specs.Pairs.{Pair, shares, without, taken, all_taken, said_pairs, own_pairs, pairs_from, code_in, name_in}
+use Rattle.kx_merge.proofs.OnePart.{or-first, or-last}
 
 either-way : (a b c d : Bool) → (c ≡ true → a ≡ true) → (d ≡ true → b ≡ true) → (a || b) ≡ false → (c || d) ≡ false
 either-way true b c d f g h = absurd (false≢true (sym h))
@@ -28,14 +29,6 @@ shares_sym p q = either-way (bytes_eq p.name q.name) (p.code == q.code) (bytes_e
     (λ h. (bytes_eq-Decides p.name q.name).1 (sym ((bytes_eq-Decides q.name p.name).0 h)))
     (λ h. (unsigned_Decides p.code q.code).1 (sym ((unsigned_Decides q.code p.code).0 h)))
 
-pub first_of : (a b : Bool) → (a || b) ≡ false → a ≡ false
-first_of true b h = h
-first_of false b h = refl
-
-pub second_of : (a b : Bool) → (a || b) ≡ false → b ≡ false
-second_of true b h = absurd (false≢true (sym h))
-second_of false b h = h
-
 pub no_first : (a b : Bool) → (not a && b) ≡ true → a ≡ false
 no_first true b h = absurd (false≢true h)
 no_first false b h = refl
@@ -48,24 +41,20 @@ pub both_of : (a b : Bool) → a ≡ false → b ≡ true → (not a && b) ≡ t
 both_of true b h k = absurd (false≢true (sym h))
 both_of false b h k = k
 
-pub neither_of : (a b : Bool) → a ≡ false → b ≡ false → (a || b) ≡ false
-neither_of true b h k = h
-neither_of false b h k = k
-
 pub pushed : (ps : List Pair) (p : Pair) → distinct ps ≡ true → list_any (shares p) ps ≡ false → distinct (ps ++ p ∷ []) ≡ true
 pushed [] p h k = refl
 pushed (q ∷ qs) p h k =
     both_of (list_any (shares q) (qs ++ p ∷ [])) (distinct (qs ++ p ∷ []))
-    (list_any-append (shares q) qs (p ∷ []) ∙ neither_of (list_any (shares q) qs) (shares q p || false) (no_first (list_any (shares q) qs) (distinct qs) h) (neither_of (shares q p) false (shares_sym p q (first_of (shares p q) (list_any (shares p) qs) k)) refl))
-    (pushed qs p (no_second (list_any (shares q) qs) (distinct qs) h) (second_of (shares p q) (list_any (shares p) qs) k))
+    (list_any-append (shares q) qs (p ∷ []) ∙ or_from (list_any (shares q) qs) (shares q p || false) (no_first (list_any (shares q) qs) (distinct qs) h) (or_from (shares q p) false (shares_sym p q (or-first (shares p q) (list_any (shares p) qs) k)) refl))
+    (pushed qs p (no_second (list_any (shares q) qs) (distinct qs) h) (or-last (shares p q) (list_any (shares p) qs) k))
 
 module _ (keep : Pair → Bool) where
   any-kept : (test : Pair → Bool) (ps : List Pair) → list_any test ps ≡ false → list_any test (filter keep ps) ≡ false
   any-kept test [] h = refl
-  any-kept test (q ∷ qs) h = by (keep q) (first_of (test q) (list_any test qs) h) (any-kept test qs (second_of (test q) (list_any test qs) h))
+  any-kept test (q ∷ qs) h = by (keep q) (or-first (test q) (list_any test qs) h) (any-kept test qs (or-last (test q) (list_any test qs) h))
     where
       by : (b : Bool) → test q ≡ false → list_any test (filter keep qs) ≡ false → list_any test (cond b (q ∷ filter keep qs) (filter keep qs)) ≡ false
-      by true one rest = neither_of (test q) (list_any test (filter keep qs)) one rest
+      by true one rest = or_from (test q) (list_any test (filter keep qs)) one rest
       by false one rest = rest
 
   pub kept_distinct : (ps : List Pair) → distinct ps ≡ true → distinct (filter keep ps) ≡ true
@@ -82,7 +71,7 @@ none_left p (q ∷ qs) = by (shares p q) refl (none_left p qs)
   where
     by : (b : Bool) → shares p q ≡ b → list_any (shares p) (without p qs) ≡ false → list_any (shares p) (cond (not b) (q ∷ without p qs) (without p qs)) ≡ false
     by true e rest = rest
-    by false e rest = neither_of (shares p q) (list_any (shares p) (without p qs)) e rest
+    by false e rest = or_from (shares p q) (list_any (shares p) (without p qs)) e rest
 
 pub taken_distinct : (mode : Mode) (ps : List Pair) (p : Pair) → distinct ps ≡ true → distinct (taken mode ps p) ≡ true
 taken_distinct Augment ps p h = by (list_any (shares p) ps) refl
@@ -120,10 +109,6 @@ or-middle true b r h = refl
 or-middle false true r h = refl
 or-middle false false r h = absurd (false≢true h)
 
-or-right : (a r : Bool) → r ≡ true → (a || r) ≡ true
-or-right true r h = refl
-or-right false r h = h
-
 -- a pair shares its name with the one that gives the name a code
 code-any : (name : List ℕ) (c : ℕ) (p : Pair) (ps : List Pair) → p.name ≡ name → code_in ps name ≡ Some c → list_any (shares p) ps ≡ true
 code-any name c p [] is h = absurd (false≢true (ap is_some h))
@@ -131,7 +116,7 @@ code-any name c p (q ∷ qs) is h = by (bytes_eq name q.name) refl (code-any nam
   where
     by : (b : Bool) → bytes_eq name q.name ≡ b → (code_in qs name ≡ Some c → list_any (shares p) qs ≡ true) → cond b (Some q.code) (code_in qs name) ≡ Some c → (shares p q || list_any (shares p) qs) ≡ true
     by true e rest h = or-left (bytes_eq p.name q.name) (p.code == q.code) (list_any (shares p) qs) (ap (λ n. bytes_eq n q.name) is ∙ e)
-    by false e rest h = or-right (shares p q) (list_any (shares p) qs) (rest h)
+    by false e rest h = or_right (shares p q) (list_any (shares p) qs) (rest h)
 
 name-any : (code : ℕ) (n : List ℕ) (p : Pair) (ps : List Pair) → p.code ≡ code → name_in ps code ≡ Some n → list_any (shares p) ps ≡ true
 name-any code n p [] is h = absurd (false≢true (ap is_some h))
@@ -139,7 +124,7 @@ name-any code n p (q ∷ qs) is h = by (code == q.code) refl (name-any code n p 
   where
     by : (b : Bool) → (code == q.code) ≡ b → (name_in qs code ≡ Some n → list_any (shares p) qs ≡ true) → cond b (Some q.name) (name_in qs code) ≡ Some n → (shares p q || list_any (shares p) qs) ≡ true
     by true e rest h = or-middle (bytes_eq p.name q.name) (p.code == q.code) (list_any (shares p) qs) (ap (λ c. c == q.code) is ∙ e)
-    by false e rest h = or-right (shares p q) (list_any (shares p) qs) (rest h)
+    by false e rest h = or_right (shares p q) (list_any (shares p) qs) (rest h)
 
 pub code_of_name : (ps : List Pair) (code : ℕ) (name : List ℕ) → distinct ps ≡ true → name_in ps code ≡ Some name → code_in ps name ≡ Some code
 code_of_name [] code name d h = absurd (false≢true (ap is_some h))

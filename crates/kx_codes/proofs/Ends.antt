@@ -2,7 +2,7 @@
 use Rattle.std.proofs.Common.{◌≡◌, ℕ, zero, suc, ◌+◌, ◌-◌, ◌<◌, ◌≤◌, arith, Bool, true, false, cond, ◌==◌, take, List, [], ◌∷◌, ◌++◌, Option, None, Some, All, IsSome, refl, sym, ap, ◌∙◌, subst}
 use Rattle.std.proofs.lemmas.Bool.Decides.{nat_tests}
 use Rattle.std.proofs.lemmas.List.{take_more}
-use Rattle.std.proofs.lemmas.List.Elements.{All-head, All-nil, All-push, All-tail, All-weaker}
+use Rattle.std.proofs.lemmas.List.Elements.{All-head, All-push, All-tail, All-weaker}
 use Rattle.std.specs.List.{slice_get}
 use Rattle.kx_basics.specs.declared.limits.TheConstants.{CODES}
 use Rattle.kx_codes.specs.Codes.{IsEnd}
@@ -14,13 +14,6 @@ pub record Reached (end : ℕ) (done all : List Pair) : Type 0 where
   pub within : end ≤ CODES
   pub above : All (λ p. p.code < CODES → p.code < end) done
   pub named : (code : ℕ) → end ≡ code + 1 → IsSome (name_in all code)
-
-pub none_reached : (all : List Pair) → Reached 0 [] all
-none_reached all = record {
-  within = omega arith;
-  above = All-nil (λ p. p.code < CODES → p.code < 0);
-  named = λ code e. absurd (omega (arith, e));
-}
 
 unnamed_of : (end : ℕ) (ps : List Pair) → All (λ p. p.code < CODES → p.code < end) ps → (code : ℕ) → end ≤ code → code < CODES → name_in ps code ≡ None
 unnamed_of end [] above code le low = refl
@@ -42,20 +35,6 @@ module _ (end : ℕ) (all : List Pair) (i : ℕ) (p : Pair) (is : slice_get all 
   one_more new le low =
       subst (All (λ q. q.code < CODES → q.code < new)) (sym (take_more all i p (within_at all i p is) ∙ ap (λ q. take i all ++ q ∷ []) (got_at all i p is)))
       (All-push (λ q. q.code < CODES → q.code < new) (take i all) p (All-weaker (λ q. q.code < CODES → q.code < end) (λ q. q.code < CODES → q.code < new) (λ q h few. let less : q.code < end = h few in omega (arith, less, le)) (take i all) r.above) low)
-
-  pub same_reached : (behind : ℕ) → behind ≤ end → (p.code < CODES → p.code < behind) → Reached end (take (i + 1) all) all
-  same_reached behind le low = record {
-    within = r.within;
-    above = one_more end (omega arith) (λ few. let less : p.code < behind = low few in omega (arith, less, le));
-    named = r.named;
-  }
-
-  pub new_reached : (behind : ℕ) → end < behind → behind ≤ CODES → (p.code < CODES → p.code < behind) → ((code : ℕ) → behind ≡ code + 1 → IsSome (name_in all code)) → Reached behind (take (i + 1) all) all
-  new_reached behind more fits low named = record {
-    within = fits;
-    above = one_more behind (omega (arith, more)) low;
-    named = named;
-  }
 
 -- what doesn't grow at codes without a name is whole where the codes with names end
 module _ {X : Type 0} (f : ℕ → X) (end : ℕ) (name : ℕ → Option (List ℕ)) (is : IsEnd end name) (still : (code : ℕ) → name code ≡ None → f (code + 1) ≡ f code) where

@@ -66,6 +66,3 @@ coded_put es new k v e code = name_coded new code ∙ ap (lookup (nat_eq code)) 
 
 pub named_removed : {K : Type 0} (f : K → List ℕ) (es new : List (K × ℕ)) (k : List ℕ) → lookup (λ j. bytes_eq k (f j)) new ≡ None → KeepsOthers (λ i j. bytes_eq (f i) (f j)) (λ j. bytes_eq k (f j)) es new → (name : List ℕ) → code_in (named f new) name ≡ cond (bytes_eq k name) None (code_in (named f es) name)
 named_removed f es new k gone keeps name = code_named f new name ∙ removed_look f bytes_eq bytes_eq-Decides es new k gone keeps name ∙ sym (ap (cond (bytes_eq k name) None) (code_named f es name))
-
-pub coded_removed : (es new : List (ℕ × List ℕ)) (k : ℕ) → lookup (nat_eq k) new ≡ None → KeepsOthers nat_eq (nat_eq k) es new → (code : ℕ) → name_in (coded new) code ≡ cond (nat_eq k code) None (name_in (coded es) code)
-coded_removed es new k gone keeps code = name_coded new code ∙ removed_look (λ j. j) nat_eq unsigned_Decides es new k gone keeps code ∙ sym (ap (cond (nat_eq k code) None) (name_coded es code))

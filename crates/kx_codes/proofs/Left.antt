@@ -2,13 +2,13 @@
 use Rattle.std.proofs.Common.{◌≡◌, ◌⊎◌, Bool, true, false, cond, not, ◌||◌, ◌==◌, List, [], ◌∷◌, ◌++◌, ◌↔◌, Some, is_some, unwrap_or, refl, sym, ap, subst, ◌∙◌, filter, fold, map, reverse, inl, inr, ⊎_elim}
 use Rattle.std.specs.List.{list_any}
 use Rattle.std.specs.Str.{bytes_eq}
-use Rattle.std.proofs.lemmas.Bool.{false≢true}
+use Rattle.std.proofs.lemmas.Bool.{false≢true, not-true}
 use Rattle.std.proofs.lemmas.List.{append_assoc, append-nil, reverse-append}
 use Rattle.std.proofs.lemmas.List.Sums.{fold-append}
 use Rattle.std.proofs.lemmas.Slice.Eq.{bytes_eq-Decides}
 use Rattle.kx_codes.specs.Indexed.{distinct}
 use Rattle.kx_codes.specs.Pairs.{Pair, shares, without, taken, all_taken, said_pairs, own_pairs, pairs_from, pairs_of, code_in, name_in}
-use Rattle.kx_codes.proofs.Distinct.{first_of, second_of, no_first, no_second, from_distinct, code_of_name, name_of_code}
+use Rattle.kx_codes.proofs.Distinct.{no_first, no_second, from_distinct, code_of_name, name_of_code}
 use Rattle.kx_codes.specs.Left.{PairOffer, said_offers, own_offers, offers_of, IsTaken, IsLeft}
 use Rattle.kx_include.specs.Expansion.{Body, End, Begin, Own, Inc}
 use Rattle.kx_parse.specs.declared.tree.Item.{Item}
@@ -17,6 +17,7 @@ use Rattle.kx_parse.specs.declared.tree.Mode.{Mode}
 use Rattle.kx_parse.specs.declared.tree.Mode.TheVariants.{Augment, Override, Replace}
 use Rattle.kx_parse.specs.declared.tree.Statement.{Statement as Said}
 use Rattle.kx_parse.specs.declared.tree.Statement.TheVariants as said
+use Rattle.kx_merge.proofs.OnePart.{or-first, or-last}
 
 abbrev Has : List Pair → Pair → Type 0
 Has [] p = ⊥
@@ -54,7 +55,7 @@ module _ (keep : Pair → Bool) where
 module _ (test : Pair → Bool) where
   none_passes : (ps : List Pair) (p : Pair) → list_any test ps ≡ false → Has ps p → test p ≡ false
   none_passes [] p h m = absurd m
-  none_passes (q ∷ qs) p h m = ⊎_elim (λ same. ap test same ∙ first_of (test q) (list_any test qs) h) (λ k. none_passes qs p (second_of (test q) (list_any test qs) h) k) m
+  none_passes (q ∷ qs) p h m = ⊎_elim (λ same. ap test same ∙ or-first (test q) (list_any test qs) h) (λ k. none_passes qs p (or-last (test q) (list_any test qs) h) k) m
 
   one_passes : (ps : List Pair) → list_any test ps ≡ true → (p : Pair) × Has ps p × (test p ≡ true)
   one_passes [] h = absurd (false≢true h)
@@ -63,10 +64,6 @@ module _ (test : Pair → Bool) where
       by : (b : Bool) → test q ≡ b → (list_any test qs ≡ true → (p : Pair) × Has qs p × (test p ≡ true)) → (b || list_any test qs) ≡ true → (p : Pair) × Has (q ∷ qs) p × (test p ≡ true)
       by true e rest m = (q, inl refl, e)
       by false e rest m = let found = rest m in (found.0, inr found.1, found.2)
-
-not-true : (b : Bool) → not b ≡ true → b ≡ false
-not-true true h = absurd (false≢true h)
-not-true false h = refl
 
 -- the pairs of a list are those that are left after offers
 abbrev Holds : List PairOffer → List Pair → Type 0
@@ -184,7 +181,7 @@ has_coded (q ∷ qs) p d h = ⊎_elim
     other : (b : Bool) → bytes_eq p.name q.name ≡ b → Has qs p → b ≡ false
     other false e m = refl
     other true e m = absurd (false≢true (
-        sym (first_of (bytes_eq q.name p.name) (q.code == p.code) (none_passes (shares q) qs p (no_first (list_any (shares q) qs) (distinct qs) d) m))
+        sym (or-first (bytes_eq q.name p.name) (q.code == p.code) (none_passes (shares q) qs p (no_first (list_any (shares q) qs) (distinct qs) d) m))
         ∙ (bytes_eq-Decides q.name p.name).1 (sym ((bytes_eq-Decides p.name q.name).0 e))))
 
 pub codes_left : (body : Body) (pair : Pair) → (code_in (pairs_of body) pair.name ≡ Some pair.code) ↔ IsLeft (reverse (offers_of body)) pair

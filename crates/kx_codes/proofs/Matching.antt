@@ -1,8 +1,9 @@
 -- Look-ups in lists of pairs by one of two keys that no two of them share.
-use Rattle.std.proofs.Common.{◌≡◌, Bool, true, false, cond, ◌||◌, not, List, [], ◌∷◌, ◌++◌, is_some, unwrap_or, Option, None, Some, Decides, refl, sym, ap, ◌∙◌, filter, fold}
+use Rattle.std.proofs.Common.{◌≡◌, Bool, true, false, cond, ◌||◌, not, List, [], ◌∷◌, ◌++◌, is_some, Option, None, Some, Decides, refl, sym, ap, ◌∙◌, filter, fold}
 use Rattle.std.specs.List.{list_any}
 use Rattle.std.specs.Option.{option_or}
 use Rattle.std.proofs.lemmas.Bool.{false≢true}
+use Rattle.std.proofs.lemmas.Option.{same_Some}
 use Rattle.kx_codes.specs.Pairs.{Pair}
 
 pub bool_same : (b c : Bool) → (b ≡ true → c ≡ true) → (c ≡ true → b ≡ true) → b ≡ c
@@ -17,9 +18,6 @@ option_same (Some x) p h k = sym (h x refl)
 
 pub some_not_none : {X : Type 0} (o : Option X) (x : X) (P : Type 0) → o ≡ Some x → o ≡ None → P
 some_not_none o x P h k = absurd (false≢true (ap is_some (sym k ∙ h)))
-
-pub some_same : {X : Type 0} (x y : X) → Some x ≡ Some y → x ≡ y
-some_same x y h = ap (λ o. unwrap_or o x) h
 
 cond-same : {X : Type 0} (b : Bool) (x : X) → cond b x x ≡ x
 cond-same true x = refl
@@ -86,7 +84,7 @@ module _ {A B : Type 0} (f : Pair → A) (g : Pair → B) (eqA : A → A → Boo
       later false e = e
 
       by : (c : Bool) → (L qs a ≡ Some b → list_any (λ r. eqB b (g r)) qs ≡ true) → cond c (Some (g q)) (L qs a) ≡ Some b → (eqB b (g q) || list_any (λ r. eqB b (g r)) qs) ≡ true
-      by true rest h = first (eqB b (g q)) ((dB b (g q)).1 (sym (some_same (g q) b h)))
+      by true rest h = first (eqB b (g q)) ((dB b (g q)).1 (sym (same_Some (g q) b h)))
       by false rest h = later (eqB b (g q)) (rest h)
 
   look-cond : (b : Bool) (q : Pair) (xs : List Pair) (a : A) → L (cond b (q ∷ xs) xs) a ≡ cond b (cond (eqA a (f q)) (Some (g q)) (L xs a)) (L xs a)
@@ -249,8 +247,8 @@ module _ {A B : Type 0} (f : Pair → A) (g : Pair → B) (eqA : A → A → Boo
         by : (o : Option A) → M2 ps d ≡ o → cond (eqB b d) None o ≡ unless (eqA a) o
         by None at = cond-same (eqB b d) None
         by (Some x) at = ap (λ t. cond t None (Some x)) (bool_same (eqB b d) (eqA a x)
-            (λ same. (dA a x).1 (some_same a x (sym (cross a b e) ∙ ap (M2 ps) ((dB b d).0 same) ∙ at)))
-            (λ same. (dB b d).1 (some_same b d (sym e ∙ ap (L2 ps) ((dA a x).0 same) ∙ back x d at))))
+            (λ same. (dA a x).1 (same_Some a x (sym (cross a b e) ∙ ap (M2 ps) ((dB b d).0 same) ∙ at)))
+            (λ same. (dB b d).1 (same_Some b d (sym e ∙ ap (L2 ps) ((dA a x).0 same) ∙ back x d at))))
 
     pub gone_none : (a : A) (d : B) → L2 ps a ≡ None → M2 ps d ≡ M2 (filter (λ q. not (eqA a (f q))) ps) d
     gone_none a d e = by (M2 ps d) refl ∙ sym (look_without_other g f eqB eqA dB dA ps a d h)
@@ -274,4 +272,4 @@ module _ {A B : Type 0} (f : Pair → A) (g : Pair → B) (eqA : A → A → Boo
         by : (c : Bool) → eqA a (f p) ≡ c → (o : Option B) → L2 ps a ≡ o → o ≡ cond c (Some (g p)) (unless (eqB (g p)) o)
         by true e o at = sym at ∙ ap (L2 ps) ((dA a (f p)).0 e) ∙ there
         by false e None at = refl
-        by false e (Some b) at = kept (eqB (g p) b) b (λ same. false≢true (sym e ∙ (dA a (f p)).1 (some_same a (f p) (sym (cross a b at) ∙ ap (M2 ps) (sym ((dB (g p) b).0 same)) ∙ cross (f p) (g p) there))))
+        by false e (Some b) at = kept (eqB (g p) b) b (λ same. false≢true (sym e ∙ (dA a (f p)).1 (same_Some a (f p) (sym (cross a b at) ∙ ap (M2 ps) (sym ((dB (g p) b).0 same)) ∙ cross (f p) (g p) there))))

@@ -4,23 +4,23 @@ use Rattle.std.proofs.lemmas.Bool.{false≢true}
 use Rattle.std.proofs.lemmas.List.Elements.{All-push}
 use Rattle.std.proofs.lemmas.Map.Keys.{IsDistinct-head, IsDistinct-tail}
 use Rattle.std.proofs.lemmas.Slice.Eq.{bytes_eq-Decides}
+use Rattle.std.proofs.lemmas.Option.{same_Some}
 use Rattle.std.specs.List.{AllByRecursion, IsDistinct, position, slice_get}
-use Rattle.std.specs.Map.{keys_of, lookup}
+use Rattle.std.specs.Map.{keys_of}
 use Rattle.std.specs.Option.{option_map}
 use Rattle.std.specs.Str.{bytes_eq}
 use Rattle.indexmap.specs.IndexMap.{IndexMap, insert_entry}
-use Rattle.kx_codes.proofs.Matching.{some_same}
 use Rattle.kx_codes.specs.Numbers.{Grows, IsOnce}
 use Rattle.kx_ordered.specs.KeyPlaces.{place_in}
-use Rattle.kx_ordered.proofs.KeyPlaces.{insert_absent, missing, place_is}
+use Rattle.kx_ordered.proofs.KeyPlaces.{insert_absent, place_is}
 
 other-name : (k : List ℕ) (ks : List (List ℕ)) → AllByRecursion (λ y. bytes_eq k y ≡ false) ks → (m : ℕ) (name : List ℕ) → slice_get ks m ≡ Some name → bytes_eq k name ≡ false
 other-name k [] none m name h = absurd (false≢true (ap is_some h))
-other-name k (y ∷ ys) none zero name h = ap (bytes_eq k) (sym (some_same y name h)) ∙ none.0
+other-name k (y ∷ ys) none zero name h = ap (bytes_eq k) (sym (same_Some y name h)) ∙ none.0
 other-name k (y ∷ ys) none (suc m) name h = other-name k ys none.1 m name h
 
 never : (k : List ℕ) (ks : List (List ℕ)) → AllByRecursion (λ y. bytes_eq k y ≡ false) ks → (m : ℕ) (name : List ℕ) → Some k ≡ Some name → slice_get ks m ≡ Some name → ⊥
-never k ks none m name h g = false≢true (sym (other-name k ks none m name g) ∙ (bytes_eq-Decides k name).1 (some_same k name h))
+never k ks none m name h g = false≢true (sym (other-name k ks none m name g) ∙ (bytes_eq-Decides k name).1 (same_Some k name h))
 
 pub distinct_once : (ks : List (List ℕ)) → IsDistinct bytes_eq ks → IsOnce ks
 distinct_once [] u n m name h g = absurd (false≢true (ap is_some h))
@@ -49,9 +49,9 @@ module _ {V : Type 0} where
   stored name (e ∷ es) i h = by (bytes_eq name e.0) (place_in (bytes_eq name) es) i (λ b. (bytes_eq-Decides name e.0).0 b) (stored name es) h
     where
       by : (b : Bool) (o : Option ℕ) (i : ℕ) → (b ≡ true → name ≡ e.0) → ((i : ℕ) → o ≡ Some i → slice_get (keys_of es) i ≡ Some name) → cond b (Some 0) (option_map suc o) ≡ Some i → slice_get (e.0 ∷ keys_of es) i ≡ Some name
-      by true o i same rest h = ap (slice_get (e.0 ∷ keys_of es)) (sym (some_same 0 i h)) ∙ ap Some (sym (same refl))
+      by true o i same rest h = ap (slice_get (e.0 ∷ keys_of es)) (sym (same_Some 0 i h)) ∙ ap Some (sym (same refl))
       by false None i same rest h = absurd (false≢true (ap is_some h))
-      by false (Some j) i same rest h = ap (slice_get (e.0 ∷ keys_of es)) (sym (some_same (suc j) i h)) ∙ rest j refl
+      by false (Some j) i same rest h = ap (slice_get (e.0 ∷ keys_of es)) (sym (same_Some (suc j) i h)) ∙ rest j refl
 
   pub names_stored : (key name : List ℕ) → key ≡ name → (es : List (List ℕ × V)) (i : ℕ) → position (bytes_eq key) (keys_of es) ≡ Some i → slice_get (keys_of es) i ≡ Some name
   names_stored key name same es i h = stored key es i (sym (place_is (bytes_eq key) es) ∙ h) ∙ ap Some same
@@ -65,9 +65,6 @@ module _ {V : Type 0} where
 
   -- one name more
   module _ (key name : List ℕ) (same : key ≡ name) (v : V) (es new : List (List ℕ × V)) (none : position (bytes_eq key) (keys_of es) ≡ None) where
-    pub names_missing : lookup (bytes_eq key) es ≡ None
-    names_missing = missing (bytes_eq key) es (sym (place_is (bytes_eq key) es) ∙ none)
-
     pub names_pushed : new ≡ insert_entry bytes_eq es key v → keys_of new ≡ keys_of es ++ name ∷ []
     names_pushed is = ap keys_of (is ∙ sym (insert_absent bytes_eq key v es (sym (place_is (bytes_eq key) es) ∙ none))) ∙ keys-pushed es (key, v) ∙ ap (λ k. keys_of es ++ k ∷ []) same
 
@@ -110,5 +107,5 @@ module _ {V : Type 0} (key name : List ℕ) (same : key ≡ name) (v : V) (old n
 -- what holds of each name holds of one at a place
 pub valid_at : {V : Type 0} (P : List ℕ → Type 0) (es : List (List ℕ × V)) (n : ℕ) (e : List ℕ × V) → All P (keys_of es) → slice_get es n ≡ Some e → P e.0
 valid_at P [] n e all h = absurd (false≢true (ap is_some h))
-valid_at P (x ∷ xs) zero e all h = subst (λ y. P y.0) (some_same x e h) (all 0 x.0 (omega arith))
+valid_at P (x ∷ xs) zero e all h = subst (λ y. P y.0) (same_Some x e h) (all 0 x.0 (omega arith))
 valid_at P (x ∷ xs) (suc n) e all h = valid_at P xs n e (λ k d l. all (suc k) d (omega (arith, l))) h

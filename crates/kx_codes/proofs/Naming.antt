@@ -1,15 +1,15 @@
 -- Pairs by the bytes of their names, one by one for those of numbers.
 use Rattle.std.proofs.Common.{◌≡◌, ℕ, ◌+◌, zero, suc, Bool, true, false, cond, ◌||◌, List, [], ◌∷◌, ◌++◌, None, Some, is_some, take, refl, sym, ap, ◌∙◌, subst, nat_eq}
-use Rattle.std.proofs.lemmas.Bool.{false≢true}
+use Rattle.std.proofs.lemmas.Bool.{false≢true, or_from}
 use Rattle.std.proofs.lemmas.List.{take_more}
 use Rattle.std.proofs.lemmas.Slice.Eq.{bytes_eq-Decides}
+use Rattle.std.proofs.lemmas.Option.{same_Some}
 use Rattle.std.specs.Cmp.{unsigned_Decides}
 use Rattle.std.specs.List.{list_any, slice_get}
 use Rattle.std.specs.Str.{bytes_eq}
 use Rattle.indexmap.specs.IndexMap.{insert_entry}
 use Rattle.kx_codes.proofs.Entries.{flip, name_coded}
-use Rattle.kx_codes.proofs.Distinct.{first_of, second_of, no_first, no_second, neither_of, shares_sym}
-use Rattle.kx_codes.proofs.Matching.{some_same}
+use Rattle.kx_codes.proofs.Distinct.{no_first, no_second, shares_sym}
 use Rattle.kx_codes.proofs.Numbering.{name_back, numbered_push, same_any}
 use Rattle.kx_codes.proofs.Standing.{got_at, shares-split, within_at}
 use Rattle.kx_codes.specs.Indexed.{Indexed, Stands, distinct}
@@ -17,25 +17,26 @@ use Rattle.kx_codes.specs.Numbers.{AreNumbered, IsNumbered, IsOnce, StandsIn, nu
 use Rattle.kx_codes.specs.Codes.{coded}
 use Rattle.kx_codes.specs.Pairs.{Pair, shares, code_in, name_in}
 use Rattle.kx_ordered.proofs.KeyPlaces.{insert_absent, unplaced}
+use Rattle.kx_merge.proofs.OnePart.{or-first, or-last}
 
 any_at : (test : Pair → Bool) (vs : List Pair) (i : ℕ) (v : Pair) → list_any test vs ≡ false → slice_get vs i ≡ Some v → test v ≡ false
 any_at test [] i v h is = absurd (false≢true (ap is_some is))
-any_at test (w ∷ ws) zero v h is = ap test (sym (some_same w v is)) ∙ first_of (test w) (list_any test ws) h
-any_at test (w ∷ ws) (suc i) v h is = any_at test ws i v (second_of (test w) (list_any test ws) h) is
+any_at test (w ∷ ws) zero v h is = ap test (sym (same_Some w v is)) ∙ or-first (test w) (list_any test ws) h
+any_at test (w ∷ ws) (suc i) v h is = any_at test ws i v (or-last (test w) (list_any test ws) h) is
 
 apart_before : (vs : List Pair) (i : ℕ) (v : Pair) → distinct vs ≡ true → slice_get vs i ≡ Some v → list_any (shares v) (take i vs) ≡ false
 apart_before [] i v d is = absurd (false≢true (ap is_some is))
 apart_before (w ∷ ws) zero v d is = refl
 apart_before (w ∷ ws) (suc i) v d is =
-    neither_of (shares v w) (list_any (shares v) (take i ws)) (shares_sym w v (any_at (shares w) ws i v (no_first (list_any (shares w) ws) (distinct ws) d) is))
+    or_from (shares v w) (list_any (shares v) (take i ws)) (shares_sym w v (any_at (shares w) ws i v (no_first (list_any (shares w) ws) (distinct ws) d) is))
     (apart_before ws i v (no_second (list_any (shares w) ws) (distinct ws) d) is)
 
 name_at : (vs : List Pair) (i : ℕ) (v : Pair) → distinct vs ≡ true → slice_get vs i ≡ Some v → name_in vs v.code ≡ Some v.name
 name_at [] i v d is = absurd (false≢true (ap is_some is))
 name_at (w ∷ ws) zero v d is =
-    ap (λ b. cond b (Some w.name) (name_in ws v.code)) (ap (nat_eq v.code) (ap (λ r. r.code) (some_same w v is)) ∙ (unsigned_Decides v.code v.code).1 refl) ∙ ap (λ r. Some r.name) (some_same w v is)
+    ap (λ b. cond b (Some w.name) (name_in ws v.code)) (ap (nat_eq v.code) (ap (λ r. r.code) (same_Some w v is)) ∙ (unsigned_Decides v.code v.code).1 refl) ∙ ap (λ r. Some r.name) (same_Some w v is)
 name_at (w ∷ ws) (suc i) v d is =
-    ap (λ b. cond b (Some w.name) (name_in ws v.code)) (second_of (bytes_eq v.name w.name) (nat_eq v.code w.code) (shares_sym w v (any_at (shares w) ws i v (no_first (list_any (shares w) ws) (distinct ws) d) is)))
+    ap (λ b. cond b (Some w.name) (name_in ws v.code)) (or-last (bytes_eq v.name w.name) (nat_eq v.code w.code) (shares_sym w v (any_at (shares w) ws i v (no_first (list_any (shares w) ws) (distinct ws) d) is)))
     ∙ name_at ws i v (no_second (list_any (shares w) ws) (distinct ws) d) is
 
 -- one pair more
@@ -80,11 +81,11 @@ module _ (x : Indexed) (ps : List Pair) (name : List ℕ) (code : ℕ) (s : Stan
 
   -- its name has no code
   pub absent_named : code_in x.by_name name ≡ None
-  absent_named = s.codes_are name ∙ absent name ps (first_of (list_any (λ q. bytes_eq name q.name) ps) (list_any (λ q. nat_eq code q.code) ps) neither)
+  absent_named = s.codes_are name ∙ absent name ps (or-first (list_any (λ q. bytes_eq name q.name) ps) (list_any (λ q. nat_eq code q.code) ps) neither)
 
   -- its code has no name
   pub absent_code : name_in x.by_code code ≡ None
-  absent_code = s.names_are code ∙ uncoded code ps (second_of (list_any (λ q. bytes_eq name q.name) ps) (list_any (λ q. nat_eq code q.code) ps) neither)
+  absent_code = s.names_are code ∙ uncoded code ps (or-last (list_any (λ q. bytes_eq name q.name) ps) (list_any (λ q. nat_eq code q.code) ps) neither)
 
 -- what pairs show with one more after them
 module _ (code : ℕ) (name : List ℕ) where

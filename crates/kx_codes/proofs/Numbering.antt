@@ -2,7 +2,7 @@
 use Rattle.std.proofs.Common.{◌≡◌, ℕ, zero, suc, Bool, true, false, cond, not, ◌||◌, ◌&&◌, ◌==◌, List, [], ◌∷◌, ◌++◌, Option, None, Some, get_or, is_some, refl, sym, ap, ◌∙◌, subst, nat_eq}
 use Rattle.std.proofs.lemmas.Bool.{false≢true}
 use Rattle.std.proofs.lemmas.List.Quantifiers.{position-Some}
-use Rattle.std.proofs.lemmas.Option.{slice_get-get_or}
+use Rattle.std.proofs.lemmas.Option.{slice_get-get_or, same_Some}
 use Rattle.std.proofs.lemmas.Slice.Eq.{bytes_eq-Decides}
 use Rattle.std.specs.Cmp.{unsigned_Decides}
 use Rattle.std.specs.List.{list_any, position, slice_get}
@@ -13,7 +13,7 @@ use Rattle.kx_parse.specs.declared.tree.Mode.{Mode}
 use Rattle.kx_parse.specs.declared.tree.Mode.TheVariants.{Augment, Override, Replace}
 use Rattle.kx_ordered.proofs.KeyPlaces.{place_is}
 use Rattle.kx_ordered.specs.KeyPlaces.{place_in}
-use Rattle.kx_codes.proofs.Matching.{bool_same, option_same, some_same}
+use Rattle.kx_codes.proofs.Matching.{bool_same, option_same}
 use Rattle.kx_codes.proofs.NumberMaps.{single}
 use Rattle.kx_codes.specs.Indexed.{Indexed, Stands, both, distinct}
 use Rattle.kx_codes.specs.Numbers.{AreNumbered, FindsCodes, Grows, IsNumbered, IsOnce, StandsIn, number}
@@ -22,7 +22,7 @@ use Rattle.kx_codes.specs.Pairs.{Pair, shares, without, taken, all_taken, code_i
 module _ (names : List (List ℕ)) (once : IsOnce names) where
   same-name : (q p r s : Pair) → IsNumbered names q p → IsNumbered names r s → bytes_eq q.name r.name ≡ bytes_eq p.name s.name
   same-name q p r s a b = bool_same (bytes_eq q.name r.name) (bytes_eq p.name s.name)
-      (λ h. (bytes_eq-Decides p.name s.name).1 (some_same p.name s.name (sym a.name_is ∙ ap (slice_get names) (numbers h) ∙ b.name_is)))
+      (λ h. (bytes_eq-Decides p.name s.name).1 (same_Some p.name s.name (sym a.name_is ∙ ap (slice_get names) (numbers h) ∙ b.name_is)))
       (λ h. (bytes_eq-Decides q.name r.name).1 (a.number_is ∙ ap number (once a.place b.place p.name a.name_is (b.name_is ∙ ap Some (sym ((bytes_eq-Decides p.name s.name).0 h)))) ∙ sym b.number_is))
     where
       numbers : bytes_eq q.name r.name ≡ true → a.place ≡ b.place
@@ -123,9 +123,6 @@ none_stand names x s = record { numbered = []; stands = s; are = tt }
 same-list : (xs : List ℕ) → bytes_eq xs xs ≡ true
 same-list xs = (bytes_eq-Decides xs xs).1 refl
 
-same-code : (c : ℕ) → nat_eq c c ≡ true
-same-code c = (unsigned_Decides c c).1 refl
-
 -- a name's code is that of its number, and a code's name that of its number
 module _ (names : List (List ℕ)) where
   pub code_forth : (qs ps : List Pair) → AreNumbered names qs ps → (name : List ℕ) (c : ℕ) → code_in ps name ≡ Some c → (n : ℕ) × (slice_get names n ≡ Some name) × (code_in qs (number n) ≡ Some c)
@@ -136,7 +133,7 @@ module _ (names : List (List ℕ)) where
     where
       other : (n : ℕ) → slice_get names n ≡ Some name → (name ≡ p.name → ⊥) → (b : Bool) → (b ≡ true → number n ≡ q.name) → b ≡ false
       other n is never false same = refl
-      other n is never true same = absurd (never (some_same name p.name (sym is ∙ ap (slice_get names) ((unsigned_Decides n are.0.place).0 (sym (single n are.0.place) ∙ (bytes_eq-Decides (number n) (number are.0.place)).1 (same refl ∙ are.0.number_is))) ∙ are.0.name_is)))
+      other n is never true same = absurd (never (same_Some name p.name (sym is ∙ ap (slice_get names) ((unsigned_Decides n are.0.place).0 (sym (single n are.0.place) ∙ (bytes_eq-Decides (number n) (number are.0.place)).1 (same refl ∙ are.0.number_is))) ∙ are.0.name_is)))
 
       by : (b : Bool) → (b ≡ true → name ≡ p.name) → (name ≡ p.name → b ≡ true) → (code_in ps name ≡ Some c → (n : ℕ) × (slice_get names n ≡ Some name) × (code_in qs (number n) ≡ Some c)) → cond b (Some p.code) (code_in ps name) ≡ Some c → (n : ℕ) × (slice_get names n ≡ Some name) × (code_in (q ∷ qs) (number n) ≡ Some c)
       by true same back rest e = (are.0.place, are.0.name_is ∙ ap Some (sym (same refl)), ap (λ b. cond b (Some q.code) (code_in qs (number are.0.place))) (ap (bytes_eq (number are.0.place)) are.0.number_is ∙ same-list (number are.0.place)) ∙ ap Some are.0.code_is ∙ e)
@@ -172,7 +169,7 @@ module _ (names : List (List ℕ)) where
     where
       by : (b d : Bool) → b ≡ d → (name_in qs code ≡ Some m → (n : ℕ) × (name : List ℕ) × (m ≡ number n) × (slice_get names n ≡ Some name) × (name_in ps code ≡ Some name)) → cond d (Some q.name) (name_in qs code) ≡ Some m
           → (n : ℕ) × (name : List ℕ) × (m ≡ number n) × (slice_get names n ≡ Some name) × (cond b (Some p.name) (name_in ps code) ≡ Some name)
-      by true true e rest is = (are.0.place, p.name, some_same m q.name (sym is) ∙ are.0.number_is, are.0.name_is, refl)
+      by true true e rest is = (are.0.place, p.name, same_Some m q.name (sym is) ∙ are.0.number_is, are.0.name_is, refl)
       by true false e rest is = absurd (false≢true (sym e))
       by false true e rest is = absurd (false≢true e)
       by false false e rest is = rest is
@@ -201,7 +198,7 @@ module _ (names : List (List ℕ)) (once : IsOnce names) where
     codes-alike alike code name h =
         let found = name-forth names ms us ma code name h in
         let back = name_back names ns ws nb code (number found.0) (sym (alike code) ∙ found.2) in
-        back.4 ∙ ap Some (some_same back.1 name (sym back.3 ∙ ap (slice_get names) ((unsigned_Decides back.0 found.0).0 (sym (single back.0 found.0) ∙ (bytes_eq-Decides (number back.0) (number found.0)).1 (sym back.2))) ∙ found.1))
+        back.4 ∙ ap Some (same_Some back.1 name (sym back.3 ∙ ap (slice_get names) ((unsigned_Decides back.0 found.0).0 (sym (single back.0 found.0) ∙ (bytes_eq-Decides (number back.0) (number found.0)).1 (sym back.2))) ∙ found.1))
 
     numbers-alike : ((name : List ℕ) → code_in us name ≡ code_in ws name) → (m : List ℕ) (c : ℕ) → code_in ms m ≡ Some c → code_in ns m ≡ Some c
     numbers-alike alike m c h =
@@ -282,7 +279,7 @@ unplaced (k ∷ ks) name n none is = by (bytes_eq name k) (place_in (bytes_eq na
     by : (b : Bool) (o : Option ℕ) (n : ℕ) → (name ≡ k → b ≡ true) → ((m : ℕ) → o ≡ None → slice_get ks m ≡ Some name → ⊥) → cond b (Some 0) (option_map suc o) ≡ None → slice_get (k ∷ ks) n ≡ Some name → ⊥
     by true o n same rest none is = false≢true (sym (ap is_some none))
     by false (Some m) n same rest none is = false≢true (sym (ap is_some none))
-    by false None zero same rest none is = false≢true (same (some_same name k (sym is)))
+    by false None zero same rest none is = false≢true (same (same_Some name k (sym is)))
     by false None (suc m) same rest none is = rest m refl is
 
 unplaced_name : (names : List (List ℕ)) (name : List ℕ) (n : ℕ) → position (bytes_eq name) names ≡ None → slice_get names n ≡ Some name → ⊥

@@ -3,20 +3,21 @@ use Rattle.std.proofs.Common.{◌≡◌, ℕ, ◌+◌, ◌<◌, zero, suc, lengt
 use Rattle.std.specs.Cmp.{unsigned_Decides}
 use Rattle.std.proofs.lemmas.List.Sums.{fold_more}
 use Rattle.std.specs.List.{slice_get, list_any, AllByRecursion, IsDistinct}
-use Rattle.std.specs.Map.{lookup, keys_of}
+use Rattle.std.specs.Map.{keys_of}
 use Rattle.std.proofs.lemmas.Map.Keys.{IsDistinct-head, IsDistinct-tail}
 use Rattle.kx_codes.specs.Codes.{named, coded}
-use Rattle.kx_codes.proofs.Entries.{code_named, name_coded}
 use Rattle.std.specs.Option.{option_or, option_map}
 use Rattle.std.specs.Str.{bytes_eq}
 use Rattle.std.proofs.lemmas.Bool.{false≢true}
 use Rattle.std.proofs.lemmas.Slice.Eq.{bytes_eq-Decides}
+use Rattle.std.proofs.lemmas.Option.{same_Some}
 use Rattle.kx_parse.specs.declared.tree.Mode.{Mode}
 use Rattle.kx_parse.specs.declared.tree.Mode.TheVariants.{Augment, Override, Replace}
-use Rattle.kx_codes.proofs.Distinct.{both_of, no_first, no_second, first_of, second_of, taken_distinct, all_distinct, code_of_name, name_of_code, pushed}
-use Rattle.kx_codes.proofs.Matching.{Apart, unless, over, any_look, took_over, took_under, all_over, all_under, last_put, stays, option_same, some_same}
+use Rattle.kx_codes.proofs.Distinct.{both_of, no_first, no_second, taken_distinct, all_distinct, code_of_name, name_of_code, pushed}
+use Rattle.kx_codes.proofs.Matching.{Apart, unless, over, any_look, took_over, took_under, all_over, all_under, last_put, stays, option_same}
 use Rattle.kx_codes.specs.Indexed.{Indexed, Stands, distinct}
 use Rattle.kx_codes.specs.Pairs.{Agree, Pair, shares, without, taken, all_taken, code_in, name_in}
+use Rattle.kx_merge.proofs.OnePart.{or-first, or-last}
 
 abbrev n-of : Pair → List ℕ
 n-of p = p.name
@@ -38,13 +39,13 @@ pub apart : (ps : List Pair) → distinct ps ≡ true → Apart n-of c-of bytes_
 apart [] h = tt
 apart (p ∷ ps) h =
     let none = sym (shares-split p ps) ∙ no_first (list_any (shares p) ps) (distinct ps) h in
-    (first_of (list_any (λ q. bytes_eq p.name q.name) ps) (list_any (λ q. nat_eq p.code q.code) ps) none, second_of (list_any (λ q. bytes_eq p.name q.name) ps) (list_any (λ q. nat_eq p.code q.code) ps) none, apart ps (no_second (list_any (shares p) ps) (distinct ps) h))
+    (or-first (list_any (λ q. bytes_eq p.name q.name) ps) (list_any (λ q. nat_eq p.code q.code) ps) none, or-last (list_any (λ q. bytes_eq p.name q.name) ps) (list_any (λ q. nat_eq p.code q.code) ps) none, apart ps (no_second (list_any (shares p) ps) (distinct ps) h))
 
 pub apart-back : (ps : List Pair) → distinct ps ≡ true → Apart c-of n-of nat_eq bytes_eq ps
 apart-back [] h = tt
 apart-back (p ∷ ps) h =
     let none = sym (shares-split p ps) ∙ no_first (list_any (shares p) ps) (distinct ps) h in
-    (second_of (list_any (λ q. bytes_eq p.name q.name) ps) (list_any (λ q. nat_eq p.code q.code) ps) none, first_of (list_any (λ q. bytes_eq p.name q.name) ps) (list_any (λ q. nat_eq p.code q.code) ps) none, apart-back ps (no_second (list_any (shares p) ps) (distinct ps) h))
+    (or-last (list_any (λ q. bytes_eq p.name q.name) ps) (list_any (λ q. nat_eq p.code q.code) ps) none, or-first (list_any (λ q. bytes_eq p.name q.name) ps) (list_any (λ q. nat_eq p.code q.code) ps) none, apart-back ps (no_second (list_any (shares p) ps) (distinct ps) h))
 
 filter-cond : (t : Pair → Bool) (b : Bool) (q : Pair) (xs : List Pair) → filter t (cond b (q ∷ xs) xs) ≡ cond b (cond (t q) (q ∷ filter t xs) (filter t xs)) (filter t xs)
 filter-cond t true q xs = refl
@@ -151,13 +152,6 @@ agreed x ps s name code = (
   λ h. s.codes_are name ∙ code_of_name ps code name s.distinct_are (sym (s.names_are code) ∙ h),
 )
 
--- so do others that show the same
-pub agreed_alike : (x y : Indexed) → ((name : List ℕ) → code_in y.by_name name ≡ code_in x.by_name name) → ((code : ℕ) → name_in y.by_code code ≡ name_in x.by_code code) → Agree x.by_name x.by_code → Agree y.by_name y.by_code
-agreed_alike x y codes names agree name code = (
-  λ h. names code ∙ (agree name code).0 (sym (codes name) ∙ h),
-  λ h. codes name ∙ (agree name code).1 (sym (names code) ∙ h),
-)
-
 -- what shares something, and what the removals and the insertion of a pair leave
 pub sharing : (x : Indexed) (ps : List Pair) (name : List ℕ) (code : ℕ) → Stands x ps → list_any (shares (record { name = name; code = code })) ps ≡ (is_some (code_in x.by_name name) || is_some (name_in x.by_code code))
 sharing x ps name code s = any-either ps (record { name = name; code = code }) ∙ sym (λ i. is_some (s.codes_are name i) || is_some (s.names_are code i))
@@ -171,9 +165,9 @@ module _ (x y : Indexed) where
       record {
         distinct_are = pushed ps p s.distinct_are none;
         codes_are = λ n. codes n ∙ ap (cond (bytes_eq name n) (Some code)) (s.codes_are n)
-            ∙ last_put n-of c-of bytes_eq nat_eq bytes_eq-Decides unsigned_Decides ps p n (first_of (list_any (λ q. bytes_eq name q.name) ps) (list_any (λ q. nat_eq code q.code) ps) neither);
+            ∙ last_put n-of c-of bytes_eq nat_eq bytes_eq-Decides unsigned_Decides ps p n (or-first (list_any (λ q. bytes_eq name q.name) ps) (list_any (λ q. nat_eq code q.code) ps) neither);
         names_are = λ c. names c ∙ ap (cond (nat_eq code c) (Some name)) (s.names_are c)
-            ∙ last_put c-of n-of nat_eq bytes_eq unsigned_Decides bytes_eq-Decides ps p c (second_of (list_any (λ q. bytes_eq name q.name) ps) (list_any (λ q. nat_eq code q.code) ps) neither);
+            ∙ last_put c-of n-of nat_eq bytes_eq unsigned_Decides bytes_eq-Decides ps p c (or-last (list_any (λ q. bytes_eq name q.name) ps) (list_any (λ q. nat_eq code q.code) ps) neither);
       }
 
 -- under augment, where one shares something
@@ -183,7 +177,7 @@ kept_under mode x ps p is some s = subst (λ m. Stands x (taken m ps p)) (sym is
 -- where none shares anything
 without-none : (p : Pair) (ps : List Pair) → list_any (shares p) ps ≡ false → without p ps ≡ ps
 without-none p [] h = refl
-without-none p (q ∷ qs) h = by (shares p q) (first_of (shares p q) (list_any (shares p) qs) h) (without-none p qs (second_of (shares p q) (list_any (shares p) qs) h))
+without-none p (q ∷ qs) h = by (shares p q) (or-first (shares p q) (list_any (shares p) qs) h) (without-none p qs (or-last (shares p q) (list_any (shares p) qs) h))
   where
     by : (b : Bool) → b ≡ false → without p qs ≡ qs → cond (not b) (q ∷ without p qs) (without p qs) ≡ q ∷ qs
     by true e rest = absurd (false≢true (sym e))
@@ -198,12 +192,6 @@ put_new Replace y ps p none s = subst (λ qs. Stands y (qs ++ p ∷ [])) (sym (w
 module _ {K : Type 0} (f : K → List ℕ) (es : List (K × ℕ)) (fs : List (ℕ × List ℕ)) where
   abbrev pub shown : Indexed
   shown = record { by_name = named f es; by_code = coded fs }
-
-  pub shared_name : (name : List ℕ) (code : ℕ) (r : Bool) (ps : List Pair) → r ≡ is_some (lookup (λ k. bytes_eq name (f k)) es) → r ≡ true → Stands shown ps → r ≡ list_any (shares (record { name = name; code = code })) ps
-  shared_name name code r ps is holds s = sym (sharing shown ps name code s ∙ ap (λ b. b || is_some (name_in (coded fs) code)) (ap is_some (code_named f es name) ∙ sym is ∙ holds) ∙ sym holds)
-
-  pub shared_code : (name : List ℕ) (code : ℕ) (r r2 : Bool) (ps : List Pair) → r ≡ is_some (lookup (λ k. bytes_eq name (f k)) es) → r ≡ false → r2 ≡ is_some (lookup (nat_eq code) fs) → Stands shown ps → r2 ≡ list_any (shares (record { name = name; code = code })) ps
-  shared_code name code r r2 ps is fails is2 s = sym (sharing shown ps name code s ∙ ap (λ b. b || is_some (name_in (coded fs) code)) (ap is_some (code_named f es name) ∙ sym is ∙ fails) ∙ ap is_some (name_coded fs code) ∙ sym is2)
 
 -- maps of which the keys are distinct hold distinct pairs, where each name has one code
 none-coded : (es : List (ℕ × List ℕ)) (k : ℕ) → AllByRecursion (λ y. nat_eq k y ≡ false) (keys_of es) → list_any (λ q. nat_eq k q.code) (coded es) ≡ false
@@ -241,7 +229,7 @@ keys-distinct (e ∷ es) u one =
 pub all_stand : (es : List (ℕ × List ℕ)) → IsDistinct nat_eq (keys_of es) → (mode : Mode) (x g : Indexed) → coded es ≡ g.by_code → (ps qs : List Pair) → distinct ps ≡ true → Stands g qs → Stands x (all_taken mode ps g.by_code) → Stands x (all_taken mode ps qs)
 all_stand es u mode x g is ps qs dp s at =
     let names = λ (code : ℕ). ap (λ vs. name_in vs code) is ∙ s.names_are code in
-    let dv = keys-distinct es u (λ c d n h k. some_same c d (sym (code_of_name qs c n s.distinct_are (sym (names c) ∙ h)) ∙ code_of_name qs d n s.distinct_are (sym (names d) ∙ k))) in
+    let dv = keys-distinct es u (λ c d n h k. same_Some c d (sym (code_of_name qs c n s.distinct_are (sym (names c) ∙ h)) ∙ code_of_name qs d n s.distinct_are (sym (names d) ∙ k))) in
     let codes = λ (name : List ℕ). option_same (code_in (coded es) name) (code_in qs name)
     (λ c h. code_of_name qs c name s.distinct_are (sym (names c) ∙ name_of_code (coded es) c name dv h))
     (λ c h. code_of_name (coded es) c name dv (names c ∙ name_of_code qs c name s.distinct_are h)) in
@@ -251,7 +239,7 @@ all_stand es u mode x g is ps qs dp s at =
 pub own_stands : (es : List (ℕ × List ℕ)) → IsDistinct nat_eq (keys_of es) → (x : Indexed) → coded es ≡ x.by_code → (qs : List Pair) → Stands x qs → Stands x x.by_code
 own_stands es u x is qs s =
     let names = λ (code : ℕ). ap (λ vs. name_in vs code) is ∙ s.names_are code in
-    let dv = keys-distinct es u (λ c d n h k. some_same c d (sym (code_of_name qs c n s.distinct_are (sym (names c) ∙ h)) ∙ code_of_name qs d n s.distinct_are (sym (names d) ∙ k))) in
+    let dv = keys-distinct es u (λ c d n h k. same_Some c d (sym (code_of_name qs c n s.distinct_are (sym (names c) ∙ h)) ∙ code_of_name qs d n s.distinct_are (sym (names d) ∙ k))) in
     let codes = λ (name : List ℕ). option_same (code_in (coded es) name) (code_in qs name)
     (λ c h. code_of_name qs c name s.distinct_are (sym (names c) ∙ name_of_code (coded es) c name dv h))
     (λ c h. code_of_name (coded es) c name dv (names c ∙ name_of_code qs c name s.distinct_are h)) in
@@ -268,7 +256,7 @@ within_at (v ∷ vs) (suc i) p h = omega (arith, within_at vs i p h)
 
 pub got_at : (vs : List Pair) (i : ℕ) (p : Pair) → slice_get vs i ≡ Some p → get_or vs i p ≡ p
 got_at [] i p h = refl
-got_at (v ∷ vs) zero p h = some_same v p h
+got_at (v ∷ vs) zero p h = same_Some v p h
 got_at (v ∷ vs) (suc i) p h = got_at vs i p h
 
 pub none_at : (es : List (ℕ × List ℕ)) (i : ℕ) → slice_get es i ≡ None → (p : Pair) → slice_get (coded es) i ≡ Some p → ⊥
@@ -279,7 +267,7 @@ none_at (e ∷ es) (suc i) h p is = none_at es i h p is
 -- the code of an entry has a name
 pub named_at : (es : List (ℕ × List ℕ)) (i code : ℕ) (name : List ℕ) → slice_get es i ≡ Some (code, name) → IsSome (name_in (coded es) code)
 named_at [] i code name h = absurd (false≢true (ap is_some h))
-named_at (e ∷ es) zero code name h = subst (λ b. IsSome (cond b (Some e.1) (name_in (coded es) code))) (sym ((unsigned_Decides code e.0).1 (ap (λ x. x.0) (sym (some_same e (code, name) h))))) refl
+named_at (e ∷ es) zero code name h = subst (λ b. IsSome (cond b (Some e.1) (name_in (coded es) code))) (sym ((unsigned_Decides code e.0).1 (ap (λ x. x.0) (sym (same_Some e (code, name) h))))) refl
 named_at (e ∷ es) (suc i) code name h = by (nat_eq code e.0) (named_at es i code name h)
   where
     by : (b : Bool) → IsSome (name_in (coded es) code) → IsSome (cond b (Some e.1) (name_in (coded es) code))

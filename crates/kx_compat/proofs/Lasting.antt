@@ -6,12 +6,9 @@ use Rattle.kx_actions.specs.declared.action.KeyAction.{KeyAction}
 use Rattle.kx_compat.specs.Given.{FieldValues}
 use Rattle.kx_compat.specs.Giving.{last_values, value_action, value_first_level_only, value_modifier, with_value}
 use Rattle.kx_compat.specs.declared.values.FieldValue.{FieldValue}
-use Rattle.kx_compat.specs.declared.values.FieldValue.TheVariants.{Action, Modifier, FirstLevelOnly}
+use Rattle.kx_compat.specs.declared.values.FieldValue.TheVariants.{Action}
 use Rattle.kx_merge.proofs.Going.{drop_next}
-
-or_inner : {X : Type 0} (a b c : Option X) → option_or (option_or a b) c ≡ option_or a (option_or b c)
-or_inner None b c = refl
-or_inner (Some x) b c = refl
+use Rattle.kx_merge.proofs.Precedence.{option_or-assoc}
 
 abbrev made : Option KeyAction → Option ℕ → Option Bool → FieldValues
 made a m l = record { action = a; modifier = m; first_level_only = l }
@@ -24,8 +21,7 @@ taken : (v : FieldValues) (a : Option KeyAction) (m : Option ℕ) (l : Option Bo
     ≡ made (option_or a (with_value v o).action) (option_or m (with_value v o).modifier) (option_or l (with_value v o).first_level_only)
 taken v a m l None = refl
 taken v a m l (Some (Action x)) = refl
-taken v a m l (Some (Modifier x)) = refl
-taken v a m l (Some (FirstLevelOnly x)) = refl
+taken v a m l _ = refl
 
 module _ {X : Type 0} (gives : X → Option FieldValue) where
   pub last_next : (v : FieldValues) (x : X) (xs : List X) → last_values gives v (x ∷ xs) ≡ last_values gives (with_value v (gives x)) xs
@@ -34,9 +30,9 @@ module _ {X : Type 0} (gives : X → Option FieldValue) where
       let m : Option ℕ = last_given (λ y. option_and_then value_modifier (gives y)) xs in
       let l : Option Bool = last_given (λ y. option_and_then value_first_level_only (gives y)) xs in
       same_made _ _ _ _ _ _
-      (or_inner a (option_and_then value_action (gives x)) v.action)
-      (or_inner m (option_and_then value_modifier (gives x)) v.modifier)
-      (or_inner l (option_and_then value_first_level_only (gives x)) v.first_level_only)
+      (option_or-assoc a (option_and_then value_action (gives x)) v.action)
+      (option_or-assoc m (option_and_then value_modifier (gives x)) v.modifier)
+      (option_or-assoc l (option_and_then value_first_level_only (gives x)) v.first_level_only)
       ∙ taken v a m l (gives x)
 
   -- what is left is given after what the next gives

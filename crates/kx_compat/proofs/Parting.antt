@@ -6,16 +6,13 @@ use Rattle.kx_compat.specs.Choosing.{allows, chosen, condition_rank, earlier, fi
 use Rattle.kx_compat.specs.Interpretations.{Interpretation}
 use Rattle.kx_compat.specs.Indexed.{is_for_any, is_named, names_keysym, wants_any}
 use Rattle.kx_compat.specs.declared.interpretation_match.Condition.{Condition}
-use Rattle.kx_compat.specs.declared.interpretation_match.Condition.TheVariants.{Exactly, AllOf, NoneOf, AnyOf, AnyOfOrNone}
+use Rattle.kx_compat.specs.declared.interpretation_match.Condition.TheVariants.{Exactly}
 use Rattle.kx_compat.specs.declared.interpretation_match.WantedKeysym.{WantedKeysym}
 use Rattle.kx_compat.specs.declared.interpretation_match.WantedKeysym.TheVariants.{Any, Named}
 
 low : (c : Condition) → condition_rank c < 5
 low Exactly = omega arith
-low AllOf = omega arith
-low NoneOf = omega arith
-low AnyOf = omega arith
-low AnyOfOrNone = omega arith
+low _ = omega arith
 
 -- one of a named keysym is before one of any
 abbrev IsOfNamed : Option Interpretation → Type 0

@@ -123,9 +123,6 @@ next_said names d field = record { actions = option_map_or (next_defaults names 
 abbrev pub is_indicator : List ℕ → Bool
 is_indicator word = str_eq_ignore_ascii_case word (codes "indicator")
 
-abbrev pub indicator_map_faults : (file : ℕ) → (names : List (List ℕ)) → Field → Option Name → List Fault
-indicator_map_faults file names field member = if is_some member then [] else (unknown_word file names) field.place.word
-
 abbrev pub member_faults : (file : ℕ) → (names : List (List ℕ)) → Field → Option Name → List Fault
 member_faults file names field member = option_map_or (λ m. field_faults file names m field) member (unknown_word file names field.place.word)
 

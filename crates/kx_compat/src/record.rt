@@ -70,7 +70,8 @@ impl<'a> Fields<Context<'a>> for FieldValues {
 
     fn merge(&mut self, _alloc: Global, other: FieldValues, mode: Mode) -> Result<(), Fault>
         ensures cells { OnOk result ((c : Cell)
-            → values_cell self.new c ≡ merged_value mode (values_cell self.old c) (values_cell other c)) }
+            → values_cell self.new c ≡ merged_value mode (values_cell self.old c)
+            (values_cell other c)) }
         ensures widths { OnOk result ((g : ℕ)
             → values_width self.new g ≡ merged_width mode (values_width self.old g)
             (values_width other g)) }

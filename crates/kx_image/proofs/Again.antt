@@ -1,25 +1,22 @@
 -- The row that a row's bytes tell is the row.
-use Rattle.std.proofs.Common.{ℕ, ℤ, pos, negsuc, Bool, true, false, cond, List, ◌≡◌, ◌+◌, ◌-◌, ◌<◌, ◌≤◌, ◌≤ℤ◌, ◌^◌, refl, ap, arith, sym, ◌∙◌}
+use Rattle.std.proofs.Common.{ℕ, ℤ, pos, negsuc, true, false, ◌≡◌, ◌-◌, ◌<◌, ◌≤◌, ◌≤ℤ◌, ◌^◌, refl, ap, arith, ◌∙◌}
 use Rattle.std.proofs.lemmas.Bool.{lt-ltb, le-ltb}
 use Rattle.std.proofs.lemmas.Int.{ints}
 use Rattle.std.proofs.lemmas.Nat.{from_le_bytes-to_le_bytes_2, from_le_bytes-to_le_bytes_4}
-use Rattle.kx_mods.specs.Mods.{mask}
-use Rattle.kx_tables.specs.States.{state_bits}
-use Rattle.kx_tables.specs.Sound.{ActionHolds, GroupChangeHolds}
+use Rattle.kx_tables.specs.Sound.{ActionHolds}
 use Rattle.kx_tables.specs.declared.rows.Action.{Action}
 use Rattle.kx_tables.specs.declared.rows.Action.TheVariants as actions
 use Rattle.kx_tables.specs.declared.rows.CellRow.{CellRow}
 use Rattle.kx_tables.specs.declared.rows.EntryRow.{EntryRow}
-use Rattle.kx_tables.specs.declared.rows.GroupChange.{GroupChange}
 use Rattle.kx_tables.specs.declared.rows.GroupChange.TheVariants.{Absolute, Relative}
 use Rattle.kx_tables.specs.declared.rows.GroupNameRow.{GroupNameRow}
 use Rattle.kx_tables.specs.declared.rows.GroupRow.{GroupRow}
 use Rattle.kx_tables.specs.declared.rows.IndicatorRow.{IndicatorRow}
 use Rattle.kx_tables.specs.declared.rows.KeyRow.{KeyRow}
 use Rattle.kx_tables.specs.declared.rows.Range.{Range}
-use Rattle.kx_tables.specs.declared.rows.Range.TheVariants.{Wrap, Clamp, Redirect}
+use Rattle.kx_tables.specs.declared.rows.Range.TheVariants.{Wrap}
 use Rattle.kx_tables.specs.declared.rows.TypeRow.{TypeRow}
-use Rattle.kx_image.specs.Records.{two, four, type_bytes, type_of, entry_bytes, entry_of, key_bytes, key_of, group_bytes, group_of, cell_bytes, cell_of, keysym_bytes, keysym_of, indicator_bytes, indicator_of, group_name_bytes, group_name_of, range_code, redirect_of, range_of, action_code, action_flags, action_mods, action_group, action_of, signed_byte, byte_signed}
+use Rattle.kx_image.specs.Records.{type_bytes, type_of, entry_bytes, entry_of, key_bytes, key_of, group_bytes, group_of, cell_bytes, cell_of, keysym_bytes, keysym_of, indicator_bytes, indicator_of, group_name_bytes, group_name_of, range_code, redirect_of, range_of, action_code, action_flags, action_mods, action_group, action_of, signed_byte, byte_signed}
 
 both : {A B X : Type 0} (f : A → B → X) {a a' : A} {b b' : B} → a ≡ a' → b ≡ b' → f a b ≡ f a' b'
 both f {a} {a'} {b} {b'} p q = ap (λ x. f x b) p ∙ ap (f a') q
@@ -43,8 +40,7 @@ entry_again e = refl
 
 range_again : (r : Range) → range_of (range_code r) (redirect_of r) ≡ r
 range_again Wrap = refl
-range_again Clamp = refl
-range_again (Redirect r) = refl
+range_again _ = refl
 
 pub key_again : (k : KeyRow) → k.code < 2 ^ 16 → k.name_length < 2 ^ 16 → k.first_name < 2 ^ 32 → k.first_group < 2 ^ 32 → key_of (key_bytes k) ≡ k
 key_again k h1 h2 h3 h4 =

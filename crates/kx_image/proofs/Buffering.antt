@@ -1,5 +1,5 @@
 -- A table's bytes, one record more.
-use Rattle.std.proofs.Common.{ℕ, zero, suc, List, [], ◌∷◌, ◌++◌, ◌≡◌, ◌+◌, Option, Some, take, slice_get, refl, ap, sym, ◌∙◌, append_assoc, append-nil, add-one, subst}
+use Rattle.std.proofs.Common.{ℕ, zero, suc, List, [], ◌∷◌, ◌++◌, ◌≡◌, ◌+◌, Option, Some, take, slice_get, ap, sym, ◌∙◌, append_assoc, append-nil, add-one, subst}
 use Rattle.std.specs.List.{flat_map}
 use Rattle.ks_core.specs.BufferedOut.{Gathered, Writes}
 use Rattle.ks_core.proofs.BufferedOutLemmas.{writes_then}

@@ -1,5 +1,5 @@
 -- How many groups the keys have.
-use Rattle.std.proofs.Common.{ℕ, zero, suc, List, ◌≡◌, ◌+◌, ◌-◌, ◌*◌, ◌<◌, ◌≤◌, get_or, arith, refl, ap, ◌∙◌, sym, subst}
+use Rattle.std.proofs.Common.{ℕ, suc, List, ◌≡◌, ◌+◌, ◌-◌, ◌*◌, ◌<◌, get_or, arith, ap}
 use Rattle.kx_image.specs.Shape.{groups_from}
 
 pub groups_more : (m n start : ℕ) (s : List ℕ) → m ≡ suc n → groups_from m start s ≡ get_or s (start + 5) 0 + groups_from n (start + 16) s

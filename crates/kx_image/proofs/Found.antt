@@ -1,6 +1,5 @@
 -- Bytes whose form has no fault, whose records tell their rows and whose rows are sound are the image of their content.
-use Rattle.std.proofs.Common.{ℕ, zero, suc, Bool, true, false, cond, List, [], ◌∷◌, ◌++◌, ◌≡◌, ◌+◌, ◌*◌, ◌<◌, ◌≤◌, ◌==◌, ◌⊎◌, inl, inr, Option, None, Some, length, take, drop, get_or, refl, ap, arith, sym, ◌∙◌, subst, add-one}
-use Rattle.std.specs.Int.{w16, w32, from_le_bytes}
+use Rattle.std.proofs.Common.{ℕ, zero, suc, Bool, true, false, cond, List, [], ◌∷◌, ◌++◌, ◌≡◌, ◌+◌, ◌<◌, ◌≤◌, ◌==◌, ◌⊎◌, inl, inr, Option, None, Some, length, take, drop, get_or, refl, ap, arith, sym, ◌∙◌, subst, add-one}
 use Rattle.std.specs.List.{flat_map}
 use Rattle.std.specs.Str.{bytes_eq}
 use Rattle.std.specs.Prelude.{nat_lt}
@@ -12,13 +11,13 @@ use Rattle.std.proofs.lemmas.Nat.{le_bytes_2, le_bytes_4}
 use Rattle.std.proofs.lemmas.Slice.Eq.{bytes_eq-Decides}
 use Rattle.kx_tables.specs.Content.{Content, greatest_groups, part}
 use Rattle.kx_tables.specs.Sound.{Sound}
-use Rattle.kx_image.specs.Cut.{rows_at, record_at}
-use Rattle.kx_image.specs.Image.{IsImage, IsExpressible, IsCanonical, body, content_in, header_for, image}
+use Rattle.kx_image.specs.Cut.{rows_at}
+use Rattle.kx_image.specs.Image.{IsImage, IsExpressible, body, content_in, header_for}
 use Rattle.kx_image.specs.Records.{two, four, two_at, four_at, type_bytes, type_of, entry_bytes, entry_of, key_bytes, key_of, group_bytes, group_of, cell_bytes, cell_of, keysym_bytes, keysym_of, indicator_bytes, indicator_of, group_name_bytes, group_name_of}
 use Rattle.kx_image.specs.Shape.{magic, version_number, version_of, new_count_at, front_fault, length_fault, shape_fault, called_for, header_bytes, header_of, header_size, entries_start, keys_start, groups_start, cells_start, keysyms_start, indicators_start, group_names_start, names_start, group_count}
 use Rattle.kx_image.specs.Canonical.{AreCanonical}
 use Rattle.kx_image.specs.declared.fault.ImageFault.{ImageFault}
-use Rattle.kx_image.specs.declared.fault.ImageFault.TheVariants.{Truncated, Magic, Version, Length}
+use Rattle.kx_image.specs.declared.fault.ImageFault.TheVariants.{Truncated, Magic, Version}
 use Rattle.kx_image.specs.declared.header.Header.{Header}
 use Rattle.kx_image.specs.declared.header.ImageVersion.{ImageVersion}
 use Rattle.kx_image.specs.declared.header.ImageVersion.TheVariants.{One, Two}

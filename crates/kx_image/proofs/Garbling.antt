@@ -1,19 +1,12 @@
 -- A table's records checked: the fault that names one of them is a fault of the bytes.
-use Rattle.std.proofs.Common.{ℕ, List, ◌≡◌, ◌+◌, ◌*◌, ◌<◌, ◌≤◌, None, Result, Ok, Err, OnOk, IfErr, arith, ap, sym, subst, ◌⊎◌, inl, inr, length}
+use Rattle.std.proofs.Common.{ℕ, List, ◌≡◌, ◌+◌, None, Result, Ok, Err, OnOk, IfErr, arith, sym, subst, inl, inr}
 use Rattle.std.proofs.lemmas.Bool.{cases_lt}
-use Rattle.std.proofs.Math.Nat.{mul-le-mul_left}
 use Rattle.kx_tables.specs.declared.check.RecordKind.{RecordKind}
 use Rattle.kx_image.specs.Cut.{record_at}
 use Rattle.kx_image.specs.Image.{IsCanonical, HasImageFault, RecordGarbled, Garbled}
 use Rattle.kx_image.specs.Shape.{shape_fault}
 use Rattle.kx_image.specs.Canonical.{IsCanonicalTable, NamesGarbled}
 use Rattle.kx_image.specs.declared.fault.ImageFault.{ImageFault}
-use Rattle.kx_image.specs.declared.fault.ImageFault.TheVariants.{BadRecord}
-
-pub record_within : (size count index start total : ℕ) → index < count → start + size * count ≤ total → start + size * index + size ≤ total
-record_within size count index start total low within =
-    let more : size * (index + 1) ≤ size * count = mul-le-mul_left size (omega arith) in
-    omega (arith, more)
 
 pub writes_more : (is_canonical : List ℕ → Type 0) (size n start : ℕ) (s : List ℕ) → IsCanonicalTable is_canonical size n start s → is_canonical (record_at s start size n) → IsCanonicalTable is_canonical size (n + 1) start s
 writes_more is_canonical size n start s so_far here = record {

@@ -1,20 +1,12 @@
 -- The image of a content has no fault, and tells that content alone.
-use Rattle.std.proofs.Common.{ℕ, zero, suc, Bool, true, false, cond, List, [], ◌∷◌, ◌++◌, ◌≡◌, ◌+◌, ◌*◌, ◌<◌, ◌≤◌, ◌^◌, ◌==◌, ◌⊎◌, inl, inr, Option, None, Some, length, take, drop, get_or, slice_get, slice_index, sum_by, refl, ap, arith, sym, ◌∙◌, subst, append_assoc, length-append, get_or-drop, drop-drop}
+use Rattle.std.proofs.Common.{ℕ, suc, List, [], ◌∷◌, ◌++◌, ◌≡◌, ◌+◌, ◌*◌, ◌<◌, ◌^◌, None, length, drop, get_or, slice_index, sum_by, refl, ap, arith, sym, ◌∙◌, subst, append_assoc, length-append, get_or-drop, drop-drop}
 use Rattle.std.specs.List.{flat_map}
-use Rattle.std.specs.Prelude.{nat_lt}
-use Rattle.std.specs.Option.{option_or}
-use Rattle.std.proofs.Math.Seq.{drop-append_seam, take-length}
 use Rattle.std.proofs.lemmas.Bool.{le-ltb}
 use Rattle.std.proofs.lemmas.List.Sums.{sum_by-cons}
 use Rattle.std.proofs.lemmas.Nat.{from_le_bytes-to_le_bytes_2, from_le_bytes-to_le_bytes_4}
-use Rattle.std.proofs.lemmas.Option.{slice_get_within}
-use Rattle.kx_tables.proofs.Bounds.{entries_within, groups_within, cells_within, keysyms_within, type_name_within, key_name_within, indicator_name_within, group_name_within}
-use Rattle.kx_tables.specs.Content.{Content, greatest_groups, part}
-use Rattle.kx_tables.specs.Sound.{Sound, KeyHolds}
 use Rattle.kx_tables.specs.declared.rows.KeyRow.{KeyRow}
-use Rattle.kx_image.specs.Image.{IsImage, IsExpressible, body, content_in, header_for, image}
-use Rattle.kx_image.specs.Records.{two, four, two_at, four_at, key_bytes}
-use Rattle.kx_image.specs.Shape.{magic, version_number, version_of, new_count_at, front_fault, shape_fault, called_for, header_bytes, header_of, header_size, groups_from}
+use Rattle.kx_image.specs.Records.{key_bytes}
+use Rattle.kx_image.specs.Shape.{front_fault, header_bytes, header_of, header_size, groups_from}
 use Rattle.kx_image.specs.declared.header.Header.{Header}
 use Rattle.kx_image.specs.declared.header.ImageVersion.{ImageVersion}
 use Rattle.kx_image.specs.declared.header.ImageVersion.TheVariants.{One, Two}

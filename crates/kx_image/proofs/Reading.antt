@@ -1,8 +1,8 @@
 -- A record's place in the bytes, and its row.
-use Rattle.std.proofs.Common.{ℕ, List, ◌≡◌, ◌+◌, ◌*◌, ◌<◌, ◌≤◌, Some, length, slice_get, take, drop, arith, ap, sym, ◌∙◌, refl, length-take, length-drop}
+use Rattle.std.proofs.Common.{ℕ, List, ◌≡◌, ◌+◌, ◌*◌, ◌<◌, ◌≤◌, Some, length, slice_get, drop, arith, ap, sym, ◌∙◌, length-take, length-drop}
 use Rattle.kx_tables.specs.Content.{part, counts_of}
 use Rattle.kx_tables.specs.declared.tables.Counts.{Counts}
-use Rattle.kx_image.specs.Cut.{rows_at, record_at}
+use Rattle.kx_image.specs.Cut.{rows_at}
 use Rattle.kx_image.specs.Image.{content_in}
 use Rattle.kx_image.specs.Records.{type_of, entry_of, key_of, group_of, cell_of, keysym_of, indicator_of, group_name_of}
 use Rattle.kx_image.specs.Shape.{header_of, header_size, group_count, called_for, entries_start, keys_start, groups_start, cells_start, keysyms_start, indicators_start, group_names_start, names_start}

@@ -1,14 +1,12 @@
 -- Bytes with a fault are the image of no content; and bytes are the image of one content at most.
-use Rattle.std.proofs.Common.{ℕ, List, [], ◌∷◌, ◌++◌, ◌≡◌, ◌+◌, ◌*◌, ◌<◌, ◌≤◌, ◌^◌, ◌⊎◌, inl, inr, Option, None, Some, Result, Ok, Err, IfErr, OnErr, length, take, drop, slice_get, refl, ap, arith, sym, ◌∙◌, subst, length-append, false}
+use Rattle.std.proofs.Common.{ℕ, List, ◌++◌, ◌≡◌, ◌+◌, ◌<◌, ◌≤◌, inl, inr, None, Some, Result, Ok, Err, IfErr, OnErr, length, take, drop, slice_get, refl, ap, arith, sym, ◌∙◌, subst, length-append, false}
 use Rattle.std.specs.Prelude.{nat_lt}
 use Rattle.std.specs.List.{flat_map}
-use Rattle.std.specs.Option.{option_or}
 use Rattle.std.proofs.Math.Seq.{take-length}
 use Rattle.std.proofs.lemmas.Bool.{le-ltb}
-use Rattle.std.proofs.lemmas.Option.{slice_get_within, slice_get-get_or, slice_get_cases}
-use Rattle.kx_tables.proofs.Bounds.{entries_within, groups_within, cells_within, keysyms_within, type_name_within, key_name_within, indicator_name_within, group_name_within, sum_up_to}
+use Rattle.std.proofs.lemmas.Option.{slice_get_cases}
+use Rattle.kx_tables.proofs.Bounds.{entries_within, groups_within, cells_within, keysyms_within, type_name_within, key_name_within, indicator_name_within, group_name_within}
 use Rattle.kx_tables.specs.Content.{Content, greatest_groups, part}
-use Rattle.kx_tables.specs.Fit.{CountsFit}
 use Rattle.kx_tables.proofs.Fits.{sound_fits, groups_fit}
 use Rattle.kx_basics.specs.Keysyms.{IsKeysym}
 use Rattle.kx_tables.specs.Sound.{Sound, TypeHolds, KeyHolds, GroupHolds, CellHolds, IndicatorHolds, GroupNameHolds}
@@ -22,10 +20,10 @@ use Rattle.kx_tables.specs.declared.rows.GroupRow.{GroupRow}
 use Rattle.kx_tables.specs.declared.rows.IndicatorRow.{IndicatorRow}
 use Rattle.kx_tables.specs.declared.rows.KeyRow.{KeyRow}
 use Rattle.kx_tables.specs.declared.rows.TypeRow.{TypeRow}
-use Rattle.kx_image.specs.Cut.{rows_at, record_at}
-use Rattle.kx_image.specs.Image.{IsImage, IsExpressible, IsCanonical, Garbled, RecordGarbled, HasImageFault, body, content_in, header_for, image}
+use Rattle.kx_image.specs.Cut.{rows_at}
+use Rattle.kx_image.specs.Image.{IsImage, IsExpressible, Garbled, RecordGarbled, HasImageFault, body, content_in, header_for, image}
 use Rattle.kx_image.specs.Records.{type_bytes, type_of, entry_bytes, entry_of, key_bytes, key_of, group_bytes, group_of, cell_bytes, cell_of, keysym_bytes, keysym_of, indicator_bytes, indicator_of, group_name_bytes, group_name_of}
-use Rattle.kx_image.specs.Shape.{front_fault, length_fault, shape_fault, called_for, header_bytes, header_of, header_size, entries_start, keys_start, groups_start, cells_start, keysyms_start, indicators_start, group_names_start, names_start, group_count}
+use Rattle.kx_image.specs.Shape.{front_fault, shape_fault, called_for, header_bytes, header_of, header_size, entries_start, keys_start, groups_start, cells_start, keysyms_start, indicators_start, group_names_start, names_start, group_count}
 use Rattle.kx_image.specs.declared.fault.ImageFault.{ImageFault}
 use Rattle.kx_image.specs.declared.fault.ImageFault.TheVariants.{Truncated, Magic, Version, Length, BadRecord}
 use Rattle.kx_image.specs.declared.header.Header.{Header}

@@ -1,10 +1,9 @@
 -- Tables of records of one size: their rows, from bytes and to bytes.
-use Rattle.std.proofs.Common.{ℕ, zero, suc, List, [], ◌∷◌, ◌++◌, ◌≡◌, ◌+◌, ◌*◌, ◌<◌, ◌≤◌, Some, length, take, drop, slice_get, refl, ap, arith, sym, ◌∙◌, append_assoc, subst, drop-drop}
+use Rattle.std.proofs.Common.{ℕ, zero, suc, List, [], ◌∷◌, ◌++◌, ◌≡◌, ◌+◌, ◌*◌, ◌<◌, Some, length, take, drop, slice_get, refl, ap, arith, sym, ◌∙◌, append_assoc, subst, drop-drop}
 use Rattle.std.proofs.lemmas.List.{take-append-drop}
 use Rattle.std.proofs.Math.Seq.{take-append_seam, drop-append_seam}
 use Rattle.std.specs.List.{flat_map}
 use Rattle.kx_tables.specs.Content.{part}
-use Rattle.kx_tables.specs.Sound.{EachRow}
 use Rattle.kx_image.specs.Cut.{rows_at, record_at}
 
 module _ {X : Type 0} (of : List ℕ → X) (size : ℕ) where

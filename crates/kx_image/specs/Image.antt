@@ -1,5 +1,5 @@
 -- The image of a content.
-use Rattle.std.specs.Prelude.{ℕ, List, [], ◌≡◌, ◌++◌, ◌+◌, ◌<◌, ◌⊎◌, length, Option, None, Some}
+use Rattle.std.specs.Prelude.{ℕ, List, [], ◌≡◌, ◌++◌, ◌+◌, ◌<◌, ◌⊎◌, length, None, Some}
 use Rattle.std.specs.List.{flat_map}
 use Rattle.kx_tables.specs.Broken.{Breaks}
 use Rattle.kx_tables.specs.Content.{Content, greatest_groups, part}

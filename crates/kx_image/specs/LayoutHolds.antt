@@ -1,8 +1,6 @@
 -- Counts and places that are those of the bytes.
 use Rattle.std.specs.Prelude.{ℕ, List, ◌≡◌, length}
-use Rattle.kx_tables.specs.Content.{counts_of}
 use Rattle.kx_tables.specs.declared.tables.Counts.{Counts}
-use Rattle.kx_image.specs.Image.{content_in}
 use Rattle.kx_image.specs.Shape.{header_of, group_count, called_for}
 use Rattle.kx_image.specs.Starts.{starts_of}
 use Rattle.kx_image.specs.declared.header.Header.{Header}

@@ -1,5 +1,5 @@
 -- The records of an image, byte for byte: numbers are little-endian. `x_bytes` are a row's bytes, and `x_of` the row that so many bytes tell.
-use Rattle.std.specs.Prelude.{ℕ, ℤ, pos, negsuc, Bool, true, false, not, List, [], ◌∷◌, ◌++◌, ◌==◌, ◌+◌, ◌-◌, ◌<◌, ◌≤◌, cond, nat_lt, slice_index}
+use Rattle.std.specs.Prelude.{ℕ, ℤ, pos, negsuc, Bool, not, List, [], ◌∷◌, ◌++◌, ◌==◌, ◌+◌, ◌-◌, cond, nat_lt, slice_index}
 use Rattle.std.specs.Int.{w16, w32, to_le_bytes, from_le_bytes}
 use Rattle.std.specs.Int.RustNames.{bit_and}
 use Rattle.kx_mods.specs.Mods.{mask}

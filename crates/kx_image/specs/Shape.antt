@@ -1,5 +1,5 @@
 -- The header of an image, where its tables begin, and the first thing that is wrong with its length.
-use Rattle.std.specs.Prelude.{ℕ, zero, suc, Bool, true, false, not, List, [], ◌∷◌, ◌++◌, ◌==◌, ◌+◌, ◌*◌, Option, None, Some, cond, nat_lt, length, take, slice_index}
+use Rattle.std.specs.Prelude.{ℕ, zero, suc, List, [], ◌∷◌, ◌++◌, ◌==◌, ◌+◌, ◌*◌, Option, None, Some, cond, nat_lt, length, take, slice_index}
 use Rattle.std.specs.Option.{option_or}
 use Rattle.std.specs.Str.{bytes_eq}
 use Rattle.kx_image.specs.Records.{two, four, two_at, four_at}

@@ -1,5 +1,5 @@
 -- Where each table of an image begins, as numbers that are kept beside the bytes.
-use Rattle.std.specs.Prelude.{ℕ, List, ◌≡◌, ◌+◌, ◌<◌, ◌^◌, None, length}
+use Rattle.std.specs.Prelude.{ℕ, List, ◌≡◌, ◌+◌, None, length}
 use Rattle.kx_image.specs.Shape.{header_of, header_size, entries_start, keys_start, groups_start, cells_start, keysyms_start, indicators_start, group_names_start, names_start, group_count, called_for, shape_fault}
 use Rattle.kx_image.specs.declared.header.Header.{Header}
 use Rattle.kx_image.specs.declared.shape.Starts.{Starts}

@@ -5,12 +5,9 @@ use Rattle.kx_merge.specs.Last.{last_given}
 use Rattle.kx_indicators.specs.Given.{IndicatorMapValues}
 use Rattle.kx_indicators.specs.Giving.{last_values, value_group_states, value_groups, value_mod_states, value_modifiers, with_value}
 use Rattle.kx_indicators.specs.declared.values.IndicatorMapValue.{IndicatorMapValue}
-use Rattle.kx_indicators.specs.declared.values.IndicatorMapValue.TheVariants.{Modifiers, ModStates, GroupStates, Groups}
+use Rattle.kx_indicators.specs.declared.values.IndicatorMapValue.TheVariants.{Modifiers}
 use Rattle.kx_merge.proofs.Going.{drop_next}
-
-or_inner : {X : Type 0} (a b c : Option X) → option_or (option_or a b) c ≡ option_or a (option_or b c)
-or_inner None b c = refl
-or_inner (Some x) b c = refl
+use Rattle.kx_merge.proofs.Precedence.{option_or-assoc}
 
 abbrev made : Option ℕ → Option ℕ → Option ℕ → Option ℕ → IndicatorMapValues
 made m s t g = record { modifiers = m; mod_states = s; group_states = t; groups = g }
@@ -23,9 +20,7 @@ taken : (v : IndicatorMapValues) (m s t g : Option ℕ) (o : Option IndicatorMap
     ≡ made (option_or m (with_value v o).modifiers) (option_or s (with_value v o).mod_states) (option_or t (with_value v o).group_states) (option_or g (with_value v o).groups)
 taken v m s t g None = refl
 taken v m s t g (Some (Modifiers x)) = refl
-taken v m s t g (Some (ModStates x)) = refl
-taken v m s t g (Some (GroupStates x)) = refl
-taken v m s t g (Some (Groups x)) = refl
+taken v m s t g _ = refl
 
 module _ {X : Type 0} (gives : X → Option IndicatorMapValue) where
   pub last_next : (v : IndicatorMapValues) (x : X) (xs : List X) → last_values gives v (x ∷ xs) ≡ last_values gives (with_value v (gives x)) xs
@@ -35,10 +30,10 @@ module _ {X : Type 0} (gives : X → Option IndicatorMapValue) where
       let t : Option ℕ = last_given (λ y. option_and_then value_group_states (gives y)) xs in
       let g : Option ℕ = last_given (λ y. option_and_then value_groups (gives y)) xs in
       same_made _ _ _ _ _ _ _ _
-      (or_inner m (option_and_then value_modifiers (gives x)) v.modifiers)
-      (or_inner s (option_and_then value_mod_states (gives x)) v.mod_states)
-      (or_inner t (option_and_then value_group_states (gives x)) v.group_states)
-      (or_inner g (option_and_then value_groups (gives x)) v.groups)
+      (option_or-assoc m (option_and_then value_modifiers (gives x)) v.modifiers)
+      (option_or-assoc s (option_and_then value_mod_states (gives x)) v.mod_states)
+      (option_or-assoc t (option_and_then value_group_states (gives x)) v.group_states)
+      (option_or-assoc g (option_and_then value_groups (gives x)) v.groups)
       ∙ taken v m s t g (gives x)
 
   -- what is left is given after what the next gives

@@ -1,10 +1,11 @@
 -- The names of indicators without a fault are short, and each is there once.
-use Rattle.std.proofs.Common.{◌≡◌, ℕ, ◌≤◌, nat_eq, nat_lt, Bool, true, false, cond, ◌||◌, List, [], ◌∷◌, ◌++◌, length, Option, None, Some, All, refl, sym, ◌∙◌, subst, arith}
+use Rattle.std.proofs.Common.{◌≡◌, ℕ, ◌≤◌, nat_eq, nat_lt, Bool, true, false, cond, List, [], ◌∷◌, ◌++◌, length, Option, None, Some, All, refl, sym, ◌∙◌, subst, arith}
 use Rattle.std.specs.Cmp.Lexicographic.{bytes_decides}
 use Rattle.std.specs.List.{AllByRecursion, IsDistinct, flat_map, list_any}
 use Rattle.std.specs.Str.{bytes_eq}
 use Rattle.std.proofs.lemmas.Bool.Decides.{nat_tests}
 use Rattle.std.proofs.lemmas.List.Elements.{All-head, All-nil, All-push, All-tail}
+use Rattle.std.proofs.lemmas.Bool.{or_parts}
 use Rattle.kx_basics.specs.declared.limits.TheConstants.{MOST_NAME_BYTES}
 use Rattle.kx_include.specs.Expansion.{Body, End, Begin, Own, Inc}
 use Rattle.kx_include.specs.IncludeFaults.{at}
@@ -103,15 +104,11 @@ flipped j k h = by (bytes_eq j k) refl
     by false is = refl
     by true is = let same : bytes_eq k j ≡ true = (bytes_decides k j).1 (sym ((bytes_decides j k).0 is)) in let never : true ≡ false = sym same ∙ h in cc
 
-neither : (a b : Bool) → (a || b) ≡ false → (a ≡ false) × (b ≡ false)
-neither true b h = cc
-neither false b h = (refl, h)
-
 distinct-push : (ks : List (List ℕ)) (k : List ℕ) → list_any (bytes_eq k) ks ≡ false → IsDistinct bytes_eq ks → IsDistinct bytes_eq (ks ++ k ∷ [])
 unfolding IsDistinct
 distinct-push [] k h d = (tt, tt)
 distinct-push (j ∷ ks) k h d =
-    let none = neither (bytes_eq k j) (list_any (bytes_eq k) ks) h in
+    let none = or_parts (bytes_eq k j) (list_any (bytes_eq k) ks) h in
     (all-push (λ y. bytes_eq j y ≡ false) ks k d.0 (flipped j k none.0), distinct-push ks k none.1 d.1)
 
 distinct-with : (ks : List (List ℕ)) (k : List ℕ) → IsDistinct bytes_eq ks → IsDistinct bytes_eq (with_name bytes_eq ks k)

@@ -30,7 +30,7 @@ nothing_taken Augment (Some x) h = refl
 nothing_taken Override o h = refl
 nothing_taken Replace o h = absurd (false≢true (sym h))
 
-set-other : {X : Type 0} (xs : List X) (i : ℕ) (y : X) (k : ℕ) → (k ≡ i → ⊥) → slice_get (slice_set xs i y) k ≡ slice_get xs k
+pub set-other : {X : Type 0} (xs : List X) (i : ℕ) (y : X) (k : ℕ) → (k ≡ i → ⊥) → slice_get (slice_set xs i y) k ≡ slice_get xs k
 set-other [] i y k other = refl
 set-other (x ∷ xs) zero y zero other = absurd (other refl)
 set-other (x ∷ xs) zero y (suc k) other = refl

@@ -9,6 +9,7 @@ use Rattle.kx_parse.specs.declared.tree.Mode.{Mode}
 use Rattle.kx_parse.specs.declared.tree.Mode.TheVariants.{Augment, Override, Replace}
 use Rattle.kx_merge.specs.Offers.{is_replace, merged_value}
 use Rattle.kx_key_fields.specs.Lists.{Lists, level_at, level_in, level_of, list_at, widened_to, width_in, width_of}
+use Rattle.kx_key_fields.proofs.Moving.{set-other}
 
 -- of later levels those before a place were taken up, and the others are still there
 pub record LevelsBehind {X : Type 0} (mode : Mode) (old other now left : List (Option X)) (place : ℕ) : Type 0 where
@@ -24,23 +25,10 @@ nothing_taken Augment (Some x) h = refl
 nothing_taken Override o h = refl
 nothing_taken Replace o h = absurd (false≢true (sym h))
 
-flat : {X : Type 0} → Option (Option X) → Option X
-flat o = option_and_then (λ p. p) o
-
-set-other : {X : Type 0} (xs : List X) (i : ℕ) (y : X) (k : ℕ) → (k ≡ i → ⊥) → slice_get (slice_set xs i y) k ≡ slice_get xs k
-set-other [] i y k other = refl
-set-other (x ∷ xs) zero y zero other = absurd (other refl)
-set-other (x ∷ xs) zero y (suc k) other = refl
-set-other (x ∷ xs) (suc i) y zero other = refl
-set-other (x ∷ xs) (suc i) y (suc k) other = set-other xs i y k (λ e. other (ap suc e))
-
 pub level_past : {X : Type 0} (xs : List (Option X)) (k : ℕ) → length xs ≤ k → level_at xs k ≡ None
 level_past xs k past = ap (λ o. option_and_then (λ p. p) o) (slice_get_past xs k past)
 
 module _ {X : Type 0} (mode : Mode) (old other : List (Option X)) where
-  pub levels_begin : LevelsBehind mode old other old other 0
-  levels_begin = record { sized = refl; kept = λ k from. refl; long = omega arith; levels = λ k. sym (ap (λ b. cond b (merged_value mode (level_at old k) (level_at other k)) (level_at old k)) (le-ltb k 0 (omega arith))) }
-
   pub levels_go : (now left : List (Option X)) (place : ℕ) (level : Option X) (now2 left2 : List (Option X)) → is_replace mode ≡ false → LevelsBehind mode old other now left place → place < length other
       → level ≡ level_at left place → length left2 ≡ length left → ((k : ℕ) → place + 1 ≤ k → level_at left2 k ≡ level_at left k)
       → ((l : ℕ) → level_at now2 l ≡ cond (nat_eq l place) (merged_value mode (level_at now place) level) (level_at now l)) → length now2 ≡ max (length now) (place + 1) → LevelsBehind mode old other now2 left2 (place + 1)
@@ -94,9 +82,6 @@ module _ {V : Type 0} (take : V → V → V) (nothing : V) (old other : ℕ → 
   never : (a b : Bool) → b ≡ false → (not a && b) ≡ false
   never true b h = refl
   never false b h = h
-
-  pub goes_begin : Goes old 0
-  goes_begin g = sym (ap (shows g) (never (nat_lt g from) (nat_lt (g - from) 0) (le-ltb (g - from) 0 (omega arith))))
 
   pub goes_next : (now now2 : ℕ → V) (place : ℕ) (x : V) → Goes now place → x ≡ other place → ((g : ℕ) → now2 g ≡ cond (nat_eq g (from + place)) (take (now g) x) (now g)) → Goes now2 (place + 1)
   goes_next now now2 place x goes is taken_up g = taken_up g ∙ by (nat_eq g (from + place)) refl
@@ -202,9 +187,6 @@ pub record ListsBehind {X : Type 0} (mode : Mode) (from : ℕ) (old other now le
   pub widths : Goes max 0 (width_in old) (width_in other) from (width_in now) place
 
 module _ {X : Type 0} (mode : Mode) (from : ℕ) (old other : Lists X) where
-  pub lists_begin : ListsBehind mode from old other old other 0
-  lists_begin = record { sized = refl; kept = λ k low. refl; levels = λ l. goes_begin (merged_value mode) None (λ g. level_in old g l) (λ g. level_in other g l) from; widths = goes_begin max 0 (width_in old) (width_in other) from }
-
   pub lists_go : (now left : Lists X) (place : ℕ) (list : Option (List (Option X))) (now2 left2 : Lists X) → ListsBehind mode from old other now left place → list ≡ list_at left place → length left2 ≡ length left → ((k : ℕ) → place + 1 ≤ k → list_at left2 k ≡ list_at left k)
       → ((g l : ℕ) → level_in now2 g l ≡ cond (nat_eq g (from + place)) (merged_value mode (level_in now g l) (level_of list l)) (level_in now g l))
       → ((g : ℕ) → width_in now2 g ≡ cond (nat_eq g (from + place)) (max (width_in now g) (width_of list)) (width_in now g)) → ListsBehind mode from old other now2 left2 (place + 1)

@@ -86,7 +86,8 @@ impl GroupTypes {
     ) -> Result<(), AllocError>
         requires { place ≤ length self.old }
         ensures types { OnOk result ((g : ℕ)
-            → type_at self.new g ≡ (if nat_eq g place then merged_value mode (type_at self.old place) name
+            → type_at self.new g ≡ (if nat_eq g place then merged_value mode
+            (type_at self.old place) name
             else type_at self.old g)) }
         ensures long { OnOk result (length self.new ≡ max (length self.old) (place + 1)) }
     {

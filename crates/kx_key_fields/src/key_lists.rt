@@ -107,7 +107,8 @@ impl<X: LevelValue> GroupLists<X> {
     /// Takes up what a later statement or include gives.
     pub fn merge(&mut self, other: GroupLists<X>, mode: Mode) -> Result<(), AllocError>
         ensures cells { OnOk result ((g l : ℕ)
-            → value_in self.new g l ≡ merged_value mode (value_in self.old g l) (value_in other g l)) }
+            → value_in self.new g l ≡ merged_value mode (value_in self.old g l)
+            (value_in other g l)) }
         ensures widths { OnOk result ((g : ℕ)
             → width_in_key self.new g ≡ merged_width mode (width_in_key self.old g)
             (width_in_key other g)) }
@@ -126,7 +127,8 @@ impl<X: LevelValue> GroupLists<X> {
     fn merge_lists(&mut self, other: GroupLists<X>, mode: Mode) -> Result<(), AllocError>
         requires { is_replace mode ≡ false }
         ensures cells { OnOk result ((g l : ℕ)
-            → value_in self.new g l ≡ merged_value mode (value_in self.old g l) (value_in other g l)) }
+            → value_in self.new g l ≡ merged_value mode (value_in self.old g l)
+            (value_in other g l)) }
         ensures widths { OnOk result ((g : ℕ)
             → width_in_key self.new g ≡ max (width_in_key self.old g) (width_in_key other g)) }
     {

@@ -103,7 +103,8 @@ impl<X: LevelValue> Levels<X> {
     pub(crate) fn merge_copied(&mut self, other: &Levels<X>, mode: Mode) -> Result<(), AllocError>
         requires { is_replace mode ≡ false }
         ensures levels { OnOk result ((l : ℕ)
-            → level_at self.new l ≡ merged_value mode (level_at self.old l) (level_at other.now l)) }
+            → level_at self.new l ≡ merged_value mode (level_at self.old l)
+            (level_at other.now l)) }
         ensures long { OnOk result (length self.new ≡ max (length self.old) (length other.now)) }
     {
         'levels: for place in 0..other.levels.len() {

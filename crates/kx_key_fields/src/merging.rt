@@ -64,7 +64,8 @@ fn merge_group_copied<X: LevelValue>(
     requires group { group < 2 ^ 63 }
     ensures levels { OnOk result ((g l : ℕ)
         → level_in lists.new.items g l
-        ≡ (if nat_eq g group then merged_value mode (level_in lists.old.items g l) (level_of later.now l)
+        ≡ (if nat_eq g group then merged_value mode (level_in lists.old.items g l)
+        (level_of later.now l)
         else level_in lists.old.items g l)) }
     ensures widths { OnOk result ((g : ℕ)
         → width_in lists.new.items g ≡ (if nat_eq g group
@@ -112,7 +113,8 @@ fn merge_group<X: LevelValue>(
     requires group { group < 2 ^ 63 }
     ensures levels { OnOk result ((g l : ℕ)
         → level_in lists.new.items g l
-        ≡ (if nat_eq g group then merged_value mode (level_in lists.old.items g l) (level_of later l)
+        ≡ (if nat_eq g group then merged_value mode (level_in lists.old.items g l)
+        (level_of later l)
         else level_in lists.old.items g l)) }
     ensures widths { OnOk result ((g : ℕ)
         → width_in lists.new.items g ≡ (if nat_eq g group

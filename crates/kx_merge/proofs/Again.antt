@@ -1,6 +1,6 @@
 -- Offers of which no two are about one record, once more after themselves, change nothing.
 use Rattle.std.proofs.Common.{◌≡◌, ℕ, Bool, true, false, ◌||◌, cond, List, [], ◌∷◌, ◌++◌, Option, None, Some, refl, sym, ap, ◌∙◌, arith}
-use Rattle.std.proofs.lemmas.Bool.{false≢true}
+use Rattle.std.proofs.lemmas.Bool.{false≢true, or_right, or_left}
 use Rattle.std.specs.Cmp.{IsEquivalence}
 use Rattle.std.specs.List.{list_any}
 use Rattle.std.specs.Option.{option_or}
@@ -93,14 +93,6 @@ module _ {K C V : Type 0} (eq : K → K → Bool) (k : K) where
 
 -- names that are there
 module _ {K : Type 0} (eq : K → K → Bool) (laws : IsEquivalence eq) where
-  or-right : (a b : Bool) → b ≡ true → (a || b) ≡ true
-  or-right true b h = refl
-  or-right false b h = h
-
-  or-left : (a b : Bool) → a ≡ true → (a || b) ≡ true
-  or-left true b h = refl
-  or-left false b h = absurd (false≢true h)
-
   any-more : (j k : K) (ks : List K) → list_any (eq j) ks ≡ true → list_any (eq j) (ks ++ k ∷ []) ≡ true
   any-more j k [] h = absurd (false≢true h)
   any-more j k (x ∷ ks) h = by (eq j x) h (any-more j k ks)
@@ -110,8 +102,8 @@ module _ {K : Type 0} (eq : K → K → Bool) (laws : IsEquivalence eq) where
       by false e next = next e
 
   any-last : (k : K) (ks : List K) → list_any (eq k) (ks ++ k ∷ []) ≡ true
-  any-last k [] = or-left (eq k k) false (laws.refl k)
-  any-last k (x ∷ ks) = or-right (eq k x) (list_any (eq k) (ks ++ k ∷ [])) (any-last k ks)
+  any-last k [] = or_left (eq k k) false (laws.refl k)
+  any-last k (x ∷ ks) = or_right (eq k x) (list_any (eq k) (ks ++ k ∷ [])) (any-last k ks)
 
   any-named : (j k : K) (ks : List K) → list_any (eq j) ks ≡ true → list_any (eq j) (with_name eq ks k) ≡ true
   any-named j k ks h = by (list_any (eq k) ks)

@@ -18,7 +18,7 @@ use Rattle.kx_include.specs.declared.expansion.Map.{Map}
 use Rattle.kx_include.specs.declared.place.Place.{Place}
 use Rattle.kx_parse.specs.declared.tree.Mode.TheVariants.{Augment}
 use Rattle.kx_merge.specs.Bodies.{Rules, Moves, moved, gathered, offers, faults, offers_of, faults_of}
-use Rattle.kx_merge.specs.Gatherings.{Adds, AddsBehind, IsGathered, AreGathered, none, more, entry_offers, entry_faults, entry_next}
+use Rattle.kx_merge.specs.Gatherings.{Adds, IsGathered, AreGathered, none, more, entry_offers, entry_faults, entry_next}
 use Rattle.kx_merge.specs.Offers.{Offer}
 use Rattle.kx_merge.specs.Records.{Shows, cell_in, width_in}
 use Rattle.kx_merge.specs.declared.gathering.Merged.{Merged}
@@ -118,9 +118,6 @@ module _ {K C V D : Type 0} (eq : K → K → Bool) (rules : Rules K C V D) (mov
       ∙ entries-blamed x.place rules.start x.entries.items (shared_sections bodies (drop (i + 1) xs))
       ∙ ap (λ os. faults_of eq rules moves (shared_body bodies x End) ++ os) (restart-blamed (ended rules.start x.entries.items) (drop (i + 1) xs))
 
-pub adds_behind : {K C V R X : Type 0} {cell : R → C → Option V} {width : R → ℕ → ℕ} {eq : K → K → Bool} {n1 n2 : List K} {a1 a2 : K → Option R} {r : Result X Fault} {added last : List (Offer K C V)} {blamed : List Fault} → Adds cell width eq n1 a1 r n2 a2 added blamed → AddsBehind cell width eq last n1 a1 r n2 a2 added blamed
-adds_behind {last = last} adds = record { shows = λ os shows. adds.shows (os ++ last) shows; faultless = adds.faultless; fault = adds.fault }
-
 -- where no section is left
 pub left_over : {K C V D R : Type 0} {cell : R → C → Option V} {width : R → ℕ → ℕ} {eq : K → K → Bool} {rules : Rules K C V D} {moves : Moves K C} {names now_names : List K} {at now_at : K → Option R} {d now_d : D} {whole : Body} (bodies : List Body) (i : ℕ) (xs : List Map) → length xs ≤ i
     → Left cell width eq rules moves names at d whole now_names now_at now_d (shared_sections bodies (drop i xs)) → Left cell width eq rules moves names at d whole now_names now_at now_d End
@@ -202,8 +199,3 @@ shows_none cell width eq m os empty nothing = subst (Shows cell width eq (keys m
   cells_are = λ k c. ap (λ es. cell_in cell (lookup (eq k) es) c) empty;
   widths_are = λ k g. ap (λ es. width_in width (lookup (eq k) es) g) empty;
 })
-
--- lack of memory, and a fault that `?` passes on
-pub memory_passed : {X : Type 0} (r : Result X Fault) (fs : List Fault) → IsErrAnd r (λ y. y ≡ Memory) → IfErr r (λ e. Contains (Memory ∷ fs) e)
-memory_passed (Ok x) fs is = absurd is
-memory_passed (Err e) fs is = (0, omega arith, sym is)

@@ -1,7 +1,7 @@
 -- Offers under augment, once more, change nothing, where nothing between them takes a value back.
 use Rattle.std.proofs.Common.{◌≡◌, ℕ, Bool, true, false, cond, max, List, [], ◌∷◌, ◌++◌, map, Option, None, Some, Result, Ok, Err, OnOk, refl, sym, ap, ◌∙◌, subst, arith}
 use Rattle.kx_lex.specs.declared.fault.Fault.{Fault}
-use Rattle.std.proofs.lemmas.Bool.{false≢true}
+use Rattle.std.proofs.lemmas.Bool.{false≢true, or_from}
 use Rattle.std.specs.Cmp.{IsEquivalence}
 use Rattle.std.specs.List.{list_any}
 use Rattle.std.specs.Map.{keys_of}
@@ -15,19 +15,15 @@ use Rattle.kx_merge.specs.Offers.{Offer, is_about, is_replace, is_strong, merged
 use Rattle.kx_merge.specs.Records.{AreOffered, Shows}
 use Rattle.kx_merge.specs.Records.AreOffered.{more as an_offered}
 use Rattle.kx_merge.proofs.Again.{Named, no_name, all-named, behind, named-again, take, value-behind, widen, width-behind}
-use Rattle.kx_merge.proofs.Precedence.{names_behind-append}
+use Rattle.kx_merge.proofs.Precedence.{names_behind-append, option_or-assoc}
 use Rattle.kx_merge.proofs.Repeated.{behind-append, named-more}
-use Rattle.kx_merge.proofs.OnePart.{or-both, or-first, or-last}
+use Rattle.kx_merge.proofs.OnePart.{or-first, or-last}
 
 -- ---- Values and widths
 
 pub or-none : {X : Type 0} (a : Option X) → option_or a None ≡ a
 or-none None = refl
 or-none (Some x) = refl
-
-or-inner : {X : Type 0} (a b c : Option X) → option_or (option_or a b) c ≡ option_or a (option_or b c)
-or-inner None b c = refl
-or-inner (Some x) b c = refl
 
 or-same : {X : Type 0} (a b : Option X) → option_or (option_or a b) b ≡ option_or a b
 or-same (Some x) b = refl
@@ -58,18 +54,9 @@ width-stays Augment gentle a b y e = omega (arith, e)
 width-stays Override gentle a b y e = omega (arith, e)
 width-stays Replace gentle a b y e = absurd (false≢true (sym gentle))
 
-gentle-mode : (m : Mode) → is_strong m ≡ false → is_replace m ≡ false
-gentle-mode Augment weak = refl
-gentle-mode Override weak = refl
-gentle-mode Replace weak = absurd (false≢true (sym weak))
-
 -- ---- Offers under augment
 
 module _ {K C V : Type 0} where
-  pub weak_gentle : (os : List (Offer K C V)) → AreWeak os → AreGentle os
-  weak_gentle [] no_offer = none
-  weak_gentle (o ∷ os) (an_offer weak rest) = more (gentle-mode o.mode weak) (weak_gentle os rest)
-
   pub gentle_to : (eq : K → K → Bool) (k : K) (os : List (Offer K C V)) → AreGentle os → AreGentleTo eq k os
   gentle_to eq k [] none = none
   gentle_to eq k (o ∷ os) (more one rest) = more (λ about. one) (gentle_to eq k os rest)
@@ -159,7 +146,7 @@ module _ {K C V : Type 0} (eq : K → K → Bool) (k : K) where
 
       by : (b : Bool) → ((v : Option V) → behind eq k (take eq k c) v os ≡ option_or v left) → behind eq k (take eq k c) (cond b (merged_value o.mode w (o.value c)) w) os ≡ option_or w (behind eq k (take eq k c) (cond b (merged_value o.mode None (o.value c)) None) os)
       by true next =
-          next (merged_value o.mode w (o.value c)) ∙ ap (λ v. option_or v left) (merged-weak o.mode weak w (o.value c)) ∙ or-inner w (o.value c) left
+          next (merged_value o.mode w (o.value c)) ∙ ap (λ v. option_or v left) (merged-weak o.mode weak w (o.value c)) ∙ option_or-assoc w (o.value c) left
           ∙ ap (option_or w) (sym (next (merged_value o.mode None (o.value c)) ∙ ap (λ v. option_or v left) (merged-weak o.mode weak None (o.value c))))
       by false next = next w
 
@@ -198,7 +185,7 @@ module _ {K C V : Type 0} (eq : K → K → Bool) (k : K) where
 
 pub any-front : {K : Type 0} (test : K → Bool) (js ks : List K) → list_any test (js ++ ks) ≡ false → list_any test js ≡ false
 any-front test [] ks away = refl
-any-front test (j ∷ js) ks away = or-both (test j) (list_any test js) (or-first (test j) (list_any test (js ++ ks)) away) (any-front test js ks (or-last (test j) (list_any test (js ++ ks)) away))
+any-front test (j ∷ js) ks away = or_from (test j) (list_any test js) (or-first (test j) (list_any test (js ++ ks)) away) (any-front test js ks (or-last (test j) (list_any test (js ++ ks)) away))
 
 pub any-rest : {K : Type 0} (test : K → Bool) (js ks : List K) → list_any test (js ++ ks) ≡ false → list_any test ks ≡ false
 any-rest test [] ks away = away

@@ -1,6 +1,6 @@
 -- What several parts, joined, give to the records of some keys.
 use Rattle.std.proofs.Common.{◌≡◌, ℕ, Bool, true, false, ◌||◌, cond, max, List, [], ◌∷◌, ◌++◌, Option, None, Some, All, refl, sym, ap, ◌∙◌, subst, arith}
-use Rattle.std.proofs.lemmas.Bool.{false≢true}
+use Rattle.std.proofs.lemmas.Bool.{false≢true, or_from}
 use Rattle.std.proofs.lemmas.List.Elements.{All-cons, All-head, All-nil, All-tail}
 use Rattle.std.specs.Cmp.{IsEquivalence}
 use Rattle.std.specs.List.{list_any}
@@ -18,7 +18,7 @@ use Rattle.kx_merge.proofs.Again.{Named, no_name, a_name, all-named, behind-away
 use Rattle.kx_merge.proofs.Covering.{or-none}
 use Rattle.kx_merge.proofs.Picking.{named_by, value_given, width_given}
 use Rattle.kx_merge.proofs.Precedence.{names_behind-append}
-use Rattle.kx_merge.proofs.OnePart.{names, names-of-gathered, or-both}
+use Rattle.kx_merge.proofs.OnePart.{names, names-of-gathered}
 
 -- ---- Parts in order
 
@@ -128,7 +128,7 @@ module _ {K : Type 0} (eq : K → K → Bool) (same : (j k : K) → eq j k ≡ t
 module _ {K C V : Type 0} (eq : K → K → Bool) (laws : IsEquivalence eq) (same : (j k : K) → eq j k ≡ true → j ≡ k) where
   unnamed : (js : List K) (os : List (Offer K C V)) (k : K) → Named eq laws js os → list_any (eq k) js ≡ false → list_any (eq k) (names os) ≡ false
   unnamed js [] k no_name out = refl
-  unnamed js (o ∷ os) k (a_name here rest) out = or-both (eq k o.name) (list_any (eq k) (names os)) (by (eq k o.name) refl) (unnamed js os k rest out)
+  unnamed js (o ∷ os) k (a_name here rest) out = or_from (eq k o.name) (list_any (eq k) (names os)) (by (eq k o.name) refl) (unnamed js os k rest out)
     where
       by : (b : Bool) → eq k o.name ≡ b → b ≡ false
       by true e = absurd (false≢true (sym out ∙ ap (λ i. list_any (eq i) js) (same k o.name e) ∙ here))

@@ -1,6 +1,6 @@
 -- An include with a single part: what its map's records offer is the same offer under the include's mode.
 use Rattle.std.proofs.Common.{◌≡◌, ℕ, Bool, true, false, not, ◌&&◌, ◌||◌, cond, max, List, [], ◌∷◌, ◌++◌, map, Option, None, Some, refl, sym, ap, ◌∙◌, subst, arith}
-use Rattle.std.proofs.lemmas.Bool.{false≢true}
+use Rattle.std.proofs.lemmas.Bool.{false≢true, or_from}
 use Rattle.std.specs.Cmp.{IsEquivalence}
 use Rattle.std.specs.List.{flat_map, list_any}
 use Rattle.std.specs.Option.{option_or}
@@ -24,10 +24,6 @@ pub or-last : (a b : Bool) → (a || b) ≡ false → b ≡ false
 or-last true b h = absurd (false≢true (sym h))
 or-last false b h = h
 
-pub or-both : (a b : Bool) → a ≡ false → b ≡ false → (a || b) ≡ false
-or-both true b h k = h
-or-both false b h k = k
-
 lone-value : {V : Type 0} (b : Bool) (v : Option V) → option_or (option_or None (cond b v None)) (option_or (cond b None v) None) ≡ v
 lone-value true None = refl
 lone-value true (Some x) = refl
@@ -45,8 +41,8 @@ module _ {K : Type 0} (eq : K → K → Bool) where
 
 module _ {K : Type 0} (eq : K → K → Bool) (laws : IsEquivalence eq) where
   away-more : (j k : K) (ks : List K) → list_any (eq j) ks ≡ false → eq j k ≡ false → list_any (eq j) (ks ++ k ∷ []) ≡ false
-  away-more j k [] away other = or-both (eq j k) false other refl
-  away-more j k (x ∷ ks) away other = or-both (eq j x) (list_any (eq j) (ks ++ k ∷ [])) (or-first (eq j x) (list_any (eq j) ks) away) (away-more j k ks (or-last (eq j x) (list_any (eq j) ks) away) other)
+  away-more j k [] away other = or_from (eq j k) false other refl
+  away-more j k (x ∷ ks) away other = or_from (eq j x) (list_any (eq j) (ks ++ k ∷ [])) (or-first (eq j x) (list_any (eq j) ks) away) (away-more j k ks (or-last (eq j x) (list_any (eq j) ks) away) other)
 
   apart-more : (k : K) (ks : List K) → Apart eq ks → list_any (eq k) ks ≡ false → Apart eq (ks ++ k ∷ [])
   apart-more k [] apart away = a_key refl no_key
@@ -77,7 +73,7 @@ module _ {K : Type 0} (eq : K → K → Bool) (laws : IsEquivalence eq) where
 
   apart-before : (k : K) (xs ys : List K) → Apart eq (xs ++ k ∷ ys) → list_any (eq k) xs ≡ false
   apart-before k [] ys apart = refl
-  apart-before k (x ∷ xs) ys (a_key first rest) = or-both (eq k x) (list_any (eq k) xs) (laws.symm k x ∙ away-at (eq x) k xs ys first) (apart-before k xs ys rest)
+  apart-before k (x ∷ xs) ys (a_key first rest) = or_from (eq k x) (list_any (eq k) xs) (laws.symm k x ∙ away-at (eq x) k xs ys first) (apart-before k xs ys rest)
 
   names-kept : {C V : Type 0} (ks : List K) (os : List (Offer K C V)) → Apart eq (ks ++ names os) → names_behind eq ks os ≡ ks ++ names os
   names-kept ks [] apart = sym (append-nil ks)
@@ -94,7 +90,7 @@ module _ {K : Type 0} (eq : K → K → Bool) (laws : IsEquivalence eq) where
         let first = or-first (eq k o.name) (list_any (eq k) (names os)) away in
         let rest = unseen k os (or-last (eq k o.name) (list_any (eq k) (names os)) away) in (
           ap (λ b. cond (b && not (is_hidden eq k os)) (o ∷ seen eq k os) (seen eq k os)) first ∙ rest.0,
-          or-both (eq k o.name && is_replace o.mode) (is_hidden eq k os) (ap (λ b. b && is_replace o.mode) first) rest.1,
+          or_from (eq k o.name && is_replace o.mode) (is_hidden eq k os) (ap (λ b. b && is_replace o.mode) first) rest.1,
         )
 
     data Singles (gs : List (Offer K C V)) : List (Offer K C V) → Type 0 where
@@ -158,7 +154,7 @@ module _ {K C V : Type 0} (eq : K → K → Bool) (laws : IsEquivalence eq) (sam
   -- where records go stays apart
   one-away : (n : ℕ) (m : Mode) (j k to : K) (at : Option K) (rest : List (Offer K C V)) → moves.key n j ≡ Some to → moves.key n k ≡ at → eq j k ≡ false → list_any (eq to) (names rest) ≡ false → list_any (eq to) (names (moved_one moves n (gather eq m os k) at ++ rest)) ≡ false
   one-away n m j k to None rest here there other away = away
-  one-away n m j k to (Some t) rest here there other away = or-both (eq to t) (list_any (eq to) (names rest)) (by (eq to t) refl) away
+  one-away n m j k to (Some t) rest here there other away = or_from (eq to t) (list_any (eq to) (names rest)) (by (eq to t) refl) away
     where
       by : (b : Bool) → eq to t ≡ b → b ≡ false
       by true e =

@@ -1,6 +1,6 @@
 -- What a part that is moved to a group gives to the records of some keys that stay the same.
 use Rattle.std.proofs.Common.{◌≡◌, ℕ, Bool, true, false, ◌||◌, cond, List, [], ◌∷◌, ◌++◌, map, Option, None, Some, All, is_some, refl, sym, ap, ◌∙◌, subst}
-use Rattle.std.proofs.lemmas.Bool.{false≢true}
+use Rattle.std.proofs.lemmas.Bool.{false≢true, or_right, or_from}
 use Rattle.std.proofs.lemmas.List.Elements.{All-cons, All-head, All-nil, All-tail}
 use Rattle.std.proofs.lemmas.List.{append_assoc, map-append}
 use Rattle.std.proofs.lemmas.Option.{same_Some}
@@ -15,7 +15,7 @@ use Rattle.kx_merge.specs.Records.{IsGood, Shows, cell_in, width_in}
 use Rattle.kx_merge.proofs.Again.{Named, no_name, a_name, all-named, behind, behind-away, named-again, take, merged-again, value-behind, widen, width-again, width-behind}
 use Rattle.kx_merge.proofs.Movings.{moved-append, moved-none, nothing_offered, offered_moved}
 use Rattle.kx_merge.proofs.Repeated.{behind-append}
-use Rattle.kx_merge.proofs.OnePart.{names, or-both, or-first, or-last}
+use Rattle.kx_merge.proofs.OnePart.{names, or-first, or-last}
 
 both-same : {X : Type 0} (b : Bool) (x : X) → cond b x x ≡ x
 both-same true x = refl
@@ -57,7 +57,7 @@ module _ {K : Type 0} (eq : K → K → Bool) (same : (j k : K) → eq j k ≡ t
   held-away test (j ∷ ks) away = by (list_any (eq j) ns) (held-away test ks (or-last (test j) (list_any test ks) away))
     where
       by : (b : Bool) → list_any test (held eq ns ks) ≡ false → list_any test (cond b (j ∷ held eq ns ks) (held eq ns ks)) ≡ false
-      by true rest = or-both (test j) (list_any test (held eq ns ks)) (or-first (test j) (list_any test ks) away) rest
+      by true rest = or_from (test j) (list_any test (held eq ns ks)) (or-first (test j) (list_any test ks) away) rest
       by false rest = rest
 
   held-out : (k : K) (ks : List K) → list_any (eq k) ns ≡ false → list_any (eq k) (held eq ns ks) ≡ false
@@ -69,7 +69,7 @@ module _ {K : Type 0} (eq : K → K → Bool) (same : (j k : K) → eq j k ≡ t
       other here false e = refl
 
       by : (b : Bool) → list_any (eq j) ns ≡ b → list_any (eq k) (held eq ns ks) ≡ false → list_any (eq k) (cond b (j ∷ held eq ns ks) (held eq ns ks)) ≡ false
-      by true here rest = or-both (eq k j) (list_any (eq k) (held eq ns ks)) (other here (eq k j) refl) rest
+      by true here rest = or_from (eq k j) (list_any (eq k) (held eq ns ks)) (other here (eq k j) refl) rest
       by false here rest = rest
 
   held-in : (k : K) (ks : List K) → list_any (eq k) ns ≡ true → list_any (eq k) ks ≡ true → list_any (eq k) (held eq ns ks) ≡ true
@@ -81,11 +81,7 @@ module _ {K : Type 0} (eq : K → K → Bool) (same : (j k : K) → eq j k ≡ t
       kept false is here e = absurd (false≢true (sym is ∙ here))
 
       more : (b : Bool) → list_any (eq k) (held eq ns ks) ≡ true → list_any (eq k) (cond b (j ∷ held eq ns ks) (held eq ns ks)) ≡ true
-      more true rest = or-true-last (eq k j) (list_any (eq k) (held eq ns ks)) rest
-        where
-          or-true-last : (a b : Bool) → b ≡ true → (a || b) ≡ true
-          or-true-last true b h = refl
-          or-true-last false b h = h
+      more true rest = or_right (eq k j) (list_any (eq k) (held eq ns ks)) rest
       more false rest = rest
 
       by : (b : Bool) → eq k j ≡ b → (b || list_any (eq k) ks) ≡ true → (list_any (eq k) ks ≡ true → list_any (eq k) (held eq ns ks) ≡ true) → list_any (eq k) (cond (list_any (eq j) ns) (j ∷ held eq ns ks) (held eq ns ks)) ≡ true

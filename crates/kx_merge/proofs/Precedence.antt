@@ -1,25 +1,18 @@
 -- What one more offer makes of the values, the widths and the names.
 use Rattle.std.proofs.Common.{◌≡◌, ℕ, Bool, true, false, not, ◌&&◌, ◌||◌, cond, max, List, [], ◌∷◌, ◌++◌, Option, None, Some, refl, sym, ap, ◌∙◌, arith}
+use mathlib.Core.Bool.{or-false, or-true}
 use Rattle.std.specs.Option.{option_or}
 use Rattle.kx_parse.specs.declared.tree.Mode.{Mode}
 use Rattle.kx_parse.specs.declared.tree.Mode.TheVariants.{Augment, Override, Replace}
 use Rattle.kx_merge.specs.Offers.{Offer, merged_value, merged_width, is_replace, is_strong, is_about, is_hidden, seen, last_strong, first_weak, value_of, greatest, width_of, with_name, names_behind, names_of}
 
-option_or-assoc : {X : Type 0} (a b c : Option X) → option_or (option_or a b) c ≡ option_or a (option_or b c)
+pub option_or-assoc : {X : Type 0} (a b c : Option X) → option_or (option_or a b) c ≡ option_or a (option_or b c)
 option_or-assoc (Some x) b c = refl
 option_or-assoc None b c = refl
 
 option_or-none : {X : Type 0} (a : Option X) → option_or a None ≡ a
 option_or-none (Some x) = refl
 option_or-none None = refl
-
-or-false : (b : Bool) → (b || false) ≡ b
-or-false true = refl
-or-false false = refl
-
-or-true : (b : Bool) → (b || true) ≡ true
-or-true true = refl
-or-true false = refl
 
 and-false : (b : Bool) → (b && false) ≡ false
 and-false true = refl

@@ -135,7 +135,8 @@ impl<C, V: SingleValue<C>> Fields<C> for Single<V> {
 
     fn merge(&mut self, _alloc: Global, other: Single<V>, mode: Mode) -> Result<(), Fault>
         ensures cells { OnOk result ((c : Unit {0})
-            → single_cell self.new c ≡ merged_value mode (single_cell self.old c) (single_cell other c)) }
+            → single_cell self.new c ≡ merged_value mode (single_cell self.old c)
+            (single_cell other c)) }
         ensures widths { OnOk result ((g : ℕ)
             → single_width self.new g ≡ merged_width mode (single_width self.old g)
             (single_width other g)) }

@@ -76,6 +76,3 @@ module _ (file : ℕ) where
 
 abbrev pub with_target : List Target → Option Target → List Target
 with_target targets target = option_map_or (with_name same_target targets) target targets
-
-abbrev pub map_faults : ℕ → List (List ℕ) → Span → Option (Name × List Entry) → List Fault
-map_faults file modifiers whole map = option_map_or (λ m. word_faults file modifiers m.0 ++ flat_map (entry_faults file whole) m.1) map []

@@ -62,7 +62,8 @@ impl Assigned {
     /// What is given once more is given under a mode.
     fn merged_with(self, other: Assigned, mode: Mode) -> Assigned
         ensures { (c : Cell)
-            → assigned_cell result c ≡ merged_value mode (assigned_cell self c) (assigned_cell other c) }
+            → assigned_cell result c ≡ merged_value mode (assigned_cell self c)
+            (assigned_cell other c) }
     {
         match mode {
             Mode::Augment => Assigned {

@@ -28,15 +28,6 @@ slice_get-part xs first count i within = slice_get-take_in (drop first xs) count
 pub at_part : {X : Type 0} (xs : List X) (first count i j : ℕ) (x : X) → i < count → j ≡ i → slice_get xs (first + j) ≡ Some x → slice_get (part xs first count) i ≡ Some x
 at_part xs first count i j x within same at = slice_get-part xs first count i within ∙ ap (λ n. slice_get xs (first + n)) (sym same) ∙ at
 
-take-same : {X : Type 0} (n : ℕ) (xs : List X) → take n (take n xs) ≡ take n xs
-take-same zero xs = refl
-take-same (suc n) [] = refl
-take-same (suc n) (x ∷ xs) = ap (λ t. x ∷ t) (take-same n xs)
-
--- all rows of a part
-pub whole_part : {X : Type 0} (xs : List X) (first count n : ℕ) → n ≡ count → take n (part xs first count) ≡ part xs first count
-whole_part xs first count n same = ap (λ m. take m (part xs first count)) same ∙ take-same count (drop first xs)
-
 pub take-at : {X : Type 0} (xs : List X) (i : ℕ) (x : X) → slice_get xs i ≡ Some x → take (i + 1) xs ≡ take i xs ++ x ∷ []
 take-at xs i x at = ap (λ n. take n xs) (add-one i) ∙ take-here xs i x at
   where

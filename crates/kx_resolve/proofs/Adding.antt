@@ -1,5 +1,5 @@
 -- One entry more.
-use Rattle.std.proofs.Common.{◌≡◌, ℕ, ◌<◌, ◌==◌, ◌^◌, ◌&&◌, ◌||◌, ◌++◌, Bool, true, false, cond, nat_eq, List, [], ◌∷◌, map, Option, None, Some, All, Contains, refl, sym, ap, ◌∙◌, subst, fold, not, append_assoc, if◌then◌else◌}
+use Rattle.std.proofs.Common.{◌≡◌, ℕ, ◌<◌, ◌==◌, ◌^◌, ◌&&◌, ◌||◌, ◌++◌, Bool, true, false, cond, nat_eq, List, [], ◌∷◌, map, Option, None, Some, All, refl, sym, ap, ◌∙◌, subst, fold, not, append_assoc, if◌then◌else◌}
 use Rattle.std.specs.List.{IsDistinct, find, list_any}
 use Rattle.std.specs.Option.{option_or}
 use Rattle.std.specs.Cmp.{nat_eq_equiv}

@@ -1,9 +1,9 @@
 -- Sets of real modifiers and their masks.
-use Rattle.std.proofs.Common.{◌≡◌, ℕ, ◌+◌, ◌-◌, ◌*◌, ◌<◌, ◌≤◌, ◌==◌, ◌^◌, ◌&&◌, ◌||◌, not, Bool, true, false, zero, suc, min, nat_eq, nat_lt, max, cond, refl, sym, ap, ◌∙◌, subst, arith, if◌then◌else◌, ◌/◌, ◌%◌, ◌⊎◌, inl, inr}
-use Rattle.std.specs.Int.{bit_at, bit_not}
+use Rattle.std.proofs.Common.{◌≡◌, ℕ, ◌-◌, ◌<◌, ◌≤◌, ◌==◌, ◌^◌, ◌&&◌, ◌||◌, not, Bool, true, false, zero, suc, min, nat_eq, nat_lt, max, refl, sym, ap, ◌∙◌, subst, arith, if◌then◌else◌, ◌⊎◌, inl, inr}
+use Rattle.std.specs.Int.{bit_at}
 use Rattle.std.specs.Int.RustNames.{bit_and}
 use Rattle.std.proofs.lemmas.Bool.{cases_lt, false≢true, eqb-true, eqb-false, eq-eqb, le-ltb, lt-ltb}
-use Rattle.std.proofs.lemmas.Nat.Bits.{bit_at_and, bit_at_or, bit_at-lt, bit_at-pow_same, bit_at-pow_other, bit_at-zero, bit_at-trailing_zeros, same_from_bits_below, bit_at_not, bit_at_above}
+use Rattle.std.proofs.lemmas.Nat.Bits.{bit_at_and, bit_at_or, bit_at-lt, bit_at-pow_same, bit_at-pow_other, bit_at-zero, bit_at-trailing_zeros, same_from_bits_below, bit_at_not}
 use Rattle.std.proofs.Common.{w8}
 use Rattle.std.proofs.lemmas.Nat.{and_le_l, or_lt, pow_pos}
 use Rattle.std.proofs.Math.Pow.{pow-lt}
@@ -13,7 +13,7 @@ use Rattle.std.specs.Int.RustNames.{bit_or}
 use Rattle.kx_mods.specs.Mods.{mask}
 use Rattle.kx_mods.specs.declared.mods.Mods.{Mods}
 use Rattle.kx_resolve.specs.Rows.{mask_below, mods_of, set_mask}
-use Rattle.kx_resolve.specs.Selecting.{RealSet, are_same, differ, is_live}
+use Rattle.kx_resolve.specs.Selecting.{RealSet, are_same, differ}
 
 pub none_of : (n : ℕ) (f : ℕ → Bool) → any_below n f ≡ false → (k : ℕ) → k < n → f k ≡ false
 unfolding any_below
@@ -121,7 +121,7 @@ within_mask m n small wider = same_masks (bit_and m n) m (let less = and_le_l m 
 
 -- ---- The mask of a set
 
-max_bits : (a b : ℕ) → a < 2 → b < 2 → (max a b == 1) ≡ ((a == 1) || (b == 1))
+pub max_bits : (a b : ℕ) → a < 2 → b < 2 → (max a b == 1) ≡ ((a == 1) || (b == 1))
 max_bits zero zero low small = refl
 max_bits zero (suc zero) low small = refl
 max_bits zero (suc (suc b)) low small = absurd (omega (arith, small))
@@ -132,10 +132,6 @@ max_bits (suc (suc a)) b low small = absurd (omega (arith, low))
 
 has_or : (a b r : ℕ) → has (bit_or a b) r ≡ (has a r || has b r)
 has_or a b r = ap (λ n. n == 1) (bit_at_or a b r) ∙ max_bits (bit_at a r) (bit_at b r) (bit_at-lt a r) (bit_at-lt b r)
-
-or_false : (b : Bool) → (b || false) ≡ b
-or_false true = refl
-or_false false = refl
 
 power_if : ℕ → Bool → ℕ
 power_if n b = if b then 2 ^ n else 0

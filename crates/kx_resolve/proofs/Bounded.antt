@@ -11,6 +11,7 @@ use Rattle.std.proofs.lemmas.List.Elements.{All-append, All-cons, All-nil, All-p
 use Rattle.std.proofs.lemmas.List.Folds.{list_any-append}
 use Rattle.std.proofs.lemmas.Map.Keys.{apart_from_distinct}
 use Rattle.std.proofs.lemmas.Option.{none-some, same_Some, slice_get-get_or, slice_get-map, slice_get_within}
+use mathlib.Core.Bool.{or-true}
 use Rattle.kx_builder.proofs.Agreeing.{All_at}
 use Rattle.kx_builder.specs.Valid.{Apart, CellIsValid, EntryIsValid, GroupIsValid, InOrderOfUse, IsValid, KeyIsValid, Rising, TypeIsValid}
 use Rattle.kx_builder.specs.Placed.{all_groups}
@@ -123,7 +124,7 @@ module _ (declared : List ℕ → Option Definition) (key : KeyGiven) where
   names_have zero group less = absurd (omega (arith, less))
   names_have (suc n) group less =
       elim (eq-or-lt_of_le upto) [
-        | inl same ↦ append (group_type_name declared key n ∷ []) ∙ ap (λ b. list_any test (type_names declared key n) || (b || false)) ((bytes_decides (group_type_name declared key group) (group_type_name declared key n)).1 (ap (group_type_name declared key) same)) ∙ or_true (list_any test (type_names declared key n))
+        | inl same ↦ append (group_type_name declared key n ∷ []) ∙ ap (λ b. list_any test (type_names declared key n) || (b || false)) ((bytes_decides (group_type_name declared key group) (group_type_name declared key n)).1 (ap (group_type_name declared key) same)) ∙ or-true (list_any test (type_names declared key n))
         | inr before ↦ append (group_type_name declared key n ∷ []) ∙ ap (λ b. b || list_any test (group_type_name declared key n ∷ [])) (names_have n group before)
       ]
     where
@@ -135,10 +136,6 @@ module _ (declared : List ℕ → Option Definition) (key : KeyGiven) where
 
       upto : group ≤ n
       upto = omega (arith, less)
-
-      or_true : (b : Bool) → (b || true) ≡ true
-      or_true true = refl
-      or_true false = refl
 
 -- ---- The type of each group is one that is used
 
@@ -164,7 +161,7 @@ module _ (real : ℕ → RealSet) (declared : List ℕ → Option Definition) (k
   below_has zero code group of_key less is within = absurd (omega (arith, less))
   below_has (suc n) code group of_key less is within =
       elim (eq-or-lt_of_le upto) [
-        | inl same ↦ append ∙ ap (λ b. list_any test (type_names_below declared name key n) || b) (subst (λ c. list_any test (type_names_if declared (name c) (key c)) ≡ true) same (if_has code group of_key (name code) is within)) ∙ or_true (list_any test (type_names_below declared name key n))
+        | inl same ↦ append ∙ ap (λ b. list_any test (type_names_below declared name key n) || b) (subst (λ c. list_any test (type_names_if declared (name c) (key c)) ≡ true) same (if_has code group of_key (name code) is within)) ∙ or-true (list_any test (type_names_below declared name key n))
         | inr before ↦ append ∙ ap (λ b. b || list_any test (type_names_if declared (name n) (key n))) (below_has n code group of_key before is within)
       ]
     where
@@ -176,10 +173,6 @@ module _ (real : ℕ → RealSet) (declared : List ℕ → Option Definition) (k
 
       upto : code ≤ n
       upto = omega (arith, less)
-
-      or_true : (b : Bool) → (b || true) ≡ true
-      or_true true = refl
-      or_true false = refl
 
   pub type_used : (code group : ℕ) (of_key : List ℕ) → code < 4096 → name code ≡ Some of_key → group < group_count (key code) → list_any (bytes_eq (group_type_name declared (key code) group)) (types_used declared name key) ≡ true
   unfolding types_used

@@ -1,16 +1,14 @@
 -- The rows of a type keep the rules of tables.
-use Rattle.std.proofs.Common.{◌≡◌, ◌≢◌, ℕ, ◌<◌, ◌≤◌, ◌+◌, ◌^◌, ◌%◌, ◌&&◌, ◌||◌, Bool, true, false, nat_eq, List, [], ◌∷◌, length, map, get_or, Option, None, Some, All, Contains, refl, sym, ap, ◌∙◌, subst, inl, inr, ⊎_elim, unwrap_or, arith}
+use Rattle.std.proofs.Common.{◌≡◌, ◌≢◌, ℕ, ◌<◌, ◌+◌, ◌^◌, ◌%◌, ◌&&◌, ◌||◌, Bool, true, false, nat_eq, List, [], ◌∷◌, length, map, get_or, None, Some, All, refl, sym, ap, ◌∙◌, subst, ⊎_elim, arith}
 use Rattle.std.specs.List.{IsDistinct, list_any, slice_get}
-use Rattle.std.specs.Int.RustNames.{bit_and}
 use Rattle.std.proofs.lemmas.Bool.{false≢true, cases_lt, eqb-true, eq-eqb}
 use Rattle.std.proofs.lemmas.List.{get_or-map, length-map}
 use Rattle.std.proofs.lemmas.List.Elements.{All-contains, All-head, All-tail, All-weaker}
 use Rattle.std.proofs.lemmas.Map.Keys.{apart_from_distinct}
 use Rattle.std.proofs.lemmas.Map.Steps.{length-le_from_distinct_below}
 use Rattle.std.proofs.lemmas.Nat.{and_mod}
-use Rattle.std.proofs.lemmas.Option.{slice_get_past, slice_get-get_or}
-use Rattle.kx_basics.specs.declared.limits.TheConstants.{MOST_LEVELS, MOST_NAME_BYTES}
-use Rattle.kx_builder.specs.Valid.{Apart, EntryIsValid, TypeIsValid}
+use Rattle.std.proofs.lemmas.Option.{slice_get_past, slice_get-get_or, same_Some}
+use Rattle.kx_builder.specs.Valid.{Apart, EntryIsValid}
 use Rattle.kx_virtual_mods.specs.Sets.{any_below, has, has_virtual, meet, real_of, real_part}
 use Rattle.kx_virtual_mods.specs.declared.limits.TheConstants.{MOST_VIRTUAL_MODIFIERS}
 use Rattle.kx_mods.specs.Mods.{mask}
@@ -18,8 +16,7 @@ use Rattle.kx_mods.specs.declared.mods.Mods.{Mods}
 use Rattle.kx_tables.specs.declared.rows.EntryRow.{EntryRow}
 use Rattle.kx_types.specs.KeyTypes.{Definition}
 use Rattle.kx_types.specs.Lawful.{EntryIsLawful, IsLawful}
-use Rattle.kx_types.specs.declared.entry.TypeEntry.{TypeEntry}
-use Rattle.kx_resolve.specs.Going.{ComesOf, IsRowOf, RowsOf, mask_of}
+use Rattle.kx_resolve.specs.Going.{ComesOf, RowsOf, mask_of}
 use Rattle.kx_resolve.specs.Rows.{RowsAreValid, resolved_type}
 use Rattle.kx_resolve.specs.Selecting.{RealSet}
 use Rattle.kx_resolve.proofs.Bits.{any_wider, has_and, within_mask}
@@ -45,14 +42,11 @@ stands_wider stands a b r h =
     (any_wider MOST_VIRTUAL_MODIFIERS (λ n. has_virtual (meet a b) n && stands n r) (λ n. has_virtual b n && stands n r) (λ n. both_second (has_virtual (meet a b) n) (has_virtual b n) (stands n r) (λ e. second (has a (n + 8)) (has b (n + 8)) (sym (has_and a b (n + 8)) ∙ e))))
     h
 
-same_some : {X : Type 0} (x y : X) → Some x ≡ Some y → x ≡ y
-same_some x y e = ap (λ o. unwrap_or o x) e
-
 none≢some : {X : Type 0} (x : X) → None ≡ Some x → ⊥
 none≢some x e = cc
 
 read_at : (rows : List EntryRow) (i : ℕ) (x : EntryRow) (d : ℕ) → slice_get rows i ≡ Some x → (i < length rows) × (get_or (map mask_of rows) i d ≡ mask_of x)
-read_at rows i x d found = ⊎_elim (λ within. (within, get_or-map mask_of rows i x d within ∙ ap mask_of (same_some (get_or rows i x) x (sym (slice_get-get_or rows i x within) ∙ found)))) (λ past. absurd (none≢some x (sym (slice_get_past rows i past) ∙ found))) (cases_lt i (length rows))
+read_at rows i x d found = ⊎_elim (λ within. (within, get_or-map mask_of rows i x d within ∙ ap mask_of (same_Some (get_or rows i x) x (sym (slice_get-get_or rows i x within) ∙ found)))) (λ past. absurd (none≢some x (sym (slice_get_past rows i past) ∙ found))) (cases_lt i (length rows))
 
 rows_apart : (rows : List EntryRow) → IsDistinct nat_eq (map mask_of rows) → Apart (λ (e : EntryRow). mask e.mods) rows
 rows_apart rows distinct i j x y before at earlier same =

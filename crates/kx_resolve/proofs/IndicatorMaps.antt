@@ -6,7 +6,7 @@ use Rattle.std.specs.Option.{option_map}
 use Rattle.std.specs.Str.{bytes_eq}
 use Rattle.std.specs.Cmp.Lexicographic.{bytes_decides}
 use Rattle.std.proofs.lemmas.Bool.{false≢true}
-use Rattle.std.proofs.lemmas.List.{length-append, length-map, map-append, take_all, take_more}
+use Rattle.std.proofs.lemmas.List.{length-append, length-map, take_all, take_more}
 use Rattle.std.proofs.lemmas.List.Elements.{All-weaker}
 use Rattle.std.proofs.lemmas.Map.Keys.{apart_from_distinct}
 use Rattle.std.proofs.lemmas.Option.{none-some, same_Some, slice_get-get_or, slice_get-map, slice_get_within}
@@ -15,14 +15,13 @@ use Rattle.kx_builder.specs.Agreement.{ShowsSame}
 use Rattle.kx_builder.proofs.Refusing.{only_memory}
 use Rattle.kx_builder.specs.Faults.{IsCause}
 use Rattle.kx_builder.specs.Valid.{Apart}
-use Rattle.kx_builder.specs.IndicatorMaps.{GroupNameIsValid, IndicatorIsValid, IndicatorMapsAreValid, IndicatorMapsFit, ResolvedIndicator, indicator_of, keymap_with, names_of_groups, names_of_indicators}
+use Rattle.kx_builder.specs.IndicatorMaps.{GroupNameIsValid, IndicatorIsValid, IndicatorMapsAreValid, IndicatorMapsFit, ResolvedIndicator, keymap_with, names_of_groups, names_of_indicators}
 use Rattle.kx_builder.specs.Placed.{content_of_resolved}
 use Rattle.kx_builder.specs.Resolved.{Resolved}
 use Rattle.kx_builder.specs.WithinLimits.{IsWithinLimits}
 use Rattle.kx_builder.proofs.Room.{flat_length, name_bytes}
 use Rattle.kx_builder.specs.declared.fault.BuildFault.{BuildFault}
 use Rattle.kx_builder.specs.declared.fault.BuildFault.TheVariants as builds
-use Rattle.kx_builder.specs.declared.indicator_maps.Indicator.{Indicator}
 use Rattle.kx_group_names.specs.Names.{AreCut, name_at}
 use Rattle.kx_indicators.specs.Bounds.{AreValid}
 use Rattle.kx_indicators.specs.IndicatorMaps.{IndicatorMap}
@@ -45,9 +44,6 @@ zip_at (x ∷ ks) (y ∷ vs) zero k v at beside = λ j. Some (same_Some x k at j
 zip_at (x ∷ ks) (y ∷ vs) (suc i) k v at beside = zip_at ks vs i k v at beside
 
 -- ---- Indicators by number
-
-pub pushed_is : (old : List Indicator) (made : Indicator) (is : ResolvedIndicator) → indicator_of made ≡ is → map indicator_of (old ++ made ∷ []) ≡ map indicator_of old ++ is ∷ []
-pushed_is old made is e = map-append indicator_of old (made ∷ []) ∙ ap (λ d. map indicator_of old ++ d ∷ []) e
 
 module _ (real : ℕ → RealSet) (is : Indicators) (valid : AreValid is) where
   lit_length : length (indicators_of real is) ≡ length is.names

@@ -1,13 +1,13 @@
 -- The modifiers of codes, as the union of those of the keysyms that have their first places there.
-use Rattle.std.proofs.Common.{ℕ, zero, suc, max, ◌≡◌, ◌<◌, ◌^◌, ◌==◌, ◌&&◌, ◌||◌, Bool, true, false, cond, List, [], ◌∷◌, Option, None, Some, bit_or, nat_eq, unwrap_or, refl, sym, ap, ◌∙◌, arith, if◌then◌else◌}
+use Rattle.std.proofs.Common.{ℕ, ◌≡◌, ◌<◌, ◌^◌, ◌==◌, ◌&&◌, ◌||◌, Bool, true, false, cond, List, [], ◌∷◌, Option, None, Some, bit_or, nat_eq, unwrap_or, refl, sym, ap, ◌∙◌, arith, if◌then◌else◌}
 use Rattle.std.proofs.Math.Path.{fun_ext}
-use Rattle.std.proofs.lemmas.Bool.{eqb-true}
+use Rattle.std.proofs.lemmas.Bool.{eqb-true, or_right}
 use Rattle.std.proofs.lemmas.Bool.Decides.{nat_tests}
 use Rattle.std.proofs.lemmas.Nat.Bits.{bit_at-lt, bit_at-zero, bit_at_or}
 use Rattle.std.specs.Int.{bit_at}
 use Rattle.std.specs.List.{list_any}
 use Rattle.std.specs.Option.{option_map_or}
-use Rattle.kx_resolve.proofs.Bits.{mods_is}
+use Rattle.kx_resolve.proofs.Bits.{mods_is, max_bits}
 use Rattle.kx_resolve.specs.Rows.{mods_of}
 use Rattle.kx_virtual_mods.specs.Sets.{has}
 use Rattle.kx_mods.specs.Mods.{mask}
@@ -15,15 +15,6 @@ use Rattle.kx_mods.specs.declared.mods.Mods.{Mods}
 use Rattle.kx_resolve.specs.Finding.{Firsts}
 use Rattle.kx_resolve.specs.Mapping.{Mapping, first_place, is_at, modmap_of}
 use Rattle.kx_resolve.specs.declared.places.LevelPlace.{LevelPlace}
-
-max_bits : (a b : ℕ) → a < 2 → b < 2 → (max a b == 1) ≡ ((a == 1) || (b == 1))
-max_bits zero zero low small = refl
-max_bits zero (suc zero) low small = refl
-max_bits zero (suc (suc b)) low small = absurd (omega (arith, small))
-max_bits (suc zero) zero low small = refl
-max_bits (suc zero) (suc zero) low small = refl
-max_bits (suc zero) (suc (suc b)) low small = absurd (omega (arith, small))
-max_bits (suc (suc a)) b low small = absurd (omega (arith, low))
 
 has_or : (a b r : ℕ) → has (bit_or a b) r ≡ (has a r || has b r)
 has_or a b r = ap (λ n. n == 1) (bit_at_or a b r) ∙ max_bits (bit_at a r) (bit_at b r) (bit_at-lt a r) (bit_at-lt b r)
@@ -67,15 +58,11 @@ module _ (test : Option LevelPlace → ℕ → Bool) (found : Firsts) (first : �
       same : (n : ℕ) → (n == n) ≡ true
       same n = grind (arith, nat_tests)
 
-  also : (a b : Bool) → b ≡ true → (a || b) ≡ true
-  also true b h = refl
-  also false b h = h
-
   named_all : (es rest : List (ℕ × ℕ)) → ((k : ℕ) → found k ≡ (if names es k then Some (first k) else None)) → ((k : ℕ) → names rest k ≡ true → names es k ≡ true) → list_any (λ (e : ℕ × ℕ). test (unwrap_or (found e.0) None) e.1) rest ≡ list_any (λ (e : ℕ × ℕ). test (first e.0) e.1) rest
   named_all es [] are within = refl
   named_all es (e ∷ rest) are within = λ i.
       test (unwrap_or ((are e.0 ∙ ap (λ b. if b then Some (first e.0) else None) (within e.0 (itself e.0 (names rest e.0)))) i) None) e.1
-      || named_all es rest are (λ k h. within k (also (e.0 == k) (names rest k) h)) i
+      || named_all es rest are (λ k h. within k (or_right (e.0 == k) (names rest k) h)) i
 
   pub tested_alike : (es : List (ℕ × ℕ)) → ((k : ℕ) → found k ≡ (if names es k then Some (first k) else None)) → list_any (λ (e : ℕ × ℕ). test (unwrap_or (found e.0) None) e.1) es ≡ list_any (λ (e : ℕ × ℕ). test (first e.0) e.1) es
   tested_alike es are = named_all es es are (λ k h. h)

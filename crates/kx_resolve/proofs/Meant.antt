@@ -28,5 +28,4 @@ module _ (modmap : Mods) (stands : List Mods) where
   becomes_meant (actions.LatchMods mods clear latch) row is holds = is.2 ∙ ap (λ m. rows.LatchMods m clear latch) (mods_meant mods is.0 (subst ActionHolds is.2 holds) is.1)
   becomes_meant (actions.LockMods mods affected) row is holds = is.2 ∙ ap (λ m. rows.LockMods m (does_lock affected) (does_unlock affected)) (mods_meant mods is.0 (subst ActionHolds is.2 holds) is.1)
   becomes_meant (actions.SetGroup change clear) row is holds = is
-  becomes_meant (actions.LatchGroup change clear latch) row is holds = is
-  becomes_meant (actions.LockGroup change) row is holds = is
+  becomes_meant _ row is holds = is

@@ -1,5 +1,5 @@
 -- Sets of names, bit by bit.
-use Rattle.std.proofs.Common.{◌≡◌, ℕ, ◌+◌, ◌<◌, ◌==◌, ◌||◌, ◌&&◌, Bool, true, false, max, nat_eq, refl, sym, ap, ◌∙◌, arith}
+use Rattle.std.proofs.Common.{◌≡◌, ℕ, ◌+◌, ◌<◌, ◌==◌, ◌||◌, Bool, true, false, max, nat_eq, refl, sym, ap, ◌∙◌, arith}
 use Rattle.std.specs.Int.{bit_at}
 use Rattle.std.proofs.lemmas.Bool.{eqb-false, eqb-true}
 use Rattle.std.proofs.lemmas.Bool.Decides.{nat_tests}
@@ -25,14 +25,6 @@ has_with m n bit = ap (λ b. b == 1) (bit_at_or m n bit) ∙ one_or (bit_at m bi
 -- a set takes up what the next of some numbers gives
 pub next_with : (set more bit n : ℕ) (test : ℕ → Bool) → has set bit ≡ any_below n test → has more bit ≡ test n → has (union set more) bit ≡ any_below (n + 1) test
 next_with set more bit n test before here = has_with set more bit ∙ (λ i. before i || here i) ∙ sym (any_next test n)
-
--- no modifiers are no modifier
-pub none_brings : (m real : ℕ) (b : Bool) → (m == 0) ≡ true → (b && has m real) ≡ false
-none_brings m real b none = ap (λ c. b && c) (ap (λ n. has n real) (eqb-true m 0 none) ∙ has_none real) ∙ never b
-  where
-    never : (b : Bool) → (b && false) ≡ false
-    never true = refl
-    never false = refl
 
 pub or_false : (a b : Bool) → b ≡ false → a ≡ (a || b)
 or_false true b none = refl

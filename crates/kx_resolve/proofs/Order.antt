@@ -11,6 +11,7 @@ use Rattle.std.proofs.lemmas.List.Folds.{list_any-append}
 use Rattle.std.proofs.lemmas.List.Sums.{fold-append}
 use Rattle.std.proofs.lemmas.Map.Keys.{IsDistinct-push}
 use Rattle.std.proofs.lemmas.Option.{same_Some, slice_get-get_or, slice_get_within, slice_get-map}
+use mathlib.Core.Bool.{or-true, or-false}
 use Rattle.kx_builder.specs.Valid.{InOrderOfUse, types_met}
 use Rattle.kx_builder.specs.Resolved.{ResolvedGroup}
 use Rattle.kx_virtual_mods.specs.Counted.{with_names}
@@ -147,11 +148,7 @@ with_has ks x = by (list_any (bytes_eq x) ks) refl
   where
     by : (b : Bool) → list_any (bytes_eq x) ks ≡ b → list_any (bytes_eq x) (if b then ks else ks ++ x ∷ []) ≡ true
     by true h = h
-    by false h = list_any-append (bytes_eq x) ks (x ∷ []) ∙ ap (λ c. list_any (bytes_eq x) ks || (c || false)) (same_self x) ∙ or_true (list_any (bytes_eq x) ks)
-      where
-        or_true : (b : Bool) → (b || true) ≡ true
-        or_true true = refl
-        or_true false = refl
+    by false h = list_any-append (bytes_eq x) ks (x ∷ []) ∙ ap (λ c. list_any (bytes_eq x) ks || (c || false)) (same_self x) ∙ or-true (list_any (bytes_eq x) ks)
 
 kept_behind : (q : Text) (ks xs : List Text) → list_any (bytes_eq q) ks ≡ true → list_any (bytes_eq q) (with_names ks xs) ≡ true
 kept_behind q ks xs there =
@@ -159,24 +156,16 @@ kept_behind q ks xs there =
     ap (list_any (bytes_eq q)) more.is ∙ list_any-append (bytes_eq q) ks more.rest ∙ ap (λ c. c || list_any (bytes_eq q) more.rest) there
 
 pub all_there : (q : Text) (ks xs : List Text) → (list_any (bytes_eq q) ks || list_any (bytes_eq q) xs) ≡ true → list_any (bytes_eq q) (with_names ks xs) ≡ true
-all_there q ks [] either = sym (or_false (list_any (bytes_eq q) ks)) ∙ either
-  where
-    or_false : (b : Bool) → (b || false) ≡ b
-    or_false true = refl
-    or_false false = refl
+all_there q ks [] either = sym (or-false (list_any (bytes_eq q) ks)) ∙ either
 all_there q ks (x ∷ xs) either = by (list_any (bytes_eq q) ks) refl (bytes_eq q x) refl (kept_behind q (with_name bytes_eq ks x) xs) (all_there q (with_name bytes_eq ks x) xs)
   where
-    or_true : (b : Bool) → (b || true) ≡ true
-    or_true true = refl
-    or_true false = refl
-
     with_kept : list_any (bytes_eq q) ks ≡ true → list_any (bytes_eq q) (with_name bytes_eq ks x) ≡ true
     with_kept h = kept_behind q ks (x ∷ []) h
 
     by : (a : Bool) → list_any (bytes_eq q) ks ≡ a → (b : Bool) → bytes_eq q x ≡ b → (list_any (bytes_eq q) (with_name bytes_eq ks x) ≡ true → list_any (bytes_eq q) (with_names (with_name bytes_eq ks x) xs) ≡ true) → ((list_any (bytes_eq q) (with_name bytes_eq ks x) || list_any (bytes_eq q) xs) ≡ true → list_any (bytes_eq q) (with_names (with_name bytes_eq ks x) xs) ≡ true) → list_any (bytes_eq q) (with_names (with_name bytes_eq ks x) xs) ≡ true
     by true h b g kept rec = kept (with_kept h)
     by false h true g kept rec = kept (ap (λ t. list_any (bytes_eq t) (with_name bytes_eq ks x)) ((bytes_decides q x).0 g) ∙ with_has ks x)
-    by false h false g kept rec = rec (ap (λ c. list_any (bytes_eq q) (with_name bytes_eq ks x) || c) (sym (λ i. h i || (g i || list_any (bytes_eq q) xs)) ∙ either) ∙ or_true (list_any (bytes_eq q) (with_name bytes_eq ks x)))
+    by false h false g kept rec = rec (ap (λ c. list_any (bytes_eq q) (with_name bytes_eq ks x) || c) (sym (λ i. h i || (g i || list_any (bytes_eq q) xs)) ∙ either) ∙ or-true (list_any (bytes_eq q) (with_name bytes_eq ks x)))
 
 -- ---- How many types are met
 

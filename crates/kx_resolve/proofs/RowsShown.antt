@@ -1,11 +1,11 @@
 -- What all rows of a type show.
-use Rattle.std.proofs.Common.{◌≡◌, ℕ, ◌<◌, ◌≤◌, ◌+◌, ◌-◌, ◌==◌, ◌^◌, ◌&&◌, Bool, true, false, cond, not, List, [], ◌∷◌, Option, None, Some, All, refl, sym, ap, ◌∙◌, subst, arith}
+use Rattle.std.proofs.Common.{◌≡◌, ℕ, ◌<◌, ◌≤◌, ◌+◌, ◌-◌, ◌^◌, ◌&&◌, Bool, true, false, cond, not, List, [], ◌∷◌, Option, None, Some, All, refl, ap, ◌∙◌, subst, arith}
 use Rattle.std.specs.List.{find}
 use Rattle.std.specs.Option.{IfSome, option_map_or}
 use Rattle.std.specs.Int.RustNames.{bit_and}
 use Rattle.std.proofs.lemmas.Nat.{and_le_r}
 use Rattle.std.proofs.lemmas.List.Elements.{All-head, All-tail}
-use Rattle.kx_builder.specs.Resolved.{consumed_mods, entry_chosen}
+use Rattle.kx_builder.specs.Resolved.{consumed_mods}
 use Rattle.kx_virtual_mods.specs.Sets.{has}
 use Rattle.kx_mods.specs.Mods.{mask}
 use Rattle.kx_mods.specs.declared.mods.Mods.{Mods}
@@ -14,9 +14,9 @@ use Rattle.kx_tables.specs.declared.rows.EntryRow.{EntryRow}
 use Rattle.kx_types.specs.KeyTypes.{Definition}
 use Rattle.kx_types.specs.Lawful.{EntryIsLawful, IsLawful}
 use Rattle.kx_types.specs.declared.entry.TypeEntry.{TypeEntry}
-use Rattle.kx_resolve.specs.Going.{AreAlike, IsRowOf, RowsOf, entry_at, row_at}
+use Rattle.kx_resolve.specs.Going.{AreAlike, RowsOf, entry_at, row_at}
 use Rattle.kx_resolve.specs.Rows.{RowsShow, resolved_type}
-use Rattle.kx_resolve.specs.Selecting.{RealSet, consumed, entry_selected, is_selected, level_selected, preserved_by}
+use Rattle.kx_resolve.specs.Selecting.{RealSet, entry_selected, is_selected, preserved_by}
 use Rattle.kx_resolve.proofs.Bits.{has_and, has_without}
 
 find_holds : {X : Type 0} (P : X → Type 0) (p : X → Bool) (xs : List X) → All P xs → IfSome (find p xs) P

@@ -9,6 +9,7 @@ use Rattle.std.proofs.lemmas.Bool.{false≢true, leb-true}
 use Rattle.std.proofs.lemmas.List.{length-map}
 use Rattle.std.proofs.lemmas.List.Elements.{All-append, All-cons, All-head, All-nil, All-push, All-tail}
 use Rattle.std.proofs.lemmas.Map.Made.{length-le_from_is_member}
+use mathlib.Core.Bool.{or-true}
 use Rattle.kx_builder.specs.Valid.{TypeIsValid}
 use Rattle.kx_builder.specs.WithinLimits.{IsWithinLimits, KeyIsWithinLimits, TypeIsWithinLimits}
 use Rattle.kx_resolve.specs.Selecting.{RealSet}
@@ -29,13 +30,9 @@ pub record IsUsable (declared : List ℕ → Option Definition) (name : List ℕ
   pub short : length name ≤ 255
   pub known : (is_some (declared name) || bytes_eq name one_level_name) ≡ true
 
-or_true : (b : Bool) → (b || true) ≡ true
-or_true true = refl
-or_true false = refl
-
 module _ (declared : List ℕ → Option Definition) where
   one_level_usable : IsUsable declared one_level_name
-  one_level_usable = record { short = omega arith; known = ap (λ b. is_some (declared one_level_name) || b) ((bytes_decides one_level_name one_level_name).1 refl) ∙ or_true (is_some (declared one_level_name)) }
+  one_level_usable = record { short = omega arith; known = ap (λ b. is_some (declared one_level_name) || b) ((bytes_decides one_level_name one_level_name).1 refl) ∙ or-true (is_some (declared one_level_name)) }
 
   name_usable : (wanted : Option (List ℕ)) → IsUsable declared (type_name declared wanted)
   name_usable None = one_level_usable
@@ -90,7 +87,7 @@ usable_is_among : (types : NamedTypes) (name : List ℕ) → IsUsable (type_name
 usable_is_among types name usable = by (is_some (type_named types name)) refl
   where
     by : (b : Bool) → is_some (type_named types name) ≡ b → (bytes_eq name one_level_name || list_any (bytes_eq name) (names_in types)) ≡ true
-    by true h = ap (λ c. bytes_eq name one_level_name || c) (named_is_among types name h) ∙ or_true (bytes_eq name one_level_name)
+    by true h = ap (λ c. bytes_eq name one_level_name || c) (named_is_among types name h) ∙ or-true (bytes_eq name one_level_name)
     by false h = ap (λ c. c || list_any (bytes_eq name) (names_in types)) (sym (ap (λ c. c || bytes_eq name one_level_name) h) ∙ usable.known)
 
 -- what holds of each holds of one that is found

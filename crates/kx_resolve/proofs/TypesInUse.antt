@@ -1,26 +1,23 @@
 -- The types of groups, made out one by one.
-use Rattle.std.proofs.Common.{ℕ, zero, suc, ◌+◌, ◌≡◌, ◌-◌, ◌<◌, ◌≤◌, ◌^◌, ◌%◌, ◌||◌, Bool, true, false, cond, All, List, [], ◌∷◌, ◌++◌, Option, None, Some, get_or, length, map, position, unwrap_or, take, drop, refl, sym, ap, ◌∙◌, subst, arith, append-nil, append_assoc, eq-or-lt_of_le, inl, inr, if◌then◌else◌}
+use Rattle.std.proofs.Common.{ℕ, zero, suc, ◌+◌, ◌≡◌, ◌-◌, ◌<◌, ◌≤◌, ◌^◌, ◌%◌, ◌||◌, Bool, true, false, All, List, [], ◌∷◌, ◌++◌, Option, None, Some, get_or, length, map, position, unwrap_or, take, drop, refl, sym, ap, ◌∙◌, subst, arith, append-nil, append_assoc, eq-or-lt_of_le, inl, inr, if◌then◌else◌}
 use Rattle.std.specs.List.{list_any}
 use Rattle.std.specs.Str.{bytes_eq}
-use Rattle.std.proofs.lemmas.Bool.{false≢true}
 use Rattle.std.proofs.lemmas.List.{append_cancel_left, get_or_append_left, length-append, length-map, map-append}
 use Rattle.std.proofs.lemmas.List.Elements.{All-head, All-nil, All-push, All-tail, All-weaker}
 use Rattle.std.proofs.lemmas.List.Folds.{list_any-append}
 use Rattle.std.proofs.lemmas.List.Quantifiers.{position-Some}
 use Rattle.std.proofs.Math.Seq.{drop-append_seam, get_or-append_seam, take-append_seam}
 use Rattle.kx_basics.specs.declared.limits.TheConstants.{CODES}
-use Rattle.kx_builder.specs.Resolved.{ResolvedGroup}
 use Rattle.kx_merge.specs.Offers.{with_name}
 use Rattle.kx_resolve.proofs.Order.{extends_one, place_in, place_kept, same_self, with_next}
 use Rattle.kx_resolve.proofs.Steps.{groups_next, groups_none, names_next, names_none, used_next}
-use Rattle.kx_resolve.specs.Bounds.{CellsAreValid, GroupsAreValid, levels_of_group}
+use Rattle.kx_resolve.specs.Bounds.{CellsAreValid, GroupsAreValid}
 use Rattle.kx_resolve.specs.Given.{KeyGiven}
 use Rattle.kx_resolve.specs.GroupTypes.{content_group, group_count, group_type_name}
 use Rattle.kx_resolve.specs.Keys.{groups_of, type_names, type_names_below, type_names_if, type_place}
 use Rattle.kx_resolve.specs.LevelActions.{LevelActions}
 use Rattle.kx_resolve.specs.TypesInUse.{AreUsed, TypedAreValid, TypeInUse, no_type, typed_group, typed_groups, type_in_use, type_at}
 use Rattle.kx_types.specs.KeyTypes.{Definition}
-use Rattle.kx_virtual_mods.specs.Counted.{with_names}
 
 -- ---- One type more
 

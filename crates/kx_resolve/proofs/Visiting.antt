@@ -1,7 +1,6 @@
 -- What keysyms have visited of places.
 use Rattle.std.proofs.Common.{ℕ, ◌+◌, ◌<◌, ◌≡◌, ◌++◌, ◌∷◌, ◌||◌, Bool, true, false, List, [], Option, None, Some, fold, get_or, length, nat_eq, take, refl, sym, ap, ◌∙◌, arith, if◌then◌else◌}
 use Rattle.std.specs.Option.{option_map}
-use Rattle.std.specs.Map.{lookup}
 use Rattle.std.specs.Set.{is_member}
 use Rattle.std.proofs.lemmas.Bool.Decides.{nat_tests}
 use Rattle.std.proofs.lemmas.List.Folds.{list_any_more}
@@ -18,19 +17,11 @@ both : (ps qs : List LevelPlace) (o : Option (Option LevelPlace)) → option_map
 both ps qs None = refl
 both ps qs (Some first) = ap Some (sym (fold-append earlier first ps qs))
 
--- where there are no entries nothing is found
-pub found_nowhere : {X : Type 0} (es : List (ℕ × X)) (test : ℕ → Bool) → length es ≡ 0 → lookup test es ≡ None
-found_nowhere [] test none = refl
-found_nowhere (e ∷ es) test none = absurd (omega (arith, none))
-
 -- ---- Places one after another
 
 module _ (old : Firsts) where
   pub visits_none : (places : ℕ → List LevelPlace) → ((k : ℕ) → places k ≡ []) → Visits places old old
   visits_none places none = record { firsts_are = λ k. nothing (old k) ∙ ap (λ ps. option_map (λ first. fold earlier first ps) (old k)) (sym (none k)) }
-
-  pub visits_unsought : (places : ℕ → List LevelPlace) → ((k : ℕ) → old k ≡ None) → Visits places old old
-  visits_unsought places unsought = record { firsts_are = λ k. unsought k ∙ ap (option_map (λ first. fold earlier first (places k))) (sym (unsought k)) }
 
   pub visits_alike : (places others : ℕ → List LevelPlace) (new : Firsts) → Visits places old new → ((k : ℕ) → places k ≡ others k) → Visits others old new
   visits_alike places others new visited alike = record { firsts_are = λ k. visited.firsts_are k ∙ ap (λ ps. option_map (λ first. fold earlier first ps) (old k)) (alike k) }

@@ -1,5 +1,6 @@
 -- What keys bear.
 use Rattle.std.proofs.Common.{◌≡◌, ◌&&◌, ◌||◌, ◌+◌, ℕ, zero, suc, Bool, true, false, List, Option, None, is_some, refl, ap, ◌∙◌}
+use mathlib.Core.Bool.{or-false}
 use Rattle.std.specs.Option.{option_map_or}
 use Rattle.kx_resolve.specs.Vmodmap.{ReadKeymap, is_in_vmodmap, brings, gives, interpretation_at, is_given}
 use Rattle.kx_compat.specs.Interpretations.{Interpretation}
@@ -36,10 +37,6 @@ and_false : (b : Bool) → (b && false) ≡ false
 and_false true = refl
 and_false false = refl
 
-or_false : (b : Bool) → (b || false) ≡ b
-or_false true = refl
-or_false false = refl
-
 pub absent_brings : (r : ReadKeymap) (number real code : ℕ) → r.key code ≡ given_in None → brings r number real code ≡ false
 absent_brings r number real code absent =
     ap (λ key. is_some (r.name code) && (is_in_vmodmap r.interpretations (r.modmap code) key r.declared number && has (mask (r.modmap code)) real)) absent
@@ -51,4 +48,4 @@ pub unnamed_brings : (r : ReadKeymap) (number real code : ℕ) → r.name code �
 unnamed_brings r number real code none =
     any_next (brings r number real) code
     ∙ ap (λ o. any_below code (brings r number real) || (is_some o && (is_in_vmodmap r.interpretations (r.modmap code) (r.key code) r.declared number && has (mask (r.modmap code)) real))) none
-    ∙ or_false (any_below code (brings r number real))
+    ∙ or-false (any_below code (brings r number real))

@@ -1,9 +1,7 @@
 -- What tables need of the names of keys and of their keysyms.
-use Rattle.std.specs.Prelude.{ℕ, ◌≡◌, ◌<◌, ◌≤◌, ◌^◌, true, All, List, [], ◌∷◌, Option, Some, length}
-use Rattle.std.specs.Set.{is_member}
-use Rattle.std.specs.Str.{bytes_eq}
+use Rattle.std.specs.Prelude.{ℕ, ◌≡◌, ◌<◌, ◌≤◌, ◌^◌, All, List, [], ◌∷◌, Option, Some, length}
 use Rattle.kx_resolve.specs.Given.{KeyGiven}
-use Rattle.kx_resolve.specs.GroupTypes.{content_group, group_count, group_type_name, one_level_name, type_definition}
+use Rattle.kx_resolve.specs.GroupTypes.{content_group, group_count, group_type_name, type_definition}
 use Rattle.kx_mods.specs.Mods.{mask}
 use Rattle.kx_mods.specs.declared.mods.Mods.{Mods}
 use Rattle.kx_resolve.specs.LevelActions.{LevelActions}
@@ -52,10 +50,6 @@ module _ (real : ℕ → RealSet) (declared : List ℕ → Option Definition) wh
   pub record TypeHolds (name : List ℕ) : Type 0 where
     pub shows : RowsShow real (type_definition declared name) (type_of real declared name).mods (type_of real declared name).entries
     pub valid : TypeIsValid (type_of real declared name)
-
--- it is one of those declared, or ONE_LEVEL
-abbrev pub IsOneOf : List (List ℕ) → List ℕ → Type 0
-IsOneOf names name = is_member bytes_eq (one_level_name ∷ names) name ≡ true
 
 -- ---- The levels that were pushed last
 

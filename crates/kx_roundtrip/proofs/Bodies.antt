@@ -10,7 +10,7 @@ use Rattle.kx_tables.specs.Sound.{Sound}
 use Rattle.kx_builder.specs.IndicatorMaps.{ResolvedIndicator}
 use Rattle.roundtrip_meaning.specs.Bodies.{own_body, place_of}
 use Rattle.roundtrip_meaning.specs.Sources.{IsOwnItem, indicators_body, symbols_place}
-use Rattle.roundtrip_meaning.proofs.Sources.{each_behind, indicators_are, is_whole, keycodes_are, own_items, symbols_are, types_are}
+use Rattle.roundtrip_meaning.proofs.Sources.{indicators_are, is_whole, keycodes_are, own_items, symbols_are, types_are}
 use Rattle.roundtrip_text.specs.Source.{EachOf, NamedGroup, PrintedKey, indicators_printed, keys_printed, named_from, names_printed, types_printed}
 use Rattle.roundtrip_text.specs.ModifierMaps.{MapLine}
 use Rattle.roundtrip_text.specs.Sections.{map_lines_printed}
@@ -25,6 +25,7 @@ use Rattle.roundtrip_meaning.proofs.NoModifiers.{no_modifiers, types_undeclared,
 use Rattle.kx_source.specs.Meaning.{modifier_bodies_of}
 use Rattle.kx_roundtrip.specs.Parts.{Parts, parts_of}
 use Rattle.kx_roundtrip.proofs.Written.{library, shown}
+use Rattle.roundtrip_tree.proofs.Types.{each-append}
 
 module _ (c : Content) (sound : Sound c) where
   abbrev pub symbol_items : List Item
@@ -41,8 +42,8 @@ module _ (c : Content) (sound : Sound c) where
 
   own_symbols : EachOf IsOwnItem symbol_items
   own_symbols =
-      each_behind IsOwnItem (shown c sound).names ((shown c sound).keys ++ (shown c sound).maps) (own_items (λ (g : NamedGroup). IsGroupName g.group g.name) (named_from 1 (names_printed c)) (shown c sound).names (shown c sound).names_are)
-      (each_behind IsOwnItem (shown c sound).keys (shown c sound).maps (own_items IsKey (keys_printed c) (shown c sound).keys (shown c sound).keys_are) (own_items (λ (l : MapLine). IsModifierMap l.modifier l.name) (map_lines_printed (keys_printed c)) (shown c sound).maps (shown c sound).maps_are))
+      each-append IsOwnItem (shown c sound).names ((shown c sound).keys ++ (shown c sound).maps) (own_items (λ (g : NamedGroup). IsGroupName g.group g.name) (named_from 1 (names_printed c)) (shown c sound).names (shown c sound).names_are)
+      (each-append IsOwnItem (shown c sound).keys (shown c sound).maps (own_items IsKey (keys_printed c) (shown c sound).keys (shown c sound).keys_are) (own_items (λ (l : MapLine). IsModifierMap l.modifier l.name) (map_lines_printed (keys_printed c)) (shown c sound).maps (shown c sound).maps_are))
 
   abbrev pub keycodes : Body
   keycodes = Begin (own_body (place_of 0) (shown c sound).keycodes End)

@@ -3,7 +3,7 @@ use Rattle.std.proofs.Common.{◌≡◌, ◌≢◌, ℕ, zero, suc, ◌+◌, ◌
 use Rattle.std.specs.Option.{option_map, option_or}
 use Rattle.std.specs.Prelude.{IfSome}
 use Rattle.std.specs.List.{filter, list_any, position_from}
-use Rattle.std.proofs.lemmas.Bool.{cases_Bool, eqb-true, eqb-false, ne_eqb}
+use Rattle.std.proofs.lemmas.Bool.{cases_Bool, eqb-true, eqb-false, ne_eqb, or_parts}
 use Rattle.std.proofs.lemmas.Iterator.Adapters.{position_from-zero}
 use Rattle.std.proofs.lemmas.List.{append-nil, get_or_append_left, get_or-set_same, get_or-set_other, take_more}
 use Rattle.std.proofs.lemmas.List.Elements.{All-cons, All-head, All-tail, All-push, filter_map-append}
@@ -28,10 +28,6 @@ some_place t i (x ∷ xs) = some_by (t x) i (position_from t (i + 1) xs) (list_a
 place-push_other : {X : Type 0} (t : X → Bool) (i : ℕ) (xs : List X) (x : X) → t x ≡ false → position_from t i (xs ++ x ∷ []) ≡ position_from t i xs
 place-push_other t i [] x other = rw other refl
 place-push_other t i (y ∷ xs) x other = ap (cond (t y) (Some i)) (place-push_other t (i + 1) xs x other)
-
-or_parts : (a b : Bool) → (a || b) ≡ false → (a ≡ false) × (b ≡ false)
-or_parts false b h = (refl, h)
-or_parts true b h = absurd (cc)
 
 -- the only one that passes is at the end
 place-push_here : {X : Type 0} (t : X → Bool) (i : ℕ) (xs : List X) (x : X) → list_any t xs ≡ false → t x ≡ true → position_from t i (xs ++ x ∷ []) ≡ Some (i + length xs)

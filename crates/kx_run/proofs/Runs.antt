@@ -1,6 +1,6 @@
 -- The laws of runs.
 use Rattle.std.proofs.Common.{◌≡◌, ℕ, ◌<◌, ◌≤◌, ◌==◌, Bool, true, false, not, cond, ◌&&◌, ◌||◌, eqb, List, [], ◌∷◌, ◌++◌, map, Option, Some, None, refl, sym, ap, ◌∙◌, arith, inl, inr, ℤ, pos, negsuc, ◌⊎◌}
-use Rattle.std.proofs.lemmas.Bool.{false≢true, eqb-true, eqb-false, eq-eqb, ne_eqb, or_cases}
+use Rattle.std.proofs.lemmas.Bool.{false≢true, eqb-true, eqb-false, eq-eqb, ne_eqb, or_cases, or_left, or_right}
 use Rattle.kx_mods.specs.Mods.{mask}
 use Rattle.kx_tables.specs.Keymap.{Keymap, Shown}
 use Rattle.kx_tables.specs.declared.rows.Action.{Action}
@@ -82,21 +82,6 @@ lit_same a b agree s t same =
 abbrev put_together : Glance → Status → ℕ → Answer
 put_together look state lit = record { look = look; state = state; lit = lit }
 
--- what a known key gives, as a reply to an event tells it
-pub known_look : (keymap : Keymap) (world : World) (code : ℕ) (shown : Shown) → keymap.known code ≡ true → shown ≡ keymap.shown code (effective_group keymap.groups world) (effective_mods world) →
-    record { known = true; syms = shown.syms; consumed = shown.consumed } ≡ look_at keymap (status_in keymap world) code
-known_look keymap world code shown known same =
-    ap (λ (s : Shown). record { known = true; syms = s.syms; consumed = s.consumed }) same
-    ∙ sym (ap (λ b. cond b (given keymap world code) unknown) known)
-
--- the reply to an event after which the state is shown as before
-pub answer_still : (keymap : Keymap) (world : World) (code : ℕ) (direction : Direction) (look : Glance) (state : Status) (lit : ℕ) → status_in keymap (step keymap world code direction) ≡ status_in keymap world → look ≡ look_at keymap (status_in keymap world) code → state ≡ status_in keymap world → lit ≡ lit_in keymap (status_in keymap world) → put_together look state lit ≡ answer keymap world code direction
-answer_still keymap world code direction look state lit still looks states indicator_maps =
-    ap (λ l. put_together l state lit) looks
-    ∙ ap (λ s. put_together (look_at keymap (status_in keymap world) code) s lit) states
-    ∙ ap (put_together (look_at keymap (status_in keymap world) code) (status_in keymap world)) indicator_maps
-    ∙ ap (λ s. put_together (look_at keymap (status_in keymap world) code) s (lit_in keymap s)) (sym still)
-
 answer_same : (a b : Keymap) → Agree a b → (world : World) (code : ℕ) (direction : Direction) → answer a world code direction ≡ answer b world code direction
 answer_same a b agree world code direction =
     let after = status_in a (step a world code direction) in
@@ -116,12 +101,7 @@ run_same a b agree world (event ∷ events) =
 
 press_effect-held : (groups : ℕ) (action : Action) (world : World) → (press_effect groups action world).held ≡ world.held
 press_effect-held groups actions.None world = refl
-press_effect-held groups (actions.SetMods m c) world = refl
-press_effect-held groups (actions.LatchMods m c l) world = refl
-press_effect-held groups (actions.LockMods m l u) world = refl
-press_effect-held groups (actions.SetGroup g c) world = refl
-press_effect-held groups (actions.LatchGroup g c l) world = refl
-press_effect-held groups (actions.LockGroup g) world = refl
+press_effect-held groups _ world = refl
 
 -- a world that is changed or not, without its held keys
 cond-held : (b : Bool) (changed world : World) → changed.held ≡ world.held → (cond b changed world).held ≡ world.held
@@ -156,14 +136,6 @@ Tells keymap world code down = is_held code world.held ≡ true → (keymap.know
 -- a key's state by its last event
 abbrev after_event : ℕ → ℕ → Direction → Bool → Bool
 after_event code other direction before = cond (eqb other code) (is_down direction) before
-
-or_left : (a b : Bool) → a ≡ true → (a || b) ≡ true
-or_left true b h = refl
-or_left false b h = absurd (cc)
-
-or_right : (a b : Bool) → b ≡ true → (a || b) ≡ true
-or_right true b h = refl
-or_right false b h = h
 
 is_held-push : (code : ℕ) (keys : List HeldKey) (key : HeldKey) → is_held code (keys ++ key ∷ []) ≡ true → (is_held code keys ≡ true) ⊎ (key.code ≡ code)
 is_held-push code [] key h =

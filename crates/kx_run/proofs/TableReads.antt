@@ -26,16 +26,9 @@ use Rattle.std.proofs.Math.Seq.{drop-cons}
 use Rattle.kx_run.specs.Replies.{Status, is_lit, lit_mask}
 use Rattle.kx_run.specs.Held.{change_size, action_size}
 use Rattle.kx_run.specs.Lookup.{NamesLevels}
+use Rattle.kx_tables.proofs.Finding.{find_first}
 
 -- ---- the first that passes, in a part of a list
-
-find_first : {X : Type 0} (p : X → Bool) (xs : List X) (i : ℕ) (x : X) → slice_get xs i ≡ Some x → p x ≡ true → ((j : ℕ) (y : X) → j < i → slice_get xs j ≡ Some y → p y ≡ false) → find p xs ≡ Some x
-find_first p [] i x e passes fails = cc
-find_first p (y ∷ ys) zero x e passes fails =
-    let same : y ≡ x = cc in
-    rw same (rw passes)
-find_first {X} p (y ∷ ys) (suc i) x e passes fails =
-    rw (fails 0 y (omega arith) refl) (find_first p ys i x e passes (λ j z below at. fails (suc j) z (omega arith) at))
 
 find_nothing : {X : Type 0} (p : X → Bool) (xs : List X) → ((j : ℕ) (y : X) → slice_get xs j ≡ Some y → p y ≡ false) → find p xs ≡ None
 find_nothing p [] fails = refl

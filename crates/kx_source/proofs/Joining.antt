@@ -1,5 +1,5 @@
 -- What is read of a source is what its statements mean.
-use Rattle.std.proofs.Common.{ℕ, zero, suc, ◌≡◌, ◌<◌, ◌≤◌, ◌||◌, ◌&&◌, Bool, true, false, List, [], ◌∷◌, Option, None, Some, ◌+◌, fold, length, map, slice_get, nat_eq, refl, ap, ◌∙◌, arith, lt_trans, lt-suc_self}
+use Rattle.std.proofs.Common.{ℕ, zero, suc, ◌≡◌, ◌<◌, ◌||◌, ◌&&◌, Bool, List, [], ◌∷◌, Option, None, Some, ◌+◌, fold, length, map, slice_get, nat_eq, refl, ap, ◌∙◌, arith, lt_trans, lt-suc_self}
 use Rattle.std.proofs.lemmas.Option.{same_Some}
 use Rattle.kx_modmaps.specs.Entries.{same_target}
 use Rattle.std.proofs.Math.Path.{fun_ext}
@@ -9,8 +9,7 @@ use Rattle.ks_core.specs.Entry.{Entry}
 use Rattle.kx_resolve.specs.Vmodmap.{ReadKeymap, brings, stands}
 use Rattle.kx_resolve.specs.LevelActions.{level_actions_of}
 use Rattle.kx_resolve.specs.ReadVmodmap.{read_keymap_of}
-use Rattle.kx_builder.specs.IndicatorMaps.{ResolvedIndicator, keymap_with, indicator_map_of_indicator}
-use Rattle.kx_builder.specs.Resolved.{Resolved}
+use Rattle.kx_builder.specs.IndicatorMaps.{keymap_with, indicator_map_of_indicator}
 use Rattle.kx_compat.specs.Interpretations.{Interpretation}
 use Rattle.kx_codes.proofs.Targets.{target_same as alias_same}
 use Rattle.kx_codes.specs.Codes.{Codes, CodesShow, code_of, name_of}
@@ -29,34 +28,30 @@ use Rattle.kx_virtual_mods.specs.Declarations.{AreModNames, ModNames, declared_m
 use Rattle.kx_virtual_mods.specs.Sets.{any_below, has, has_virtual, real_of, real_part}
 use Rattle.kx_virtual_mods.specs.Standing.{stands_for}
 use Rattle.kx_merge.specs.Bodies.{Rules, faults_of, offers_of}
-use Rattle.kx_merge.specs.Offers.{Offer, value_of, width_of}
+use Rattle.kx_merge.specs.Offers.{value_of, width_of}
 use Rattle.kx_modmaps.specs.Entries.{entry_target, item_faults as map_item_faults, map_in, targets_of, with_target, word_mask}
 use Rattle.kx_modmaps.specs.Maps.{item_offers as map_item_offers, map_moves, map_offers, map_offers_of, map_rules, offers_to}
-use Rattle.kx_modmaps.specs.declared.record.Cell.{Cell as MapCell}
 use Rattle.kx_modmaps.specs.declared.target.Target.{Target}
-use Rattle.kx_modmaps.specs.declared.target.Target.TheVariants.{Key as KeyTarget, Keysym}
+use Rattle.kx_modmaps.specs.declared.target.Target.TheVariants.{Key as KeyTarget}
 use Rattle.kx_mods.specs.declared.mods.Mods.{Mods}
 use Rattle.kx_parse.specs.declared.tree.Entry.{Entry as MapEntry}
 use Rattle.kx_parse.specs.declared.tree.Entry.TheVariants.{KeyName, Symbol}
 use Rattle.kx_parse.specs.declared.tree.Item.{Item}
 use Rattle.kx_parse.specs.declared.tree.Item.TheVariants.{Include, Statement}
-use Rattle.kx_parse.specs.declared.tree.Kind.TheVariants.{Compat, Keycodes, Symbols, Types}
+use Rattle.kx_parse.specs.declared.tree.Kind.TheVariants.{Compat, Keycodes, Symbols}
 use Rattle.kx_parse.specs.declared.tree.KeyField.{KeyField}
 use Rattle.kx_parse.specs.declared.tree.Mode.{Mode}
-use Rattle.kx_resolve.specs.Keys.{Keyed, keyed_of, resolved_of}
+use Rattle.kx_resolve.specs.Keys.{keyed_of, resolved_of}
 use Rattle.kx_resolve.specs.Lit.{indicator_lit, indicators_of}
 use Rattle.kx_resolve.specs.Shown.{keymap_meant}
 use Rattle.kx_source.specs.Meaning.{codes_in, codes_of, declared_in, declared_masks_of, indicators_by, indicators_in, interpretations_in, key_given, key_in, keyed_in, keymap_by, keymap_in, indicator_maps_from, lit_by, mapping_by, modifier_bodies_of, modifiers_of, modmap_in, read_keymap_in, real_in, resolved_in}
 use Rattle.kx_source.specs.Source.{keys_faults, maps_faults}
 use Rattle.kx_symbols.specs.KeyFaults.{item_faults, key_in as key_said}
 use Rattle.kx_symbols.specs.Keys.{KeyContent, KeysShow, item_next, item_offers, key_at, key_moves, key_rules, known_under, offered, said_offers}
-use Rattle.kx_symbols.specs.Keysyms.{symbol_keysym}
 use Rattle.kx_symbols.specs.Known.{Defaults, Known, no_defaults}
 use Rattle.kx_symbols.specs.declared.cells.Cell.{Cell}
 use Rattle.kx_symbols.specs.declared.cells.CellValue.{CellValue}
-use Rattle.kx_tables.specs.Keymap.{Keymap}
-use Rattle.kx_types.specs.KeyTypes.{Definition}
-use Rattle.kx_types.specs.Types.{NamedTypes, TypesShow, declared_type, type_named, types_faults}
+use Rattle.kx_types.specs.Types.{NamedTypes, TypesShow, declared_type, type_named}
 use Rattle.kx_resolve.specs.Given.{KeyGiven, given_by, given_in}
 
 any_same : (n : ℕ) (f g : ℕ → Bool) → ((k : ℕ) → k < n → f k ≡ g k) → any_below n f ≡ any_below n g

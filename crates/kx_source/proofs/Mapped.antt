@@ -1,5 +1,5 @@
 -- What is read of modifier maps gives keys what their offers give them by precedence.
-use Rattle.std.proofs.Common.{ℕ, ◌≡◌, ◌^◌, Bool, true, false, List, Option, None, Some, is_some, refl, sym, ap, ◌∙◌, if◌then◌else◌}
+use Rattle.std.proofs.Common.{ℕ, ◌≡◌, ◌^◌, Bool, true, false, List, None, Some, is_some, refl, sym, ap, ◌∙◌, if◌then◌else◌}
 use Rattle.ks_core.specs.Entry.{Entry}
 use Rattle.kx_codes.specs.Codes.{Codes, name_of}
 use Rattle.kx_include.specs.Expansion.{Body}

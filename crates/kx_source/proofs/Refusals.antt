@@ -1,5 +1,5 @@
 -- A refusal of one part of a source is one of the source.
-use Rattle.std.proofs.Common.{ℕ, ◌≡◌, ◌⊎◌, List, [], ◌∷◌, ◌++◌, Contains, Result, Ok, Err, IfErr, refl, sym, subst, inl, inr}
+use Rattle.std.proofs.Common.{◌≡◌, ◌⊎◌, List, [], ◌∷◌, ◌++◌, Contains, Result, Ok, Err, IfErr, refl, sym, subst, inl, inr}
 use Rattle.std.proofs.lemmas.List.Elements.{All-cons, All-contains, All-nil, Contains-append_cases, Contains-append_left, Contains-append_right}
 use Rattle.std.specs.Result.{IsErrAnd}
 use Rattle.ks_core.specs.Entry.{Entry}

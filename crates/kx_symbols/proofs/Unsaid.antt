@@ -19,9 +19,7 @@ nothing_given names cell (fields.Field field ∷ fs) h = absurd (false≢true (s
 
 unset : (cell : AttributeCell) → attribute_in no_settings cell ≡ None
 unset (cells.GroupType group) = refl
-unset cells.KeyType = refl
-unset cells.VirtualMods = refl
-unset cells.Range = refl
+unset _ = refl
 
 pub unsaid : (names : List (List ℕ)) (fs : List KeyField) → list_any is_field fs ≡ false → (cell : AttributeCell) → effective names no_settings fs cell ≡ None
 unsaid names fs h cell = ap (λ o. option_or o (attribute_in no_settings cell)) (nothing_given names cell fs h) ∙ unset cell

@@ -136,7 +136,8 @@ fn read_statement(
         said.1 ≡ said_next context.now.modifiers.now.names defaults (field_in statement.now)) }
     ensures faults { ReportsOrRunsOut result
         (said_faults site.file
-        (known_under context.now.codes.now context.now.names.now context.now.modifiers.now.names defaults)
+        (known_under context.now.codes.now context.now.names.now
+        context.now.modifiers.now.names defaults)
         statement.now word site.whole (key_in statement.now)) }
 {
     match key_in(statement) {
@@ -174,7 +175,8 @@ fn read_item(
         said.1 ≡ item_next context.now.modifiers.now.names defaults item.now) }
     ensures faults { ReportsOrRunsOut result
         (item_faults place.file
-        (known_under context.now.codes.now context.now.names.now context.now.modifiers.now.names defaults)
+        (known_under context.now.codes.now context.now.names.now
+        context.now.modifiers.now.names defaults)
         item.now) }
 {
     match item {

@@ -176,10 +176,6 @@ module _ {D : Type 0} (written : D → Option (List ℕ)) (failures : D → ℕ)
   known_by (Some text) None m n bytes P came fact = absurd came.consumed
   known_by (Some text) (Some rest) m n bytes P came fact = subst (λ t. P (lines_of t)) (sym came.consumed) (fact rest refl)
 
-  -- a beginning of the answers is put, whatever the buffer still holds
-  begun_by : (d e : D) (p : Gathered) (text : List ℕ) → Writes written failures d nothing_gathered e p text → p.failed ≡ false → Begins (written d) (written e) text
-  begun_by d e p text told formed = let gathered = told.gathers formed in record { part = gathered.2.sent; rest = p.waiting; parted = gathered.2.joined; put = gathered.2.put }
-
   -- what waits may be put before the next byte comes
   pub answered_put : (content : Content) (names : List Entry) (old new : Option (List ℕ)) (old_budget new_budget : ℕ) (d e f : D) (p q : Gathered) (kept : Kept) (played : Played) (number : ℕ)
       → AnsweredSoFar content names old old_budget new new_budget d e p kept played number → PutsOrWaits written failures e p f q → AnsweredSoFar content names old old_budget new new_budget d f q kept played number
@@ -286,13 +282,6 @@ module _ {D : Type 0} (written : D → Option (List ℕ)) (failures : D → ℕ)
   replays_stopped content names old new old_budget new_budget d e g buffered kept played number (faults.Line stop) h comes stops =
       let put = writes_finish written failures {A = Unit {0}} {E = ReplayFault} d e g buffered (Ok tt) (answers_by content names h.done) h.told stops.2 in
       (stopped_known content names old h.done h.part stop d g comes h.formed (stops.1 h.part h.keeps) (stops.0 ∙ h.numbered) put.all, put.counted)
-
-  pub stopped_reading : (e g : D) (buffered : Gathered) (kept : Kept) (number : ℕ) (fault : ReplayFault) (P : Type 0) → StopsAt written failures kept number e buffered g fault → fault ≡ faults.Read → P
-  stopped_reading e g buffered kept number faults.Memory P stops is = absurd stops
-  stopped_reading e g buffered kept number (faults.Image x) P stops is = absurd stops
-  stopped_reading e g buffered kept number faults.Read P stops is = absurd stops
-  stopped_reading e g buffered kept number faults.Write P stops is = absurd cc
-  stopped_reading e g buffered kept number (faults.Line stop) P stops is = absurd cc
 
   -- all lines are answered, and what waits is put
   pub replays_ended : (content : Content) (names : List Entry) (old new : Option (List ℕ)) (old_budget new_budget : ℕ) (d e f g : D) (buffered last : Gathered) (kept : Kept) (played : Played) (number : ℕ) (r : Result (Unit {0}) ReplayFault)

@@ -1,35 +1,13 @@
 -- Lines of events, and lines that are none.
-use Rattle.std.proofs.Common.{◌≡◌, ◌<◌, ◌≤◌, ◌-◌, ◌==◌, ℕ, zero, suc, Bool, true, false, cond, ◌&&◌, ◌||◌, nat_le, List, [], ◌∷◌, Option, None, is_some, length, drop, take, get_or, codes, refl, ap, ◌∙◌, arith}
+use Rattle.std.proofs.Common.{◌≡◌, ◌<◌, ◌-◌, ◌==◌, ℕ, Bool, true, false, cond, ◌&&◌, ◌||◌, nat_le, List, Option, None, is_some, length, drop, take, codes, refl, ap, ◌∙◌, arith}
 use Rattle.std.proofs.lemmas.Bool.{leb-true, false_from_ne_true, ne_eqb}
-use Rattle.std.proofs.lemmas.Bool.Decides.{nat_tests}
 use Rattle.std.proofs.lemmas.List.{length-drop}
-use Rattle.std.specs.Char.{is_ascii_digit, digit_value}
+use Rattle.std.specs.Char.{is_ascii_digit}
 use Rattle.std.specs.List.{list_all}
 use Rattle.std.specs.Str.{bytes_eq}
 use Rattle.kx_run.specs.declared.direction.Direction.TheVariants.{Down, Up}
 use Rattle.kx_run.specs.declared.direction.Event.{Event}
 use Rattle.kx_tool.specs.EventLines.{code_in, event_of, event_with, has_code_digits, is_well_formed}
-
-both : (a b : Bool) → (a && b) ≡ true → (a ≡ true) × (b ≡ true)
-both true b h = (refl, h)
-both false b h = absurd cc
-
-pub code_digits : (digits : List ℕ) → has_code_digits digits ≡ true → (length digits ≤ 5) × (list_all is_ascii_digit digits ≡ true)
-unfolding has_code_digits
-code_digits digits h =
-    let parts = both (nat_le 1 (length digits) && nat_le (length digits) 5) (list_all is_ascii_digit digits) h in
-    (leb-true _ _ (both (nat_le 1 (length digits)) (nat_le (length digits) 5) parts.0).1, parts.1)
-
-pub digit_at : (digits : List ℕ) (i : ℕ) → list_all is_ascii_digit digits ≡ true → i < length digits → is_ascii_digit (get_or digits i 0) ≡ true
-digit_at [] i all within = absurd (omega arith)
-digit_at (d ∷ ds) zero all within = (both (is_ascii_digit d) (list_all is_ascii_digit ds) all).0
-digit_at (d ∷ ds) (suc i) all within = digit_at ds i (both (is_ascii_digit d) (list_all is_ascii_digit ds) all).1 (omega arith)
-
-pub decimal_digit : (c : ℕ) → is_ascii_digit c ≡ true → digit_value c ≡ c - 48
-decimal_digit c digit = grind (arith, nat_tests)
-
-pub decimal_small : (c : ℕ) → is_ascii_digit c ≡ true → c - 48 < 10
-decimal_small c digit = grind (arith, nat_tests)
 
 and_false : (a b c : Bool) (x y : Option ℕ) → cond (((a && false) && b) && c) x y ≡ y
 and_false true b c x y = refl

@@ -1,5 +1,5 @@
 -- Lists in a text, a piece at a time.
-use Rattle.std.proofs.Common.{◌≡◌, ℕ, zero, suc, ◌+◌, ◌%◌, ◌/◌, ◌==◌, cond, List, [], ◌∷◌, ◌++◌, Option, Some, IfSome, ◌<◌, ◌≤◌, drop, take, length, map, get_or, slice_get, arith, refl, sym, ap, ◌∙◌, subst, add-one, append_assoc, append-nil}
+use Rattle.std.proofs.Common.{◌≡◌, ℕ, zero, suc, ◌+◌, ◌%◌, ◌/◌, ◌==◌, cond, List, [], ◌∷◌, ◌++◌, Option, Some, IfSome, ◌<◌, ◌≤◌, drop, take, length, map, get_or, slice_get, arith, refl, sym, ap, ◌∙◌, subst, append_assoc, append-nil}
 use Rattle.std.proofs.lemmas.Grind.{flat_map-append}
 use Rattle.ks_core.specs.BufferedOut.{Gathered, Writes}
 use Rattle.ks_core.proofs.BufferedOutLemmas.{writes_then, writes_nothing}
@@ -9,6 +9,7 @@ use Rattle.std.proofs.lemmas.List.{map-append}
 use Rattle.std.proofs.lemmas.Option.{slice_get-get_or}
 use Rattle.kx_tool.specs.Answer.{mod_names}
 use Rattle.kx_tool.specs.Listing.{chosen, lead, listed}
+use Rattle.kx_print.proofs.Rows.{take-at, drop-at}
 
 pub listed-more : (label mark : List ℕ) (pieces : List (List ℕ)) (piece : List ℕ) → listed label mark (pieces ++ piece ∷ []) ≡ listed label mark pieces ++ (lead label mark pieces ++ piece)
 listed-more label mark [] piece = ap (λ t. label ++ t) (append-nil piece)
@@ -40,22 +41,6 @@ module _ {D : Type 0} (written : D → Option (List ℕ)) (failures : D → ℕ)
             (writes_then written failures d e f p q r (listed label mark pieces) (before ++ piece) h.told here);
         before_is = sym (lead-more label mark pieces piece);
       }
-
-pub drop-at : {X : Type 0} (xs : List X) (i : ℕ) (x : X) → slice_get xs i ≡ Some x → drop i xs ≡ x ∷ drop (i + 1) xs
-drop-at xs i x at = drop-here xs i x at ∙ ap (λ n. x ∷ drop n xs) (sym (add-one i))
-  where
-    drop-here : {X : Type 0} (xs : List X) (i : ℕ) (x : X) → slice_get xs i ≡ Some x → drop i xs ≡ x ∷ drop (suc i) xs
-    drop-here [] i x at = cc
-    drop-here (y ∷ ys) zero x at = let same : y ≡ x = cc in ap (λ z. z ∷ ys) same
-    drop-here (y ∷ ys) (suc i) x at = drop-here ys i x at
-
-pub take-at : {X : Type 0} (xs : List X) (i : ℕ) (x : X) → slice_get xs i ≡ Some x → take (i + 1) xs ≡ take i xs ++ x ∷ []
-take-at xs i x at = ap (λ n. take n xs) (add-one i) ∙ take-here xs i x at
-  where
-    take-here : {X : Type 0} (xs : List X) (i : ℕ) (x : X) → slice_get xs i ≡ Some x → take (suc i) xs ≡ take i xs ++ x ∷ []
-    take-here [] i x at = cc
-    take-here (y ∷ ys) zero x at = let same : y ≡ x = cc in ap (λ z. z ∷ []) same
-    take-here (y ∷ ys) (suc i) x at = ap (λ t. y ∷ t) (take-here ys i x at)
 
 -- of the names from an index on, those whose bits are set are still to be chosen
 pub record ChosenSoFar (all : ℕ) (bits : ℕ) (names : List (List ℕ)) (index : ℕ) (done : List (List ℕ)) : Type 0 where

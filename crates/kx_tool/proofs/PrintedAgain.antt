@@ -1,25 +1,17 @@
 -- The image of a printed text is the image of the tables that were printed, and nothing but lack of memory refuses it.
-use Rattle.std.proofs.Common.{◌≡◌, ℕ, List, [], ◌⊎◌, inl, inr, ap, ◌∙◌, subst}
+use Rattle.std.proofs.Common.{ℕ, List, ap, ◌∙◌, subst}
 use Rattle.ks_core.specs.Entry.{Entry}
 use Rattle.kx_image.specs.Image.{image}
 use Rattle.kx_image.specs.declared.header.ImageVersion.TheVariants.{Two}
 use Rattle.kx_include.specs.Source.{Handed}
-use Rattle.kx_lex.specs.declared.fault.Fault.{Fault}
-use Rattle.kx_lex.specs.declared.fault.Fault.TheVariants.{Memory}
 use Rattle.kx_print.specs.Printed.{printed}
-use Rattle.kx_source.specs.Source.{HasFault, Means}
+use Rattle.kx_source.specs.Source.{Means}
 use Rattle.kx_tables.specs.Content.{Content}
 use Rattle.kx_tool.specs.Compiled.{IsWritten}
-use Rattle.kx_tool.specs.PrintedSource.{CompilesBack, HasNoFault, IsImageAgain, IsMemoryAlone}
+use Rattle.kx_tool.specs.PrintedSource.{CompilesBack, IsImageAgain}
 
 module _ (names : List Entry) (source : List ℕ) (files : Handed) where
   pub image_again : CompilesBack names → (d : Content) (bytes : List ℕ) → IsWritten source files names d bytes → IsImageAgain source files bytes
   image_again law d bytes written = record {
     image_is = λ c is. written.version_2 ∙ ap (image Two) (law c d is.can (subst (λ fs. Means (printed c) fs names d) is.alone (subst (λ t. Means t files names d) is.text written.means)));
-  }
-
-  pub memory_alone : HasNoFault names → (e : Fault) → (e ≡ Memory) ⊎ HasFault source files names e → IsMemoryAlone source files e
-  memory_alone law e (inl memory) = record { memory_is = λ c is. memory }
-  memory_alone law e (inr has) = record {
-    memory_is = λ c is. elim (law c e is.can (subst (λ fs. HasFault (printed c) fs names e) is.alone (subst (λ t. HasFault t files names e) is.text has))) [ ];
   }

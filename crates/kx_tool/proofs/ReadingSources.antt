@@ -1,14 +1,13 @@
 -- The source that is read, a byte at a time.
-use Rattle.std.proofs.Common.{◌≡◌, ℕ, ◌==◌, true, false, List, [], ◌∷◌, ◌++◌, Option, None, Some, IfSome, ◌≤◌, arith, drop, take, length, refl, sym, ap, ◌∙◌, append_assoc, append-nil}
+use Rattle.std.proofs.Common.{◌≡◌, ℕ, ◌==◌, true, false, List, [], ◌∷◌, ◌++◌, Option, None, Some, IfSome, drop, take, length, sym, ap, ◌∙◌, append_assoc, append-nil}
 use Rattle.std.specs.Option.{option_map}
 use Rattle.std.specs.Io.KnownBytes.{Consumes, IsAtEnd}
 use Rattle.std.proofs.Math.Seq.{drop-append_seam, take-append_seam}
-use Rattle.std.proofs.lemmas.List.{length-append, length-take}
 use Rattle.ks_core.specs.Lines.{lines_of}
 use Rattle.kx_tool.specs.Input.{Came}
 use Rattle.kx_tool.specs.Sources.{ReadsSource, is_mark, lines_behind, lines_in, source_in, source_of}
 use Rattle.kx_tool.proofs.Lines.{EachFree, EachIs, Free, each_free_more, each_is_more, free_more, free_nothing, joined, joined-more, lines_behind-marked, lines_behind-none, lines_of-cut, lines_of-whole, source_of-marked, source_of-whole}
-use Rattle.kx_tool.proofs.Reading.{came_more, came_nothing, within_at_end}
+use Rattle.kx_tool.proofs.Reading.{came_more, within_at_end}
 
 -- whole lines that are no mark were read, and a part of the next one
 pub record SourceSoFar (old : Option (List ℕ)) (old_budget : ℕ) (new : Option (List ℕ)) (new_budget : ℕ) (text : List ℕ) (line_start : ℕ) : Type 0 where
@@ -20,10 +19,6 @@ pub record SourceSoFar (old : Option (List ℕ)) (old_budget : ℕ) (new : Optio
   pub done_free : EachFree done
   pub part_free : Free part
   pub unmarked : EachIs is_mark false done
-
-pub source_nothing : (old : Option (List ℕ)) (budget : ℕ) → SourceSoFar old budget old budget [] 0
-source_nothing old budget =
-    record { done = []; part = []; text_is = refl; start_is = refl; came = came_nothing old budget; done_free = tt; part_free = free_nothing; unmarked = tt }
 
 pub source_byte : (old mid new : Option (List ℕ)) (k m n : ℕ) (text : List ℕ) (line_start byte : ℕ) → SourceSoFar old k mid m text line_start → Came mid m new n (byte ∷ []) → (byte == 10) ≡ false
     → SourceSoFar old k new n (text ++ byte ∷ []) line_start
@@ -149,13 +144,3 @@ line_part old new k n text line_start h =
 pub line_front : (old new : Option (List ℕ)) (k n : ℕ) (text : List ℕ) (line_start : ℕ) (h : SourceSoFar old k new n text line_start) → take line_start text ≡ joined h.done
 line_front old new k n text line_start h =
     ap (λ t. take line_start t) h.text_is ∙ ap (λ i. take i (joined h.done ++ h.part)) h.start_is ∙ take-append_seam (joined h.done) h.part
-
-pub line_within : (old new : Option (List ℕ)) (k n : ℕ) (text : List ℕ) (line_start : ℕ) → SourceSoFar old k new n text line_start → line_start ≤ length text
-line_within old new k n text line_start h = omega (arith, h.start_is, ap length h.text_is, length-append (joined h.done) h.part)
-
--- no more was read than may come
-pub source_few : (old new : Option (List ℕ)) (k n : ℕ) (text : List ℕ) (line_start : ℕ) → SourceSoFar old k new n text line_start → length text ≤ k
-source_few old new k n text line_start h = omega (arith, h.came.spent)
-
-pub front_few : (old new : Option (List ℕ)) (k n : ℕ) (text : List ℕ) (line_start : ℕ) (front : List ℕ) → SourceSoFar old k new n text line_start → front ≡ take line_start text → length front ≤ k
-front_few old new k n text line_start front h is = omega (arith, h.came.spent, ap length is, length-take line_start text)

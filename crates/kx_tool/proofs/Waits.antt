@@ -1,5 +1,5 @@
 -- The bytes that wait in a chunk, and those of them that stand before a line feed.
-use Rattle.std.proofs.Common.{◌≡◌, ◌<◌, ◌≤◌, ◌+◌, ◌-◌, ◌==◌, ℕ, false, not, List, [], ◌++◌, drop, take, length, get_or, arith, sym, ap, subst, ◌∙◌, drop-drop, get_or-take, length-take, take-append-drop}
+use Rattle.std.proofs.Common.{◌≡◌, ◌<◌, ◌≤◌, ◌+◌, ◌-◌, ◌==◌, ℕ, false, not, List, ◌++◌, drop, take, length, arith, sym, ap, subst, ◌∙◌, drop-drop, get_or-take, length-take, take-append-drop}
 use Rattle.std.proofs.lemmas.List.{drop-take}
 use Rattle.std.proofs.lemmas.List.Sums.{fails_before_first}
 use Rattle.std.specs.List.{All, prefix_len, take_while}

@@ -1,5 +1,5 @@
 -- Lines and columns of a text.
-use Rattle.std.specs.Prelude.{ℕ, ◌==◌, Bool, not, List, count_by, length, reverse}
+use Rattle.std.specs.Prelude.{ℕ, ◌==◌, not, List, count_by, length, reverse}
 use Rattle.std.specs.List.{take_while}
 
 abbrev pub line_feeds : List ℕ → ℕ

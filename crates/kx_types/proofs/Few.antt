@@ -8,6 +8,7 @@ use Rattle.std.proofs.lemmas.List.Folds.{list_any-append}
 use Rattle.std.proofs.lemmas.List.{length-map}
 use Rattle.std.proofs.lemmas.Map.Keys.{IsDistinct-push}
 use Rattle.std.proofs.lemmas.Map.Made.{length-le_from_is_member}
+use mathlib.Core.Bool.{or-false, or-true}
 use Rattle.kx_include.specs.Expansion.{Body, End, Begin, Own, Inc}
 use Rattle.kx_virtual_mods.specs.Counted.{Said, Text, names_behind as names_behind_saids, names_with, statements_of, with_names}
 use Rattle.kx_merge.specs.Bodies.{gather, gathered, moved, no_moves, offers}
@@ -25,14 +26,6 @@ or_or : (a b c : Bool) → ((a || b) || c) ≡ (a || (b || c))
 or_or true b c = refl
 or_or false b c = refl
 
-or_false : (b : Bool) → (b || false) ≡ b
-or_false true = refl
-or_false false = refl
-
-or_true : (b : Bool) → (b || true) ≡ true
-or_true true = refl
-or_true false = refl
-
 -- ---- A name is among names to which others were added where it is among either
 
 module _ (q : Text) where
@@ -44,16 +37,16 @@ module _ (q : Text) where
   with_among ks k = by (list_any (bytes_eq k) ks) refl
     where
       there : (b : Bool) → bytes_eq q k ≡ b → list_any (bytes_eq k) ks ≡ true → among ks ≡ (among ks || b)
-      there false e h = sym (or_false (among ks))
-      there true e h = ap (λ t. list_any (bytes_eq t) ks) ((bytes_decides q k).0 e) ∙ h ∙ sym (or_true (among ks))
+      there false e h = sym (or-false (among ks))
+      there true e h = ap (λ t. list_any (bytes_eq t) ks) ((bytes_decides q k).0 e) ∙ h ∙ sym (or-true (among ks))
 
       by : (b : Bool) → list_any (bytes_eq k) ks ≡ b → among (if b then ks else ks ++ k ∷ []) ≡ (among ks || bytes_eq q k)
       by true h = there (bytes_eq q k) refl h
-      by false h = list_any-append (bytes_eq q) ks (k ∷ []) ∙ ap (λ b. among ks || b) (or_false (bytes_eq q k))
+      by false h = list_any-append (bytes_eq q) ks (k ∷ []) ∙ ap (λ b. among ks || b) (or-false (bytes_eq q k))
 
   more_among : (ks more : List Text) → among (with_names ks more) ≡ (among ks || among more)
   unfolding among
-  more_among ks [] = sym (or_false (among ks))
+  more_among ks [] = sym (or-false (among ks))
   more_among ks (k ∷ more) = more_among (with_name bytes_eq ks k) more ∙ ap (λ b. b || among more) (with_among ks k) ∙ or_or (among ks) (bytes_eq q k) (among more)
 
   written : List Said → List Text
@@ -61,7 +54,7 @@ module _ (q : Text) where
 
   saids_among : (ks : List Text) (saids : List Said) → among (names_behind_saids type_names ks saids) ≡ (among ks || among (written saids))
   unfolding among written
-  saids_among ks [] = sym (or_false (among ks))
+  saids_among ks [] = sym (or-false (among ks))
   saids_among ks (s ∷ saids) =
       saids_among (names_with type_names ks s) saids
       ∙ ap (λ b. b || among (written saids)) (more_among ks (type_names s.1))
@@ -73,7 +66,7 @@ module _ (q : Text) where
 
   offers_among : (ks : List Text) (os : List TypeOffer) → among (names_behind bytes_eq ks os) ≡ (among ks || offered os)
   unfolding among offered
-  offers_among ks [] = sym (or_false (among ks))
+  offers_among ks [] = sym (or-false (among ks))
   offers_among ks (o ∷ os) = offers_among (with_name bytes_eq ks o.name) os ∙ ap (λ b. b || offered os) (with_among ks o.name) ∙ or_or (among ks) (bytes_eq q o.name) (offered os)
 
   -- ---- What a body offers is offered to the names that its statements write

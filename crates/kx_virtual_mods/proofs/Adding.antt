@@ -78,9 +78,6 @@ module _ (names : Item → List Text) (limit : ℕ) where
         subst (λ fs. Contains (Memory ∷ fs) e) (sym (g.faults_go ∙ ap (crossing names limit now.names) is ∙ crossing-append now.names one rest))
         (Contains-append_left (Memory ∷ crossing names limit now.names one) (behind (crossing names limit now.names one) (crossing names limit (names_behind names now.names one) rest)) e has)
 
-    pub going_all : (old now : Tally) (whole : List Said) → Going old.names now whole [] → Adds names {X = Unit {0}} limit maps old (Ok tt) now whole
-    going_all old now whole g = record { added = g.names_go; faultless = g.faults_go; few = g.few; done = g.done; fault = tt }
-
     pub adds_err : (old now : Tally) (whole : List Said) (r : Result (Unit {0}) Fault) (e : Fault) → IsErrAnd r (λ y. y ≡ e) → Contains (Memory ∷ crossing names limit old.names whole) e → Adds names {X = Unit {0}} limit maps old r now whole
     adds_err old now whole (Ok x) e is has = absurd is
     adds_err old now whole (Err y) e is has = record { added = tt; faultless = tt; few = tt; done = tt; fault = subst (Contains (Memory ∷ crossing names limit old.names whole)) (sym is) has }

@@ -1,11 +1,12 @@
 -- A statement offers each virtual modifier once.
-use Rattle.std.proofs.Common.{◌≡◌, ℕ, Bool, true, false, cond, ◌||◌, List, [], ◌∷◌, ◌++◌, fold, map, nat_eq, refl, sym, ap, ◌∙◌, subst, arith}
+use Rattle.std.proofs.Common.{◌≡◌, ℕ, Bool, true, false, cond, List, [], ◌∷◌, ◌++◌, fold, map, nat_eq, refl, sym, ap, subst, arith}
 use Rattle.std.specs.List.{AllByRecursion, IsDistinct, list_any}
 use Rattle.std.proofs.lemmas.Bool.Decides.{nat_tests}
+use Rattle.std.proofs.lemmas.Bool.{or_parts}
 use Rattle.kx_merge.specs.Offers.{Offer, with_name}
 use Rattle.kx_merge.specs.Records.{mode_of}
 use Rattle.kx_parse.specs.declared.tree.Mode.{Mode}
-use Rattle.kx_virtual_mods.specs.Declarations.{Given, given_in, declarations_of, mask_offer, mask_offers, mask_rules, numbers_of}
+use Rattle.kx_virtual_mods.specs.Declarations.{Given, given_in, declarations_of, mask_offer, mask_rules, numbers_of}
 use Rattle.kx_virtual_mods.specs.Once.{OffersOnce}
 
 all-push : (P : ℕ → Type 0) (ks : List ℕ) (k : ℕ) → AllByRecursion P ks → P k → AllByRecursion P (ks ++ k ∷ [])
@@ -15,15 +16,11 @@ all-push P (j ∷ ks) k all last = (all.0, all-push P ks k all.1 last)
 flipped : (j k : ℕ) → nat_eq k j ≡ false → nat_eq j k ≡ false
 flipped j k h = grind (arith, nat_tests, h)
 
-neither : (a b : Bool) → (a || b) ≡ false → (a ≡ false) × (b ≡ false)
-neither true b h = cc
-neither false b h = (refl, h)
-
 distinct-push : (ks : List ℕ) (k : ℕ) → list_any (nat_eq k) ks ≡ false → IsDistinct nat_eq ks → IsDistinct nat_eq (ks ++ k ∷ [])
 unfolding IsDistinct
 distinct-push [] k h d = (tt, tt)
 distinct-push (j ∷ ks) k h d =
-    let none = neither (nat_eq k j) (list_any (nat_eq k) ks) h in
+    let none = or_parts (nat_eq k j) (list_any (nat_eq k) ks) h in
     (all-push (λ y. nat_eq j y ≡ false) ks k d.0 (flipped j k none.0), distinct-push ks k none.1 d.1)
 
 distinct-with : (ks : List ℕ) (k : ℕ) → IsDistinct nat_eq ks → IsDistinct nat_eq (with_name nat_eq ks k)

@@ -71,13 +71,6 @@ get-front (b ∷ bs) zero k h = absurd (omega (arith, h))
 get-front (b ∷ bs) (suc n) zero h = refl
 get-front (b ∷ bs) (suc n) (suc k) h = get-front bs n k (omega (arith, h))
 
-get-past : (bs : List Body) (n k : ℕ) → n ≤ k → slice_get (take n bs) k ≡ None
-get-past [] zero k h = refl
-get-past [] (suc n) k h = refl
-get-past (b ∷ bs) zero k h = refl
-get-past (b ∷ bs) (suc n) zero h = absurd (omega (arith, h))
-get-past (b ∷ bs) (suc n) (suc k) h = get-past bs n k (omega (arith, h))
-
 abbrev or_end_of : Option Body → Body
 or_end_of (Some b) = b
 or_end_of None = End
@@ -85,9 +78,6 @@ or_end_of None = End
 -- a number below the front's length is that of the same body in the whole
 pub front_at : (bs : List Body) (n k : ℕ) → k < n → body_at (take n bs) k ≡ body_at bs k
 front_at bs n k h = ap or_end_of (get-front bs n k h)
-
-pub front_past : (bs : List Body) (n k : ℕ) → n ≤ k → body_at (take n bs) k ≡ End
-front_past bs n k h = ap or_end_of (get-past bs n k h)
 
 pub whole_front : (maps : List Map) → take (length maps) (bodies_of maps) ≡ bodies_of maps
 whole_front maps = let long = length-behind [] maps in take_all (length maps) (bodies_of maps) (omega arith)

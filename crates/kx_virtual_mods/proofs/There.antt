@@ -6,6 +6,7 @@ use Rattle.std.proofs.lemmas.Bool.Decides.{nat_tests}
 use Rattle.std.proofs.lemmas.List.Folds.{list_any-append}
 use Rattle.std.proofs.lemmas.List.Sums.{fold-append}
 use Rattle.std.proofs.lemmas.Slice.Eq.{bytes_eq-Decides}
+use mathlib.Core.Bool.{or-true}
 use Rattle.kx_lex.specs.declared.fault.Fault.TheVariants.{TooMany}
 use Rattle.kx_include.specs.IncludeFaults.{at}
 use Rattle.kx_merge.specs.Offers.{with_name}
@@ -16,10 +17,6 @@ use Rattle.kx_merge.proofs.Going.{drop_next}
 
 abbrev is_there : List Text → Text → Bool
 is_there there name = list_any (bytes_eq name) there
-
-or-true : (b : Bool) → (b || true) ≡ true
-or-true true = refl
-or-true false = refl
 
 there-with : (ks : List Text) (k name : Text) → is_there ks name ≡ true → is_there (with_name bytes_eq ks k) name ≡ true
 there-with ks k name has = by (is_there ks k)

@@ -1,6 +1,6 @@
 -- The modifiers of printed actions, as masks are read.
 use Rattle.std.proofs.Common.{◌≡◌, ℕ, ◌<◌, ◌==◌, ◌&&◌, Bool, true, false, not, cond, List, [], ◌∷◌, ◌++◌, map, fold, get_or, codes, Option, None, Some, is_some, refl, sym, ap, ap₂, ◌∙◌, arith, eqb-true}
-use Rattle.std.proofs.lemmas.Bool.{and_parts}
+use Rattle.std.proofs.lemmas.Bool.{and_parts, not-true}
 use Rattle.std.proofs.lemmas.List.FromFn.{get_or-map-range_with_len}
 use Rattle.std.specs.Int.RustNames.{bit_or}
 use Rattle.std.specs.List.{list_all, flat_map, range_with_len}
@@ -94,11 +94,7 @@ module _ (names : List (List ℕ)) where
   no_modmap w [] e h is = by e.rest is.1
     where
       other : str_eq_ignore_ascii_case w (codes "modMapMods") ≡ false
-      other = not_false (str_eq_ignore_ascii_case w (codes "modMapMods")) (and_parts (is_some (real_mask w)) (not (str_eq_ignore_ascii_case w (codes "modMapMods"))) h).1
-        where
-          not_false : (b : Bool) → not b ≡ true → b ≡ false
-          not_false true h = cc
-          not_false false h = refl
+      other = not-true (str_eq_ignore_ascii_case w (codes "modMapMods")) (and_parts (is_some (real_mask w)) (not (str_eq_ignore_ascii_case w (codes "modMapMods"))) h).1
 
       by : (os : List Operation) → AreShown IsAddedWord [] os → option_map_or (λ (w : Name). str_eq_ignore_ascii_case w.bytes (codes "modMapMods")) (single os (term_word e.first)) false ≡ false
       by [] none = ap (λ t. option_map_or (λ (w : Name). str_eq_ignore_ascii_case w.bytes (codes "modMapMods")) (term_word t) false) is.0.1 ∙ other

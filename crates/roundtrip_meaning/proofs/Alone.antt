@@ -1,6 +1,5 @@
 -- The bodies of a source that includes nothing.
 use Rattle.std.proofs.Common.{◌≡◌, ℕ, List, [], ◌∷◌, Ok, length, refl, ap, ap₂, ◌∙◌, arith}
-use Rattle.kx_include.specs.Expansion.{End, Begin, body_of}
 use Rattle.kx_include.specs.IncludeFaults.{Findings, nothing, both, all_of, in_item, in_depth, findings, IsWhole}
 use Rattle.kx_include.specs.declared.expanding.TheConstants.{MOST_DEPTH}
 use Rattle.kx_include.specs.IncludeText.{Part}
@@ -8,12 +7,11 @@ use Rattle.kx_include.specs.Library.{Library, Text}
 use Rattle.kx_include.specs.Texts.{IsLibrary, AreTexts, none}
 use Rattle.kx_lex.specs.declared.fault.At.{At}
 use Rattle.kx_parse.specs.declared.tree.Item.{Item}
-use Rattle.kx_parse.specs.declared.tree.Kind.TheVariants.{Keycodes, Types, Compat, Symbols}
+use Rattle.kx_parse.specs.declared.tree.Kind.TheVariants.{Keycodes, Types, Symbols}
 use Rattle.kx_parse.specs.declared.tree.Section.{Section}
 use Rattle.kx_parse.specs.declared.tree.Statement.{Statement}
 use Rattle.roundtrip_tree.specs.Shows.{AreShown, IsItem, none as shows_none, more as shows_more}
-use Rattle.roundtrip_meaning.specs.Bodies.{own_body, section_of, alone, place_of}
-use Rattle.roundtrip_meaning.proofs.Bodies.{items_own}
+use Rattle.roundtrip_meaning.specs.Bodies.{section_of, alone}
 
 no_texts : (n : ℕ) (texts : List Text) → AreTexts n [] texts → texts ≡ []
 no_texts n [] none = refl
@@ -27,18 +25,6 @@ module _ {X Y Z : Type 0} (IsX : X → Statement → Type 0) (IsY : Y → Statem
     (ck : AreShown (λ x item. IsItem (IsX x) item) xs ks) (ct : AreShown (λ y item. IsItem (IsY y) item) ys ts) (cs : AreShown (λ z item. IsItem (IsZ z) item) zs ss) where
   abbrev three : Library
   three = alone (section_of Keycodes ks ∷ section_of Types ts ∷ section_of Symbols ss ∷ [])
-
-  pub keycodes_body : body_of three Keycodes ≡ Begin (own_body (place_of 0) ks End)
-  keycodes_body = ap Begin (items_own IsX _ (place_of 0) xs ks End ck)
-
-  pub types_body : body_of three Types ≡ Begin (own_body (place_of 1) ts End)
-  types_body = ap Begin (items_own IsY _ (place_of 1) ys ts End ct)
-
-  pub compat_body : body_of three Compat ≡ End
-  compat_body = refl
-
-  pub symbols_body : body_of three Symbols ≡ Begin (own_body (place_of 2) ss End)
-  symbols_body = ap Begin (items_own IsZ _ (place_of 2) zs ss End cs)
 
   found_none : {W : Type 0} (Is : W → Statement → Type 0) (inner : At → Part → Findings) (file : ℕ) (ws : List W) (is : List Item) → AreShown (λ w item. IsItem (Is w) item) ws is → all_of (in_item inner file) is ≡ nothing
   found_none Is inner file [] [] shows_none = refl

@@ -3,6 +3,7 @@ use Rattle.std.proofs.Common.{◌≡◌, ℕ, ◌≤◌, max, Bool, true, false,
 use Rattle.std.proofs.lemmas.Bool.{eq-eqb, ne_eqb, eqb-false}
 use Rattle.std.proofs.lemmas.List.Folds.{list_any-append}
 use Rattle.std.proofs.lemmas.List.Sums.{fold-append}
+use mathlib.Core.Bool.{or-true}
 use Rattle.std.specs.List.{flat_map, list_any}
 use Rattle.std.specs.Option.{option_or, option_map_or}
 use Rattle.indexmap.specs.IndexSet.{insert_key}
@@ -76,11 +77,7 @@ once modifiers ks mask within new = ap (insert_key nat_eq ks) within ∙ ap (λ 
 again : (modifiers : ℕ) (ks : List ℕ) (mask : ℕ) → meet mask modifiers ≡ mask → insert_key nat_eq (ks ++ mask ∷ []) (meet mask modifiers) ≡ ks ++ mask ∷ []
 again modifiers ks mask within =
     ap (insert_key nat_eq (ks ++ mask ∷ [])) within
-    ∙ ap (λ t. cond t (ks ++ mask ∷ []) ((ks ++ mask ∷ []) ++ mask ∷ [])) (list_any-append (nat_eq mask) ks (mask ∷ []) ∙ ap (λ t. list_any (nat_eq mask) ks || (t || false)) (eq-eqb mask mask refl) ∙ or_true (list_any (nat_eq mask) ks))
-  where
-    or_true : (t : Bool) → (t || true) ≡ true
-    or_true true = refl
-    or_true false = refl
+    ∙ ap (λ t. cond t (ks ++ mask ∷ []) ((ks ++ mask ∷ []) ++ mask ∷ [])) (list_any-append (nat_eq mask) ks (mask ∷ []) ∙ ap (λ t. list_any (nat_eq mask) ks || (t || false)) (eq-eqb mask mask refl) ∙ or-true (list_any (nat_eq mask) ks))
 
 masks_once : (modifiers levels : ℕ) (ks : List ℕ) (es : List TypeEntry) → EntriesFit modifiers levels es → Apart ks es → fold (λ ks x. option_map_or (insert_key nat_eq ks) (mask_in modifiers x) ks) ks (flat_map entry_sayings es) ≡ ks ++ masks es
 masks_once modifiers levels ks [] fit apart = sym (append-nil ks)
@@ -174,11 +171,7 @@ found : {Y : Type 0} (of : TypeEntry → Option Y) (e : TypeEntry) → ((d : Typ
 found of e silent before es apart =
     at_append of None before (e ∷ es)
     ∙ ap (λ o. at_entries of (option_or (of e) o) es) (earlier of e.mask silent before apart.0)
-    ∙ others of e.mask silent (masks before ++ e.mask ∷ []) es (option_or (of e) None) (list_any-append (nat_eq e.mask) (masks before) (e.mask ∷ []) ∙ ap (λ t. list_any (nat_eq e.mask) (masks before) || (t || false)) (eq-eqb e.mask e.mask refl) ∙ or_true (list_any (nat_eq e.mask) (masks before))) apart.1
-  where
-    or_true : (t : Bool) → (t || true) ≡ true
-    or_true true = refl
-    or_true false = refl
+    ∙ others of e.mask silent (masks before ++ e.mask ∷ []) es (option_or (of e) None) (list_any-append (nat_eq e.mask) (masks before) (e.mask ∷ []) ∙ ap (λ t. list_any (nat_eq e.mask) (masks before) || (t || false)) (eq-eqb e.mask e.mask refl) ∙ or-true (list_any (nat_eq e.mask) (masks before))) apart.1
 
 masks_append : (xs ys : List TypeEntry) → masks (xs ++ ys) ≡ masks xs ++ masks ys
 masks_append [] ys = refl

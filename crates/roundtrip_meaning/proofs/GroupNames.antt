@@ -2,6 +2,7 @@
 use Rattle.std.proofs.Common.{◌≡◌, ℕ, zero, suc, ◌+◌, ◌-◌, ◌<◌, ◌≤◌, nat_eq, nat_lt, Bool, true, false, cond, ◌&&◌, ◌||◌, ◌==◌, List, [], ◌∷◌, ◌++◌, length, map, None, Some, unwrap_or, refl, sym, ap, ap₂, ◌∙◌, arith, append-nil, eqb-true}
 use Rattle.std.proofs.lemmas.Bool.{le-ltb, lt-ltb, le-leb, eq-eqb, ne_eqb, ltb-true, ltb-false}
 use Rattle.std.proofs.lemmas.Option.{slice_get_past}
+use Rattle.std.proofs.lemmas.List.Concat.{flat_map_single}
 use Rattle.std.specs.List.{list_any}
 use Rattle.kx_basics.specs.declared.limits.TheConstants.{MOST_NAME_BYTES}
 use Rattle.kx_group_names.specs.Fields.{name_in, item_faults, named_faults}
@@ -19,7 +20,7 @@ use Rattle.kx_parse.specs.declared.tree.Statement.TheVariants as said
 use Rattle.kx_merge.specs.Numbers.{is_within}
 use Rattle.kx_merge.specs.declared.numbers.Counted.TheVariants.{Group}
 use Rattle.roundtrip_meaning.specs.Bodies.{own_body}
-use Rattle.roundtrip_meaning.proofs.Offered.{shown_with, offers_shown, faults_shown, flat_map-single}
+use Rattle.roundtrip_meaning.proofs.Offered.{shown_with, offers_shown, faults_shown}
 use Rattle.roundtrip_meaning.proofs.Silent.{own_append3, IsSilent, silent_offers, silent_faults}
 use Rattle.roundtrip_meaning.proofs.Single.{AllOverride, value_here, value_past}
 use Rattle.roundtrip_text.specs.Source.{EachOf, NamedGroup, NameFits, NamesFit, named_from}
@@ -175,7 +176,7 @@ module _ (place : Place) (gs : List (List ℕ)) (nis kis mis : List Item) (shown
   offers_are =
       ap (λ b. offers nat_eq name_rules name_moves tt b) (own_append3 place nis kis mis End)
       ∙ offers_shown nat_eq name_rules name_moves IsFitItem (λ g. offer_of g ∷ []) tt place offered_one (λ g i is. refl) (named_from 1 gs) nis (own_body place kis (own_body place mis End)) all_shown
-      ∙ ap₂ (λ a b. a ++ b) (flat_map-single offer_of (named_from 1 gs))
+      ∙ ap₂ (λ a b. a ++ b) (flat_map_single offer_of (named_from 1 gs))
       (silent_offers name_rules nat_eq name_moves place tt kis (own_body place mis End) (each_silent IsKeyItem place (key_silent place) kis keys) ∙ silent_offers name_rules nat_eq name_moves place tt mis End (each_silent IsMapItem place (map_silent place) mis maps))
       ∙ append-nil (map offer_of (named_from 1 gs))
 

@@ -3,6 +3,7 @@ use Rattle.std.proofs.Common.{◌≡◌, ◌≢◌, ℕ, zero, suc, ◌+◌, ◌
 use Rattle.std.proofs.lemmas.Bool.{le-ltb, lt-ltb, eq-eqb, false_from_ne_true}
 use Rattle.std.proofs.lemmas.List.FromFn.{get_or-map-range_with_len}
 use Rattle.std.proofs.lemmas.Slice.Eq.{bytes_eq-Decides}
+use Rattle.std.proofs.lemmas.List.Concat.{flat_map_single}
 use Rattle.std.specs.List.{flat_map, position, position_or_len, range_with_len}
 use Rattle.std.specs.Option.{option_and_then, option_map_or}
 use Rattle.std.specs.Str.{bytes_eq}
@@ -44,7 +45,7 @@ use Rattle.kx_print.specs.Phrases.{hexadecimal}
 use Rattle.kx_tables.specs.States.{state_bits}
 use Rattle.kx_tables.specs.declared.rows.States.{States as StateSet}
 use Rattle.roundtrip_meaning.specs.Bodies.{own_body}
-use Rattle.roundtrip_meaning.proofs.Offered.{shown_with, each_from, each_at, offers_shown, faults_shown, flat_map-single, value_of_one}
+use Rattle.roundtrip_meaning.proofs.Offered.{shown_with, each_from, each_at, offers_shown, faults_shown, value_of_one}
 use Rattle.roundtrip_text.specs.Source.{EachOf, AreApart, IndicatorFits}
 use Rattle.roundtrip_text.specs.Spelled.{set_words}
 use Rattle.roundtrip_tree.specs.Indicators.{states_written, indicator_map_lines, IsIndicator}
@@ -258,7 +259,7 @@ module _ (place : Place) (ds : List ResolvedIndicator) (is : List Item) (shown :
   offers_are =
       ap (λ indicator_maps. offers_of nat_eq (indicator_map_rules indicator_maps []) no_moves compat) indicators_named
       ∙ offers_shown nat_eq (indicator_map_rules (names ds) []) no_moves (IsNumberedItem ds) (λ d. offer_of ds d ∷ []) no_values place (offered ds) (λ d i one. stays d i one.1.1) ds is End (shown_with (IsNumbered ds) IsIndicatorMapItem ds is numbered all_shown)
-      ∙ append-nil (flat_map (λ d. offer_of ds d ∷ []) ds) ∙ flat_map-single (offer_of ds) ds
+      ∙ append-nil (flat_map (λ d. offer_of ds d ∷ []) ds) ∙ flat_map_single (offer_of ds) ds
 
   number_is : (i : ℕ) (d : ResolvedIndicator) → slice_get ds i ≡ Some d → number_of ds d ≡ i
   number_is i d at = ap (λ o. unwrap_or o 0) (position_is ds i d apart at)
@@ -285,9 +286,6 @@ module _ (place : Place) (ds : List ResolvedIndicator) (is : List Item) (shown :
   interpretations_faultless table = no_faults table place ds is shown
 
 -- ---- Without indicators there is no section
-
-pub none_named : indicator_names End ≡ []
-none_named = refl
 
 pub no_indicator_maps_faultless : indicator_maps_faults [] End ≡ []
 no_indicator_maps_faultless = refl

@@ -28,7 +28,7 @@ use Rattle.kx_symbols.specs.declared.cells.Cell.TheVariants as cells
 use Rattle.kx_symbols.specs.declared.cells.CellValue.{CellValue}
 use Rattle.kx_symbols.specs.declared.cells.CellValue.TheVariants as values
 use Rattle.kx_tables.specs.declared.rows.Range.{Range}
-use Rattle.kx_tables.specs.declared.rows.Range.TheVariants.{Wrap, Clamp, Redirect}
+use Rattle.kx_tables.specs.declared.rows.Range.TheVariants.{Wrap}
 use Rattle.kx_resolve.specs.Given.{given_by, keysyms_of, action_of, name_of, range_of}
 use Rattle.kx_merge.specs.ByGroup.{at_group}
 use Rattle.roundtrip_meaning.specs.Bodies.{own_body}
@@ -101,8 +101,7 @@ module _ (names : List Entry) (modifiers : List (List ℕ)) (table : list_all is
 
   range_kept : (range : Range) → unwrap_or (range_of (option_map values.Setting (range_said modifiers range))) Wrap ≡ range
   range_kept Wrap = refl
-  range_kept Clamp = refl
-  range_kept (Redirect group) = refl
+  range_kept _ = refl
 
   -- what one statement gives its key
   pub statement_gives : IsGiven k (given_by (given_cell known fs) (given_width known fs))

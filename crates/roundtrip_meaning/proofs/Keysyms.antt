@@ -1,6 +1,6 @@
 -- Printed keysyms are read back.
 use Rattle.std.proofs.Common.{◌≡◌, ℕ, ◌-◌, ◌≤◌, Bool, true, false, not, cond, ◌==◌, ◌&&◌, ◌||◌, get_or, slice_index, List, [], ◌∷◌, ◌++◌, map, None, Some, refl, sym, ap, ap₂, ◌∙◌, subst, arith, eqb-true}
-use Rattle.std.proofs.lemmas.Bool.{and_parts, ltb-true, ne_eqb, le-leb}
+use Rattle.std.proofs.lemmas.Bool.{and_parts, ltb-true, ne_eqb, le-leb, not-true}
 use Rattle.std.proofs.lemmas.Bool.Decides.{nat_tests}
 use Rattle.std.proofs.lemmas.List.Sums.{AllPass-from_list_all}
 use Rattle.std.proofs.lemmas.Str.Ascii.{IsAscii-from_all}
@@ -60,10 +60,6 @@ record IsName (keysym : ℕ) (word : List ℕ) : Type 0 where
   some_symbol : is_no_symbol word ≡ false
   void : is_void_symbol word ≡ true → keysym ≡ 16777215
 
-not_false : (b : Bool) → not b ≡ true → b ≡ false
-not_false true h = cc
-not_false false h = refl
-
 of_built_in : (name : List ℕ) (keysym : ℕ) → 10 ≤ keysym → name_in built_in keysym ≡ Some name → IsName keysym name
 of_built_in name keysym least found =
     let e = name_in-entry is_read built_in name keysym all_read found in
@@ -73,7 +69,7 @@ of_built_in name keysym least found =
     by {k} true z least h = let zero_is : k ≡ 0 = eqb-true k 0 z in absurd (omega (arith, least, zero_is))
     by {k} {n} false z least h =
         let both = and_parts (not (is_no_symbol n)) (not (is_void_symbol n) || (k == 16777215)) h in
-        record { some_symbol = not_false (is_no_symbol n) both.0; void = λ v. eqb-true k 16777215 (or_second (is_void_symbol n) v both.1) }
+        record { some_symbol = not-true (is_no_symbol n) both.0; void = λ v. eqb-true k 16777215 (or_second (is_void_symbol n) v both.1) }
       where
         or_second : (v : Bool) → v ≡ true → (not v || (k == 16777215)) ≡ true → (k == 16777215) ≡ true
         or_second true e h = h

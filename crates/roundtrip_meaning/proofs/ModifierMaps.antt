@@ -4,6 +4,7 @@ use Rattle.std.proofs.lemmas.Bool.{and_parts, le-ltb, ne_eqb, eq-eqb}
 use Rattle.std.proofs.lemmas.List.Folds.{list_any-append}
 use Rattle.std.proofs.lemmas.Grind.{flat_map-append}
 use Rattle.std.proofs.lemmas.List.FromFn.{get_or-map-range_with_len}
+use mathlib.Core.Bool.{or-false}
 use Rattle.std.specs.List.{list_all, list_any, flat_map, range_with_len}
 use Rattle.std.specs.Option.{option_map, option_map_or, option_or, unwrap_or}
 use Rattle.ks_core.specs.Entry.{Entry as Named}
@@ -34,9 +35,9 @@ use Rattle.roundtrip_meaning.proofs.Silent.{IsSilent, own_append3, silent_offers
 use Rattle.roundtrip_meaning.proofs.Single.{AllOverride}
 use Rattle.roundtrip_text.specs.Source.{EachOf, AreRising, PrintedKey, KeyFits}
 use Rattle.roundtrip_text.specs.ModifierMaps.{MapLine, map_line, maps_of_key}
-use Rattle.roundtrip_text.proofs.ModifierMaps.{chosen_pass}
 use Rattle.roundtrip_tree.specs.Shows.{AreShown, IsItem, IsModifierMap, name_at, none, more}
 use Rattle.roundtrip_tree.specs.Source.{IsNameItem, IsKeyItem}
+use Rattle.roundtrip_text.proofs.Lines.{chosen_all}
 
 -- ---- Words of modifiers
 
@@ -219,12 +220,12 @@ module _ (codes : Codes) (names : List Named) (modifiers : List (List ℕ)) (pla
   maps_offer : (ks : List PrintedKey) (is : List Item) → EachOf (λ (k : PrintedKey). code_of codes k.name ≡ Some k.code) ks → AreShown (λ (l : MapLine) i. IsItem (IsModifierMap l.modifier l.name) i) (flat_map maps_of_key ks) is
       → offers same_target rules no_moves tt (own_body place is End) ≡ all_offers ks
   maps_offer [] is coded none = refl
-  maps_offer (k ∷ ks) is coded are = lines_offer k (modifiers_of k) (flat_map maps_of_key ks) is (all_offers ks) (chosen_pass is_modifier (mask k.modmap) mod_names all_modifiers) coded.0 (λ js js_are. maps_offer ks js coded.1 js_are) are
+  maps_offer (k ∷ ks) is coded are = lines_offer k (modifiers_of k) (flat_map maps_of_key ks) is (all_offers ks) (chosen_all is_modifier (mask k.modmap) mod_names all_modifiers) coded.0 (λ js js_are. maps_offer ks js coded.1 js_are) are
 
   maps_fault : (ks : List PrintedKey) (is : List Item) → EachOf KeyFits ks → AreShown (λ (l : MapLine) i. IsItem (IsModifierMap l.modifier l.name) i) (flat_map maps_of_key ks) is
       → faults same_target rules no_moves tt (own_body place is End) ≡ []
   maps_fault [] is fit none = refl
-  maps_fault (k ∷ ks) is fit are = lines_faultless k (modifiers_of k) (flat_map maps_of_key ks) is (chosen_pass is_modifier (mask k.modmap) mod_names all_modifiers) fit.0.name_fits (λ js js_are. maps_fault ks js fit.1 js_are) are
+  maps_fault (k ∷ ks) is fit are = lines_faultless k (modifiers_of k) (flat_map maps_of_key ks) is (chosen_all is_modifier (mask k.modmap) mod_names all_modifiers) fit.0.name_fits (λ js js_are. maps_fault ks js fit.1 js_are) are
 
 -- ---- Which modifiers a key is offered
 
@@ -261,14 +262,10 @@ each_mapped : (low : ℕ) (ks : List PrintedKey) → AreRising (λ (k : PrintedK
 each_mapped low [] rising = tt
 each_mapped low (k ∷ ks) rising = (
   (λ real. list_any-append (is_given same_target (Key k.code) (Present real)) (key_offers k) (all_offers ks)
-      ∙ ap₂ (λ a b. a || b) (here_given k.code real (modifiers_of k)) (none_above k.code (k.code + 1) real ks (omega arith) rising.1) ∙ or_false (is_mapped (mask k.modmap) real)),
+      ∙ ap₂ (λ a b. a || b) (here_given k.code real (modifiers_of k)) (none_above k.code (k.code + 1) real ks (omega arith) rising.1) ∙ or-false (is_mapped (mask k.modmap) real)),
   later (k.code + 1) ks (omega arith) rising.1 (each_mapped (k.code + 1) ks rising.1),
 )
   where
-    or_false : (t : Bool) → (t || false) ≡ t
-    or_false true = refl
-    or_false false = refl
-
     later : (low : ℕ) (js : List PrintedKey) → k.code < low → AreRising (λ (j : PrintedKey). j.code) low js
         → EachOf (λ (j : PrintedKey). (real : ℕ) → list_any (is_given same_target (Key j.code) (Present real)) (all_offers ks) ≡ is_mapped (mask j.modmap) real) js
         → EachOf (λ (j : PrintedKey). (real : ℕ) → list_any (is_given same_target (Key j.code) (Present real)) (all_offers (k ∷ ks)) ≡ is_mapped (mask j.modmap) real) js

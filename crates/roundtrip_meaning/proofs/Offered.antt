@@ -1,5 +1,5 @@
 -- What the statements of a section offer, and what a record has that is offered something once.
-use Rattle.std.proofs.Common.{◌≡◌, ℕ, zero, suc, Bool, true, false, ◌||◌, List, [], ◌∷◌, ◌++◌, map, slice_get, None, Some, refl, sym, ap, ap₂, ◌∙◌, subst, append_assoc, ◌≢◌}
+use Rattle.std.proofs.Common.{◌≡◌, ℕ, zero, suc, Bool, true, false, ◌||◌, List, [], ◌∷◌, ◌++◌, map, slice_get, Some, refl, sym, ap, ap₂, ◌∙◌, subst, append_assoc, ◌≢◌}
 use Rattle.std.proofs.lemmas.Bool.{false_from_ne_true}
 use Rattle.std.specs.List.{flat_map, list_any}
 use Rattle.kx_include.specs.Expansion.{Body}
@@ -35,11 +35,6 @@ module _ {K C V D X : Type 0} (eq : K → K → Bool) (rules : Rules K C V D) (m
   faults_shown (x ∷ xs) [] rest are = elim are [ ]
   faults_shown (x ∷ xs) (i ∷ is) rest (more one are) =
       ap₂ (λ (fs : List Fault) e. fs ++ faults eq rules moves e (own_body place is rest)) (each x i one) (stays x i one) ∙ faults_shown xs is rest are
-
--- what each gives alone
-pub flat_map-single : {X Y : Type 0} (f : X → Y) (xs : List X) → flat_map (λ x. f x ∷ []) xs ≡ map f xs
-flat_map-single f [] = refl
-flat_map-single f (x ∷ xs) = ap (λ ys. f x ∷ ys) (flat_map-single f xs)
 
 -- each that is shown keeps what each of them keeps
 pub shown_with : {X A : Type 0} (P : X → Type 0) (Is : X → A → Type 0) (xs : List X) (ys : List A) → EachOf P xs → AreShown Is xs ys → AreShown (λ x a. P x × Is x a) xs ys
@@ -86,8 +81,3 @@ module _ {K C V X : Type 0} (eq : K → K → Bool) (same : (a b : K) → eq a b
   value_of_one (y ∷ ys) (suc i) x c apart is =
       value_past eq (offer y) (map offer ys) (name_of x) c (differs (name_of x) (name_of y) (λ e. each_at (λ z. name_of y ≢ name_of z) ys i x apart.0 is (sym e)))
       ∙ value_of_one ys i x c apart.1 is
-
-  -- another record has nothing
-  pub value_of_none : (xs : List X) (k : K) (c : C) → EachOf (λ x. k ≢ name_of x) xs → value_of eq (map offer xs) k c ≡ None
-  value_of_none [] k c each = refl
-  value_of_none (x ∷ xs) k c each = value_past eq (offer x) (map offer xs) k c (differs k (name_of x) each.0) ∙ value_of_none xs k c each.1

@@ -3,6 +3,7 @@ use Rattle.std.proofs.Common.{◌≡◌, ◌≢◌, ℕ, zero, suc, ◌<◌, ◌
 use Rattle.std.proofs.lemmas.Bool.{lt-ltb, le-ltb, ltb-true, ltb-false, ne_eqb, eqb-false, eqb-true, false_from_ne_true}
 use Rattle.std.proofs.lemmas.List.Folds.{list_any-append}
 use Rattle.std.proofs.lemmas.Slice.Eq.{bytes_eq-Decides}
+use mathlib.Core.Bool.{or-false, or-true}
 use Rattle.std.specs.List.{flat_map, list_any}
 use Rattle.std.specs.Str.{bytes_eq}
 use Rattle.kx_merge.specs.Offers.{with_name}
@@ -76,22 +77,14 @@ module _ (name : ℕ → List ℕ) where
   AreApart most = (i j : ℕ) → i < most → j < most → name i ≡ name j → i ≡ j
 
   here : (n : ℕ) (p : List ℕ → Bool) → list_any p (first_names (suc n)) ≡ (list_any p (first_names n) || p (name n))
-  here n p = list_any-append p (first_names n) (name n ∷ []) ∙ ap (λ t. list_any p (first_names n) || t) (or_false (p (name n)))
-    where
-      or_false : (t : Bool) → (t || false) ≡ t
-      or_false true = refl
-      or_false false = refl
+  here n p = list_any-append p (first_names n) (name n ∷ []) ∙ ap (λ t. list_any p (first_names n) || t) (or-false (p (name n)))
 
   named_before : (n g : ℕ) → g < n → list_any (bytes_eq (name g)) (first_names n) ≡ true
   named_before zero g less = absurd (omega arith)
   named_before (suc n) g less = here n (bytes_eq (name g)) ∙ by (g == n) refl (λ l. named_before n g l)
     where
-      or_true : (t : Bool) → (t || true) ≡ true
-      or_true true = refl
-      or_true false = refl
-
       by : (t : Bool) → (g == n) ≡ t → (g < n → list_any (bytes_eq (name g)) (first_names n) ≡ true) → (list_any (bytes_eq (name g)) (first_names n) || bytes_eq (name g) (name n)) ≡ true
-      by true e rest = ap (λ t. list_any (bytes_eq (name g)) (first_names n) || t) ((bytes_eq-Decides (name g) (name n)).1 (ap name (eqb-true g n e))) ∙ or_true (list_any (bytes_eq (name g)) (first_names n))
+      by true e rest = ap (λ t. list_any (bytes_eq (name g)) (first_names n) || t) ((bytes_eq-Decides (name g) (name n)).1 (ap name (eqb-true g n e))) ∙ or-true (list_any (bytes_eq (name g)) (first_names n))
       by false e rest = ap (λ t. t || bytes_eq (name g) (name n)) (rest (let other : g ≢ n = eqb-false g n e in omega (arith, other)))
 
   not_named : (most n g : ℕ) → AreApart most → n ≤ g → g < most → list_any (bytes_eq (name g)) (first_names n) ≡ false

@@ -2,6 +2,7 @@
 use Rattle.std.proofs.Common.{◌≡◌, ℕ, zero, suc, ◌+◌, ◌<◌, ◌≤◌, nat_lt, true, cond, List, [], ◌∷◌, ◌++◌, Option, Some, is_some, map, slice_get, refl, sym, ap, ap₂, ◌∙◌, subst, arith}
 use Rattle.std.proofs.lemmas.Bool.{lt-ltb}
 use Rattle.std.proofs.lemmas.Option.{slice_get-map}
+use Rattle.std.proofs.lemmas.List.Concat.{flat_map_single}
 use Rattle.std.specs.List.{flat_map}
 use Rattle.std.specs.Option.{option_map}
 use Rattle.kx_basics.specs.declared.limits.TheConstants.{CODES}
@@ -37,10 +38,6 @@ module _ {X B : Type 0} (code : X → ℕ) (g : X → List B) where
   all_under : (n : ℕ) (xs : List X) → EachOf (λ x. code x < n) xs → flat_map (λ x. cond (nat_lt (code x) n) (g x) []) xs ≡ flat_map g xs
   all_under n [] each = refl
   all_under n (x ∷ xs) each = ap₂ (λ t ys. cond t (g x) [] ++ ys) (lt-ltb (code x) n each.0) (all_under n xs each.1)
-
-flat_single : {X Y : Type 0} (f : X → Y) (xs : List X) → flat_map (λ x. f x ∷ []) xs ≡ map f xs
-flat_single f [] = refl
-flat_single f (x ∷ xs) = ap (λ ys. f x ∷ ys) (flat_single f xs)
 
 module _ (c : Content) (sound : Sound c) (real : ℕ → RealSet) (declared : List ℕ → Option Definition) (keyed : Keyed) (again : ReadAgain c real declared keyed) where
   abbrev name : KeyRow → List ℕ
@@ -140,7 +137,7 @@ module _ (c : Content) (sound : Sound c) (real : ℕ → RealSet) (declared : Li
       ∙ keys_pushed CODES
       ∙ all_below code key_row (λ m. key_for m (keyed.name m)) c.keys CODES (rising key_row) key_at
       ∙ all_under code key_row CODES c.keys codes_within
-      ∙ flat_single (key_seen c) c.keys
+      ∙ flat_map_single (key_seen c) c.keys
 
   -- types and keys are those that are seen in the tables
   pub resolved_again : resolved_of real declared keyed ≡ seen c

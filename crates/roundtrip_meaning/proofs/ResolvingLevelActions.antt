@@ -1,6 +1,7 @@
 -- What the levels of printed keys do, and what the keys are mapped to.
 use Rattle.std.proofs.Common.{◌≡◌, ℕ, ◌<◌, ◌==◌, ◌^◌, ◌&&◌, ◌||◌, Bool, true, false, cond, [], Option, None, Some, is_some, length, slice_get, refl, sym, ap, ap₂, ◌∙◌, arith}
 use Rattle.std.proofs.lemmas.Option.{slice_get_within}
+use mathlib.Core.Bool.{or-false}
 use Rattle.std.specs.List.{list_any}
 use Rattle.std.specs.Option.{option_and_then, option_map_or}
 use Rattle.kx_actions.specs.Becoming.{does_lock, does_unlock}
@@ -53,8 +54,7 @@ module _ (real : ℕ → RealSet) (real_is : (set r : ℕ) → set < 2 ^ 8 → r
   action_again modmap (rows.LatchMods mods clear latch) holds = ap (λ m. rows.LatchMods m clear latch) (named_again mods holds)
   action_again modmap (rows.LockMods mods locks unlocks) holds = λ i. rows.LockMods (named_again mods holds i) (locks_again locks unlocks i) (unlocks_again locks unlocks i)
   action_again modmap (rows.SetGroup change clear) holds = refl
-  action_again modmap (rows.LatchGroup change clear latch) holds = refl
-  action_again modmap (rows.LockGroup change) holds = refl
+  action_again modmap _ holds = refl
 
   -- a level does that, or nothing where none is printed
   defined_again : (modmap : RealSet) (a : Action) → ActionHolds a → option_map_or (action_meant modmap real) (defined (key_action a)) rows.None ≡ a
@@ -63,8 +63,7 @@ module _ (real : ℕ → RealSet) (real_is : (set r : ℕ) → set < 2 ^ 8 → r
   defined_again modmap (rows.LatchMods mods clear latch) holds = action_again modmap (rows.LatchMods mods clear latch) holds
   defined_again modmap (rows.LockMods mods locks unlocks) holds = action_again modmap (rows.LockMods mods locks unlocks) holds
   defined_again modmap (rows.SetGroup change clear) holds = refl
-  defined_again modmap (rows.LatchGroup change clear latch) holds = refl
-  defined_again modmap (rows.LockGroup change) holds = refl
+  defined_again modmap _ holds = refl
 
   module _ (k : PrintedKey) (fits : KeyFits k) (key : KeyGiven) (given : IsGiven k key) (modmap : Mods) where
     none_chosen : (group level : ℕ) → option_and_then (λ (i : Interpretation). i.action) (interpretation_at [] modmap key group level) ≡ None
@@ -125,8 +124,4 @@ module _ (real : ℕ → RealSet) (real_is : (set r : ℕ) → set < 2 ^ 8 → r
 pub modmap_again : (m : Mapping) (code : ℕ) (mods : Mods) → mask mods < 2 ^ 8 → m.keysym_maps ≡ [] → ((real : ℕ) → real < 8 → m.key_maps code real ≡ has (mask mods) real) → modmap_of m code ≡ mods
 modmap_again m code mods small none maps =
     mods_again mods (λ real. m.key_maps code real || list_any (λ (e : ℕ × ℕ). option_map_or (λ p. p.code == code) (first_place e.0 m) false && has e.1 real) m.keysym_maps) small
-    (λ real less. ap₂ (λ a es. a || list_any (λ (e : ℕ × ℕ). option_map_or (λ p. p.code == code) (first_place e.0 m) false && has e.1 real) es) (maps real less) none ∙ or_false (has (mask mods) real))
-  where
-    or_false : (t : Bool) → (t || false) ≡ t
-    or_false true = refl
-    or_false false = refl
+    (λ real less. ap₂ (λ a es. a || list_any (λ (e : ℕ × ℕ). option_map_or (λ p. p.code == code) (first_place e.0 m) false && has e.1 real) es) (maps real less) none ∙ or-false (has (mask mods) real))

@@ -3,6 +3,7 @@ use Rattle.std.proofs.Common.{◌≡◌, ℕ, zero, suc, ◌+◌, ◌<◌, ◌==
 use Rattle.std.proofs.lemmas.Bool.{eqb-false}
 use Rattle.std.proofs.lemmas.List.FromFn.{get_or-map-range_with_len}
 use Rattle.std.proofs.lemmas.Nat.Bits.{bit_at_above}
+use mathlib.Core.Bool.{or-true, or-false}
 use Rattle.std.specs.Int.{bit_at}
 use Rattle.std.specs.Int.RustNames.{bit_or}
 use Rattle.std.specs.List.{range_with_len}
@@ -20,12 +21,8 @@ unfolding any_below
 some_below zero f k less is = absurd (omega (arith, less))
 some_below (suc n) f k less is = by (k == n) refl (some_below n f k)
   where
-    or_true : (t : Bool) → (t || true) ≡ true
-    or_true true = refl
-    or_true false = refl
-
     by : (t : Bool) → (k == n) ≡ t → (k < n → f k ≡ true → any_below n f ≡ true) → (any_below n f || f n) ≡ true
-    by true e rest = ap (λ t. any_below n f || t) (ap f (sym (eqb-true k n e)) ∙ is) ∙ or_true (any_below n f)
+    by true e rest = ap (λ t. any_below n f || t) (ap f (sym (eqb-true k n e)) ∙ is) ∙ or-true (any_below n f)
     by false e rest = ap (λ t. t || f n) (rest (let other = eqb-false k n e in omega (arith, less, other)) is)
 
 pub none_below : (n : ℕ) (f : ℕ → Bool) → ((k : ℕ) → k < n → f k ≡ false) → any_below n f ≡ false
@@ -80,11 +77,7 @@ pub real_stands : (stands : ℕ → ℕ → Bool) (set r : ℕ) → set < 2 ^ 8 
 real_stands stands set r small =
     ap₂ (λ m t. has m r || t) (let same : real_part set ≡ set = omega (arith, small) in same)
     (none_below MOST_VIRTUAL_MODIFIERS (λ number. has_virtual set number && stands number r) (λ number less. (ap (λ b. (b == 1) && stands number r) (above number))))
-    ∙ or_false (has set r)
+    ∙ or-false (has set r)
   where
     above : (number : ℕ) → bit_at set (number + 8) ≡ 0
     above number = bit_at_above set 8 (number + 8) small (omega arith)
-
-    or_false : (t : Bool) → (t || false) ≡ t
-    or_false true = refl
-    or_false false = refl

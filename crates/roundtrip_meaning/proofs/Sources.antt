@@ -1,5 +1,5 @@
 -- A printed text is read as its own sections alone.
-use Rattle.std.proofs.Common.{◌≡◌, ℕ, List, [], ◌∷◌, ◌++◌, length, refl, sym, ap, ap₂, ◌∙◌, subst, arith}
+use Rattle.std.proofs.Common.{◌≡◌, ℕ, List, [], ◌∷◌, length, refl, sym, ap, ap₂, ◌∙◌, subst, arith}
 use Rattle.kx_include.specs.Expansion.{Begin, Body, End, Own, body_of, items_body}
 use Rattle.kx_include.specs.IncludeFaults.{Findings, IsWhole, all_of, both, findings, in_depth, in_item, nothing}
 use Rattle.kx_include.specs.IncludeText.{Part}
@@ -31,10 +31,6 @@ own_items Is [] [] none = tt
 own_items Is [] (i ∷ is) are = elim are [ ]
 own_items Is (x ∷ xs) [] are = elim are [ ]
 own_items Is (x ∷ xs) (i ∷ is) (more one are) = (own_item i one, own_items Is xs is are)
-
-pub each_behind : {X : Type 0} (P : X → Type 0) (xs ys : List X) → EachOf P xs → EachOf P ys → EachOf P (xs ++ ys)
-each_behind P [] ys a b = b
-each_behind P (x ∷ xs) ys a b = (a.0, each_behind P xs ys a.1 b)
 
 all_own : (inner : Part → Body) (place : Place) (is : List Item) (rest : Body) → EachOf IsOwnItem is → items_body inner place is rest ≡ own_body place is rest
 all_own inner place [] rest each = refl

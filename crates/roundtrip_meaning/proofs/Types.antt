@@ -3,6 +3,7 @@ use Rattle.std.proofs.Common.{◌≡◌, ◌≢◌, ℕ, ◌<◌, ◌≤◌, ◌
 use Rattle.std.proofs.lemmas.Bool.{le-ltb, lt-ltb, le-leb, ne_eqb}
 use Rattle.std.proofs.lemmas.List.Folds.{list_any-append}
 use Rattle.std.proofs.lemmas.Slice.Eq.{bytes_eq-Decides}
+use Rattle.std.proofs.lemmas.List.Concat.{flat_map_single}
 use Rattle.std.specs.List.{flat_map, list_any}
 use Rattle.std.specs.Option.{option_to_list, option_map, option_map_or}
 use Rattle.std.specs.Str.{bytes_eq}
@@ -36,7 +37,7 @@ use Rattle.kx_types.specs.declared.saying.Saying.TheVariants.{Modifiers, Map, Pr
 use Rattle.kx_merge.specs.Numbers.{number_faults, number_named, is_within}
 use Rattle.kx_merge.specs.declared.numbers.Counted.TheVariants.{Level}
 use Rattle.roundtrip_meaning.specs.Bodies.{own_body}
-use Rattle.roundtrip_meaning.proofs.Offered.{shown_with, each_from, offers_shown, faults_shown, flat_map-single, value_of_one}
+use Rattle.roundtrip_meaning.proofs.Offered.{shown_with, each_from, offers_shown, faults_shown, value_of_one}
 use Rattle.roundtrip_text.specs.Source.{EachOf, AreApart, EntryFits, TypeFits}
 use Rattle.roundtrip_tree.specs.Shows.{AreShown, IsItem, none, more, name_at}
 use Rattle.roundtrip_tree.specs.ShowsLines.{Line, Quoted, Set, SetAt, IsLine}
@@ -206,7 +207,7 @@ module _ (place : Place) (ts : List ResolvedType) (is : List Item) (shown : AreS
   offers_are : type_offers [] types ≡ map offer_of ts
   offers_are =
       offers_shown bytes_eq (type_rules []) no_moves IsTypeItem (λ t. offer_of t ∷ []) tt place offered (λ t i is. refl) ts is End all_shown
-      ∙ append-nil (flat_map (λ t. offer_of t ∷ []) ts) ∙ flat_map-single offer_of ts
+      ∙ append-nil (flat_map (λ t. offer_of t ∷ []) ts) ∙ flat_map_single offer_of ts
 
   pub types_declared : EachOf (λ (t : ResolvedType). declared_type [] types t.name ≡ Some (definition_seen t)) ts
   types_declared = each_from _ ts (λ i t at. ap (λ os. value_of bytes_eq os t.name tt) offers_are

@@ -56,7 +56,7 @@ terms_lex w ws h = by ws (and_parts (is_text_word w) (list_all is_text_word ws) 
 
 -- ---- Sets
 
-chosen_all : (p : List ℕ → Bool) (bits : ℕ) (names : List (List ℕ)) → list_all p names ≡ true → list_all p (chosen bits names) ≡ true
+pub chosen_all : (p : List ℕ → Bool) (bits : ℕ) (names : List (List ℕ)) → list_all p names ≡ true → list_all p (chosen bits names) ≡ true
 chosen_all p bits [] h = refl
 chosen_all p bits (name ∷ names) h = let both = and_parts (p name) (list_all p names) h in by (bits % 2 == 1) both.0 (chosen_all p (bits / 2) names both.1)
   where

@@ -1,5 +1,5 @@
 -- How printed modifier maps are read.
-use Rattle.std.proofs.Common.{◌≡◌, ℕ, ◌%◌, ◌/◌, Bool, true, false, cond, ◌==◌, ◌&&◌, List, [], ◌∷◌, ◌++◌, map, refl, ap₂}
+use Rattle.std.proofs.Common.{◌≡◌, ℕ, true, List, [], ◌∷◌, map, refl}
 use Rattle.std.proofs.lemmas.Bool.{and_parts}
 use Rattle.std.specs.List.{list_all, flat_map}
 use Rattle.kx_basics.specs.KeyNames.{is_key_byte}
@@ -12,21 +12,12 @@ use Rattle.roundtrip_text.specs.Slices.{Lexes}
 use Rattle.roundtrip_text.proofs.Lexing.{nothing_lexes, then_lexes}
 use Rattle.roundtrip_text.specs.Source.{EachOf, PrintedKey, KeyFits, key_printed}
 use Rattle.roundtrip_text.specs.ModifierMaps.{MapLine, map_line, maps_of_key, map_line_slices}
-use Rattle.roundtrip_text.proofs.Lines.{is_text_word}
+use Rattle.roundtrip_text.proofs.Lines.{is_text_word, chosen_all}
 use Rattle.roundtrip_text.proofs.Blocks.{modifier_map_lexes}
 
 pub record MapLineFits (l : MapLine) : Type 0 where
   pub name : list_all is_key_byte l.name ≡ true
   pub modifier : is_text_word l.modifier ≡ true
-
--- what all of some names pass, the chosen ones do
-pub chosen_pass : (p : List ℕ → Bool) (bits : ℕ) (names : List (List ℕ)) → list_all p names ≡ true → list_all p (chosen bits names) ≡ true
-chosen_pass p bits [] h = refl
-chosen_pass p bits (name ∷ names) h = let both = and_parts (p name) (list_all p names) h in by (bits % 2 == 1) both.0 (chosen_pass p (bits / 2) names both.1)
-  where
-    by : (t : Bool) → p name ≡ true → list_all p (chosen (bits / 2) names) ≡ true → list_all p (cond t (name ∷ []) [] ++ chosen (bits / 2) names) ≡ true
-    by true here rest = ap₂ (λ a b. a && b) here rest
-    by false here rest = rest
 
 mod_words : list_all is_text_word mod_names ≡ true
 unfolding mod_names
@@ -37,7 +28,7 @@ lines_fit name [] bytes words = tt
 lines_fit name (m ∷ ms) bytes words = let both = and_parts (is_text_word m) (list_all is_text_word ms) words in (record { name = bytes; modifier = both.0 }, lines_fit name ms bytes both.1)
 
 pub maps_fit : (k : PrintedKey) → KeyFits k → EachOf MapLineFits (maps_of_key k)
-maps_fit k fits = lines_fit k.name (chosen (mask k.modmap) mod_names) fits.bytes (chosen_pass is_text_word (mask k.modmap) mod_names mod_words)
+maps_fit k fits = lines_fit k.name (chosen (mask k.modmap) mod_names) fits.bytes (chosen_all is_text_word (mask k.modmap) mod_names mod_words)
 
 lines_lex : (name : List ℕ) (modifiers : List (List ℕ)) → EachOf MapLineFits (map (map_line name) modifiers) → Lexes (flat_map (modifier_map_line name) modifiers) (flat_map map_line_slices (map (map_line name) modifiers))
 lines_lex name [] all = nothing_lexes

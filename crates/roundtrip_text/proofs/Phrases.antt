@@ -91,10 +91,6 @@ pub record IsPlain (b : ℕ) : Type 0 where
   pub quote : (b == 34) ≡ false
   pub slash : (b == 92) ≡ false
 
-not_true : (b : Bool) → not b ≡ true → b ≡ false
-not_true true h = cc
-not_true false h = refl
-
 plain_parts : (b : ℕ) → is_plain b ≡ true → IsPlain b
 plain_parts b h = by (nat_le 32 b) refl (nat_le b 126) (b == 34) refl (b == 92) refl h
   where

@@ -1,6 +1,7 @@
 -- How the sections of a printed text are read, and all of it.
-use Rattle.std.proofs.Common.{◌≡◌, ℕ, ◌==◌, cond, Bool, true, false, List, [], ◌∷◌, ◌++◌, length, map, codes, refl, sym, ap, ap₂, ◌∙◌, subst, arith, append_assoc}
+use Rattle.std.proofs.Common.{◌≡◌, ℕ, ◌==◌, cond, Bool, true, false, List, [], ◌∷◌, ◌++◌, length, map, codes, refl, sym, ap, ap₂, ◌∙◌, subst, arith}
 use Rattle.std.proofs.lemmas.List.{length-map}
+use Rattle.std.proofs.lemmas.Grind.{flat_map-append}
 use Rattle.std.specs.List.{flat_map}
 use Rattle.kx_print.specs.Phrases.{block, numbered}
 use Rattle.kx_print.specs.Printed.{compat_section, group_name_line, indicator_block, key_block, keycode_line, keycodes_section, modifier_map_lines, printed, symbols_section, type_block, types_section}
@@ -30,13 +31,9 @@ rows_lex : {R X : Type 0} (see : R → X) (Fits : X → Type 0) (line : R → Li
 rows_lex see Fits line slices each [] fit = nothing_lexes
 rows_lex see Fits line slices each (r ∷ rs) fit = then_lexes (each r fit.0) (rows_lex see Fits line slices each rs fit.1)
 
-flat_append : {X A : Type 0} (f : X → List A) (xs ys : List X) → flat_map f (xs ++ ys) ≡ flat_map f xs ++ flat_map f ys
-flat_append f [] ys = refl
-flat_append f (x ∷ xs) ys = ap (λ zs. f x ++ zs) (flat_append f xs ys) ∙ sym (append_assoc (f x) (flat_map f xs) (flat_map f ys))
-
 flat_flat : {X Y A : Type 0} (f : Y → List A) (g : X → List Y) (xs : List X) → flat_map f (flat_map g xs) ≡ flat_map (λ x. flat_map f (g x)) xs
 flat_flat f g [] = refl
-flat_flat f g (x ∷ xs) = flat_append f (g x) (flat_map g xs) ∙ ap (λ zs. flat_map f (g x) ++ zs) (flat_flat f g xs)
+flat_flat f g (x ∷ xs) = flat_map-append f (g x) (flat_map g xs) ∙ ap (λ zs. flat_map f (g x) ++ zs) (flat_flat f g xs)
 
 flat_mapped : {X Y A : Type 0} (f : Y → List A) (g : X → Y) (xs : List X) → flat_map f (map g xs) ≡ flat_map (λ x. f (g x)) xs
 flat_mapped f g [] = refl
@@ -72,8 +69,8 @@ module _ (c : Content) (sound : Sound c) where
   parts_are =
       ap₂ (λ a b. a ++ b) (sym (flat_mapped symbols_line_slices OfName (named_from 1 (names_printed c))))
       (ap₂ (λ a b. a ++ b) (sym (flat_mapped symbols_line_slices OfKey (keys_printed c))) (sym (flat_flat map_line_slices maps_of_key (keys_printed c)) ∙ sym (flat_mapped symbols_line_slices OfMap (map_lines_printed (keys_printed c))))
-      ∙ sym (flat_append symbols_line_slices (map OfKey (keys_printed c)) (map OfMap (map_lines_printed (keys_printed c)))))
-      ∙ sym (flat_append symbols_line_slices (map OfName (named_from 1 (names_printed c))) (map OfKey (keys_printed c) ++ map OfMap (map_lines_printed (keys_printed c))))
+      ∙ sym (flat_map-append symbols_line_slices (map OfKey (keys_printed c)) (map OfMap (map_lines_printed (keys_printed c)))))
+      ∙ sym (flat_map-append symbols_line_slices (map OfName (named_from 1 (names_printed c))) (map OfKey (keys_printed c) ++ map OfMap (map_lines_printed (keys_printed c))))
 
   symbols_lex : Lexes (symbols_section c) (section_slices (codes "xkb_symbols") symbols_line_slices (symbols_lines (named_from 1 (names_printed c)) (keys_printed c) (map_lines_printed (keys_printed c))))
   unfolding symbols_section

@@ -42,6 +42,7 @@ use Rattle.roundtrip_tree.proofs.Rows.{stop, parted}
 use Rattle.roundtrip_tree.proofs.Spellings.{after_spelled, keyword_spelled, first_spelled, second_spelled, headed_spelled}
 use Rattle.roundtrip_tree.proofs.Statements.{item_spelled}
 use Rattle.roundtrip_tree.proofs.Tokens.{token, key_name_spelled}
+use Rattle.roundtrip_tree.proofs.Types.{each-append}
 
 -- ---- A statement
 
@@ -124,10 +125,6 @@ calls_sayable : (cells : List ResolvedCell) → EachOf CellFits cells → EachOf
 calls_sayable [] all = tt
 calls_sayable (d ∷ ds) all = (action_sayable d.action all.0.does, calls_sayable ds all.1)
 
-pub each_append : {X : Type 0} (P : X → Type 0) (xs ys : List X) → EachOf P xs → EachOf P ys → EachOf P (xs ++ ys)
-each_append P [] ys all others = others
-each_append P (x ∷ xs) ys all others = (all.0, each_append P xs ys all.1 others)
-
 groups_given : (n : ℕ) (gs : List PrintedGroup) → n + length gs ≤ 33 → EachOf GroupFits gs → EachOf IsGiven (group_phrases n (map group_phrase gs))
 groups_given n [] few all = tt
 groups_given n (g ∷ gs) few all =
@@ -140,7 +137,7 @@ range_given Clamp h = (tt, tt)
 range_given (Redirect group) h = (omega (arith, h), tt)
 
 key_given : (k : PrintedKey) → KeyFits k → EachOf IsGiven (field_phrases (key_phrase k))
-key_given k fits = let few = fits.few in each_append IsGiven (group_phrases 1 (map group_phrase k.groups)) (range_phrases k.range) (groups_given 1 k.groups (omega (arith, few)) fits.groups) (range_given k.range fits.range)
+key_given k fits = let few = fits.few in each-append IsGiven (group_phrases 1 (map group_phrase k.groups)) (range_phrases k.range) (groups_given 1 k.groups (omega (arith, few)) fits.groups) (range_given k.range fits.range)
 
 pub key_reads : (text : List ℕ) (k : PrintedKey) → KeyFits k → (ts rest : List Token) → Begins text (key_statement_slices k) ts rest → ReadsAs (item text) (λ i. IsItem (IsKey k) i) ts rest
 key_reads text k fits ts rest begins = key_phrase_reads text (key_phrase k) fits.bytes (key_given k fits) ts rest begins

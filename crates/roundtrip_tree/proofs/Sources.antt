@@ -46,7 +46,7 @@ use Rattle.roundtrip_tree.proofs.SourceSections.{compat_begun, each_section_read
 use Rattle.roundtrip_tree.proofs.Spellings.{after_spelled, ended_spelled, keyword_spelled, mark_spelled}
 use Rattle.roundtrip_tree.proofs.Statements.{keycode_reads}
 use Rattle.roundtrip_tree.proofs.Tokens.{token}
-use Rattle.roundtrip_tree.proofs.Types.{type_reads}
+use Rattle.roundtrip_tree.proofs.Types.{type_reads, each-append}
 
 three_parts : (is a b c d : List Item) → is ≡ a ++ b → b ≡ c ++ d → is ≡ a ++ (c ++ d)
 three_parts is a b c d first second = first ∙ ap (λ js. a ++ js) second
@@ -71,10 +71,6 @@ IsLine (OfName g) i = IsItem (IsGroupName g.group g.name) i
 IsLine (OfKey k) i = IsItem (IsKey k) i
 IsLine (OfMap l) i = IsItem (IsModifierMap l.modifier l.name) i
 
-each_append : {X : Type 0} (P : X → Type 0) (xs ys : List X) → EachOf P xs → EachOf P ys → EachOf P (xs ++ ys)
-each_append P [] ys a b = b
-each_append P (x ∷ xs) ys a b = (a.0, each_append P xs ys a.1 b)
-
 each_map : {X Y : Type 0} (P : Y → Type 0) (f : X → Y) (xs : List X) → EachOf (λ x. P (f x)) xs → EachOf P (map f xs)
 each_map P f [] each = tt
 each_map P f (x ∷ xs) each = (each.0, each_map P f xs each.1)
@@ -89,10 +85,10 @@ named_fit n (g ∷ gs) each some few = by (length g == 0) (named_fit (n + 1) gs 
 
 maps_all_fit : (ks : List PrintedKey) → EachOf KeyFits ks → EachOf MapLineFits (map_lines_printed ks)
 maps_all_fit [] each = tt
-maps_all_fit (k ∷ ks) each = each_append MapLineFits (maps_of_key k) (map_lines_printed ks) (maps_fit k each.0) (maps_all_fit ks each.1)
+maps_all_fit (k ∷ ks) each = each-append MapLineFits (maps_of_key k) (map_lines_printed ks) (maps_fit k each.0) (maps_all_fit ks each.1)
 
 lines_fit : (gs : List NamedGroup) (ks : List PrintedKey) (ls : List MapLine) → EachOf NamedFits gs → EachOf KeyFits ks → EachOf MapLineFits ls → EachOf LineFits (symbols_lines gs ks ls)
-lines_fit gs ks ls a b c = each_append LineFits (map OfName gs) (map OfKey ks ++ map OfMap ls) (each_map LineFits OfName gs a) (each_append LineFits (map OfKey ks) (map OfMap ls) (each_map LineFits OfKey ks b) (each_map LineFits OfMap ls c))
+lines_fit gs ks ls a b c = each-append LineFits (map OfName gs) (map OfKey ks ++ map OfMap ls) (each_map LineFits OfName gs a) (each-append LineFits (map OfKey ks) (map OfMap ls) (each_map LineFits OfKey ks b) (each_map LineFits OfMap ls c))
 
 -- items of some things and of others, apart
 record PartsShown {X A : Type 0} (Is : X → A → Type 0) (xs ys : List X) (zs : List A) : Type 0 where

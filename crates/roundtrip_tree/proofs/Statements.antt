@@ -6,7 +6,7 @@ use Rattle.kx_lex.specs.Kinds.{is_keyword, is_mark, number_value}
 use Rattle.kx_lex.specs.Production.{fronted, front_span, span_between}
 use Rattle.kx_lex.specs.declared.token.Token.{Token}
 use Rattle.kx_lex.specs.declared.token.TokenKind.TheVariants.{KeyName, Number, Mark}
-use Rattle.kx_parse.specs.Sections.{item, own, moded, begins_include, begins_moded, join_of, mode_of, include, modal}
+use Rattle.kx_parse.specs.Sections.{item, own, moded, begins_include, begins_moded, join_of, mode_of}
 use Rattle.kx_parse.specs.Statements.{statement, keycode, keycodes_statement}
 use Rattle.kx_parse.specs.declared.tree.Item.{Item}
 use Rattle.kx_parse.specs.declared.tree.Item.TheVariants as items

@@ -1,15 +1,14 @@
 -- What printed values are spelled as.
-use Rattle.std.proofs.Common.{◌≡◌, ℕ, ◌<◌, ◌^◌, Bool, true, false, ◌||◌, ◌==◌, List, [], ◌∷◌, ◌++◌, Option, refl, sym, ap, ap₂, ◌∙◌, true≢false, eqb-true}
+use Rattle.std.proofs.Common.{◌≡◌, ℕ, ◌<◌, ◌^◌, Bool, true, false, ◌||◌, ◌==◌, List, [], ◌∷◌, Option, refl, sym, ap, ap₂, ◌∙◌, true≢false, eqb-true}
 use Rattle.kx_lex.specs.Kinds.{front, is_mark, before_mark, number_value}
 use Rattle.kx_lex.specs.Production.{Production, many}
-use Rattle.kx_lex.specs.Tokens.{comma, open_bracket, close_bracket, open_brace}
+use Rattle.kx_lex.specs.Tokens.{comma, open_brace}
 use Rattle.kx_lex.specs.declared.keyword.Keyword.{Keyword}
 use Rattle.kx_lex.specs.declared.token.Span.{Span}
 use Rattle.kx_lex.specs.declared.token.Token.{Token}
 use Rattle.kx_lex.specs.declared.token.TokenKind.TheVariants.{Mark, Number, Word}
 use Rattle.kx_parse.specs.Forms.{after, made, listed}
-use Rattle.kx_parse.specs.Values.{symbol, term, operation, expression, is_sign, begins_call, element, part, list}
-use Rattle.kx_parse.specs.declared.tree.Element.{Element}
+use Rattle.kx_parse.specs.Values.{symbol, term, operation, expression, is_sign, begins_call, part}
 use Rattle.kx_parse.specs.declared.tree.Element.TheVariants as elements
 use Rattle.kx_parse.specs.declared.tree.BracePart.{BracePart}
 use Rattle.kx_parse.specs.declared.tree.BracePart.TheVariants as parts
@@ -18,8 +17,8 @@ use Rattle.kx_parse.specs.declared.tree.Symbol.TheVariants as symbols
 use Rattle.kx_parse.specs.declared.tree.Term.TheVariants as terms
 use Rattle.roundtrip_text.specs.Slices.{Slice, slice, Begins, none, more}
 use Rattle.roundtrip_tree.specs.Shows.{IsSpelled, ReadsAs, AreShown, name_at, number_at}
-use Rattle.roundtrip_tree.proofs.Rows.{Stops, stop, is_stop, Parted, parted, list_slices, sequence_reads}
-use Rattle.roundtrip_tree.proofs.Spellings.{after_spelled, mark_spelled, first_spelled, second_spelled, made_spelled, placed_spelled, both_spelled, ended_spelled}
+use Rattle.roundtrip_tree.proofs.Rows.{Stops, stop, is_stop, parted, list_slices, sequence_reads}
+use Rattle.roundtrip_tree.proofs.Spellings.{first_spelled, second_spelled, made_spelled, placed_spelled, both_spelled}
 use Rattle.roundtrip_tree.proofs.Tokens.{token, number_spelled, word_spelled}
 
 -- ---- Symbols
@@ -75,16 +74,6 @@ part_reads text s good ts rest begins h =
     let one = symbol_reads text s good ts rest begins in
     record { value = parts.Symbol one.value; spelled = second_spelled _ (no_call text s ts rest begins h) (made_spelled parts.Symbol one.spelled); is = (one.value, refl, one.is) }
 
-pub symbol_element_reads : (text : List ℕ) (s : Sym) → IsGood s → (ts rest : List Token) → Begins text (sym_slice s ∷ []) ts rest → Stops rest → ReadsAs (element text) (λ e. (symbol : Symbol) × (e ≡ elements.Symbol symbol) × IsSymbol s symbol) ts rest
-unfolding element
-symbol_element_reads text s good ts rest begins h =
-    let one = symbol_reads text s good ts rest begins in
-    record {
-      value = elements.Symbol one.value;
-      spelled = second_spelled _ (no_brace text s ts rest begins) (second_spelled _ (no_call text s ts rest begins h) (made_spelled elements.Symbol one.spelled));
-      is = (one.value, refl, one.is);
-    }
-
 -- ---- Expressions of one term
 
 -- a number, before what ends a value
@@ -100,9 +89,6 @@ number_expression_reads text bytes value worth small ts rest (more span at none)
 
 -- ---- Lists of keysyms
 
-abbrev pub IsSymbolElement : Sym → Element → Type 0
-IsSymbolElement s e = (symbol : Symbol) × (e ≡ elements.Symbol symbol) × IsSymbol s symbol
-
 -- one and more of what doesn't begin with the mark that closes
 pub listed_reads : {A X : Type 0} (text : List ℕ) (close : ℕ) (p : Production A) (slices : X → List Slice) (Is : X → A → Type 0)
     → ((x : X) (ts rest : List Token) → Begins text (slices x) ts rest → Stops rest → ReadsAs p (Is x) ts rest)
@@ -113,30 +99,6 @@ listed_reads text close p slices Is each starts x xs ts rest begins h last =
     let first = parted (slices x) _ begins in
     record { value = r.value; spelled = first_spelled _ (starts x ts first.mid first.first) r.spelled; is = r.is }
 
-symbol_starts : (text : List ℕ) (s : Sym) (ts rest : List Token) → Begins text (sym_slice s ∷ []) ts rest → before_mark close_bracket ts ≡ true
-symbol_starts text (Named keyword bytes) ts rest (more span at none) = refl
-symbol_starts text (Numbered bytes value) ts rest (more span at none) = refl
-
 pub record GoodSym : Type 0 where
   pub sym : Sym
   pub good : IsGood sym
-
--- a list whose levels have one keysym each, and more
-pub symbol_list_reads : (text : List ℕ) (s : GoodSym) (ss : List GoodSym) (ts rest : List Token)
-    → Begins text (slice (Mark 91) (91 ∷ []) ∷ (list_slices (λ (s : GoodSym). sym_slice s.sym ∷ []) (s ∷ ss) ++ slice (Mark 93) (93 ∷ []) ∷ [])) ts rest
-    → ReadsAs (list text) (λ l. AreShown (λ (s : GoodSym). IsSymbolElement s.sym) (s ∷ ss) l.elements) ts rest
-unfolding list
-symbol_list_reads text s ss ts rest (more open_span at begins) = closing (parted (list_slices (λ (s : GoodSym). sym_slice s.sym ∷ []) (s ∷ ss)) (slice (Mark 93) (93 ∷ []) ∷ []) begins)
-  where
-    closing : {ts : List Token} → Parted text (list_slices (λ (s : GoodSym). sym_slice s.sym ∷ []) (s ∷ ss)) (slice (Mark 93) (93 ∷ []) ∷ []) ts rest → ReadsAs (list text) (λ l. AreShown (λ (s : GoodSym). IsSymbolElement s.sym) (s ∷ ss) l.elements) (token (Mark 91) open_span ∷ ts) rest
-    closing {ts} p = closed p.mid p.first p.second
-      where
-        closed : (mid : List Token) → Begins text (list_slices (λ (s : GoodSym). sym_slice s.sym ∷ []) (s ∷ ss)) ts mid → Begins text (slice (Mark 93) (93 ∷ []) ∷ []) mid rest → ReadsAs (list text) (λ l. AreShown (λ (s : GoodSym). IsSymbolElement s.sym) (s ∷ ss) l.elements) (token (Mark 91) open_span ∷ ts) rest
-        closed mid first (more close_span at none) =
-            let r = listed_reads text close_bracket (element text) (λ (s : GoodSym). sym_slice s.sym ∷ []) (λ (s : GoodSym). IsSymbolElement s.sym)
-            (λ s ts rest b h. symbol_element_reads text s.sym s.good ts rest b h) (λ s ts rest b. symbol_starts text s.sym ts rest b) s ss ts (token (Mark 93) close_span ∷ rest) first (stop refl) refl in
-            record {
-              value = _;
-              spelled = placed_spelled (λ xs span. record { elements = xs; span = span }) (after_spelled (mark_spelled text open_bracket (token (Mark 91) open_span) ts refl) (ended_spelled text close_bracket (token (Mark 93) close_span) rest r.spelled refl));
-              is = r.is;
-            }

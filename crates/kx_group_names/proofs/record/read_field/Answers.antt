@@ -1,4 +1,3 @@
-use Rattle.std.proofs.Common.{◌∷◌}
 use Rattle.kx_lex.specs.declared.fault.Fault.TheVariants.{Memory}
 use Rattle.kx_group_names.specs.Fields.{field_faults}
 use Rattle.kx_merge.proofs.Going.{blamed, reported_or_out}

@@ -2,7 +2,7 @@ use Rattle.std.proofs.Common.{ap, ◌∙◌, ◌≡◌}
 use Rattle.kx_tables.specs.declared.check.RecordKind.TheVariants.{Cell}
 use Rattle.kx_image.specs.Image.{IsCanonical}
 use Rattle.kx_image.specs.Records.{cell_bytes, cell_of}
-use Rattle.kx_image.specs.Shape.{header_of, header_size, group_count, cells_start}
+use Rattle.kx_image.specs.Shape.{header_of, group_count, cells_start}
 use Rattle.kx_image.specs.declared.header.Header.{Header}
 use Rattle.kx_image.proofs.Garbling.{table_told, garbled_fault}
 use Rattle.kx_image.proofs.canonical.check_cells.Goals as goal

@@ -2,8 +2,7 @@ use Rattle.std.proofs.Common.{ap, ◌∙◌, ◌≡◌}
 use Rattle.kx_tables.specs.declared.check.RecordKind.TheVariants.{Entry}
 use Rattle.kx_image.specs.Image.{IsCanonical}
 use Rattle.kx_image.specs.Records.{entry_bytes, entry_of}
-use Rattle.kx_image.specs.Shape.{header_of, header_size, group_count, entries_start}
-use Rattle.kx_image.specs.declared.header.Header.{Header}
+use Rattle.kx_image.specs.Shape.{header_of, entries_start}
 use Rattle.kx_image.proofs.Garbling.{table_told, garbled_fault}
 use Rattle.kx_image.proofs.canonical.check_entries.Goals as goal
 

@@ -2,7 +2,7 @@ use Rattle.std.proofs.Common.{ap, ◌∙◌, ◌≡◌}
 use Rattle.kx_tables.specs.declared.check.RecordKind.TheVariants.{GroupName}
 use Rattle.kx_image.specs.Image.{IsCanonical}
 use Rattle.kx_image.specs.Records.{group_name_bytes, group_name_of}
-use Rattle.kx_image.specs.Shape.{header_of, header_size, group_count, group_names_start}
+use Rattle.kx_image.specs.Shape.{header_of, group_count, group_names_start}
 use Rattle.kx_image.specs.declared.header.Header.{Header}
 use Rattle.kx_image.proofs.Garbling.{table_told, garbled_fault}
 use Rattle.kx_image.proofs.canonical.check_group_names.Goals as goal

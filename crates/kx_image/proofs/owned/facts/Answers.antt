@@ -1,6 +1,6 @@
 use Rattle.std.proofs.Common.{ap, sym, ◌∙◌, subst}
 use Rattle.kx_tables.specs.Content.{Content, greatest_groups}
-use Rattle.kx_image.specs.Image.{IsImage, content_in}
+use Rattle.kx_image.specs.Image.{IsImage}
 use Rattle.kx_image.proofs.Refused.{content_is}
 use Rattle.kx_image.proofs.owned.facts.Goals as goal
 

@@ -1,7 +1,7 @@
 use Rattle.std.proofs.Common.{subst, ap, ◌∙◌, ◌≡◌}
-use Rattle.ks_core.specs.BufferedOut.{Writes, Gathered, nothing_gathered}
+use Rattle.ks_core.specs.BufferedOut.{Writes, Gathered}
 use Rattle.ks_core.proofs.BufferedOutLemmas.{writes_then, writes_finish}
-use Rattle.kx_image.specs.Image.{body, header_for}
+use Rattle.kx_image.specs.Image.{header_for}
 use Rattle.kx_image.specs.Shape.{header_bytes}
 use Rattle.kx_image.specs.declared.header.ImageVersion.TheVariants.{Two}
 use Rattle.kx_image.proofs.writer.write.Goals as goal

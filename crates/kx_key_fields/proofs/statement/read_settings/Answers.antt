@@ -1,4 +1,4 @@
-use Rattle.std.proofs.Common.{◌∷◌, refl}
+use Rattle.std.proofs.Common.{refl}
 use Rattle.kx_lex.specs.declared.fault.Fault.TheVariants.{Memory}
 use Rattle.kx_key_fields.specs.KeyFields.{key_field_faults, key_given, setting_faults}
 use Rattle.kx_key_fields.proofs.Cellwise.{settings_go}

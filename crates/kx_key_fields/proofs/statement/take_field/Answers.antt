@@ -1,4 +1,4 @@
-use Rattle.std.proofs.Common.{◌∷◌, Contains, sym, subst}
+use Rattle.std.proofs.Common.{Contains, sym, subst}
 use Rattle.kx_lex.specs.declared.fault.Fault.TheVariants.{Memory}
 use Rattle.kx_key_fields.specs.KeyFields.{key_field_faults, own_faults}
 use Rattle.kx_merge.proofs.Going.{blamed, reported_or_out}

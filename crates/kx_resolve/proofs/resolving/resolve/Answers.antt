@@ -1,4 +1,4 @@
-use Rattle.std.proofs.Common.{ℕ, ◌≤◌, All, List, Option, length, sym, subst, ap, ◌∙◌, arith}
+use Rattle.std.proofs.Common.{ℕ, ◌≤◌, All, List, Option, length, sym, subst, ap, ◌∙◌}
 use Rattle.std.proofs.lemmas.List.Elements.{All-weaker}
 use Rattle.kx_builder.specs.IndicatorMaps.{with_indicator_maps}
 use Rattle.kx_builder.specs.Placed.{content_of_resolved}

@@ -1,4 +1,4 @@
-use Rattle.std.proofs.Common.{◌≡◌, ◌==◌, ◌&&◌, ap, refl, sym, ◌∙◌, ◌++◌, ◌∷◌, [], not, true, false, Bool, subst, if◌then◌else◌}
+use Rattle.std.proofs.Common.{◌==◌, ◌&&◌, ap, sym, ◌∙◌, ◌++◌, ◌∷◌, [], not, true, false, if◌then◌else◌}
 use Rattle.kx_virtual_mods.specs.Sets.{real_of as stood_for}
 use Rattle.kx_virtual_mods.specs.Standing.{stands_for}
 use Rattle.kx_resolve.specs.Rows.{has_row, row_of, set_mask}

@@ -5,7 +5,7 @@ use Rattle.kx_resolve.proofs.TypesInUse.{none_used, places_whole}
 use Rattle.kx_resolve.proofs.Typed.{used_few}
 use Rattle.kx_resolve.proofs.Steps.{used_is, used_next, used_none}
 use Rattle.kx_resolve.specs.Given.{KeyGiven, given_in}
-use Rattle.kx_resolve.specs.Keys.{type_names_below, type_names_if, types_used}
+use Rattle.kx_resolve.specs.Keys.{type_names_below, types_used}
 use Rattle.kx_resolve.specs.TypesInUse.{AreUsed, TypeInUse, type_in_use}
 use Rattle.kx_symbols.specs.Keys.{key_at}
 use Rattle.kx_types.specs.Types.{NamedTypes, type_named}

@@ -1,4 +1,4 @@
-use Rattle.std.proofs.Common.{◌++◌, ap, sym, subst, append-nil, ◌∙◌}
+use Rattle.std.proofs.Common.{◌++◌, sym, subst, append-nil, ◌∙◌}
 use Rattle.kx_resolve.proofs.Steps.{none_names}
 use Rattle.kx_resolve.specs.Given.{given_in}
 use Rattle.kx_resolve.specs.Keys.{type_names_if}

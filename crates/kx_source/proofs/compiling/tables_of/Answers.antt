@@ -1,18 +1,10 @@
-use Rattle.std.proofs.Common.{◌≡◌, ◌⊎◌, ◌∷◌, ◌++◌, [], Contains, ap, ◌∙◌, inl, subst, sym}
-use Rattle.kx_codes.specs.CodeFaults.{faults_of as keycodes_faults}
-use Rattle.kx_codes.specs.Codes.{CodesShow}
-use Rattle.kx_compat.specs.Meaning.{compat_faults}
-use Rattle.kx_indicators.specs.Meaning.{indicator_maps_faults}
+use Rattle.std.proofs.Common.{◌≡◌, ◌⊎◌, ◌∷◌, Contains, subst}
 use Rattle.kx_lex.specs.declared.fault.Fault.{Fault}
 use Rattle.kx_lex.specs.declared.fault.Fault.TheVariants.{Memory}
 use Rattle.kx_virtual_mods.specs.Declarations.{modifier_faults}
-use Rattle.kx_source.proofs.Ending.{made_holds, made_keymap}
-use Rattle.kx_source.proofs.Joining.{bodies_same, keys_faults_same, maps_faults_same, modifiers_same}
-use Rattle.kx_source.proofs.Refusals.{all_faultless, keycodes_refused, modifiers_refused, parts_refused, passed, types_refused}
-use Rattle.kx_source.specs.Source.{HasFaultIn, HoldsAll, names_faults}
-use Rattle.kx_tables.specs.Keymap.{keymap_of}
-use Rattle.kx_tables.specs.RawTables.{content_of}
-use Rattle.kx_types.specs.Types.{types_faults}
+use Rattle.kx_source.proofs.Joining.{bodies_same}
+use Rattle.kx_source.proofs.Refusals.{modifiers_refused, passed}
+use Rattle.kx_source.specs.Source.{HasFaultIn}
 use Rattle.kx_source.proofs.compiling.tables_of.Goals as goal
 
 pub returns-in_err-modifiers-clause-fault : goal.returns-in_err-modifiers-clause-fault

@@ -1,5 +1,4 @@
-use Rattle.std.proofs.Common.{◌∷◌, ◌++◌, Contains, subst}
-use Rattle.kx_lex.specs.declared.fault.Fault.TheVariants.{Memory}
+use Rattle.std.proofs.Common.{◌++◌, Contains, subst}
 use Rattle.kx_key_fields.specs.Places.{place_faults}
 use Rattle.kx_symbols.specs.KeyFaults.{elements_faults}
 use Rattle.kx_symbols.proofs.Statements.{front_blames}

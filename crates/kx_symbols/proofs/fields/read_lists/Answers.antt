@@ -1,5 +1,3 @@
-use Rattle.std.proofs.Common.{◌∷◌}
-use Rattle.kx_lex.specs.declared.fault.Fault.TheVariants.{Memory}
 use Rattle.kx_symbols.specs.KeyFaults.{fields_faults}
 use Rattle.kx_symbols.specs.Lists.{no_lists}
 use Rattle.kx_symbols.proofs.Statements.{field_blames}

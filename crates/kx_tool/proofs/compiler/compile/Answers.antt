@@ -1,4 +1,4 @@
-use Rattle.kx_tool.proofs.PrintedAgain.{image_again, memory_alone}
+use Rattle.kx_tool.proofs.PrintedAgain.{image_again}
 use Rattle.kx_tool.proofs.Written.{found_is_compiled}
 use Rattle.kx_tool.proofs.compiler.compile.Goals as goal
 

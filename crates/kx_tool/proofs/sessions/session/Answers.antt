@@ -1,10 +1,8 @@
-use Rattle.std.proofs.Common.{◌≡◌, ◌≤◌, ◌+◌, ◌⊎◌, IfErr, OnOk, refl, sym, subst}
+use Rattle.std.proofs.Common.{◌≡◌, ◌⊎◌, refl, subst}
 use Rattle.kx_source.specs.Source.{HasFault, Means}
 use Rattle.kx_lex.specs.declared.fault.Fault.TheVariants.{Memory}
-use Rattle.kx_tool.specs.Input.{FailsBehind, IsWithin, budget, coming}
+use Rattle.kx_tool.specs.Input.{budget, coming}
 use Rattle.kx_tool.specs.Sources.{ReadsSource}
-use Rattle.kx_tool.specs.declared.fault.ReplayFault.{ReplayFault}
-use Rattle.kx_tool.specs.declared.fault.ReplayFault.TheVariants.{Read}
 use Rattle.kx_tool.proofs.Reading.{fails_from, within_from}
 use Rattle.kx_tool.proofs.SessionLemmas.{fails_all, within_all, session_answered, session_refused, session_silent, session_stopped}
 use Rattle.kx_tool.proofs.sessions.session.Goals as goal

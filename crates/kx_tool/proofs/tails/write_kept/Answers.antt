@@ -1,4 +1,4 @@
-use Rattle.std.proofs.Common.{List, ℕ, subst}
+use Rattle.std.proofs.Common.{subst}
 use Rattle.ks_core.specs.BufferedOut.{Writes}
 use Rattle.kx_tool.proofs.tails.write_kept.Goals as goal
 

@@ -1,4 +1,3 @@
-use Rattle.std.proofs.Common.{◌∷◌}
 use Rattle.kx_lex.specs.declared.fault.Fault.TheVariants.{Memory}
 use Rattle.kx_virtual_mods.specs.Declarations.{declaration_faults, declared_faults, name_faults}
 use Rattle.kx_merge.proofs.Going.{blamed, blamed_front, reported_or_out}

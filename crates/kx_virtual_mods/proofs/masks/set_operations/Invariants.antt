@@ -1,4 +1,4 @@
-use Rattle.std.proofs.Common.{◌≡◌, [], drop, fold}
+use Rattle.std.proofs.Common.{◌≡◌, drop, fold}
 use Rattle.std.specs.List.{flat_map}
 use Rattle.kx_virtual_mods.specs.Masks.{operated, operation_faults, word_faults}
 use Rattle.kx_virtual_mods.proofs.masks.set_operations.Given as goal

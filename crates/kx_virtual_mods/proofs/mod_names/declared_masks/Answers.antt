@@ -1,4 +1,4 @@
-use Rattle.std.proofs.Common.{[], ◌∷◌, ◌++◌, nat_eq}
+use Rattle.std.proofs.Common.{[], ◌++◌, nat_eq}
 use Rattle.std.specs.List.{flat_map}
 use Rattle.kx_include.specs.Shared.{expanded_body}
 use Rattle.kx_lex.specs.declared.fault.Fault.TheVariants.{Memory}

@@ -1,4 +1,4 @@
-use Rattle.std.proofs.Common.{◌≡◌, ◌∷◌, [], Contains, IfErr, IfOk, List, OnOk, subst}
+use Rattle.std.proofs.Common.{◌≡◌, ◌∷◌, [], Contains, IfOk, List, subst}
 use Rattle.kx_include.specs.Shared.{expanded_body}
 use Rattle.kx_lex.specs.declared.fault.Fault.{Fault}
 use Rattle.kx_lex.specs.declared.fault.Fault.TheVariants.{Memory}

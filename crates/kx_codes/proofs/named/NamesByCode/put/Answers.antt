@@ -1,4 +1,4 @@
-use Rattle.std.proofs.Common.{◌++◌, ◌∷◌, [], ap, sym, subst, ◌∙◌}
+use Rattle.std.proofs.Common.{ap, sym, subst, ◌∙◌}
 use Rattle.kx_codes.proofs.Entries.{coded_put}
 use Rattle.kx_codes.proofs.Naming.{absent_code, absent_named, codes_after, entries_after}
 use Rattle.kx_codes.proofs.Standing.{inserted}

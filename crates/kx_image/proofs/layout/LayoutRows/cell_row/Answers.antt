@@ -1,6 +1,6 @@
 use Rattle.std.proofs.Common.{arith, ap, sym, ◌<◌}
 use Rattle.kx_image.specs.Records.{cell_of}
-use Rattle.kx_image.specs.Shape.{called_for, cells_start, group_count, header_of, header_size}
+use Rattle.kx_image.specs.Shape.{cells_start, group_count, header_of}
 use Rattle.kx_image.proofs.Reading.{in_rows, row_there}
 use Rattle.kx_image.proofs.layout.LayoutRows.cell_row.Goals as goal
 

@@ -1,6 +1,6 @@
 use Rattle.std.proofs.Common.{arith, ap, sym, ◌<◌}
 use Rattle.kx_image.specs.Records.{entry_of}
-use Rattle.kx_image.specs.Shape.{called_for, entries_start, group_count, header_of, header_size}
+use Rattle.kx_image.specs.Shape.{entries_start, header_of}
 use Rattle.kx_image.proofs.Reading.{in_rows, row_there}
 use Rattle.kx_image.proofs.layout.LayoutRows.entry_row.Goals as goal
 

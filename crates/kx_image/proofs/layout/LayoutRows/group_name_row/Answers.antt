@@ -1,6 +1,6 @@
 use Rattle.std.proofs.Common.{arith, ap, sym, ◌<◌}
 use Rattle.kx_image.specs.Records.{group_name_of}
-use Rattle.kx_image.specs.Shape.{called_for, group_count, group_names_start, header_of, header_size}
+use Rattle.kx_image.specs.Shape.{group_count, group_names_start, header_of}
 use Rattle.kx_image.proofs.Reading.{in_rows, row_there}
 use Rattle.kx_image.proofs.layout.LayoutRows.group_name_row.Goals as goal
 

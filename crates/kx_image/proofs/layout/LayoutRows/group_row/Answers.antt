@@ -1,6 +1,6 @@
 use Rattle.std.proofs.Common.{arith, ap, sym, ◌<◌}
 use Rattle.kx_image.specs.Records.{group_of}
-use Rattle.kx_image.specs.Shape.{called_for, group_count, groups_start, header_of, header_size}
+use Rattle.kx_image.specs.Shape.{group_count, groups_start, header_of}
 use Rattle.kx_image.proofs.Reading.{in_rows, row_there}
 use Rattle.kx_image.proofs.layout.LayoutRows.group_row.Goals as goal
 

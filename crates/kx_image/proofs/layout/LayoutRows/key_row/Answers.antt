@@ -1,6 +1,6 @@
 use Rattle.std.proofs.Common.{arith, ap, sym, ◌<◌}
 use Rattle.kx_image.specs.Records.{key_of}
-use Rattle.kx_image.specs.Shape.{called_for, group_count, header_of, header_size, keys_start}
+use Rattle.kx_image.specs.Shape.{header_of, keys_start}
 use Rattle.kx_image.proofs.Reading.{in_rows, row_there}
 use Rattle.kx_image.proofs.layout.LayoutRows.key_row.Goals as goal
 

@@ -1,6 +1,6 @@
 use Rattle.std.proofs.Common.{arith, ap, sym, ◌<◌}
 use Rattle.kx_image.specs.Records.{keysym_of}
-use Rattle.kx_image.specs.Shape.{called_for, group_count, header_of, header_size, keysyms_start}
+use Rattle.kx_image.specs.Shape.{group_count, header_of, keysyms_start}
 use Rattle.kx_image.proofs.Reading.{in_rows, row_there}
 use Rattle.kx_image.proofs.layout.LayoutRows.keysym.Goals as goal
 

@@ -1,6 +1,6 @@
 use Rattle.std.proofs.Common.{arith, ap, sym, ◌<◌}
 use Rattle.kx_image.specs.Records.{type_of}
-use Rattle.kx_image.specs.Shape.{called_for, group_count, header_of, header_size}
+use Rattle.kx_image.specs.Shape.{header_of, header_size}
 use Rattle.kx_image.proofs.Reading.{in_rows, row_there}
 use Rattle.kx_image.proofs.layout.LayoutRows.type_row.Goals as goal
 

@@ -1,7 +1,7 @@
-use Rattle.std.proofs.Common.{arith, ap, sym, ◌∙◌, subst, refl}
+use Rattle.std.proofs.Common.{arith, ap, sym, ◌∙◌, subst}
 use Rattle.kx_tables.specs.Content.{Content, greatest_groups}
 use Rattle.kx_tables.specs.Sound.{Sound}
-use Rattle.kx_image.specs.Image.{IsImage, content_in}
+use Rattle.kx_image.specs.Image.{IsImage}
 use Rattle.kx_image.proofs.Found.{image_found}
 use Rattle.kx_image.proofs.view.View.checked.Goals as goal
 

@@ -1,4 +1,3 @@
-use Rattle.std.proofs.Common.{◌∷◌}
 use Rattle.kx_lex.specs.declared.fault.Fault.TheVariants.{Memory}
 use Rattle.kx_key_fields.specs.KeyFields.{default_faults}
 use Rattle.kx_key_fields.proofs.Cellwise.{last_defaults}

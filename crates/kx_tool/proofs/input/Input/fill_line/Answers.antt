@@ -1,4 +1,4 @@
-use Rattle.std.proofs.Common.{◌≡◌, ◌+◌, ◌-◌, drop, take, refl, subst}
+use Rattle.std.proofs.Common.{◌+◌, ◌-◌, drop, take, refl, subst}
 use Rattle.kx_tool.specs.Input.{Waiting}
 use Rattle.kx_tool.specs.LineParts.{MovesPart}
 use Rattle.kx_tool.proofs.Waits.{before_feed, waits_split}
