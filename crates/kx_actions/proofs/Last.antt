@@ -9,7 +9,6 @@ use Rattle.kx_tables.specs.declared.rows.GroupChange.{GroupChange}
 use Rattle.kx_actions.specs.Defaults.{default_for, default_given, defaulted, defaults_behind, given_as, is_same, kind_of, next_defaults, next_for, no_defaults, settings_for, taken_up}
 use Rattle.kx_actions.specs.Settings.{given_affect, given_clear_locks, given_group, given_latch_to_lock, given_modifiers, last_settings, no_settings, with_given}
 use Rattle.kx_actions.specs.Values.{member_given, setting_given}
-use Rattle.kx_merge.specs.Last.{last_given}
 use Rattle.kx_merge.specs.Words.{among}
 use Rattle.kx_actions.specs.Words.{argument_words, of_kind}
 use Rattle.kx_actions.specs.declared.action.ActionMods.{ActionMods}
@@ -22,46 +21,26 @@ use Rattle.kx_actions.specs.declared.settings.Given.{Given}
 use Rattle.kx_actions.specs.declared.settings.Given.TheVariants as given
 use Rattle.kx_actions.specs.declared.settings.Settings.{Settings}
 use Rattle.kx_merge.proofs.Going.{drop_next}
-use Rattle.kx_merge.proofs.Precedence.{option_or-assoc}
 
 abbrev made : Option ActionMods → Option GroupChange → Option Affect → Option Bool → Option Bool → Settings
 made m g a c l = record { modifiers = m; group = g; affect = a; clear_locks = c; latch_to_lock = l }
-
-same_made : (m n : Option ActionMods) (g h : Option GroupChange) (a b : Option Affect) (c d : Option Bool) (k l : Option Bool) → m ≡ n → g ≡ h → a ≡ b → c ≡ d → k ≡ l → made m g a c k ≡ made n h b d l
-same_made m n g h a b c d k l p q r s t = ap (λ x. made x g a c k) p ∙ ap (λ x. made n x a c k) q ∙ ap (λ x. made n h x c k) r ∙ ap (λ x. made n h b x k) s ∙ ap (λ x. made n h b d x) t
 
 -- what is given after what was
 abbrev pub with_any : Settings → Option Given → Settings
 with_any s None = s
 with_any s (Some g) = with_given s g
 
--- five fields, each given the last
-inner : (s : Settings) (m : Option ActionMods) (g : Option GroupChange) (a : Option Affect) (c l : Option Bool) (o : Option Given)
-    → made (option_or (option_or m (option_and_then given_modifiers o)) s.modifiers) (option_or (option_or g (option_and_then given_group o)) s.group) (option_or (option_or a (option_and_then given_affect o)) s.affect) (option_or (option_or c (option_and_then given_clear_locks o)) s.clear_locks) (option_or (option_or l (option_and_then given_latch_to_lock o)) s.latch_to_lock)
-    ≡ made (option_or m (option_or (option_and_then given_modifiers o) s.modifiers)) (option_or g (option_or (option_and_then given_group o) s.group)) (option_or a (option_or (option_and_then given_affect o) s.affect)) (option_or c (option_or (option_and_then given_clear_locks o) s.clear_locks)) (option_or l (option_or (option_and_then given_latch_to_lock o) s.latch_to_lock))
-inner s m g a c l o = same_made _ _ _ _ _ _ _ _ _ _
-    (option_or-assoc m (option_and_then given_modifiers o) s.modifiers)
-    (option_or-assoc g (option_and_then given_group o) s.group)
-    (option_or-assoc a (option_and_then given_affect o) s.affect)
-    (option_or-assoc c (option_and_then given_clear_locks o) s.clear_locks)
-    (option_or-assoc l (option_and_then given_latch_to_lock o) s.latch_to_lock)
-
-taken : (s : Settings) (m : Option ActionMods) (g : Option GroupChange) (a : Option Affect) (c l : Option Bool) (o : Option Given)
-    → made (option_or m (option_or (option_and_then given_modifiers o) s.modifiers)) (option_or g (option_or (option_and_then given_group o) s.group)) (option_or a (option_or (option_and_then given_affect o) s.affect)) (option_or c (option_or (option_and_then given_clear_locks o) s.clear_locks)) (option_or l (option_or (option_and_then given_latch_to_lock o) s.latch_to_lock))
-    ≡ made (option_or m (with_any s o).modifiers) (option_or g (with_any s o).group) (option_or a (with_any s o).affect) (option_or c (with_any s o).clear_locks) (option_or l (with_any s o).latch_to_lock)
-taken s m g a c l None = refl
-taken s m g a c l (Some (given.Modifiers x)) = refl
-taken s m g a c l _ = refl
+-- field by field
+each_field : (s : Settings) (o : Option Given)
+    → made (option_or (option_and_then given_modifiers o) s.modifiers) (option_or (option_and_then given_group o) s.group) (option_or (option_and_then given_affect o) s.affect) (option_or (option_and_then given_clear_locks o) s.clear_locks) (option_or (option_and_then given_latch_to_lock o) s.latch_to_lock)
+    ≡ with_any s o
+each_field s None = refl
+each_field s (Some (given.Modifiers x)) = refl
+each_field s _ = refl
 
 module _ {X : Type 0} (gives : X → Option Given) where
   pub last_next : (s : Settings) (x : X) (xs : List X) → last_settings gives s (x ∷ xs) ≡ last_settings gives (with_any s (gives x)) xs
-  last_next s x xs =
-      let m : Option ActionMods = last_given (λ y. option_and_then given_modifiers (gives y)) xs in
-      let g : Option GroupChange = last_given (λ y. option_and_then given_group (gives y)) xs in
-      let a : Option Affect = last_given (λ y. option_and_then given_affect (gives y)) xs in
-      let c : Option Bool = last_given (λ y. option_and_then given_clear_locks (gives y)) xs in
-      let l : Option Bool = last_given (λ y. option_and_then given_latch_to_lock (gives y)) xs in
-      inner s m g a c l (gives x) ∙ taken s m g a c l (gives x)
+  last_next s x xs = ap (λ t. last_settings gives t xs) (each_field s (gives x))
 
   -- what is left is given after what the next gives
   pub last_goes : (before s : Settings) (xs : List X) (i : ℕ) (x : X) (g : Given) → i < length xs → x ≡ get_or xs i x → Some g ≡ gives x → last_settings gives before xs ≡ last_settings gives s (drop i xs) → last_settings gives before xs ≡ last_settings gives (with_given s g) (drop (i + 1) xs)

@@ -1,6 +1,6 @@
 -- What the fields of an action are given, and the last of several that give a field.
 use Rattle.std.specs.Prelude.{Bool, List, Option, None, Some}
-use Rattle.std.specs.Option.{option_and_then, option_or}
+use Rattle.std.specs.Option.{option_and_then}
 use Rattle.kx_tables.specs.declared.rows.GroupChange.{GroupChange}
 use Rattle.kx_merge.specs.Last.{last_given}
 use Rattle.kx_actions.specs.declared.action.ActionMods.{ActionMods}
@@ -28,11 +28,11 @@ module _ {X : Type 0} (gives : X → Option Given) where
   -- each field has what the last gives that gives it anything, else what it had before them
   abbrev pub last_settings : Settings → List X → Settings
   last_settings before xs = record {
-    modifiers = option_or (last_given (λ x. option_and_then (λ g. (only g).modifiers) (gives x)) xs) before.modifiers;
-    group = option_or (last_given (λ x. option_and_then (λ g. (only g).group) (gives x)) xs) before.group;
-    affect = option_or (last_given (λ x. option_and_then (λ g. (only g).affect) (gives x)) xs) before.affect;
-    clear_locks = option_or (last_given (λ x. option_and_then (λ g. (only g).clear_locks) (gives x)) xs) before.clear_locks;
-    latch_to_lock = option_or (last_given (λ x. option_and_then (λ g. (only g).latch_to_lock) (gives x)) xs) before.latch_to_lock;
+    modifiers = last_given (λ x. option_and_then (λ g. (only g).modifiers) (gives x)) before.modifiers xs;
+    group = last_given (λ x. option_and_then (λ g. (only g).group) (gives x)) before.group xs;
+    affect = last_given (λ x. option_and_then (λ g. (only g).affect) (gives x)) before.affect xs;
+    clear_locks = last_given (λ x. option_and_then (λ g. (only g).clear_locks) (gives x)) before.clear_locks xs;
+    latch_to_lock = last_given (λ x. option_and_then (λ g. (only g).latch_to_lock) (gives x)) before.latch_to_lock xs;
   }
 
 -- ---- Under names, for proofs

@@ -1,6 +1,6 @@
 -- What the fields of an interpretation are given: the last of several that give one, and by mode.
 use Rattle.std.specs.Prelude.{Bool, false, ℕ, List, Option, None, Some, unwrap_or}
-use Rattle.std.specs.Option.{option_and_then, option_map, option_or}
+use Rattle.std.specs.Option.{option_and_then, option_map}
 use Rattle.kx_merge.specs.Last.{last_given}
 use Rattle.kx_actions.specs.declared.action.KeyAction.{KeyAction}
 use Rattle.kx_compat.specs.Interpretations.{Interpretation}
@@ -29,9 +29,9 @@ module _ {X : Type 0} (gives : X → Option FieldValue) where
   -- each field has what the last gives that gives it anything, else what it had before them
   abbrev pub last_values : FieldValues → List X → FieldValues
   last_values before xs = record {
-    action = option_or (last_given (λ x. option_and_then (λ v. (only v).action) (gives x)) xs) before.action;
-    modifier = option_or (last_given (λ x. option_and_then (λ v. (only v).modifier) (gives x)) xs) before.modifier;
-    first_level_only = option_or (last_given (λ x. option_and_then (λ v. (only v).first_level_only) (gives x)) xs) before.first_level_only;
+    action = last_given (λ x. option_and_then (λ v. (only v).action) (gives x)) before.action xs;
+    modifier = last_given (λ x. option_and_then (λ v. (only v).modifier) (gives x)) before.modifier xs;
+    first_level_only = last_given (λ x. option_and_then (λ v. (only v).first_level_only) (gives x)) before.first_level_only xs;
   }
 
 -- an interpretation has a cell for each field

@@ -1,6 +1,6 @@
 -- What the fields of an indicator are given: the last of several that give one, and by mode.
 use Rattle.std.specs.Prelude.{ℕ, List, Option, None, Some}
-use Rattle.std.specs.Option.{option_and_then, option_map, option_or}
+use Rattle.std.specs.Option.{option_and_then, option_map}
 use Rattle.kx_merge.specs.Last.{last_given}
 use Rattle.kx_indicators.specs.Given.{IndicatorMapValues}
 use Rattle.kx_indicators.specs.declared.values.IndicatorMapField.{IndicatorMapField}
@@ -27,10 +27,10 @@ module _ {X : Type 0} (gives : X → Option IndicatorMapValue) where
   -- each field has what the last gives that gives it anything, else what it had before them
   abbrev pub last_values : IndicatorMapValues → List X → IndicatorMapValues
   last_values before xs = record {
-    modifiers = option_or (last_given (λ x. option_and_then (λ v. (only v).modifiers) (gives x)) xs) before.modifiers;
-    mod_states = option_or (last_given (λ x. option_and_then (λ v. (only v).mod_states) (gives x)) xs) before.mod_states;
-    group_states = option_or (last_given (λ x. option_and_then (λ v. (only v).group_states) (gives x)) xs) before.group_states;
-    groups = option_or (last_given (λ x. option_and_then (λ v. (only v).groups) (gives x)) xs) before.groups;
+    modifiers = last_given (λ x. option_and_then (λ v. (only v).modifiers) (gives x)) before.modifiers xs;
+    mod_states = last_given (λ x. option_and_then (λ v. (only v).mod_states) (gives x)) before.mod_states xs;
+    group_states = last_given (λ x. option_and_then (λ v. (only v).group_states) (gives x)) before.group_states xs;
+    groups = last_given (λ x. option_and_then (λ v. (only v).groups) (gives x)) before.groups xs;
   }
 
 -- an indicator has a cell for each field

@@ -13,7 +13,6 @@ use Rattle.kx_key_fields.specs.declared.given.Given.{Given}
 use Rattle.kx_key_fields.specs.declared.given.Given.TheVariants as given
 use Rattle.kx_merge.proofs.Going.{drop_next}
 use Rattle.kx_key_fields.proofs.Moving.{type_put}
-use Rattle.kx_merge.proofs.Precedence.{option_or-assoc}
 
 -- a cell that is given something has it, and the others have what they had
 pub cell_put : (s : Settings) (g : Option Given) (cell : AttributeCell) → attribute_in (with_given s g) cell ≡ option_or (option_and_then (given_to cell) g) (attribute_in s cell)
@@ -50,25 +49,17 @@ module _ (names : List (List ℕ)) where
       let rest : List KeyField = drop (i + 1) fields in
       left cell
       ∙ ap (λ fs. effective names s fs cell) (drop_next fields i field within is)
-      ∙ option_or-assoc (last_given (cell_given names cell) rest) (cell_given names cell field) (attribute_in s cell)
-      ∙ ap (λ o. option_or (last_given (cell_given names cell) rest) (option_or (option_and_then (given_to cell) o) (attribute_in s cell))) (sym gave)
-      ∙ sym (ap (option_or (last_given (cell_given names cell) rest)) (ap (λ t. attribute_in t cell) put ∙ cell_put s g cell))
+      ∙ ap (λ o. last_given (cell_given names cell) (option_or (option_and_then (given_to cell) o) (attribute_in s cell)) rest) (sym gave)
+      ∙ sym (ap (λ v. last_given (cell_given names cell) v rest) (ap (λ t. attribute_in t cell) put ∙ cell_put s g cell))
 
-  go : (d : Settings) (cell : AttributeCell) (statements : List Field) → attribute_in (fold (next_defaults names) d statements) cell ≡ option_or (last_given (cell_default names cell) statements) (attribute_in d cell)
+  go : (d : Settings) (cell : AttributeCell) (statements : List Field) → attribute_in (fold (next_defaults names) d statements) cell ≡ last_given (cell_default names cell) (attribute_in d cell) statements
   go d cell [] = refl
-  go d cell (s ∷ ss) =
-      go (next_defaults names d s) cell ss
-      ∙ ap (option_or (last_given (cell_default names cell) ss)) (cell_put d (default_given names s) cell)
-      ∙ sym (option_or-assoc (last_given (cell_default names cell) ss) (cell_default names cell s) (attribute_in d cell))
-
-  or_none : {X : Type 0} (o : Option X) → option_or o None ≡ o
-  or_none None = refl
-  or_none (Some x) = refl
+  go d cell (s ∷ ss) = go (next_defaults names d s) cell ss ∙ ap (λ v. last_given (cell_default names cell) v ss) (cell_put d (default_given names s) cell)
 
   none_in : (cell : AttributeCell) → attribute_in no_settings cell ≡ None
   none_in (cells.GroupType group) = refl
   none_in _ = refl
 
   -- of default statements the last counts
-  pub last_defaults : (statements : List Field) (cell : AttributeCell) → attribute_in (defaults_behind names statements) cell ≡ last_given (cell_default names cell) statements
-  last_defaults statements cell = go no_settings cell statements ∙ ap (option_or (last_given (cell_default names cell) statements)) (none_in cell) ∙ or_none (last_given (cell_default names cell) statements)
+  pub last_defaults : (statements : List Field) (cell : AttributeCell) → attribute_in (defaults_behind names statements) cell ≡ last_given (cell_default names cell) None statements
+  last_defaults statements cell = go no_settings cell statements ∙ ap (λ v. last_given (cell_default names cell) v statements) (none_in cell)

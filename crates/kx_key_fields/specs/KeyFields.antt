@@ -1,7 +1,7 @@
 -- What the fields of a key statement, and the default statements before it in its section, say of the key besides its lists.
 use Rattle.std.specs.Prelude.{ℕ, ◌||◌, List, [], ◌∷◌, fold, Option, None, is_some, if◌then◌else◌}
 use Rattle.std.specs.List.{flat_map}
-use Rattle.std.specs.Option.{option_and_then, option_or, option_map_or}
+use Rattle.std.specs.Option.{option_and_then, option_map_or}
 use Rattle.kx_include.specs.IncludeFaults.{at}
 use Rattle.kx_lex.specs.declared.fault.Fault.{Fault}
 use Rattle.kx_lex.specs.declared.fault.Fault.TheVariants.{UnknownField}
@@ -38,7 +38,7 @@ module _ (names : List (List ℕ)) where
 
   -- a cell has the value that is written last in the statement, else its default
   abbrev pub effective : Settings → List KeyField → AttributeCell → Option AttributeValue
-  effective defaults fields cell = option_or (last_given (λ field. option_and_then (given_to cell) (key_given field)) fields) (attribute_in defaults cell)
+  effective defaults fields cell = last_given (λ field. option_and_then (given_to cell) (key_given field)) (attribute_in defaults cell) fields
 
 module _ (file : ℕ) (names : List (List ℕ)) where
   -- a field of lists is another's to judge

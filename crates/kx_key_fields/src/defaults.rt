@@ -88,7 +88,7 @@ impl KeyDefaults {
         ensures value { IfOk result (λ d. d ≡ next_defaults names.now.names self field.now) }
         ensures last { (statements : List FieldValue) (cell : AttributeCell)
             → attribute_in (defaults_behind names.now.names statements) cell
-            ≡ last_given (cell_default names.now.names cell) statements }
+            ≡ last_given (cell_default names.now.names cell) None statements }
         ensures faults { ReportsOrRunsOut result (default_faults file names.now.names field.now) }
     {
         let given = read_default(names, file, field)?;

@@ -9,7 +9,8 @@ use Rattle.std.specs.Option.{option_or}
 use Rattle.indexmap.specs.IndexSet.{insert_key}
 use Rattle.kx_basics.specs.declared.limits.TheConstants.{MOST_LEVELS}
 use Rattle.kx_virtual_mods.specs.Sets.{meet}
-use Rattle.kx_types.specs.Firsts.{last_given, with_key, each_once}
+use Rattle.kx_merge.specs.Last.{last_given}
+use Rattle.kx_types.specs.Firsts.{with_key, each_once}
 use Rattle.kx_types.specs.KeyTypes.{Definition, definition_of, entry_of, level_in, levels_of, mapped, mask_in, modifiers_of, preserved}
 use Rattle.kx_types.specs.Lawful.{EntryIsLawful, IsLawful, NamesLevel}
 use Rattle.kx_types.specs.declared.saying.Saying.{Saying}
@@ -89,5 +90,5 @@ lawful said all = record {
 
     one : (m : ℕ) → meet m modifiers ≡ m → EntryIsLawful t (entry_of modifiers said m)
     one m cut =
-        let level = or_first (levels_of said) (last_given (mapped modifiers m) said) (most_named said 1) (last_within modifiers m said 1 None tt all) in
-        record { some_level = level.0; level = level.1; within = cut; preserve_within = meet-again (unwrap_or (last_given (preserved modifiers m) said) 0) m }
+        let level = or_first (levels_of said) (last_given (mapped modifiers m) None said) (most_named said 1) (last_within modifiers m said 1 None tt all) in
+        record { some_level = level.0; level = level.1; within = cut; preserve_within = meet-again (unwrap_or (last_given (preserved modifiers m) None said) 0) m }

@@ -1,10 +1,7 @@
--- What is given last in a list, and what is given in it, each once.
-use Rattle.std.specs.Prelude.{Bool, List, [], fold, Option, None}
-use Rattle.std.specs.Option.{option_or, option_map_or}
+-- What is given in a list, each once.
+use Rattle.std.specs.Prelude.{Bool, List, [], fold, Option}
+use Rattle.std.specs.Option.{option_map_or}
 use Rattle.indexmap.specs.IndexSet.{insert_key}
-
-abbrev pub last_given : {X Y : Type 0} → (X → Option Y) → List X → Option Y
-last_given f xs = fold (λ last x. option_or (f x) last) None xs
 
 -- what is given, each once, in the order of first appearance
 abbrev pub each_once : {X K : Type 0} → (K → K → Bool) → (X → Option K) → List X → List K

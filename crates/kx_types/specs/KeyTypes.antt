@@ -2,7 +2,8 @@
 -- the level that it selects and the modifiers that it preserves.
 use Rattle.std.specs.Prelude.{ℕ, ◌==◌, nat_eq, max, List, map, fold, Option, None, Some, unwrap_or, if◌then◌else◌}
 use Rattle.kx_virtual_mods.specs.Sets.{meet}
-use Rattle.kx_types.specs.Firsts.{last_given, each_once}
+use Rattle.kx_merge.specs.Last.{last_given}
+use Rattle.kx_types.specs.Firsts.{each_once}
 use Rattle.kx_types.specs.declared.saying.Saying.{Saying}
 use Rattle.kx_types.specs.declared.saying.Saying.TheVariants.{Modifiers, Map, Preserve, LevelName}
 use Rattle.kx_types.specs.declared.entry.TypeEntry.{TypeEntry}
@@ -19,7 +20,7 @@ written_modifiers _ = None
 
 -- the modifiers written last; none where none are written
 abbrev pub modifiers_of : List Saying → ℕ
-modifiers_of said = unwrap_or (last_given written_modifiers said) 0
+modifiers_of said = unwrap_or (last_given written_modifiers None said) 0
 
 -- the level that a field names
 abbrev pub level_in : Saying → ℕ
@@ -49,7 +50,7 @@ module _ (modifiers : ℕ) where
 
   -- a mask's entry: the level that it is mapped to last, else 1, and of what it preserves last what lies within the mask
   abbrev pub entry_of : List Saying → ℕ → TypeEntry
-  entry_of said mask = record { mask = mask; level = unwrap_or (last_given (mapped mask) said) 1; preserve = meet (unwrap_or (last_given (preserved mask) said) 0) mask }
+  entry_of said mask = record { mask = mask; level = unwrap_or (last_given (mapped mask) None said) 1; preserve = meet (unwrap_or (last_given (preserved mask) None said) 0) mask }
 
   -- in the order in which their masks are first mentioned
   abbrev pub entries_of : List Saying → List TypeEntry

@@ -2,7 +2,8 @@
 ghost use Rattle.std.specs.Prelude.{◌≡◌, [], All, ℕ, Option, None, Some, IfOk, OnOk, map, nat_eq, unwrap_or};
 ghost use Rattle.std.specs.Option.{option_or};
 ghost use Rattle.indexmap.specs.IndexMap.{get};
-ghost use Rattle.kx_types.specs.Firsts.{each_once, last_given, with_key};
+ghost use Rattle.kx_merge.specs.Last.{last_given};
+ghost use Rattle.kx_types.specs.Firsts.{each_once, with_key};
 ghost use Rattle.kx_types.specs.Lawful.{IsLawful, NamesLevel};
 ghost use Rattle.kx_types.specs.KeyTypes.{definition_of, entries_of, entry_with, level_in, levels_of, mapped, mask_in, modifiers_of, preserved, written_modifiers};
 
@@ -137,7 +138,7 @@ fn mapped_levels(
     said: &[Saying],
 ) -> Result<Ordered<NameSet, u8>, AllocError>
     ensures { IfOk result (λ levels. (mask : ℕ)
-        → get nat_eq levels mask ≡ last_given (mapped modifiers mask) said.now) }
+        → get nat_eq levels mask ≡ last_given (mapped modifiers mask) None said.now) }
 {
     let mut levels = Ordered::new(alloc);
     'said: for saying in said {
@@ -169,7 +170,7 @@ fn preserved_names(
     said: &[Saying],
 ) -> Result<Ordered<NameSet, NameSet>, AllocError>
     ensures { IfOk result (λ kept. (mask : ℕ)
-        → get nat_eq kept mask ≡ last_given (preserved modifiers mask) said.now) }
+        → get nat_eq kept mask ≡ last_given (preserved modifiers mask) None said.now) }
 {
     let mut kept = Ordered::new(alloc);
     'said: for saying in said {

@@ -8,7 +8,8 @@ use Rattle.std.specs.List.{flat_map, list_any}
 use Rattle.std.specs.Option.{option_or, option_map_or}
 use Rattle.indexmap.specs.IndexSet.{insert_key}
 use Rattle.kx_virtual_mods.specs.Sets.{meet}
-use Rattle.kx_types.specs.Firsts.{last_given, each_once}
+use Rattle.kx_merge.specs.Last.{last_given}
+use Rattle.kx_types.specs.Firsts.{each_once}
 use Rattle.kx_types.specs.KeyTypes.{definition_of, written_modifiers, modifiers_of, level_in, levels_of, mask_in, mapped, preserved, entry_of, entries_of}
 use Rattle.kx_types.specs.declared.entry.TypeEntry.{TypeEntry}
 use Rattle.kx_types.specs.declared.saying.Saying.{Saying}
@@ -32,7 +33,7 @@ entries_last f of each (e ∷ es) acc =
     ∙ entries_last f of each es (option_or (of e) acc)
 
 all_last : {Y : Type 0} (f : Saying → Option Y) (of : TypeEntry → Option Y) → ((e : TypeEntry) (acc : Option Y) → fold (λ last x. option_or (f x) last) acc (entry_sayings e) ≡ option_or (of e) acc)
-    → (modifiers levels : ℕ) (es : List TypeEntry) → f (LevelName levels) ≡ None → last_given f (sayings modifiers levels es) ≡ at_entries of (option_or (f (Modifiers modifiers)) None) es
+    → (modifiers levels : ℕ) (es : List TypeEntry) → f (LevelName levels) ≡ None → last_given f None (sayings modifiers levels es) ≡ at_entries of (option_or (f (Modifiers modifiers)) None) es
 all_last f of each modifiers levels es silent =
     fold-append (λ last x. option_or (f x) last) (option_or (f (Modifiers modifiers)) None) (flat_map entry_sayings es) (LevelName levels ∷ [])
     ∙ ap (λ o. option_or o (fold (λ last x. option_or (f x) last) (option_or (f (Modifiers modifiers)) None) (flat_map entry_sayings es))) silent
@@ -192,11 +193,11 @@ entries_from : (modifiers levels : ℕ) (before es : List TypeEntry) → Entries
 entries_from modifiers levels before [] all fit apart = refl
 entries_from modifiers levels before (e ∷ es) all fit apart =
     let within = fit_within modifiers levels (before ++ e ∷ es) all in
-    let level : last_given (mapped modifiers e.mask) (sayings modifiers levels (before ++ e ∷ es)) ≡ Some e.level =
+    let level : last_given (mapped modifiers e.mask) None (sayings modifiers levels (before ++ e ∷ es)) ≡ Some e.level =
     fold-append (λ last x. option_or (mapped modifiers e.mask x) last) None (flat_map entry_sayings (before ++ e ∷ es)) (LevelName levels ∷ [])
     ∙ levels_from modifiers e.mask (before ++ e ∷ es) None within ∙ found (level_at e.mask) e (level_silent e.mask) before es apart
     ∙ ap (λ t. option_or (cond t (Some e.level) None) None) (eq-eqb e.mask e.mask refl) in
-    let kept : last_given (preserved modifiers e.mask) (sayings modifiers levels (before ++ e ∷ es)) ≡ preserve_at e.mask e =
+    let kept : last_given (preserved modifiers e.mask) None (sayings modifiers levels (before ++ e ∷ es)) ≡ preserve_at e.mask e =
     fold-append (λ last x. option_or (preserved modifiers e.mask x) last) None (flat_map entry_sayings (before ++ e ∷ es)) (LevelName levels ∷ [])
     ∙ preserves_from modifiers e.mask (before ++ e ∷ es) None within ∙ found (preserve_at e.mask) e (preserve_silent e.mask) before es apart ∙ or_none (preserve_at e.mask e) in
     let same : (before ++ e ∷ []) ++ es ≡ before ++ e ∷ es = append_assoc before (e ∷ []) es in

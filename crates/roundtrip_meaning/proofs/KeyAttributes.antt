@@ -42,45 +42,43 @@ module _ (modifiers : List (List ℕ)) where
 
   -- ---- The types of groups
 
-  ranges_no_type : (m : ℕ) (range : Range) (fs : List KeyField) → RangeHolds range → AreShown IsFieldOf (range_phrases range) fs → last_given (cell_given modifiers (cells.GroupType m)) fs ≡ None
-  ranges_no_type m Wrap fs h none = refl
-  ranges_no_type m Clamp fs h (more is none) = ap (cell_given modifiers (cells.GroupType m)) (bare_is is)
-  ranges_no_type m (Redirect group) fs h (more is none) =
-      ap (cell_given modifiers (cells.GroupType m)) (numbered_is is ∙ ap (λ e. field_of (plain_place (codes "groupsRedirect") is.word_span) (To (values.Expression e)) is.field.span) is.value_is.2)
+  ranges_no_type : (m : ℕ) (before : Option AttributeValue) (range : Range) (fs : List KeyField) → RangeHolds range → AreShown IsFieldOf (range_phrases range) fs → last_given (cell_given modifiers (cells.GroupType m)) before fs ≡ before
+  ranges_no_type m before Wrap fs h none = refl
+  ranges_no_type m before Clamp fs h (more is none) = ap (λ f. option_or (cell_given modifiers (cells.GroupType m) f) before) (bare_is is)
+  ranges_no_type m before (Redirect group) fs h (more is none) =
+      ap (λ f. option_or (cell_given modifiers (cells.GroupType m) f) before) (numbered_is is ∙ ap (λ e. field_of (plain_place (codes "groupsRedirect") is.word_span) (To (values.Expression e)) is.field.span) is.value_is.2)
       ∙ rw (group_is group is.value_is.0 is.value_is.1 (omega (arith, h))) refl
 
-  or_none : (o : Option AttributeValue) → option_or o None ≡ o
-  or_none None = refl
-  or_none (Some v) = refl
-
   -- what the first three of some fields leave to the rest
-  others_give : (gives : KeyField → Option AttributeValue) (t y z : KeyField) (rest : List KeyField) → gives y ≡ None → gives z ≡ None → last_given gives (t ∷ y ∷ z ∷ rest) ≡ option_or (last_given gives rest) (gives t)
-  others_give gives t y z rest ey ez = ap₂ (λ b c. option_or (option_or (option_or (last_given gives rest) c) b) (gives t)) ey ez ∙ ap (λ o. option_or o (gives t)) (or_none (option_or (last_given gives rest) None) ∙ or_none (last_given gives rest))
+  others_give : (gives : KeyField → Option AttributeValue) (before : Option AttributeValue) (t y z : KeyField) (rest : List KeyField) → gives y ≡ None → gives z ≡ None → last_given gives before (t ∷ y ∷ z ∷ rest) ≡ last_given gives (option_or (gives t) before) rest
+  others_give gives before t y z rest ey ez = ap₂ (λ b c. last_given gives (option_or c (option_or b (option_or (gives t) before))) rest) ey ez
 
-  no_type_before : (m n : ℕ) (gs : List PrintedGroup) (range : Range) (fs : List KeyField) → m < n → n + length gs ≤ 32 → EachOf GroupFits gs → RangeHolds range
-      → AreShown IsFieldOf (group_phrases (n + 1) (map group_phrase gs) ++ range_phrases range) fs → last_given (cell_given modifiers (cells.GroupType m)) fs ≡ None
-  no_type_before m n [] range fs before few fit h are = ranges_no_type m range fs h are
-  no_type_before m n (g ∷ gs) range fs before few fit h (more {a = t} it (more {a = y} iy (more {a = z} {bs = rest} iz are))) =
-      others_give (cell_given modifiers (cells.GroupType m)) t y z rest (ap (cell_given modifiers (cells.GroupType m)) (indexed_is iy)) (ap (cell_given modifiers (cells.GroupType m)) (indexed_is iz))
-      ∙ ap₂ (λ (a b : Option AttributeValue). option_or a b) (no_type_before m (n + 1) gs range rest (omega (arith, before)) (omega (arith, few)) fit.1 h are)
-      (type_gives n g.type_name _ (omega (arith, few)) fit.0.name_fits it m ∙ ap (λ t. let o : Option AttributeValue = cond t (Some (said.Type g.type_name)) None in o) (ne_eqb m n (λ e. omega (arith, before, e))))
+  no_type_before : (m n : ℕ) (before : Option AttributeValue) (gs : List PrintedGroup) (range : Range) (fs : List KeyField) → m < n → n + length gs ≤ 32 → EachOf GroupFits gs → RangeHolds range
+      → AreShown IsFieldOf (group_phrases (n + 1) (map group_phrase gs) ++ range_phrases range) fs → last_given (cell_given modifiers (cells.GroupType m)) before fs ≡ before
+  no_type_before m n before [] range fs less few fit h are = ranges_no_type m before range fs h are
+  no_type_before m n before (g ∷ gs) range fs less few fit h (more {a = t} it (more {a = y} iy (more {a = z} {bs = rest} iz are))) =
+      others_give (cell_given modifiers (cells.GroupType m)) before t y z rest (ap (cell_given modifiers (cells.GroupType m)) (indexed_is iy)) (ap (cell_given modifiers (cells.GroupType m)) (indexed_is iz))
+      ∙ ap (λ (o : Option AttributeValue). last_given (cell_given modifiers (cells.GroupType m)) (option_or o before) rest)
+      (type_gives n g.type_name _ (omega (arith, few)) fit.0.name_fits it m ∙ ap (λ t. let o : Option AttributeValue = cond t (Some (said.Type g.type_name)) None in o) (ne_eqb m n (λ e. omega (arith, less, e))))
+      ∙ no_type_before m (n + 1) before gs range rest (omega (arith, less)) (omega (arith, few)) fit.1 h are
 
-  types_from : (n i : ℕ) (gs : List PrintedGroup) (range : Range) (fs : List KeyField) (p : PrintedGroup) → slice_get gs i ≡ Some p → n + length gs ≤ 32 → EachOf GroupFits gs → RangeHolds range
-      → AreShown IsFieldOf (group_phrases (n + 1) (map group_phrase gs) ++ range_phrases range) fs → last_given (cell_given modifiers (cells.GroupType (n + i))) fs ≡ Some (said.Type p.type_name)
-  types_from n i [] range fs p found few fit h are = cc
-  types_from n zero (g ∷ gs) range fs p found few fit h (more {a = t} it (more {a = y} iy (more {a = z} {bs = rest} iz are))) =
+  types_from : (n i : ℕ) (before : Option AttributeValue) (gs : List PrintedGroup) (range : Range) (fs : List KeyField) (p : PrintedGroup) → slice_get gs i ≡ Some p → n + length gs ≤ 32 → EachOf GroupFits gs → RangeHolds range
+      → AreShown IsFieldOf (group_phrases (n + 1) (map group_phrase gs) ++ range_phrases range) fs → last_given (cell_given modifiers (cells.GroupType (n + i))) before fs ≡ Some (said.Type p.type_name)
+  types_from n i before [] range fs p found few fit h are = cc
+  types_from n zero before (g ∷ gs) range fs p found few fit h (more {a = t} it (more {a = y} iy (more {a = z} {bs = rest} iz are))) =
       let here : n + 0 ≡ n = omega arith in
       let same : g ≡ p = cc in
-      ap (λ m. last_given (cell_given modifiers (cells.GroupType m)) fs) here
-      ∙ others_give (cell_given modifiers (cells.GroupType n)) t y z rest (ap (cell_given modifiers (cells.GroupType n)) (indexed_is iy)) (ap (cell_given modifiers (cells.GroupType n)) (indexed_is iz))
-      ∙ ap₂ (λ (a b : Option AttributeValue). option_or a b) (no_type_before n (n + 1) gs range rest (omega arith) (omega (arith, few)) fit.1 h are)
+      ap (λ m. last_given (cell_given modifiers (cells.GroupType m)) before fs) here
+      ∙ others_give (cell_given modifiers (cells.GroupType n)) before t y z rest (ap (cell_given modifiers (cells.GroupType n)) (indexed_is iy)) (ap (cell_given modifiers (cells.GroupType n)) (indexed_is iz))
+      ∙ no_type_before n (n + 1) (option_or (cell_given modifiers (cells.GroupType n) t) before) gs range rest (omega arith) (omega (arith, few)) fit.1 h are
+      ∙ ap (λ (o : Option AttributeValue). option_or o before)
       (type_gives n g.type_name _ (omega (arith, few)) fit.0.name_fits it n ∙ ap (λ t. let o : Option AttributeValue = cond t (Some (said.Type g.type_name)) None in o) (eq-eqb n n refl))
       ∙ ap (λ (q : PrintedGroup). Some (said.Type q.type_name)) same
-  types_from n (suc i) (g ∷ gs) range fs p found few fit h (more {a = t} it (more {a = y} iy (more {a = z} {bs = rest} iz are))) =
+  types_from n (suc i) before (g ∷ gs) range fs p found few fit h (more {a = t} it (more {a = y} iy (more {a = z} {bs = rest} iz are))) =
       let step : n + suc i ≡ n + 1 + i = omega arith in
-      ap (λ m. last_given (cell_given modifiers (cells.GroupType m)) fs) step
-      ∙ others_give (cell_given modifiers (cells.GroupType (n + 1 + i))) t y z rest (ap (cell_given modifiers (cells.GroupType (n + 1 + i))) (indexed_is iy)) (ap (cell_given modifiers (cells.GroupType (n + 1 + i))) (indexed_is iz))
-      ∙ ap (λ (o : Option AttributeValue). option_or o (cell_given modifiers (cells.GroupType (n + 1 + i)) t)) (types_from (n + 1) i gs range rest p found (omega (arith, few)) fit.1 h are)
+      ap (λ m. last_given (cell_given modifiers (cells.GroupType m)) before fs) step
+      ∙ others_give (cell_given modifiers (cells.GroupType (n + 1 + i))) before t y z rest (ap (cell_given modifiers (cells.GroupType (n + 1 + i))) (indexed_is iy)) (ap (cell_given modifiers (cells.GroupType (n + 1 + i))) (indexed_is iz))
+      ∙ types_from (n + 1) i (option_or (cell_given modifiers (cells.GroupType (n + 1 + i)) t) before) gs range rest p found (omega (arith, few)) fit.1 h are
 
   -- ---- What becomes of other groups
 
@@ -89,20 +87,20 @@ module _ (modifiers : List (List ℕ)) where
   range_said Clamp = Some (said.Range Clamp)
   range_said (Redirect group) = Some (said.Range (Redirect group))
 
-  ranges_are : (range : Range) (fs : List KeyField) → RangeHolds range → AreShown IsFieldOf (range_phrases range) fs → last_given (cell_given modifiers cells.Range) fs ≡ range_said range
+  ranges_are : (range : Range) (fs : List KeyField) → RangeHolds range → AreShown IsFieldOf (range_phrases range) fs → last_given (cell_given modifiers cells.Range) None fs ≡ range_said range
   ranges_are Wrap fs h none = refl
-  ranges_are Clamp fs h (more is none) = ap (cell_given modifiers cells.Range) (bare_is is)
+  ranges_are Clamp fs h (more is none) = ap (λ f. option_or (cell_given modifiers cells.Range f) None) (bare_is is)
   ranges_are (Redirect group) fs h (more is none) =
-      ap (cell_given modifiers cells.Range) (numbered_is is ∙ ap (λ e. field_of (plain_place (codes "groupsRedirect") is.word_span) (To (values.Expression e)) is.field.span) is.value_is.2)
+      ap (λ f. option_or (cell_given modifiers cells.Range f) None) (numbered_is is ∙ ap (λ e. field_of (plain_place (codes "groupsRedirect") is.word_span) (To (values.Expression e)) is.field.span) is.value_is.2)
       ∙ rw (group_is group is.value_is.0 is.value_is.1 (omega (arith, h))) refl
 
   range_from : (n : ℕ) (gs : List PrintedGroup) (range : Range) (fs : List KeyField) → n + length gs ≤ 32 → EachOf GroupFits gs → RangeHolds range
-      → AreShown IsFieldOf (group_phrases (n + 1) (map group_phrase gs) ++ range_phrases range) fs → last_given (cell_given modifiers cells.Range) fs ≡ range_said range
+      → AreShown IsFieldOf (group_phrases (n + 1) (map group_phrase gs) ++ range_phrases range) fs → last_given (cell_given modifiers cells.Range) None fs ≡ range_said range
   range_from n [] range fs few fit h are = ranges_are range fs h are
   range_from n (g ∷ gs) range fs few fit h (more {a = t} it (more {a = y} iy (more {a = z} {bs = rest} iz are))) =
-      others_give (cell_given modifiers cells.Range) t y z rest (ap (cell_given modifiers cells.Range) (indexed_is iy)) (ap (cell_given modifiers cells.Range) (indexed_is iz))
-      ∙ ap₂ (λ (a b : Option AttributeValue). option_or a b) (range_from (n + 1) gs range rest (omega (arith, few)) fit.1 h are) (type_no_range n g.type_name _ (omega (arith, few)) fit.0.name_fits it)
-      ∙ or_none (range_said range)
+      others_give (cell_given modifiers cells.Range) None t y z rest (ap (cell_given modifiers cells.Range) (indexed_is iy)) (ap (cell_given modifiers cells.Range) (indexed_is iz))
+      ∙ ap (λ (o : Option AttributeValue). last_given (cell_given modifiers cells.Range) (option_or o None) rest) (type_no_range n g.type_name _ (omega (arith, few)) fit.0.name_fits it)
+      ∙ range_from (n + 1) gs range rest (omega (arith, few)) fit.1 h are
 
   -- ---- A key
 
@@ -112,9 +110,8 @@ module _ (modifiers : List (List ℕ)) where
 
     pub type_is : (group : ℕ) (p : PrintedGroup) → slice_get k.groups group ≡ Some p → effective modifiers no_settings fs (cells.GroupType group) ≡ Some (said.Type p.type_name)
     type_is group p found =
-        or_none (last_given (cell_given modifiers (cells.GroupType group)) fs)
-        ∙ ap (λ m. last_given (cell_given modifiers (cells.GroupType m)) fs) (let same : group ≡ 0 + group = omega arith in same)
-        ∙ types_from 0 group k.groups k.range fs p found few fits.groups fits.range are
+        ap (λ m. last_given (cell_given modifiers (cells.GroupType m)) None fs) (let same : group ≡ 0 + group = omega arith in same)
+        ∙ types_from 0 group None k.groups k.range fs p found few fits.groups fits.range are
 
     pub range_is : effective modifiers no_settings fs cells.Range ≡ range_said k.range
-    range_is = or_none (last_given (cell_given modifiers cells.Range) fs) ∙ range_from 0 k.groups k.range fs few fits.groups fits.range are
+    range_is = range_from 0 k.groups k.range fs few fits.groups fits.range are

@@ -1,8 +1,8 @@
-use Rattle.std.proofs.Common.{◌≡◌, ℕ, nat_eq, take}
+use Rattle.std.proofs.Common.{◌≡◌, ℕ, None, nat_eq, take}
 use Rattle.indexmap.specs.IndexMap.{get}
-use Rattle.kx_types.specs.Firsts.{last_given}
+use Rattle.kx_merge.specs.Last.{last_given}
 use Rattle.kx_types.specs.KeyTypes.{mapped}
 use Rattle.kx_types.proofs.definition.mapped_levels.Given as goal
 
 abbrev pub invariant-said : goal.invariant-said
-invariant-said l = (mask : ℕ) → get nat_eq l.levels mask ≡ last_given (mapped l.modifiers mask) (take l.saying-index l.said)
+invariant-said l = (mask : ℕ) → get nat_eq l.levels mask ≡ last_given (mapped l.modifiers mask) None (take l.saying-index l.said)
