@@ -46,7 +46,7 @@ returns-in_err-parts-clause-fault c =
     (λ i.
     (keys_faults_same library bodies are m shows types types_show c.in_ok-codes.codes codes_show names i ++ maps_faults_same library bodies are m shows types types_show c.in_ok-codes.codes codes_show names i)
     ++ (compat_faults names (same i) (are.compat i) ++ (names_faults (are.symbols i) ++ indicator_maps_faults (same i) (are.compat i))))
-    c.in_err-parts.ensures.faults.1))
+    c.in_err-parts.ensures.fault))
 
 pub from_sound-requires : goal.from_sound-requires
 from_sound-requires c = c.in_ok-parts.ensures.sound
