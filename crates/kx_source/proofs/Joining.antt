@@ -1,5 +1,5 @@
 -- What is read of a source is what its statements mean.
-use Rattle.std.proofs.Common.{ℕ, zero, suc, ◌≡◌, ◌<◌, ◌||◌, ◌&&◌, Bool, List, [], ◌∷◌, Option, None, Some, ◌+◌, fold, length, map, slice_get, nat_eq, refl, ap, ◌∙◌, arith, lt_trans, lt-suc_self}
+use Rattle.std.proofs.Common.{ℕ, zero, suc, ◌≡◌, ◌<◌, ◌||◌, ◌&&◌, Bool, List, [], ◌∷◌, ◌++◌, Option, None, Some, ◌+◌, fold, length, map, slice_get, nat_eq, refl, ap, ◌∙◌, arith, lt_trans, lt-suc_self}
 use Rattle.std.proofs.lemmas.Option.{same_Some}
 use Rattle.kx_modmaps.specs.Entries.{same_target}
 use Rattle.std.proofs.Math.Path.{fun_ext}
@@ -13,14 +13,14 @@ use Rattle.kx_builder.specs.IndicatorMaps.{keymap_with, indicator_map_of_indicat
 use Rattle.kx_compat.specs.Interpretations.{Interpretation}
 use Rattle.kx_codes.proofs.Targets.{target_same as alias_same}
 use Rattle.kx_codes.specs.Codes.{Codes, CodesShow, code_of, name_of}
-use Rattle.kx_compat.specs.Meaning.{interpretations_of}
+use Rattle.kx_compat.specs.Meaning.{compat_faults, interpretations_of}
 use Rattle.kx_include.specs.Bodies.{AreBodies}
 use Rattle.kx_include.specs.Expansion.{Body, body_of}
 use Rattle.kx_include.specs.Library.{Library}
 use Rattle.kx_include.specs.Shared.{expanded_body}
 use Rattle.kx_include.specs.declared.expansion.Bodies.{Bodies}
 use Rattle.kx_indicators.specs.IndicatorMaps.{IndicatorMap}
-use Rattle.kx_indicators.specs.Meaning.{AreIndicators, Indicators, indicator_names, indicator_map_of}
+use Rattle.kx_indicators.specs.Meaning.{AreIndicators, Indicators, indicator_names, indicator_map_of, indicator_maps_faults}
 use Rattle.kx_resolve.specs.Selecting.{RealSet}
 use Rattle.kx_lex.specs.declared.name.Name.{Name}
 use Rattle.kx_resolve.specs.Mapping.{modmap_of}
@@ -45,7 +45,8 @@ use Rattle.kx_resolve.specs.Keys.{keyed_of, resolved_of}
 use Rattle.kx_resolve.specs.Lit.{indicator_lit, indicators_of}
 use Rattle.kx_resolve.specs.Shown.{keymap_meant}
 use Rattle.kx_source.specs.Meaning.{codes_in, codes_of, declared_in, declared_masks_of, indicators_by, indicators_in, interpretations_in, key_given, key_in, keyed_in, keymap_by, keymap_in, indicator_maps_from, lit_by, mapping_by, modifier_bodies_of, modifiers_of, modmap_in, read_keymap_in, real_in, resolved_in}
-use Rattle.kx_source.specs.Source.{keys_faults, maps_faults}
+use Rattle.kx_source.specs.Made.{parts_faults}
+use Rattle.kx_source.specs.Source.{keys_faults, maps_faults, names_faults}
 use Rattle.kx_symbols.specs.KeyFaults.{item_faults, key_in as key_said}
 use Rattle.kx_symbols.specs.Keys.{KeyContent, KeysShow, item_next, item_offers, key_at, key_moves, key_rules, known_under, offered, said_offers}
 use Rattle.kx_symbols.specs.Known.{Defaults, Known, no_defaults}
@@ -166,15 +167,20 @@ module _ (library : Library) (bodies : Bodies) (are : AreBodies library bodies) 
       -- ---- Keys, and all together
 
       module _ (c : Codes) (codes_show : CodesShow c (body_of library Keycodes)) (names : List Entry) where
-        pub keys_faults_same : keys_faults c names m.names (expanded_body bodies.symbols) ≡ keys_faults (codes_in library) names (modifiers_of library) (body_of library Symbols)
+        keys_faults_same : keys_faults c names m.names (expanded_body bodies.symbols) ≡ keys_faults (codes_in library) names (modifiers_of library) (body_of library Symbols)
         keys_faults_same =
             (λ i. keys_faults c names (modifiers_same i) (are.symbols i))
             ∙ ap (λ rules. faults_of nat_eq rules key_moves (body_of library Symbols)) (rules_same c (body_of library Keycodes) codes_show names (modifiers_of library))
 
-        pub maps_faults_same : maps_faults c names m.names (expanded_body bodies.symbols) ≡ maps_faults (codes_in library) names (modifiers_of library) (body_of library Symbols)
+        maps_faults_same : maps_faults c names m.names (expanded_body bodies.symbols) ≡ maps_faults (codes_in library) names (modifiers_of library) (body_of library Symbols)
         maps_faults_same =
             (λ i. maps_faults c names (modifiers_same i) (are.symbols i))
             ∙ ap (λ rules. faults_of same_target rules map_moves (body_of library Symbols)) (map_rules_same c (body_of library Keycodes) codes_show names (modifiers_of library))
+
+        pub parts_faults_same : parts_faults c names m.names (expanded_body bodies.compat) (expanded_body bodies.symbols) ≡ parts_faults (codes_in library) names (modifiers_of library) (body_of library Compat) (body_of library Symbols)
+        parts_faults_same = λ i.
+            (keys_faults_same i ++ maps_faults_same i)
+            ++ (compat_faults names (modifiers_same i) (are.compat i) ++ (names_faults (are.symbols i) ++ indicator_maps_faults (modifiers_same i) (are.compat i)))
 
         maps_same : map_offers_of c names m.names (expanded_body bodies.symbols) ≡ map_offers_of (codes_in library) names (modifiers_of library) (body_of library Symbols)
         maps_same =

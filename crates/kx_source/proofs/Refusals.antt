@@ -4,17 +4,16 @@ use Rattle.std.proofs.lemmas.List.Elements.{All-cons, All-contains, All-nil, Con
 use Rattle.std.specs.Result.{IsErrAnd}
 use Rattle.ks_core.specs.Entry.{Entry}
 use Rattle.kx_codes.specs.CodeFaults.{faults_of as keycodes_faults}
-use Rattle.kx_compat.specs.Meaning.{compat_faults}
 use Rattle.kx_include.specs.Expansion.{body_of}
 use Rattle.kx_include.specs.IncludeFaults.{IsWhole}
 use Rattle.kx_include.specs.Library.{Library}
-use Rattle.kx_indicators.specs.Meaning.{indicator_maps_faults}
 use Rattle.kx_lex.specs.declared.fault.Fault.{Fault}
 use Rattle.kx_lex.specs.declared.fault.Fault.TheVariants.{Memory}
 use Rattle.kx_virtual_mods.specs.Declarations.{modifier_faults}
 use Rattle.kx_parse.specs.declared.tree.Kind.TheVariants.{Compat, Keycodes, Symbols, Types}
 use Rattle.kx_source.specs.Meaning.{codes_in, modifier_bodies_of, modifiers_of}
-use Rattle.kx_source.specs.Source.{HasFaultIn, keys_faults, maps_faults, names_faults, statement_faults}
+use Rattle.kx_source.specs.Made.{parts_faults}
+use Rattle.kx_source.specs.Source.{HasFaultIn, statement_faults}
 use Rattle.kx_types.specs.Types.{types_faults}
 
 -- an Err that is answered for another is the same
@@ -40,24 +39,9 @@ module _ (names : List Entry) (library : Library) where
   abbrev pub of_types : List Fault
   of_types = types_faults (modifiers_of library) (body_of library Types)
 
-  abbrev pub of_keys : List Fault
-  of_keys = keys_faults (codes_in library) names (modifiers_of library) (body_of library Symbols)
-
-  abbrev pub of_maps : List Fault
-  of_maps = maps_faults (codes_in library) names (modifiers_of library) (body_of library Symbols)
-
-  abbrev pub of_compat : List Fault
-  of_compat = compat_faults names (modifiers_of library) (body_of library Compat)
-
-  abbrev pub of_names : List Fault
-  of_names = names_faults (body_of library Symbols)
-
-  abbrev pub of_indicator_maps : List Fault
-  of_indicator_maps = indicator_maps_faults (modifiers_of library) (body_of library Compat)
-
-  -- those of keys and of what stands after them
+  -- those of what stands behind keycodes and types
   abbrev pub of_parts : List Fault
-  of_parts = (of_keys ++ of_maps) ++ (of_compat ++ (of_names ++ of_indicator_maps))
+  of_parts = parts_faults (codes_in library) names (modifiers_of library) (body_of library Compat) (body_of library Symbols)
 
   -- a fault of one part is one of the source
   has_fault : IsWhole library → (fs : List Fault) (e : Fault) → (Contains fs e → Contains (statement_faults names library) e) → Contains (Memory ∷ fs) e → (e ≡ Memory) ⊎ HasFaultIn names library e
@@ -85,5 +69,5 @@ module _ (names : List Entry) (library : Library) where
   pub parts_refused : IsWhole library → (e : Fault) → Contains (Memory ∷ of_parts) e → (e ≡ Memory) ⊎ HasFaultIn names library e
   parts_refused whole e has = has_fault whole of_parts e (λ fault. behind_keycodes (of_types ++ of_parts) e (Contains-append_right of_types of_parts e fault)) has
 
-  pub all_faultless : of_modifiers ≡ [] → of_keycodes ≡ [] → of_types ≡ [] → of_keys ≡ [] → of_maps ≡ [] → of_compat ≡ [] → of_names ≡ [] → of_indicator_maps ≡ [] → statement_faults names library ≡ []
-  all_faultless modifiers keycodes types keys maps compat groups indicator_maps = λ i. modifiers i ++ (keycodes i ++ (types i ++ ((keys i ++ maps i) ++ (compat i ++ (groups i ++ indicator_maps i)))))
+  pub all_faultless : of_modifiers ≡ [] → of_keycodes ≡ [] → of_types ≡ [] → of_parts ≡ [] → statement_faults names library ≡ []
+  all_faultless modifiers keycodes types parts = λ i. modifiers i ++ (keycodes i ++ (types i ++ parts i))

@@ -1,5 +1,5 @@
 -- That tables are made of what is read of a source's bodies, step by step.
-use Rattle.std.specs.Prelude.{ℕ, ◌≡◌, ◌<◌, List}
+use Rattle.std.specs.Prelude.{ℕ, ◌≡◌, ◌<◌, List, ◌++◌}
 use Rattle.ks_core.specs.Entry.{Entry}
 use Rattle.kx_resolve.specs.Vmodmap.{stands}
 use Rattle.kx_resolve.specs.ReadVmodmap.{read_keymap_of}
@@ -8,10 +8,10 @@ use Rattle.kx_builder.specs.IndicatorMaps.{keymap_with, with_indicator_maps}
 use Rattle.kx_builder.specs.Placed.{content_of_resolved}
 use Rattle.kx_compat.specs.Interpretations.{Interpretation}
 use Rattle.kx_codes.specs.Codes.{Codes, name_of}
-use Rattle.kx_compat.specs.Meaning.{interpretations_of}
+use Rattle.kx_compat.specs.Meaning.{interpretations_of, compat_faults}
 use Rattle.kx_group_names.specs.Names.{AreGroupNames}
 use Rattle.kx_include.specs.Expansion.{Body}
-use Rattle.kx_indicators.specs.Meaning.{AreIndicators, Indicators}
+use Rattle.kx_indicators.specs.Meaning.{AreIndicators, Indicators, indicator_maps_faults}
 use Rattle.kx_resolve.specs.Selecting.{RealSet}
 use Rattle.kx_resolve.specs.Mapping.{modmap_of}
 use Rattle.kx_virtual_mods.specs.Declarations.{ModNames}
@@ -28,6 +28,8 @@ use Rattle.kx_tables.specs.Content.{Content}
 use Rattle.kx_tables.specs.Keymap.{keymap_of}
 use Rattle.kx_types.specs.Types.{NamedTypes, type_named}
 use Rattle.kx_resolve.specs.Given.{given_in}
+use Rattle.kx_lex.specs.declared.fault.Fault.{Fault}
+use Rattle.kx_source.specs.Source.{keys_faults, maps_faults, names_faults}
 
 -- of types and keys, with the indicators and the names of groups that bodies have; `real` is what a set of modifiers stands for,
 -- `modifiers` are the virtual ones
@@ -55,3 +57,21 @@ pub record IsMade (names : List Entry) (m : ModNames) (compat symbols : Body) (c
   pub modmaps : ℕ → Mods
   pub mapped : (code : ℕ) → modmaps code ≡ modmap_of (mapping_by (name_of c) (λ k. given_in (key_at keys k)) (type_named types) (map_offers_of c names m.names symbols)) code
   pub interpreted : IsInterpreted names m compat symbols c types keys modmaps content
+
+-- ---- Faults of these parts
+
+-- of keys and modifier maps
+abbrev pub mapped_faults : Codes → List Entry → List (List ℕ) → Body → List Fault
+mapped_faults codes names modifiers symbols = keys_faults codes names modifiers symbols ++ maps_faults codes names modifiers symbols
+
+-- of names of groups and indicators
+abbrev pub lit_faults : List (List ℕ) → (compat symbols : Body) → List Fault
+lit_faults modifiers compat symbols = names_faults symbols ++ indicator_maps_faults modifiers compat
+
+-- of these and interpretations
+abbrev pub interpreted_faults : List Entry → List (List ℕ) → (compat symbols : Body) → List Fault
+interpreted_faults names modifiers compat symbols = compat_faults names modifiers compat ++ lit_faults modifiers compat symbols
+
+-- of all that stands behind keycodes and types
+abbrev pub parts_faults : Codes → List Entry → List (List ℕ) → (compat symbols : Body) → List Fault
+parts_faults codes names modifiers compat symbols = mapped_faults codes names modifiers symbols ++ interpreted_faults names modifiers compat symbols

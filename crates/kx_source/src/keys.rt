@@ -1,13 +1,13 @@
 //! The keys of a source, with what they are mapped to.
-ghost use Rattle.std.specs.Prelude.{◌≡◌, ◌∷◌, ◌++◌, [], ℕ, Contains, IfErr, IfOk, OnOk};
+ghost use Rattle.std.specs.Prelude.{◌≡◌, ℕ, IfOk};
 ghost use Rattle.kx_codes.specs.Codes.{name_of};
 ghost use Rattle.kx_include.specs.Shared.{expanded_body};
-ghost use Rattle.kx_lex.specs.declared.fault.Fault.TheVariants.{Memory};
+ghost use Rattle.kx_merge.specs.Reports.{ReportsOrRunsOut};
 ghost use Rattle.kx_resolve.specs.Mapping.{modmap_of};
 ghost use Rattle.kx_resolve.specs.Modmaps.{modmap_at};
 ghost use Rattle.kx_modmaps.specs.Maps.{map_offers_of};
 ghost use Rattle.kx_source.specs.Meaning.{mapping_by};
-ghost use Rattle.kx_source.specs.Source.{keys_faults, maps_faults};
+ghost use Rattle.kx_source.specs.Made.{mapped_faults};
 ghost use Rattle.kx_symbols.specs.Keys.{KeysShow, key_at};
 ghost use Rattle.kx_types.specs.Types.{type_named};
 ghost use Rattle.kx_resolve.specs.Given.{given_in};
@@ -47,14 +47,8 @@ pub(crate) fn read_keys(
         ≡ modmap_of (mapping_by (name_of codes.now) (λ c. given_in (key_at found.keys c))
         (type_named types.now) (map_offers_of codes.now names.now modifiers.now.names
         (expanded_body expansion.now))) code) }
-    ensures faultless_keys { OnOk result
-        (keys_faults codes.now names.now modifiers.now.names (expanded_body expansion.now) ≡ []) }
-    ensures faultless_maps { OnOk result
-        (maps_faults codes.now names.now modifiers.now.names (expanded_body expansion.now) ≡ []) }
-    ensures fault { IfErr result (λ e.
-        Contains (Memory ∷ (keys_faults codes.now names.now modifiers.now.names
-        (expanded_body expansion.now) ++ maps_faults codes.now names.now modifiers.now.names
-        (expanded_body expansion.now))) e) }
+    ensures faults { ReportsOrRunsOut result
+        (mapped_faults codes.now names.now modifiers.now.names (expanded_body expansion.now)) }
 {
     let (keys, unknown) = symbols(alloc, expansion, codes, names, modifiers)?;
     let (maps, unmapped) = modifier_maps(alloc, expansion, codes, names, modifiers)?;

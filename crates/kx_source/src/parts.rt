@@ -1,16 +1,14 @@
 //! The tables of what is read of a source's bodies.
-ghost use Rattle.std.specs.Prelude.{◌≡◌, ◌∷◌, ◌++◌, [], Contains, IfErr, IfOk, List, OnOk};
+ghost use Rattle.std.specs.Prelude.{◌≡◌, IfOk, List};
 ghost use Rattle.ks_core.specs.Entry.{Entry};
-ghost use Rattle.kx_compat.specs.Meaning.{compat_faults, interpretations_of};
+ghost use Rattle.kx_compat.specs.Meaning.{interpretations_of};
 ghost use Rattle.kx_include.specs.Shared.{expanded_body};
-ghost use Rattle.kx_indicators.specs.Meaning.{indicator_maps_faults};
-ghost use Rattle.kx_lex.specs.declared.fault.Fault.TheVariants.{Memory};
+ghost use Rattle.kx_merge.specs.Reports.{ReportsOrRunsOut};
 ghost use Rattle.kx_resolve.specs.Modmaps.{modmap_at};
 ghost use Rattle.kx_virtual_mods.specs.Sets.{real_of};
 ghost use Rattle.kx_virtual_mods.specs.Standing.{stands_for};
 ghost use Rattle.kx_resolve.specs.Keys.{keyed_of};
-ghost use Rattle.kx_source.specs.Made.{IsInterpreted, IsLit, IsMade};
-ghost use Rattle.kx_source.specs.Source.{keys_faults, maps_faults, names_faults};
+ghost use Rattle.kx_source.specs.Made.{IsInterpreted, IsLit, IsMade, interpreted_faults, lit_faults, parts_faults};
 ghost use Rattle.kx_tables.specs.RawTables.{content_of};
 ghost use Rattle.kx_tables.specs.Sound.{Sound};
 
@@ -47,12 +45,9 @@ fn lit_parts(
         (keyed_of (real_of (stands_for stands.now)) codes.now mapped.now.keys
         (modmap_at mapped.now.modmaps) interpretations.now) (content_of made.0)) }
     ensures sound { IfOk result (λ made. Sound (content_of made.0)) }
-    ensures faultless_names { OnOk result (names_faults (expanded_body bodies.now.symbols) ≡ []) }
-    ensures faultless_indicator_maps { OnOk result
-        (indicator_maps_faults modifiers.now.names (expanded_body bodies.now.compat) ≡ []) }
-    ensures fault { IfErr result (λ e.
-        Contains (Memory ∷ (names_faults (expanded_body bodies.now.symbols)
-        ++ indicator_maps_faults modifiers.now.names (expanded_body bodies.now.compat))) e) }
+    ensures faults { ReportsOrRunsOut result
+        (lit_faults modifiers.now.names (expanded_body bodies.now.compat)
+        (expanded_body bodies.now.symbols)) }
 {
     let groups = group_names(alloc, &bodies.symbols)?;
     let indicators = indicators(alloc, &bodies.compat, modifiers)?;
@@ -89,12 +84,9 @@ fn standing_parts(
         (expanded_body bodies.now.symbols) codes.now types.now mapped.now.keys
         (modmap_at mapped.now.modmaps) (content_of made.0)) }
     ensures sound { IfOk result (λ made. Sound (content_of made.0)) }
-    ensures faultless_names { OnOk result (names_faults (expanded_body bodies.now.symbols) ≡ []) }
-    ensures faultless_indicator_maps { OnOk result
-        (indicator_maps_faults modifiers.now.names (expanded_body bodies.now.compat) ≡ []) }
-    ensures fault { IfErr result (λ e.
-        Contains (Memory ∷ (names_faults (expanded_body bodies.now.symbols)
-        ++ indicator_maps_faults modifiers.now.names (expanded_body bodies.now.compat))) e) }
+    ensures faults { ReportsOrRunsOut result
+        (lit_faults modifiers.now.names (expanded_body bodies.now.compat)
+        (expanded_body bodies.now.symbols)) }
 {
     let declared = modifiers.declared_masks();
     let (keys, modmaps) = (&mapped.keys, &mapped.modmaps);
@@ -135,16 +127,9 @@ fn interpreted_parts(
         (expanded_body bodies.now.symbols) codes.now types.now mapped.now.keys
         (modmap_at mapped.now.modmaps) (content_of made.0)) }
     ensures sound { IfOk result (λ made. Sound (content_of made.0)) }
-    ensures faultless_compat { OnOk result
-        (compat_faults names.now modifiers.now.names (expanded_body bodies.now.compat) ≡ []) }
-    ensures faultless_names { OnOk result (names_faults (expanded_body bodies.now.symbols) ≡ []) }
-    ensures faultless_indicator_maps { OnOk result
-        (indicator_maps_faults modifiers.now.names (expanded_body bodies.now.compat) ≡ []) }
-    ensures fault { IfErr result (λ e.
-        Contains (Memory ∷ (compat_faults names.now modifiers.now.names
-        (expanded_body bodies.now.compat)
-        ++ (names_faults (expanded_body bodies.now.symbols)
-        ++ indicator_maps_faults modifiers.now.names (expanded_body bodies.now.compat)))) e) }
+    ensures faults { ReportsOrRunsOut result
+        (interpreted_faults names.now modifiers.now.names (expanded_body bodies.now.compat)
+        (expanded_body bodies.now.symbols)) }
 {
     let (interpretations, passed) = interpretations(alloc, &bodies.compat, modifiers, names)?;
     standing_parts(
@@ -172,24 +157,9 @@ pub(crate) fn parts_of(
         IsMade names.now modifiers.now (expanded_body bodies.now.compat)
         (expanded_body bodies.now.symbols) codes.now types.now (content_of made.0)) }
     ensures sound { IfOk result (λ made. Sound (content_of made.0)) }
-    ensures faultless_keys { OnOk result
-        (keys_faults codes.now names.now modifiers.now.names (expanded_body bodies.now.symbols)
-        ≡ []) }
-    ensures faultless_maps { OnOk result
-        (maps_faults codes.now names.now modifiers.now.names (expanded_body bodies.now.symbols)
-        ≡ []) }
-    ensures faultless_compat { OnOk result
-        (compat_faults names.now modifiers.now.names (expanded_body bodies.now.compat) ≡ []) }
-    ensures faultless_names { OnOk result (names_faults (expanded_body bodies.now.symbols) ≡ []) }
-    ensures faultless_indicator_maps { OnOk result
-        (indicator_maps_faults modifiers.now.names (expanded_body bodies.now.compat) ≡ []) }
-    ensures fault { IfErr result (λ e.
-        Contains (Memory ∷ ((keys_faults codes.now names.now modifiers.now.names
-        (expanded_body bodies.now.symbols)
-        ++ maps_faults codes.now names.now modifiers.now.names (expanded_body bodies.now.symbols))
-        ++ (compat_faults names.now modifiers.now.names (expanded_body bodies.now.compat)
-        ++ (names_faults (expanded_body bodies.now.symbols)
-        ++ indicator_maps_faults modifiers.now.names (expanded_body bodies.now.compat))))) e) }
+    ensures faults { ReportsOrRunsOut result
+        (parts_faults codes.now names.now modifiers.now.names (expanded_body bodies.now.compat)
+        (expanded_body bodies.now.symbols)) }
 {
     let mapped = read_keys(alloc, &bodies.symbols, codes, names, modifiers, types)?;
     let (parts, lost) = interpreted_parts(alloc, bodies, names, modifiers, codes, types, &mapped)?;

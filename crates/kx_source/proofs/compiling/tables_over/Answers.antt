@@ -1,15 +1,13 @@
-use Rattle.std.proofs.Common.{◌≡◌, ◌⊎◌, ◌∷◌, ◌++◌, [], Contains, ap, ◌∙◌, subst, sym}
+use Rattle.std.proofs.Common.{◌≡◌, ◌⊎◌, ◌∷◌, [], Contains, ap, ◌∙◌, subst, sym}
 use Rattle.kx_codes.specs.CodeFaults.{faults_of as keycodes_faults}
 use Rattle.kx_codes.specs.Codes.{CodesShow}
-use Rattle.kx_compat.specs.Meaning.{compat_faults}
-use Rattle.kx_indicators.specs.Meaning.{indicator_maps_faults}
 use Rattle.kx_lex.specs.declared.fault.Fault.{Fault}
 use Rattle.kx_lex.specs.declared.fault.Fault.TheVariants.{Memory}
 use Rattle.kx_virtual_mods.specs.Declarations.{modifier_faults}
 use Rattle.kx_source.proofs.Ending.{made_holds, made_keymap}
-use Rattle.kx_source.proofs.Joining.{bodies_same, keys_faults_same, maps_faults_same, modifiers_same}
+use Rattle.kx_source.proofs.Joining.{bodies_same, modifiers_same, parts_faults_same}
 use Rattle.kx_source.proofs.Refusals.{all_faultless, keycodes_refused, parts_refused, passed, types_refused}
-use Rattle.kx_source.specs.Source.{HasFaultIn, HoldsAll, names_faults}
+use Rattle.kx_source.specs.Source.{HasFaultIn, HoldsAll}
 use Rattle.kx_tables.specs.Keymap.{keymap_of}
 use Rattle.kx_tables.specs.RawTables.{content_of}
 use Rattle.kx_types.specs.Types.{types_faults}
@@ -36,17 +34,12 @@ returns-in_err-parts-clause-fault c =
     let are = c.requires.bodies in
     let m = c.args.modifiers.now in
     let shows = c.requires.names in
-    let same = modifiers_same library bodies are m shows in
     let codes_show = subst (CodesShow c.in_ok-codes.codes) are.keycodes c.in_ok-codes.ensures.shows in
     let types = c.in_ok-types.types in
     let types_show = c.in_ok-types.ensures.shows in
     passed c.from_residual-in_err-parts.result (λ (e : Fault). (e ≡ Memory) ⊎ HasFaultIn names library e) c.in_err-parts.field-0.0 c.from_residual-in_err-parts.ensures.1
     (parts_refused names library c.requires.whole c.in_err-parts.field-0.0
-    (subst (λ fs. Contains (Memory ∷ fs) c.in_err-parts.field-0.0)
-    (λ i.
-    (keys_faults_same library bodies are m shows types types_show c.in_ok-codes.codes codes_show names i ++ maps_faults_same library bodies are m shows types types_show c.in_ok-codes.codes codes_show names i)
-    ++ (compat_faults names (same i) (are.compat i) ++ (names_faults (are.symbols i) ++ indicator_maps_faults (same i) (are.compat i))))
-    c.in_err-parts.ensures.fault))
+    (subst (λ fs. Contains (Memory ∷ fs) c.in_err-parts.field-0.0) (parts_faults_same library bodies are m shows types types_show c.in_ok-codes.codes codes_show names) c.in_err-parts.ensures.faults.1))
 
 pub from_sound-requires : goal.from_sound-requires
 from_sound-requires c = c.in_ok-parts.ensures.sound
@@ -80,8 +73,4 @@ returns-clause-faultless c =
     (ap modifier_faults (sym (bodies_same library bodies are)) ∙ c.requires.faultless)
     (subst (λ body. keycodes_faults body ≡ []) are.keycodes c.in_ok-codes.ensures.faults.0)
     (sym (λ i. types_faults (same i) (are.types i)) ∙ c.in_ok-types.ensures.faults.0)
-    (sym (keys_faults_same library bodies are m shows types types_show c.in_ok-codes.codes codes_show names) ∙ c.in_ok-parts.ensures.faultless_keys)
-    (sym (maps_faults_same library bodies are m shows types types_show c.in_ok-codes.codes codes_show names) ∙ c.in_ok-parts.ensures.faultless_maps)
-    (sym (λ i. compat_faults names (same i) (are.compat i)) ∙ c.in_ok-parts.ensures.faultless_compat)
-    (sym (ap names_faults are.symbols) ∙ c.in_ok-parts.ensures.faultless_names)
-    (sym (λ i. indicator_maps_faults (same i) (are.compat i)) ∙ c.in_ok-parts.ensures.faultless_indicator_maps)
+    (sym (parts_faults_same library bodies are m shows types types_show c.in_ok-codes.codes codes_show names) ∙ c.in_ok-parts.ensures.faults.0)
