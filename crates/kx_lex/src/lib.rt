@@ -16,7 +16,7 @@ pub mod tokens;
 pub use fault::{At, Fault};
 pub use kept::{Boxed, Bytes};
 pub use keyword::Keyword;
-pub use name::{KeyName, Name, Number, Row};
+pub use name::{KeyName, Name, Number, Row, SmallRow};
 pub use scan::{MOST_TEXT_BYTES, begins_hex, key_names_of_readings, lex, one_reading};
 pub use string::text_bytes;
 pub use token::{Span, Token, TokenKind};

@@ -50,6 +50,61 @@ impl<T> Row<T> {
     }
 }
 
+#[derive(Debug, Drop)]
+enum SmallItems<T> {
+    One([T; 1]),
+    Others(Vec<T>),
+}
+
+/// A list that a tree owns, of which a single item takes no allocation; seen as the list of its items.
+#[derive(Debug, Drop)]
+pub struct SmallRow<T> {
+    kept: SmallItems<T>,
+}
+
+impl<T> Model for SmallRow<T> {
+    ghost use Rattle.std.specs.Prelude.{List};
+    ghost use Rattle.kx_lex.specs.Kept.{kept_items};
+
+    ghost Value = { List T };
+
+    ghost view = { λ row. kept_items row.kept };
+}
+
+impl<T> SmallRow<T> {
+    ghost use Rattle.std.specs.Prelude.{◌≡◌, ◌∷◌, []};
+
+    /// The row of one item.
+    #[inline(always)]
+    pub fn one(item: T) -> SmallRow<T>
+        ensures { result ≡ item ∷ [] }
+    {
+        SmallRow {
+            kept: SmallItems::One([item]),
+        }
+    }
+
+    /// The row of these items.
+    #[inline(always)]
+    pub fn of(row: Row<T>) -> SmallRow<T>
+        ensures { result ≡ row }
+    {
+        SmallRow {
+            kept: SmallItems::Others(row.items),
+        }
+    }
+
+    /// The items in order.
+    pub fn as_slice(&self) -> &[T]
+        ensures { result.now ≡ self.now }
+    {
+        match &self.kept {
+            SmallItems::One(item) => item.as_slice(),
+            SmallItems::Others(items) => items.as_slice(),
+        }
+    }
+}
+
 /// A name, a word or text: its bytes, without what encloses it, and where it stands with it.
 #[derive(Debug, Drop)]
 pub struct Name {

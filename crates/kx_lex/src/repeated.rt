@@ -8,7 +8,7 @@ ghost use Rattle.kx_lex.specs.Tokens.{mark, comma};
 ghost use Rattle.kx_lex.specs.Lists.{put_before, after_comma_read, sequence_read, listed_read};
 
 use crate::fault::Fault;
-use crate::name::Row;
+use crate::name::{Row, SmallRow};
 use crate::token::Token;
 use crate::tokens::{Parsed, front_is_mark, is_mark, read_mark};
 use std::alloc::Global;
@@ -128,6 +128,43 @@ pub fn read_listed<'a, R: Repeated>(
         return Ok((Row::of(Vec::new(alloc)), tokens));
     }
     read_sequence::<R>(alloc, text, tokens)
+}
+
+/// Reads one, and more behind commas; one alone takes no allocation.
+#[tactic(auto, using(crate::proofs::Rounds::read_lists))]
+fn read_small_sequence<'a, R: Repeated>(
+    alloc: Global,
+    text: &[u8],
+    tokens: &'a [Token],
+) -> Parsed<'a, SmallRow<R::Value>>
+    ensures { Gives result (sequence_read text.now (R.reading text.now) tokens.now) }
+{
+    let (first, rest) = R::read_next(alloc, text, tokens)?;
+    if !front_is_mark(b',', rest) {
+        return Ok((SmallRow::one(first), rest));
+    }
+    let mut items = Vec::new(alloc);
+    items.push(first)?;
+    let (row, rest) = read_behind::<AfterComma<R>>(items, alloc, text, rest)?;
+    Ok((SmallRow::of(row), rest))
+}
+
+/// Reads what [`read_listed`] reads, where most lists have one item.
+///
+/// # Errors
+/// Those of [`read_listed`].
+pub fn read_small_list<'a, R: Repeated>(
+    alloc: Global,
+    text: &[u8],
+    close: u8,
+    tokens: &'a [Token],
+) -> Parsed<'a, SmallRow<R::Value>>
+    ensures { Gives result (listed_read text.now close (R.reading text.now) tokens.now) }
+{
+    if !is_before_mark(close, tokens) {
+        return Ok((SmallRow::of(Row::of(Vec::new(alloc))), tokens));
+    }
+    read_small_sequence::<R>(alloc, text, tokens)
 }
 
 /// Whether a token stands at the front that is not the mark of this byte.

@@ -7,7 +7,7 @@ mod statements;
 mod tree;
 mod values;
 
-pub use kx_lex::{Boxed, Bytes, KeyName, Name, Number, Row};
+pub use kx_lex::{Boxed, Bytes, KeyName, Name, Number, Row, SmallRow};
 pub use sections::{one_stop, one_tree, parse, parse_file, stops};
 pub use tree::{
     Argument, BracePart, Braces, Call, Declaration, Element, Entry, Expression, Field, FieldPlace,

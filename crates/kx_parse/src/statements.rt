@@ -6,7 +6,7 @@ ghost use Rattle.kx_parse.specs.Statements.{keycode, alias, indicator_name, virt
 use crate::fields::{Declarations, Entries, KeyFields, read_block, read_field, read_predicate};
 use crate::tree::{Entry, Predicate, Statement};
 use crate::values::{read_expression, read_symbol};
-use kx_lex::repeated::{read_listed, read_sequence};
+use kx_lex::repeated::{read_sequence, read_small_list};
 use kx_lex::tokens::{
     Parsed, behind_front, front_is_key_name, front_is_keyword, front_is_mark, front_is_number,
     front_is_text, front_is_word, is_number, is_word, read_key_name, read_keyword, read_mark,
@@ -145,7 +145,7 @@ fn read_key<'a>(alloc: Global, text: &[u8], tokens: &'a [Token]) -> Parsed<'a, S
     let (_, rest) = read_keyword(text, Keyword::Key, tokens)?;
     let (name, rest) = read_key_name(alloc, text, rest)?;
     let (_, rest) = read_mark(text, b'{', rest)?;
-    let (fields, rest) = read_listed::<KeyFields>(alloc, text, b'}', rest)?;
+    let (fields, rest) = read_small_list::<KeyFields>(alloc, text, b'}', rest)?;
     let (_, rest) = read_mark(text, b'}', rest)?;
     Ok((Statement::Key { name, fields }, rest))
 }

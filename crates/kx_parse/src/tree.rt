@@ -1,4 +1,4 @@
-use kx_lex::{Boxed, KeyName, Name, Number, Row, Span};
+use kx_lex::{Boxed, KeyName, Name, Number, Row, SmallRow, Span};
 
 /// A keysym as it is written: a name or a number.
 #[derive(Debug, Drop)]
@@ -220,7 +220,7 @@ pub enum Statement {
     /// `key <NAME> { .. }`
     Key {
         name: KeyName,
-        fields: Row<KeyField>,
+        fields: SmallRow<KeyField>,
     },
     /// `modifier_map WORD { .. }`
     ModifierMap {

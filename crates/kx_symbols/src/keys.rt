@@ -1,5 +1,5 @@
 //! The keys of a keymap's symbols.
-ghost use Rattle.std.specs.Prelude.{◌≡◌, ◌++◌, ◌∷◌, [], ℕ, Contains, IfErr, IfOk, None, OnOk, Some, nat_eq, unwrap_or};
+ghost use Rattle.std.specs.Prelude.{◌≡◌, ◌++◌, ◌∷◌, [], ℕ, IfErr, IfOk, None, OnOk, Some, nat_eq, unwrap_or};
 ghost use Rattle.std.specs.Option.{option_map};
 ghost use Rattle.std.proofs.Common.{◌∙◌, ap, eqb-true, sym};
 ghost use Rattle.kx_include.specs.Shared.{expanded_body};
@@ -28,7 +28,7 @@ use kx_include::{Expansion, Place};
 use kx_lex::{Fault, Span};
 use kx_merge::{Fields, merge};
 use kx_ordered::Ordered;
-use kx_parse::{Item, KeyField, KeyName, Mode, Row, Statement};
+use kx_parse::{Item, KeyField, KeyName, Mode, SmallRow, Statement};
 use kx_virtual_mods::ModNames;
 use std::alloc::Global;
 use std::marker::Model;
@@ -42,7 +42,7 @@ pub struct Context<'a, 'l> {
 }
 
 /// The name and the fields of a key statement.
-fn key_in(statement: &Statement) -> Option<(&KeyName, &Row<KeyField>)>
+fn key_in(statement: &Statement) -> Option<(&KeyName, &SmallRow<KeyField>)>
     ensures { option_map (λ k. (k.0.now, k.1.now)) result ≡ key_in statement.now }
 {
     match statement {
