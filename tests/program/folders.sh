@@ -29,6 +29,20 @@ gives 0 "$answers" try --include lib < short_session
 gives 0 "$notes" compile -I lib short out plain=away/other
 holds 'a word comes before a folder' [ "$("$program" find out b)" = 'A code=38 group=1 level=1 hold=none' ]
 
+# A file is scanned up to the map that is named, and on from there where another is.
+echo 'xkb_symbols "x" { key <A> {[c]}; };' > lib/symbols/late
+echo 'xkb_symbols { key <A> {[d]}; };' > lib/symbols/later
+echo 'xkb_symbols "one" { key <A> {[b]}; }; xkb_symbols "two" { include "late" };' > lib/symbols/many
+including 'many'
+gives 0 "$notes" compile -I lib short out
+holds 'the first map is the default one' [ "$("$program" find out b)" = 'A code=38 group=1 level=1 hold=none' ]
+echo 'default xkb_symbols "three" { include "later" };' >> lib/symbols/many
+for names in 'many(one)=b' 'many(two)=c' 'many=d' 'many(one)+many(two)=c' 'many(two)+many=d' 'many+many(one)=b'; do
+    including "${names%=*}"
+    gives 0 "$notes" compile -I lib short out
+    holds "$names" [ "$("$program" find out "${names#*=}")" = 'A code=38 group=1 level=1 hold=none' ]
+done
+
 # What isn't there.
 for name in missing ../symbols/plain x/../plain /etc/passwd symbols 'plain/'; do
     including "$name"

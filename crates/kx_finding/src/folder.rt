@@ -1,9 +1,11 @@
 //! Folders under which files are looked for.
-use kx_lex::MOST_TEXT_BYTES;
 use std::alloc::AllocError;
-use std::io::Read;
+use std::io::{Read, Seek, SeekFrom};
 use std::rt::Files;
 use std::{fs, io};
+
+/// Room for this many bytes at most, 16 MiB, is made before a file is read; more is made as it comes.
+const MOST_ROOM: u64 = 1 << 24;
 
 /// A folder under which the files of includes are looked for.
 #[derive(Debug, Drop)]
@@ -18,6 +20,7 @@ fn is_missing(fault: &io::Error) -> bool {
         fault.kind(),
         io::ErrorKind::NotFound
             | io::ErrorKind::NotADirectory
+            | io::ErrorKind::IsADirectory
             | io::ErrorKind::InvalidInput
             | io::ErrorKind::InvalidFilename
             | io::ErrorKind::FilesystemLoop
@@ -46,11 +49,26 @@ fn lies_in(path: &str, folder: &str) -> bool {
     }
 }
 
-/// The bytes of a file that has about so many; room for those of a text is made at once.
-fn read_file(rt: &(impl Files + AllocGlobal), path: &str, len: u64) -> io::Result<Vec<u8>> {
-    let room = len.min(MOST_TEXT_BYTES as u64).saturating_add(1);
+/// Room for the bytes of a file and one more, by where it ends; for one where it has no end to go to, as a pipe.
+fn room_for(file: &mut impl Seek) -> io::Result<u64> {
+    match file.seek(SeekFrom::End(0)) {
+        Ok(end) => {
+            file.seek(SeekFrom::Start(0))?;
+            Ok(end.min(MOST_ROOM) + 1)
+        }
+        Err(_) => Ok(1),
+    }
+}
+
+/// The bytes of a file. Room for them is made at once where their count is known, so that none of them is moved.
+///
+/// # Errors
+/// Where it can't be read, or no memory.
+pub fn read_file(rt: &(impl Files + AllocGlobal), path: &str) -> io::Result<Vec<u8>> {
+    let mut file = fs::open(rt, path)?;
+    let room = room_for(&mut file)?;
     let mut bytes = Vec::with_capacity(rt.alloc(), room as usize)?;
-    fs::open(rt, path)?.read_to_end(&mut bytes)?;
+    file.read_to_end(&mut bytes)?;
     Ok(bytes)
 }
 
@@ -94,10 +112,6 @@ impl Folder {
         if !lies_in(whole, self.path.as_str()) {
             return Ok(None);
         }
-        let about = fs::metadata(rt, whole)?;
-        if about.is_dir() {
-            return Ok(None);
-        }
-        found(read_file(rt, whole, about.len()))
+        found(read_file(rt, whole))
     }
 }

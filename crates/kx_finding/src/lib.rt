@@ -10,5 +10,5 @@ mod search;
 mod words;
 
 pub use ahead::{Ahead, source_in};
-pub use folder::Folder;
+pub use folder::{Folder, read_file};
 pub use search::{FindFault, Found, find_files};

@@ -53,19 +53,29 @@ impl KindMaps {
         Ok(())
     }
 
-    fn place_of(&self, name: Option<&[u8]>) -> Option<usize> {
+    /// The place of the map that is named, or of the one that is flagged default.
+    fn settled(&self, name: Option<&[u8]>) -> Option<usize> {
         match name {
             Some(name) => self.named.get(name).copied(),
+            None => self.flagged,
+        }
+    }
+
+    fn place_of(&self, name: Option<&[u8]>) -> Option<usize> {
+        match name {
+            Some(_) => self.settled(name),
             None => self.flagged.or(self.first),
         }
     }
 }
 
-/// The maps of a text in order. One is found in the logarithm of how many there are.
+/// The maps of a text in order, as far as it was read. One is found in the logarithm of how many there are.
 #[derive(Drop)]
 pub(crate) struct Maps {
     all: Vec<Map>,
     kinds: [KindMaps; KIND_COUNT],
+    /// How many bytes of the text were read: up to the end of a section, or all.
+    pub(crate) read: usize,
 }
 
 fn number_of(kind: Kind) -> usize
@@ -92,6 +102,7 @@ impl Maps {
                 KindMaps::new(alloc),
                 KindMaps::new(alloc),
             ],
+            read: 0,
         }
     }
 
@@ -125,6 +136,11 @@ impl Maps {
     /// The place of the map of a kind that is named, or of the default one.
     pub(crate) fn place_of(&self, kind: Kind, name: Option<&[u8]>) -> Option<usize> {
         self.kinds[number_of(kind)].place_of(name)
+    }
+
+    /// Whether what stands after the maps that were read can't change which one is meant.
+    pub(crate) fn is_settled(&self, kind: Kind, name: Option<&[u8]>) -> bool {
+        self.kinds[number_of(kind)].settled(name).is_some()
     }
 
     /// Whether an include leads to the map at a place for the first time.

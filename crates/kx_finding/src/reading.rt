@@ -147,25 +147,41 @@ fn read_piece<'t>(
     Ok(next)
 }
 
-/// The maps of a text.
+fn has_settled(maps: &Maps, wanted: Option<(Kind, Option<&[u8]>)>) -> bool {
+    match wanted {
+        Some((kind, name)) => maps.is_settled(kind, name),
+        None => false,
+    }
+}
+
+/// Reads a text on until it is settled which map is meant by a kind and a name, or the default one without a name; to its
+/// end, where none is asked for.
 ///
 /// # Errors
 /// Where a growth is refused.
-pub(crate) fn maps_in(alloc: Global, text: &[u8]) -> Result<Maps, AllocError> {
-    let mut maps = Maps::new(alloc);
+pub(crate) fn read_on(
+    alloc: Global,
+    text: &[u8],
+    wanted: Option<(Kind, Option<&[u8]>)>,
+    maps: &mut Maps,
+) -> Result<(), AllocError> {
     if text.len() > MOST_TEXT_BYTES {
-        return Ok(maps);
+        return Ok(());
     }
     let mut header = Header::new();
-    let mut rest = text;
-    'pieces: while let Some((first, left)) = rest.split_first() {
+    let mut rest = text.get(maps.read..).unwrap_or(&[]);
+    let mut is_settled = has_settled(maps, wanted);
+    'pieces: while !is_settled && let Some((first, left)) = rest.split_first() {
         if is_word_byte(*first) {
             let (word, next) = rest.split_at(word_len(left).saturating_add(1));
             header = header.with_word(word);
             rest = next;
         } else {
-            rest = read_piece(alloc, *first, left, &mut header, &mut maps)?;
+            let count = maps.len();
+            rest = read_piece(alloc, *first, left, &mut header, maps)?;
+            is_settled = maps.len() > count && has_settled(maps, wanted);
         }
     }
-    Ok(maps)
+    maps.read = text.len().saturating_sub(rest.len());
+    Ok(())
 }

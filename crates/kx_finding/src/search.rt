@@ -1,7 +1,7 @@
 //! The walk over includes that finds files.
 use crate::folder::Folder;
 use crate::maps::{Map, Maps};
-use crate::reading::maps_in;
+use crate::reading::read_on;
 use kx_include::{Part, include_parts};
 use kx_parse::Kind;
 use kx_reach::{MOST_PARTS, Texts, kind_name};
@@ -51,12 +51,11 @@ struct Place {
 
 /// What is known of files: those handed in by name, and after them those that were found.
 #[derive(Drop)]
-struct Search {
-    /// How many were handed in.
-    given: usize,
+struct Search<'t> {
+    handed: Texts<'t>,
     /// The numbers of the files by name, counted from 1.
     numbers: BTreeMap<Vec<u8>, usize>,
-    /// The maps of the source and of the files.
+    /// The maps of the source and of the files, each as far as it was read.
     texts: Vec<Maps>,
     found: Vec<Found>,
 }
@@ -99,19 +98,36 @@ fn wanted_in(alloc: Global, map: &Map, left: &mut usize) -> Result<Vec<Wanted>, 
     Ok(all)
 }
 
-impl Search {
-    fn of(alloc: Global, texts: Texts) -> Result<Search, AllocError> {
+/// The bytes of the text of a number.
+fn text_at<'f, 't: 'f>(handed: Texts<'t>, found: &'f [Found], number: usize) -> &'f [u8] {
+    let Some(place) = number.checked_sub(1) else {
+        return handed.source.bytes;
+    };
+    if let Some(file) = handed.files.get(place) {
+        return file.bytes;
+    }
+    match found.get(place.saturating_sub(handed.files.len())) {
+        Some(file) => file.bytes.as_slice(),
+        None => &[],
+    }
+}
+
+impl<'t> Search<'t> {
+    /// The source is read whole, and a file as far as an include asks.
+    fn of(alloc: Global, handed: Texts<'t>) -> Result<Search<'t>, AllocError> {
         let mut numbers = BTreeMap::new(alloc);
-        let mut all = Vec::new(alloc);
-        all.push(maps_in(alloc, texts.source.bytes)?)?;
-        for file in texts.files {
-            numbers.insert(Vec::from_slice(alloc, file.name.as_bytes())?, all.len())?;
-            all.push(maps_in(alloc, file.bytes)?)?;
+        let mut texts = Vec::new(alloc);
+        let mut own = Maps::new(alloc);
+        read_on(alloc, handed.source.bytes, None, &mut own)?;
+        texts.push(own)?;
+        for file in handed.files {
+            numbers.insert(Vec::from_slice(alloc, file.name.as_bytes())?, texts.len())?;
+            texts.push(Maps::new(alloc))?;
         }
         Ok(Search {
-            given: texts.files.len(),
+            handed,
             numbers,
-            texts: all,
+            texts,
             found: Vec::new(alloc),
         })
     }
@@ -120,7 +136,7 @@ impl Search {
     fn known(&self, full: &[u8], name: &[u8]) -> Option<usize> {
         let found = self.numbers.get(full).copied();
         let bare = self.numbers.get(name).copied();
-        found.or(bare.filter(|number| *number <= self.given))
+        found.or(bare.filter(|number| *number <= self.handed.files.len()))
     }
 
     fn map_at(&self, place: Place) -> Option<&Map> {
@@ -128,13 +144,25 @@ impl Search {
     }
 
     /// The place in a text of the map that is wanted.
-    fn place_in(&self, text: usize, wanted: &Wanted) -> Option<Place> {
+    fn place_in(
+        &mut self,
+        alloc: Global,
+        text: usize,
+        wanted: &Wanted,
+    ) -> Result<Option<Place>, AllocError> {
         let name = match &wanted.map {
             Some(name) => Some(name.as_slice()),
             None => None,
         };
-        let map = self.texts.get(text)?.place_of(wanted.kind, name)?;
-        Some(Place { text, map })
+        let bytes = text_at(self.handed, self.found.as_slice(), text);
+        let Some(maps) = self.texts.get_mut(text) else {
+            return Ok(None);
+        };
+        read_on(alloc, bytes, Some((wanted.kind, name)), maps)?;
+        match maps.place_of(wanted.kind, name) {
+            Some(map) => Ok(Some(Place { text, map })),
+            None => Ok(None),
+        }
     }
 
     /// Whether an include leads to a place for the first time.
@@ -145,10 +173,10 @@ impl Search {
         }
     }
 
-    /// Takes up a file that was found; answers its number.
+    /// Adds a file that was found; answers its number.
     fn add(&mut self, alloc: Global, full: Vec<u8>, file: Found) -> Result<usize, AllocError> {
         let number = self.texts.len();
-        self.texts.push(maps_in(alloc, file.bytes.as_slice())?)?;
+        self.texts.push(Maps::new(alloc))?;
         self.numbers.insert(full, number)?;
         self.found.push(file)?;
         Ok(number)
@@ -218,7 +246,7 @@ fn place_of(
     wanted: &Wanted,
 ) -> Result<Option<Place>, FindFault> {
     match reach(rt, folders, search, wanted)? {
-        Some(text) => Ok(search.place_in(text, wanted)),
+        Some(text) => Ok(search.place_in(rt.alloc(), text, wanted)?),
         None => Ok(None),
     }
 }

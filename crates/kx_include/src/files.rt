@@ -65,7 +65,7 @@ impl Files {
     }
 
     /// The bytes of the file at a place, counted from 0; none after the last.
-    pub(crate) fn bytes_at(&self, place: usize) -> &[u8]
+    pub fn bytes_at(&self, place: usize) -> &[u8]
         ensures found { IfSome (slice_get self.now place) (λ f. result.now ≡ f.1) }
         ensures behind { IfNone (slice_get self.now place) (result.now ≡ []) }
     {

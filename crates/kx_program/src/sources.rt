@@ -3,42 +3,18 @@ use crate::words::{Included, Includes};
 use ks_core::NameTable;
 use kx_explain::{Text, Texts};
 use kx_failure::Failure;
-use kx_finding::{FindFault, Folder, Found, find_files};
+use kx_finding::{FindFault, Folder, Found, find_files, read_file};
 use kx_tool::Files;
 use std::alloc::{AllocError, Global};
-use std::io::{Read, Seek, SeekFrom};
+use std::mem;
 use std::rt::Files as FileSystem;
-use std::{fs, io};
-
-/// Room for this many bytes at most, 16 MiB, is made before a file is read; more is made as it comes.
-const MOST_ROOM: u64 = 1 << 24;
-
-/// Room for the bytes of a file and one more, by where it ends; for one where it has no end to go to, as a pipe.
-fn room_for(file: &mut impl Seek) -> io::Result<u64> {
-    match file.seek(SeekFrom::End(0)) {
-        Ok(end) => {
-            file.seek(SeekFrom::Start(0))?;
-            Ok(end.min(MOST_ROOM) + 1)
-        }
-        Err(_) => Ok(1),
-    }
-}
-
-/// The bytes of a file. Room for them is made at once where their count is known, so that none of them is moved.
-fn bytes_of(rt: &(impl FileSystem + AllocGlobal), path: &str) -> io::Result<Vec<u8>> {
-    let mut file = fs::open(rt, path)?;
-    let room = room_for(&mut file)?;
-    let mut bytes = Vec::with_capacity(rt.alloc(), room as usize)?;
-    file.read_to_end(&mut bytes)?;
-    Ok(bytes)
-}
 
 /// Reads a file.
 pub(crate) fn read<'a>(
     rt: &(impl FileSystem + AllocGlobal),
     path: &'a str,
 ) -> Result<Vec<u8>, Failure<'a>> {
-    match bytes_of(rt, path) {
+    match read_file(rt, path) {
         Ok(bytes) => Ok(bytes),
         Err(fault) => Err(Failure::of_file(&fault, path)),
     }
@@ -74,40 +50,54 @@ pub(crate) fn read_included<'a>(
     Ok(bytes)
 }
 
+fn hand_in(files: &mut Files, name: &str, bytes: Vec<u8>) -> Result<(), AllocError> {
+    let name = Vec::from_slice(*bytes.allocator(), name.as_bytes())?;
+    match files.insert(name, bytes) {
+        Ok(()) => Ok(()),
+        Err(_) => Err(AllocError),
+    }
+}
+
+/// The files that a source may include: those that are handed in, and after them those that were found, of which none keeps
+/// its bytes.
+pub(crate) fn files_of(
+    alloc: Global,
+    included: &[Included],
+    bytes: Vec<Vec<u8>>,
+    found: &mut [Found],
+) -> Result<Files, AllocError> {
+    let mut files = Files::new(alloc);
+    for (file, bytes) in included.iter().zip(bytes) {
+        hand_in(&mut files, file.name, bytes)?;
+    }
+    for file in found {
+        let bytes = mem::replace(&mut file.bytes, Vec::new(alloc));
+        hand_in(&mut files, file.name.as_str(), bytes)?;
+    }
+    Ok(files)
+}
+
 /// The files that a source may include, as texts: those that are handed in, and after them those that were found.
 pub(crate) fn texts_of<'t, 'a: 't>(
     alloc: Global,
     included: &[Included<'a>],
-    bytes: &'t [Vec<u8>],
     found: &'t [Found],
+    files: &'t Files,
 ) -> Result<Vec<Text<'t>>, AllocError> {
     let mut texts = Vec::new(alloc);
-    for (file, bytes) in included.iter().zip(bytes.iter()) {
+    for file in included {
         let name = file.name;
         let path = file.path;
-        let bytes = bytes.as_slice();
+        let bytes = files.bytes_at(texts.len());
         texts.push(Text { name, path, bytes })?;
     }
     for file in found {
         let name = file.name.as_str();
         let path = file.path.as_str();
-        let bytes = file.bytes.as_slice();
+        let bytes = files.bytes_at(texts.len());
         texts.push(Text { name, path, bytes })?;
     }
     Ok(texts)
-}
-
-/// The files that a source may include, as they are handed in. The texts stay, so that a fault can be shown in them.
-pub(crate) fn files_of(alloc: Global, texts: &[Text]) -> Result<Files, AllocError> {
-    let mut files = Files::new(alloc);
-    for text in texts {
-        let name = Vec::from_slice(alloc, text.name.as_bytes())?;
-        let bytes = Vec::from_slice(alloc, text.bytes)?;
-        if files.insert(name, bytes).is_err() {
-            return Err(AllocError);
-        }
-    }
-    Ok(files)
 }
 
 /// The folders in which files are looked for.
@@ -128,6 +118,22 @@ fn open_folders<'a>(
     Ok(folders)
 }
 
+/// The files that are handed in, as texts.
+fn handed_texts<'t, 'a: 't>(
+    alloc: Global,
+    included: &[Included<'a>],
+    handed: &'t [Vec<u8>],
+) -> Result<Vec<Text<'t>>, AllocError> {
+    let mut texts = Vec::new(alloc);
+    for (file, bytes) in included.iter().zip(handed.iter()) {
+        let name = file.name;
+        let path = file.path;
+        let bytes = bytes.as_slice();
+        texts.push(Text { name, path, bytes })?;
+    }
+    Ok(texts)
+}
+
 /// The files that a source's includes reach in folders. Where none are named, nothing is looked for.
 pub(crate) fn find<'a>(
     rt: &(impl FileSystem + AllocGlobal),
@@ -139,7 +145,7 @@ pub(crate) fn find<'a>(
     if folders.is_empty() {
         return Ok(Vec::new(rt.alloc()));
     }
-    let files = texts_of(rt.alloc(), includes.files.as_slice(), handed, &[])?;
+    let files = handed_texts(rt.alloc(), includes.files.as_slice(), handed)?;
     let texts = Texts {
         source: Text {
             name: "",

@@ -85,23 +85,19 @@ fn compile_to<'a>(
     let names = read_names(rt, names)?;
     let bytes = read(rt, path)?;
     let included_bytes = read_included(rt, includes.files.as_slice())?;
-    let handed = included_bytes.as_slice();
-    let found = find(rt, includes, handed, bytes.as_slice())?;
-    let files = texts_of(
-        rt.alloc(),
-        includes.files.as_slice(),
-        handed,
-        found.as_slice(),
-    )?;
+    let mut found = find(rt, includes, included_bytes.as_slice(), bytes.as_slice())?;
+    let included = includes.files.as_slice();
+    let files = files_of(rt.alloc(), included, included_bytes, found.as_mut_slice())?;
+    let texts = texts_of(rt.alloc(), included, found.as_slice(), &files)?;
     let texts = Texts {
         source: Text {
             name: "",
             path,
             bytes: bytes.as_slice(),
         },
-        files: files.as_slice(),
+        files: texts.as_slice(),
     };
-    compile_texts(rt, &names, texts, includes, image, is_quiet)
+    compile_texts(rt, &names, texts, &files, includes, image, is_quiet)
 }
 
 /// Compiles a source with the files that it may include.
@@ -109,16 +105,16 @@ fn compile_texts<'a>(
     rt: &(impl FileSystem + Print + Eprint + AllocGlobal),
     names: &NameTable,
     texts: Texts,
+    files: &Files,
     includes: &Includes,
     image: &'a str,
     is_quiet: bool,
 ) -> Result<(), Failure<'a>> {
-    let files = files_of(rt.alloc(), texts.files)?;
-    match compile(rt.alloc(), texts.source.bytes, &files, names) {
+    match compile(rt.alloc(), texts.source.bytes, files, names) {
         Ok((bytes, notes)) => {
             put_file(rt, image, bytes.as_slice())?;
             if !is_quiet && notes != Notes::new() {
-                show_notes(rt, texts, &files, names, notes);
+                show_notes(rt, texts, files, names, notes);
             }
             print_notes(rt, notes)
         }
@@ -147,12 +143,12 @@ fn answer_feed<'a, F: Feed + Drop>(
     feed: F,
     names: &NameTable,
     texts: &[Text],
+    files: &Files,
     includes: &Includes,
 ) -> Result<(), Failure<'a>> {
-    let files = files_of(rt.alloc(), texts)?;
     let mut feed = Kept::new(rt.alloc(), feed);
     let mut out = Lent::new(io::writer(rt));
-    match session(rt.alloc(), &mut feed, &files, names, &mut out) {
+    match session(rt.alloc(), &mut feed, files, names, &mut out) {
         Ok(()) => Ok(()),
         Err(fault) => {
             if let SessionFault::Compile(fault) = fault {
@@ -174,7 +170,7 @@ fn answer_found<'a>(
     rt: &(impl FileSystem + Input + Print + Eprint + AllocGlobal),
     names: &NameTable,
     includes: &Includes<'a>,
-    handed: &[Vec<u8>],
+    handed: Vec<Vec<u8>>,
 ) -> Result<(), Failure<'a>> {
     let feed = match Ahead::read(rt.alloc(), Lent::new(rt.reader())) {
         Ok(feed) => feed,
@@ -183,14 +179,11 @@ fn answer_found<'a>(
         }
         Err(_) => return Err(Failure::Replay(ReplayFault::Read)),
     };
-    let found = find(rt, includes, handed, feed.source())?;
-    let texts = texts_of(
-        rt.alloc(),
-        includes.files.as_slice(),
-        handed,
-        found.as_slice(),
-    )?;
-    answer_feed(rt, feed, names, texts.as_slice(), includes)
+    let mut found = find(rt, includes, handed.as_slice(), feed.source())?;
+    let included = includes.files.as_slice();
+    let files = files_of(rt.alloc(), included, handed, found.as_mut_slice())?;
+    let texts = texts_of(rt.alloc(), included, found.as_slice(), &files)?;
+    answer_feed(rt, feed, names, texts.as_slice(), &files, includes)
 }
 
 fn answer_source<'a>(
@@ -199,19 +192,15 @@ fn answer_source<'a>(
     includes: &Includes<'a>,
 ) -> Result<(), Failure<'a>> {
     let names = read_names(rt, names)?;
-    let included_bytes = read_included(rt, includes.files.as_slice())?;
-    let handed = included_bytes.as_slice();
+    let included = includes.files.as_slice();
+    let handed = read_included(rt, included)?;
     if !includes.folders.is_empty() {
         return answer_found(rt, &names, includes, handed);
     }
-    let texts = texts_of(rt.alloc(), includes.files.as_slice(), handed, &[])?;
-    answer_feed(
-        rt,
-        Lent::new(rt.reader()),
-        &names,
-        texts.as_slice(),
-        includes,
-    )
+    let files = files_of(rt.alloc(), included, handed, &mut [])?;
+    let texts = texts_of(rt.alloc(), included, &[], &files)?;
+    let feed = Lent::new(rt.reader());
+    answer_feed(rt, feed, &names, texts.as_slice(), &files, includes)
 }
 
 fn answer_image<'a>(
