@@ -1,7 +1,6 @@
 //! What calls say as actions.
-ghost use Rattle.std.specs.Prelude.{◌≡◌, [], Contains, IfErr, IfOk, OnOk, Some, fold};
+ghost use Rattle.std.specs.Prelude.{◌≡◌, IfOk, Some};
 ghost use Rattle.std.specs.List.{flat_map};
-ghost use Rattle.std.specs.Result.{result_ok};
 ghost use Rattle.kx_actions.specs.Arguments.{action_faults, action_of, action_with, argument_faults, argument_given};
 ghost use Rattle.kx_actions.specs.Settings.{last_settings};
 ghost use Rattle.kx_merge.specs.Reports.{Reports};

@@ -1,8 +1,7 @@
 //! Defaults for the arguments of actions.
-ghost use Rattle.std.specs.Prelude.{◌≡◌, [], Contains, IfErr, IfOk, OnOk, Some};
-ghost use Rattle.kx_actions.specs.Defaults.{default_for, kind_of, settings_for, with_settings};
+ghost use Rattle.std.specs.Prelude.{◌≡◌, IfOk, Some};
+ghost use Rattle.kx_actions.specs.Defaults.{kind_of, settings_for, with_settings};
 ghost use Rattle.kx_actions.specs.Values.{member_faults, member_given};
-ghost use Rattle.std.specs.Result.{result_ok};
 ghost use Rattle.kx_merge.specs.Reports.{Reports};
 
 use crate::kinds::{ActionKind, kind_named};
@@ -55,7 +54,7 @@ fn read_member(
 }
 
 impl ActionDefaults {
-    ghost use Rattle.std.specs.Prelude.{◌≡◌, [], ℕ, List, Contains, IfErr, IfOk, OnErr, OnOk};
+    ghost use Rattle.std.specs.Prelude.{◌≡◌, List, IfOk};
     ghost use Rattle.kx_parse.specs.declared.tree.Field.{Field as FieldValue};
     ghost use Rattle.kx_actions.specs.Defaults.{default_faults, defaulted, defaults_behind, next_defaults, no_defaults, settings_for, with_settings};
     ghost use Rattle.kx_actions.specs.declared.kinds.ActionKind.{ActionKind as Kind};

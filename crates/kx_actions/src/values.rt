@@ -1,9 +1,9 @@
 //! What arguments of actions and defaults for them give.
-ghost use Rattle.std.specs.Prelude.{◌≡◌, ◌∷◌, [], Contains, IfErr, IfOk, None, OnOk, Some, is_some, false, true, if◌then◌else◌};
+ghost use Rattle.std.specs.Prelude.{◌≡◌, [], IfErr, IfOk, None, Some, is_some, false, if◌then◌else◌};
 ghost use Rattle.std.specs.Option.{option_and_then, option_map};
 ghost use Rattle.std.specs.Result.{result_ok};
 ghost use Rattle.kx_include.specs.IncludeFaults.{at};
-ghost use Rattle.kx_lex.specs.declared.fault.Fault.TheVariants.{BadValue, UnknownField};
+ghost use Rattle.kx_lex.specs.declared.fault.Fault.TheVariants.{UnknownField};
 ghost use Rattle.kx_actions.specs.Groups.{change_of, term_written, written};
 ghost use Rattle.kx_merge.specs.Words.{among, meaning_among, truth_words};
 ghost use Rattle.kx_actions.specs.Values.{affect_words, bad_unless, flag_given, is_modmap, known_field, mods_faults, mods_of, value_faults, value_given, written_faults};

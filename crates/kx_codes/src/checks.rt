@@ -1,5 +1,4 @@
-ghost use Rattle.std.specs.Prelude.{◌≡◌, ◌⊎◌, ◌≤◌, ◌++◌, ◌∷◌, [], Contains, IfErr, IfOk, OnOk};
-ghost use Rattle.kx_lex.specs.declared.fault.Fault.TheVariants.{Memory};
+ghost use Rattle.std.specs.Prelude.{◌≡◌, IfOk};
 ghost use Rattle.kx_codes.specs.CodeFaults.{code_faults, is_limit};
 ghost use Rattle.kx_merge.specs.Faults.{name_faults};
 ghost use Rattle.kx_basics.specs.KeyNames.{IsKeyName};

@@ -1,6 +1,5 @@
-ghost use Rattle.std.specs.Prelude.{◌≡◌, ◌↔◌, ◌∷◌, [], ℕ, List, Contains, IfErr, IfOk, OnOk, Some};
+ghost use Rattle.std.specs.Prelude.{◌≡◌, ◌↔◌, ℕ, List, IfOk, Some};
 ghost use Rattle.kx_include.specs.Shared.{expanded_body};
-ghost use Rattle.kx_lex.specs.declared.fault.Fault.TheVariants.{Memory};
 ghost use Rattle.kx_codes.specs.CodeFaults.{faults_of};
 ghost use Rattle.kx_codes.specs.Codes.{CodesShow, name_of, paired};
 ghost use Rattle.kx_merge.specs.Reports.{ReportsOrRunsOut};

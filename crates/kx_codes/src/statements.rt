@@ -1,5 +1,4 @@
-ghost use Rattle.std.specs.Prelude.{◌≡◌, ◌∷◌, [], Contains, IfErr, List, OnOk};
-ghost use Rattle.kx_lex.specs.declared.fault.Fault.TheVariants.{Memory};
+ghost use Rattle.std.specs.Prelude.{List, OnOk};
 ghost use Rattle.kx_codes.specs.CodeFaults.{own_faults, said_faults};
 ghost use Rattle.kx_codes.specs.Numbers.{Grows, IsOnce, StandsIn};
 ghost use Rattle.kx_codes.specs.Pairs.{Pair, own_pairs, said_pairs};

@@ -1,5 +1,5 @@
 //! The defaults of a compat section.
-ghost use Rattle.std.specs.Prelude.{◌≡◌, [], Contains, IfErr, IfOk, OnOk, Some, true};
+ghost use Rattle.std.specs.Prelude.{◌≡◌, IfOk, Some, true};
 ghost use Rattle.std.specs.Option.{option_map};
 ghost use Rattle.kx_compat.specs.Sections.{alone_faults, is_indicator, is_interpret, is_other, lone_faults, member_faults, next_said};
 ghost use Rattle.kx_symbols.specs.Keys.{field_in};

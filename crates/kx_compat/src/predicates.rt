@@ -1,8 +1,7 @@
 //! For which keys the symbol and the predicate of an interpretation are.
-ghost use Rattle.std.specs.Prelude.{◌≡◌, ◌∷◌, [], Contains, IfErr, IfOk, OnOk, Some};
+ghost use Rattle.std.specs.Prelude.{◌≡◌, [], IfOk, Some};
 ghost use Rattle.std.specs.Option.{option_map};
 ghost use Rattle.kx_merge.specs.Words.{among};
-ghost use Rattle.kx_lex.specs.declared.fault.Fault.TheVariants.{Memory};
 ghost use Rattle.kx_virtual_mods.specs.Masks.{mask_set};
 ghost use Rattle.kx_mods.specs.Mods.{mask};
 ghost use Rattle.kx_symbols.specs.KeyFaults.{symbol_faults};

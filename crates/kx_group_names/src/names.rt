@@ -1,8 +1,7 @@
 //! The names of groups by precedence.
-ghost use Rattle.std.specs.Prelude.{◌≡◌, ◌≤◌, ◌<◌, ◌-◌, ◌+◌, ◌∷◌, [], ℕ, Contains, IfErr, IfOk, OnOk, length, nat_eq, if◌then◌else◌};
+ghost use Rattle.std.specs.Prelude.{◌≡◌, ◌≤◌, ◌<◌, ◌-◌, ◌+◌, [], ℕ, IfOk, length, nat_eq, if◌then◌else◌};
 ghost use Rattle.kx_basics.specs.declared.limits.TheConstants.{MOST_NAME_BYTES};
 ghost use Rattle.kx_include.specs.Shared.{expanded_body};
-ghost use Rattle.kx_lex.specs.declared.fault.Fault.TheVariants.{Memory};
 ghost use Rattle.kx_merge.specs.Bodies.{faults_of};
 ghost use Rattle.kx_group_names.specs.Names.{AreCut, AreGroupNames, name_at, name_moves, name_recorded, name_rules};
 ghost use Rattle.kx_merge.specs.Reports.{ReportsOrRunsOut};

@@ -1,5 +1,5 @@
 //! The names that statements give groups.
-ghost use Rattle.std.specs.Prelude.{◌≡◌, ◌≤◌, ◌∷◌, [], Contains, IfErr, IfOk, OnOk, Some, length, nat_eq};
+ghost use Rattle.std.specs.Prelude.{◌≡◌, ◌≤◌, ◌∷◌, [], IfErr, IfOk, Some, length, nat_eq};
 ghost use Rattle.std.proofs.Common.{◌∙◌, eqb-true, sym};
 ghost use Rattle.std.proofs.lemmas.Option.{cond_some};
 ghost use Rattle.kx_basics.specs.declared.limits.TheConstants.{MOST_NAME_BYTES};

@@ -1,5 +1,5 @@
 -- What an index of maps finds as sections are added to it.
-use Rattle.std.proofs.Common.{◌≡◌, ℕ, ◌+◌, ◌&&◌, Bool, true, false, cond, suc, List, [], ◌∷◌, ◌++◌, length, map, Option, None, Some, refl, sym, ap, ◌∙◌, arith}
+use Rattle.std.proofs.Common.{◌≡◌, ℕ, ◌+◌, ◌&&◌, Bool, true, false, cond, suc, List, [], ◌∷◌, ◌++◌, length, Option, None, Some, refl, sym, ap, ◌∙◌, arith}
 use Rattle.std.proofs.lemmas.Iterator.Adapters.{position_from-zero}
 use Rattle.std.proofs.lemmas.Slice.Eq.{bytes_eq-Decides}
 use Rattle.std.specs.List.{list_any, position, position_from}
@@ -71,10 +71,6 @@ number_flagged maps s n kind = by (list_any is_default_flag s.flags)
     by false = not_here (number_in kind maps) (is_of kind s) n
 
 -- ---- The sections of a name
-
-not_true : (b : Bool) → (b ≡ true → ⊥) → b ≡ false
-not_true true refuted = absurd (refuted refl)
-not_true false refuted = refl
 
 -- what a look-up gives of a kind
 pub look_is : (es named : List (List ℕ × KindMaps)) (key name : List ℕ) (o : Option KindMaps) → es ≡ named → key ≡ name → lookup (λ k. is_eq (name_cmp key k)) es ≡ o → (kind : Kind) → option_and_then (number_in kind) o ≡ named_in kind name named

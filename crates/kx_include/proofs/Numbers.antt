@@ -1,5 +1,5 @@
 -- The number of a file's name, as its place among the keys of a map.
-use Rattle.std.proofs.Common.{◌≡◌, ◌⊎◌, ℕ, ◌+◌, suc, Bool, true, false, not, cond, List, [], ◌∷◌, length, map, Option, refl, sym, ap, ◌∙◌, inl, inr}
+use Rattle.std.proofs.Common.{◌≡◌, ℕ, ◌+◌, suc, Bool, true, false, not, cond, List, [], ◌∷◌, length, map, Option, refl, sym, ap, ◌∙◌}
 use Rattle.std.specs.List.{position, prefix_len}
 use Rattle.std.specs.Str.{bytes_eq}
 use Rattle.std.specs.Option.{option_map}
@@ -21,10 +21,6 @@ pub number_of-at : {V : Type 0} (g : V → List ℕ) (es : List (List ℕ × V))
 number_of-at {V = V} g es files name o same found =
     ap (option_map (λ n. n + 1)) (found ∙ position-map {X = List ℕ × V} (λ e. e.0) (bytes_eq name) es ∙ sym (position-map {Y = List ℕ × List ℕ} (λ e. (e.0, g e.1)) (λ p. bytes_eq name p.0) es) ∙ sym (position-map (λ p. p.0) (bytes_eq name) (map {B = List ℕ × List ℕ} (λ e. (e.0, g e.1)) es)))
     ∙ ap (λ fs. number_of (map {A = List ℕ × List ℕ} (λ p. p.0) fs) name) same
-
-pub not_left : {A B : Type 0} → A ⊎ B → (A → ⊥) → B
-not_left (inl a) refuted = absurd (refuted a)
-not_left (inr b) refuted = b
 
 -- files where one is put into a map
 pub put-file : {V : Type 0} (g : V → List ℕ) (es : List (List ℕ × V)) (key : List ℕ) (value : V) → map {B = List ℕ × List ℕ} (λ e. (e.0, g e.1)) (insert_entry bytes_eq es key value) ≡ with_file (map {B = List ℕ × List ℕ} (λ e. (e.0, g e.1)) es) key (g value)

@@ -1,5 +1,5 @@
 //! What the statements of a compat section say of indicators.
-ghost use Rattle.std.specs.Prelude.{◌≡◌, ◌++◌, ◌∷◌, [], Contains, IfErr, IfOk, OnOk, Some};
+ghost use Rattle.std.specs.Prelude.{◌≡◌, ◌++◌, ◌∷◌, [], IfErr, IfOk, Some};
 ghost use Rattle.std.specs.List.{flat_map};
 ghost use Rattle.kx_lex.specs.declared.fault.Fault.TheVariants.{Memory};
 ghost use Rattle.kx_parse.specs.declared.tree.Mode.{Mode as ModeValue};

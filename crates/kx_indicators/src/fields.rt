@@ -1,5 +1,5 @@
 //! What the fields of indicators are given.
-ghost use Rattle.std.specs.Prelude.{◌≡◌, [], Contains, IfErr, IfOk, OnOk, Some};
+ghost use Rattle.std.specs.Prelude.{◌≡◌, IfOk, Some};
 ghost use Rattle.kx_indicators.specs.IndicatorMapFields.{expression_faults, expression_value, field_faults, field_value, field_words, known_value, placed_faults};
 ghost use Rattle.kx_merge.specs.Faults.{value_faults};
 ghost use Rattle.kx_merge.specs.Words.{among};

@@ -1,5 +1,5 @@
 //! The masks that fields of indicators name.
-ghost use Rattle.std.specs.Prelude.{◌≡◌, ◌<◌, ◌^◌, [], Contains, IfErr, IfOk, IfSome, OnOk, Some, fold, is_some, min};
+ghost use Rattle.std.specs.Prelude.{◌≡◌, ◌<◌, ◌^◌, Contains, IfOk, IfSome, Some, fold, is_some};
 ghost use Rattle.std.specs.List.{flat_map};
 ghost use Rattle.std.specs.Option.{option_and_then};
 ghost use Rattle.kx_merge.specs.Numbers.{word_number};
@@ -82,7 +82,6 @@ fn groups_named(word: &[u8]) -> Option<u32>
 impl MaskKind {
     ghost use Rattle.std.specs.Prelude.{◌≡◌, ◌<◌, ◌^◌, IfSome, is_some};
     ghost use Rattle.kx_indicators.specs.IndicatorMapMasks.{named_group, number_mask, term_mask, width, word_mask};
-    ghost use Rattle.kx_merge.specs.Reports.{Reports};
 
     /// The mask that a word stands for.
     fn word_mask(self, word: &[u8]) -> Option<u32>

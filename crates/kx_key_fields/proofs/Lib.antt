@@ -2,7 +2,7 @@ mod Cellwise
 mod Going
 mod Moving
 mod Virtual
-mod TakenUp
-mod Joining
+mod LaterLists
+mod Settling
 mod Values
 mod Widening

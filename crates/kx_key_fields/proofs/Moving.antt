@@ -1,4 +1,4 @@
--- Types of groups that are taken up one by one, put in their places and moved.
+-- Types of groups that are merged one by one, put in their places and moved.
 use Rattle.std.proofs.Common.{◌≡◌, ℕ, ◌+◌, ◌-◌, ◌==◌, ◌<◌, ◌≤◌, Bool, true, false, cond, max, nat_eq, nat_lt, List, [], ◌∷◌, ◌++◌, length, replicate, get_or, zero, suc, slice_set, Option, None, Some, refl, sym, ap, ◌∙◌, arith}
 use Rattle.std.specs.Option.{option_and_then}
 use Rattle.std.specs.List.{slice_get}
@@ -16,14 +16,14 @@ widen_goes xs x count more =
     let one : count - length xs ≡ suc (count - length (xs ++ x ∷ [])) = omega (arith, longer, more) in
     append_assoc xs (x ∷ []) (replicate (count - length (xs ++ x ∷ [])) x) ∙ ap (λ n. xs ++ replicate n x) (sym one)
 
--- of later types those before a place were taken up, and the others are still there
+-- of later types those before a place were merged, and the others are still there
 pub record TypesBehind (mode : Mode) (old other now left : GroupTypes) (place : ℕ) : Type 0 where
   pub sized : length left ≡ length other
   pub kept : (k : ℕ) → place ≤ k → type_at left k ≡ type_at other k
   pub long : length now ≡ max (length old) place
   pub types : (k : ℕ) → type_at now k ≡ cond (nat_lt k place) (merged_value mode (type_at old k) (type_at other k)) (type_at old k)
 
--- where nothing is taken up, what is there stays
+-- where nothing is merged, what is there stays
 nothing_taken : (mode : Mode) (o : Option (List ℕ)) → is_replace mode ≡ false → merged_value mode o None ≡ o
 nothing_taken Augment None h = refl
 nothing_taken Augment (Some x) h = refl

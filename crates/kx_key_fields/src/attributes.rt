@@ -90,7 +90,7 @@ impl KeyAttributes {
         }
     }
 
-    /// Takes up what a field gives, where it gives anything.
+    /// Sets what a field gives, where it gives anything.
     pub(crate) fn put(&mut self, alloc: Global, given: &Option<Given>) -> Result<(), AllocError>
         ensures { OnOk result (self.new ≡ with_given self.old given.now) }
     {
@@ -134,7 +134,7 @@ impl KeyAttributes {
         })
     }
 
-    /// Takes up what a later statement or include says under a mode that isn't replace.
+    /// Merges what a later statement or include says under a mode that isn't replace.
     fn merge_cells(&mut self, other: KeyAttributes, mode: Mode) -> Result<(), AllocError>
         requires { is_replace mode ≡ false }
         ensures { OnOk result ((cell : AttributeCell)
@@ -149,7 +149,7 @@ impl KeyAttributes {
         Ok(())
     }
 
-    /// Takes up what a later statement or include says.
+    /// Merges what a later statement or include says.
     pub fn merge(&mut self, other: KeyAttributes, mode: Mode) -> Result<(), AllocError>
         ensures { OnOk result ((cell : AttributeCell)
             → attribute_in self.new cell ≡ merged_value mode (attribute_in self.old cell)
@@ -165,7 +165,7 @@ impl KeyAttributes {
         }
     }
 
-    /// Takes up what a record of an included map says, as it stands where its map is moved to a group, counted from 1: the
+    /// Merges what a record of an included map says, as it stands where its map is moved to a group, counted from 1: the
     /// type of its first group is that of this group, and those of its other groups go. As it is where it isn't moved.
     pub fn merge_moved(
         &mut self,

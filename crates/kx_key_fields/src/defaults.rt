@@ -1,5 +1,5 @@
 //! Defaults for keys.
-ghost use Rattle.std.specs.Prelude.{◌≡◌, [], Contains, IfErr, IfOk, OnOk};
+ghost use Rattle.std.specs.Prelude.{◌≡◌, IfOk};
 ghost use Rattle.std.specs.Result.{result_ok};
 ghost use Rattle.kx_key_fields.specs.KeyFields.{default_faults, default_given};
 ghost use Rattle.kx_key_fields.specs.AttributeFields.{given_any};
@@ -47,8 +47,7 @@ impl Model for KeyDefaults {
 }
 
 impl KeyDefaults {
-    ghost use Rattle.std.specs.Prelude.{◌≡◌, ◌∷◌, [], Contains, List, IfErr, IfOk, OnOk};
-    ghost use Rattle.kx_lex.specs.declared.fault.Fault.TheVariants.{Memory};
+    ghost use Rattle.std.specs.Prelude.{◌≡◌, List, IfOk};
     ghost use Rattle.kx_parse.specs.declared.tree.Field.{Field as FieldValue};
     ghost use Rattle.kx_key_fields.specs.KeyFields.{cell_default, default_faults, defaults_behind, next_defaults};
     ghost use Rattle.kx_key_fields.specs.Attributes.{no_settings, attribute_in};

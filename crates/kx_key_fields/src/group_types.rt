@@ -77,7 +77,7 @@ impl GroupTypes {
         Ok(())
     }
 
-    /// Takes up a later type at a place, the next at most.
+    /// Merges a later type at a place, the next at most.
     fn merge_type(
         &mut self,
         place: usize,
@@ -101,7 +101,7 @@ impl GroupTypes {
         }
     }
 
-    /// Takes up later types under a mode that isn't replace.
+    /// Merges later types under a mode that isn't replace.
     pub(crate) fn merge(&mut self, other: GroupTypes, mode: Mode) -> Result<(), AllocError>
         requires { is_replace mode ≡ false }
         ensures { OnOk result ((g : ℕ)

@@ -1,5 +1,5 @@
 //! The group that an index or a value names.
-ghost use Rattle.std.specs.Prelude.{◌≡◌, ◌<◌, [], Contains, IfErr, IfOk, OnOk};
+ghost use Rattle.std.specs.Prelude.{◌≡◌, ◌<◌, IfOk};
 ghost use Rattle.std.specs.Result.{result_ok};
 ghost use Rattle.kx_key_fields.specs.Groups.{group_at};
 ghost use Rattle.kx_merge.specs.Numbers.{number_faults};

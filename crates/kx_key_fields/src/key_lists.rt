@@ -104,7 +104,7 @@ impl<X: LevelValue> GroupLists<X> {
         Ok(())
     }
 
-    /// Takes up what a later statement or include gives.
+    /// Merges what a later statement or include gives.
     pub fn merge(&mut self, other: GroupLists<X>, mode: Mode) -> Result<(), AllocError>
         ensures cells { OnOk result ((g l : ℕ)
             → value_in self.new g l ≡ merged_value mode (value_in self.old g l)
@@ -123,7 +123,7 @@ impl<X: LevelValue> GroupLists<X> {
         }
     }
 
-    /// Takes up what a later statement or include gives under a mode that isn't replace.
+    /// Merges what a later statement or include gives under a mode that isn't replace.
     fn merge_lists(&mut self, other: GroupLists<X>, mode: Mode) -> Result<(), AllocError>
         requires { is_replace mode ≡ false }
         ensures cells { OnOk result ((g l : ℕ)
@@ -175,7 +175,7 @@ impl<X: LevelValue> GroupLists<X> {
         (group - 1, &self.lists[..count])
     }
 
-    /// Takes up what the lists of an included map give, as they stand where the map is moved to a group, counted from 1;
+    /// Merges what the lists of an included map give, as they stand where the map is moved to a group, counted from 1;
     /// as they are where it isn't moved.
     pub fn merge_moved(
         &mut self,
@@ -202,7 +202,7 @@ impl<X: LevelValue> GroupLists<X> {
         }
     }
 
-    /// Takes up later lists, of which the first is that of a group, under a mode that isn't replace.
+    /// Merges later lists, of which the first is that of a group, under a mode that isn't replace.
     fn merge_copied(
         &mut self,
         alloc: Global,

@@ -72,7 +72,7 @@ impl<X: LevelValue> Levels<X> {
         self.levels.iter().any(|level| level.is_some())
     }
 
-    /// Takes up a later level at a place, the next at most.
+    /// Merges a later level at a place, the next at most.
     fn merge_level(&mut self, place: usize, level: Option<X>, mode: Mode) -> Result<(), AllocError>
         requires { place ≤ length self.old }
         ensures levels { OnOk result ((l : ℕ)
@@ -99,7 +99,7 @@ impl<X: LevelValue> Levels<X> {
         }
     }
 
-    /// Takes up later levels under a mode that isn't replace; those stay as they are.
+    /// Merges later levels under a mode that isn't replace; those stay as they are.
     pub(crate) fn merge_copied(&mut self, other: &Levels<X>, mode: Mode) -> Result<(), AllocError>
         requires { is_replace mode ≡ false }
         ensures levels { OnOk result ((l : ℕ)
@@ -114,7 +114,7 @@ impl<X: LevelValue> Levels<X> {
         Ok(())
     }
 
-    /// Takes up later levels under a mode that isn't replace.
+    /// Merges later levels under a mode that isn't replace.
     pub(crate) fn merge(&mut self, other: Levels<X>, mode: Mode) -> Result<(), AllocError>
         requires { is_replace mode ≡ false }
         ensures levels { OnOk result ((l : ℕ)

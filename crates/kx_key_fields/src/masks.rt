@@ -1,5 +1,5 @@
 //! Masks of virtual modifiers.
-ghost use Rattle.std.specs.Prelude.{◌≡◌, [], Contains, IfErr, IfOk, OnOk, Some, fold, is_some};
+ghost use Rattle.std.specs.Prelude.{◌≡◌, Some, fold, is_some};
 ghost use Rattle.std.specs.List.{flat_map};
 ghost use Rattle.std.specs.Result.{result_ok};
 ghost use Rattle.kx_virtual_mods.specs.Masks.{joined, real_mask};

@@ -1,4 +1,4 @@
-//! Later lists are taken up beside those that are there.
+//! Later lists are merged with those that are there.
 ghost use Rattle.std.specs.Prelude.{◌≡◌, ◌-◌, ◌<◌, ◌^◌, ℕ, None, IfOk, nat_lt, OnOk, false, max, nat_eq, if◌then◌else◌};
 ghost use Rattle.kx_key_fields.specs.Lists.{level_in, level_of, width_in, width_of};
 ghost use Rattle.kx_merge.specs.Offers.{is_replace, merged_value};
@@ -8,7 +8,7 @@ use crate::placing::widen;
 use kx_parse::Mode;
 use std::alloc::{AllocError, Global};
 
-/// The levels of a group once later ones were taken up under a mode that isn't replace.
+/// The levels of a group once later ones were merged under a mode that isn't replace.
 fn merged_levels<X: LevelValue>(
     old: Option<Levels<X>>,
     later: Option<Levels<X>>,
@@ -29,7 +29,7 @@ fn merged_levels<X: LevelValue>(
     }
 }
 
-/// The levels of a group once later ones were taken up under a mode that isn't replace; those stay as they are.
+/// The levels of a group once later ones were merged under a mode that isn't replace; those stay as they are.
 fn merged_levels_copied<X: LevelValue>(
     alloc: Global,
     old: Option<Levels<X>>,
@@ -52,7 +52,7 @@ fn merged_levels_copied<X: LevelValue>(
     Ok(Some(levels))
 }
 
-/// Takes up a later list of a group, where there is one; it stays as it is.
+/// Merges a later list of a group, where there is one; it stays as it is.
 fn merge_group_copied<X: LevelValue>(
     alloc: Global,
     lists: &mut Vec<Option<Levels<X>>>,
@@ -78,7 +78,7 @@ fn merge_group_copied<X: LevelValue>(
     Ok(())
 }
 
-/// Takes up later lists, of which the first is that of a group, under a mode that isn't replace; they stay as they are.
+/// Merges later lists, of which the first is that of a group, under a mode that isn't replace; they stay as they are.
 pub(crate) fn merge_groups_copied<X: LevelValue>(
     alloc: Global,
     lists: &mut Vec<Option<Levels<X>>>,
@@ -102,7 +102,7 @@ pub(crate) fn merge_groups_copied<X: LevelValue>(
     Ok(())
 }
 
-/// Takes up a later list of a group, where there is one.
+/// Merges a later list of a group, where there is one.
 fn merge_group<X: LevelValue>(
     lists: &mut Vec<Option<Levels<X>>>,
     group: usize,
@@ -126,7 +126,7 @@ fn merge_group<X: LevelValue>(
     Ok(())
 }
 
-/// Takes up later lists, of which the first is that of a group, under a mode that isn't replace.
+/// Merges later lists, of which the first is that of a group, under a mode that isn't replace.
 pub(crate) fn merge_groups<X: LevelValue>(
     lists: &mut Vec<Option<Levels<X>>>,
     from: usize,

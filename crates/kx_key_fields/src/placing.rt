@@ -1,5 +1,5 @@
 //! Which group a list is given to.
-ghost use Rattle.std.specs.Prelude.{◌≡◌, ◌<◌, ◌++◌, [], Contains, IfErr, IfOk, OnOk, Some, position};
+ghost use Rattle.std.specs.Prelude.{◌≡◌, ◌<◌, ◌++◌, IfOk, OnOk, Some, position};
 ghost use Rattle.kx_basics.specs.declared.limits.TheConstants.{MOST_GROUPS};
 ghost use Rattle.kx_key_fields.specs.Lists.{free_group, has_list, is_free, widened_to, with_list};
 ghost use Rattle.kx_key_fields.specs.Places.{group_for, open_group, place_faults, second_faults};

@@ -1,5 +1,5 @@
 //! What a field of a key says that isn't a list.
-ghost use Rattle.std.specs.Prelude.{◌≡◌, [], Contains, IfErr, OnOk, Some};
+ghost use Rattle.std.specs.Prelude.{◌≡◌, [], Some};
 ghost use Rattle.std.specs.Result.{result_ok};
 ghost use Rattle.kx_key_fields.specs.AttributeFields.{field_faults, field_given, given_any, mods_faults, mods_in, named_faults, name_in, named_given, range_faults, range_in, term_text, text_faults, text_of, type_faults, type_given};
 ghost use Rattle.kx_merge.specs.Faults.{value_faults};

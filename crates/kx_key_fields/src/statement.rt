@@ -1,7 +1,6 @@
 //! What a key statement says besides its lists.
-ghost use Rattle.std.specs.Prelude.{◌≡◌, ◌∷◌, [], Contains, IfErr, IfOk, OnOk};
+ghost use Rattle.std.specs.Prelude.{◌≡◌, IfOk, OnOk};
 ghost use Rattle.std.specs.Result.{result_ok};
-ghost use Rattle.kx_lex.specs.declared.fault.Fault.TheVariants.{Memory};
 ghost use Rattle.kx_key_fields.specs.KeyFields.{effective, key_field_faults, key_given, own_faults, own_given, setting_faults};
 ghost use Rattle.kx_key_fields.specs.Attributes.{attribute_in, with_given};
 ghost use Rattle.kx_key_fields.specs.AttributeFields.{given_any};
@@ -34,7 +33,7 @@ fn read_own(names: &ModNames, file: u32, field: &Field) -> Result<Option<Given>,
     read_named(names, file, word, field)
 }
 
-/// Takes up what a field of a key gives; a list gives nothing.
+/// Adds what a field of a key gives; a list gives nothing.
 fn take_field(
     alloc: Global,
     names: &ModNames,

@@ -1,5 +1,5 @@
 //! Truth values.
-ghost use Rattle.std.specs.Prelude.{◌≡◌, [], Contains, IfErr, OnOk};
+ghost use Rattle.std.specs.Prelude.{◌≡◌};
 ghost use Rattle.std.specs.Result.{result_ok};
 ghost use Rattle.kx_key_fields.specs.AttributeFields.{flag_faults, truth_faults, truth_in};
 ghost use Rattle.kx_merge.specs.Words.{meaning_among, truth_words};

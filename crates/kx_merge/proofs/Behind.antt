@@ -145,7 +145,7 @@ module _ {K C V D R N : Type 0} (cell : R → C → Option V) (width : R → ℕ
   gathered_more (x ∷ rs) [] r b are one = elim are [ ]
   gathered_more (x ∷ rs) (c ∷ bs) r b (more first rest) one = more first (gathered_more rs bs r b rest one)
 
--- records that take up nothing, a fault, and what is left where only memory may be wanting
+-- records into which nothing is merged, a fault, and what is left where only memory may be wanting
 module _ {K C V R X : Type 0} {cell : R → C → Option V} {width : R → ℕ → ℕ} {eq : K → K → Bool} {n1 : List K} {a1 : K → Option R} {added : List (Offer K C V)} {blamed : List Fault} where
   pub adds_nothing : {x : X} → added ≡ [] → blamed ≡ [] → Adds cell width eq n1 a1 (Ok x) n1 a1 added blamed
   adds_nothing nothing faultless = record { shows = λ os shows. subst (Shows cell width eq n1 a1) (sym (append-nil os) ∙ ap (λ os2. os ++ os2) (sym nothing)) shows; faultless = faultless; fault = tt }

@@ -28,12 +28,7 @@ none_blames f xs i x e within is left has = subst (λ ys. Contains ys e) (sym (l
 pub any_blames : {X Y : Type 0} (f : X → List Y) (xs : List X) (i : ℕ) (x : X) (m e : Y) → i < length xs → x ≡ get_or xs i x → flat_map f xs ≡ flat_map f (drop i xs) → Contains (m ∷ f x) e → Contains (m ∷ flat_map f xs) e
 any_blames f xs i x m e within is left has = subst (λ ys. Contains (m ∷ ys) e) (sym (left ∙ ap (flat_map f) (drop_next xs i x within is))) (Contains-append_left (m ∷ f x) (flat_map f (drop (i + 1) xs)) e has)
 
--- an Err that is answered for another is one of the same
-pub passed : {X F : Type 0} (r : Result X F) (fs : List F) (e : F) → IsErrAnd r (λ y. y ≡ e) → Contains fs e → IfErr r (λ y. Contains fs y)
-passed (Ok x) fs e is has = absurd is
-passed (Err y) fs e is has = subst (Contains fs) (sym is) has
-
--- so is one that reports a fault
+-- an Err that is answered for another reports the same fault
 pub reported : {X : Type 0} (r : Result X Fault) (fs : List Fault) (e : Fault) → IsErrAnd r (λ y. y ≡ e) → Contains fs e → Reports r fs
 reported (Ok x) fs e is has = absurd is
 reported (Err y) fs e is has = (tt, subst (Contains fs) (sym is) has)

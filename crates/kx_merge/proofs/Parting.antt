@@ -56,7 +56,7 @@ module _ {K C V D R : Type 0} (cell : R → C → Option V) (width : R → ℕ �
       subst (λ z. Covers eq laws [] (kept ++ link_offers x) (link_offers z) × (link_faults z ≡ [])) same (covers_self eq laws [] kept (link_offers x) (weak-part x (ap (λ z. is_strong z.mode) same ∙ weak)), clean))
 
   module _ {names : List K} {at : K → Option R} {since i : ℕ} {n1 : List K} {a1 : K → Option R} where
-    -- a part is taken up
+    -- a part is merged
     pub parted_on : {X : Type 0} {u : X} {n2 : List K} {a2 : K → Option R} (x : Link) → Parted names at since i n1 a1 → i < length xs → x ≡ get_or xs i x → Adds cell width eq n1 a1 (Ok u) n2 a2 (link_offers x) (link_faults x) → Parted names at (cond (is_replace x.mode) (i + 1) since) (i + 1) n2 a2
     unfolding left_step
     parted_on x p within is adds = record {

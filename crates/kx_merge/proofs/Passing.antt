@@ -111,7 +111,7 @@ module _ {K C V D R : Type 0} (cell : R → C → Option V) (width : R → ℕ �
   abbrev pub ahead : D → ℕ → List (Offer K C V)
   ahead d i = offers eq rules moves d (entries_body bodies place (drop i xs) End)
 
-  -- the entries before a place offer `all`, of which `kept` was taken up; that ends with what the last include offers
+  -- the entries before a place offer `all`, of which `kept` was merged; that ends with what the last include offers
   pub record Going (names : List K) (at : K → Option R) (last : Mode × List Link) (i : ℕ) (d : D) (now_names : List K) (now_at : K → Option R) : Type 0 where
     pub kept : List (Offer K C V)
     pub all : List (Offer K C V)
@@ -150,7 +150,7 @@ module _ {K C V D R : Type 0} (cell : R → C → Option V) (width : R → ℕ �
       (λ now. subst (Past eq rules moves bodies place (all ++ added)) (same_Some (included_by e) x (sym (included-here xs i e within is) ∙ ap (included_at xs) (sym now) ∙ here)) (past-last eq rules moves bodies place all d e clean))
 
   module _ {names : List K} {at : K → Option R} {last : Mode × List Link} {i : ℕ} {d : D} {n1 : List K} {a1 : K → Option R} where
-    -- an entry is taken up
+    -- an entry is merged
     pub going_on : {X : Type 0} {x : X} {n2 : List K} {a2 : K → Option R} (e : Entry) → Going names at last i d n1 a1 → i < length xs → e ≡ get_or xs i e
         → AddsBehind cell width eq (included_offers eq rules moves bodies last) n1 a1 (Ok x) n2 a2 (entry_offers eq rules moves bodies place d e) (entry_faults eq rules moves bodies place d e)
         → Going names at (included_by e) (i + 1) (entry_next rules d e) n2 a2
@@ -257,7 +257,7 @@ module _ {K C V D R : Type 0} (cell : R → C → Option V) (width : R → ℕ �
         subst (λ fs. Contains (Memory ∷ fs) f) (sym (l.blamed ∙ entry_blamed_at eq rules moves bodies place d xs i e within is))
         (Contains-append_left (Memory ∷ entry_faults eq rules moves bodies place d e) (faults eq rules moves (entry_next rules d e) (entries_body bodies place (drop (i + 1) xs) End)) f adds.fault)
 
--- ---- Where what was taken up covers includes under augment
+-- ---- Where what was merged covers includes under augment
 
 module _ {K C V D R : Type 0} (cell : R → C → Option V) (width : R → ℕ → ℕ) (eq : K → K → Bool) (laws : IsEquivalence eq) (rules : Rules K C V D) (moves : Moves K C) (bodies : List Body) (place : Place) (xs : List Entry) where
   abbrev pub Reaches : List K → (K → Option R) → Mode × List Link → ℕ → D → List K → (K → Option R) → Type 0
@@ -275,7 +275,7 @@ module _ {K C V D R : Type 0} (cell : R → C → Option V) (width : R → ℕ �
   pub covering_first : (names : List K) (at : K → Option R) → Covering names at (Augment, []) 0 [] [] 0 rules.start names at
   covering_first names at = record { going = going_first cell width eq rules moves bodies place xs names at; marked = marked_none 0; covers = λ n x from before is weak. absurd (omega (arith, before)) }
 
-  -- what an entry that was taken up covers
+  -- what an entry that was merged covers
   covered-entry : (keys : List K) (kept : List (Offer K C V)) (d : D) (e : Entry) → is_strong (included_by e).0 ≡ false → Covers eq laws keys (kept ++ entry_offers eq rules moves bodies place d e) (offers_by (included_by e))
   covered-entry keys kept d (Own item) weak = covers_none eq laws keys (kept ++ rules.offers d place item.now)
   covered-entry keys kept d (Include mode links) weak = covers_self eq laws keys kept (offers_by (mode, links.items)) (weak_gathered eq mode (offers_of eq rules moves (links_body bodies links.items)) weak)
@@ -307,7 +307,7 @@ module _ {K C V D R : Type 0} (cell : R → C → Option V) (width : R → ℕ �
   augment-is Replace weak = absurd (false≢true (sym weak))
 
   module _ {names : List K} {at : K → Option R} {last : Mode × List Link} {since : ℕ} {marks : List ℕ} {noted : List K} {i : ℕ} {d : D} {n1 : List K} {a1 : K → Option R} where
-    -- an entry is taken up
+    -- an entry is merged
     pub covering_on : {X : Type 0} {x : X} {n2 : List K} {a2 : K → Option R} {new_noted : List K} (e : Entry) → Covering names at last since marks noted i d n1 a1 → i < length xs → e ≡ get_or xs i e
         → TakesBack eq (is_replace (included_by e).0) noted new_noted (entry_offers eq rules moves bodies place d e)
         → AddsBehind cell width eq (offers_by last) n1 a1 (Ok x) n2 a2 (entry_offers eq rules moves bodies place d e) (entry_faults eq rules moves bodies place d e)

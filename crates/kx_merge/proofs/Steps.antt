@@ -77,7 +77,7 @@ module _ {K C V R : Type 0} (cell : R → C → Option V) (width : R → ℕ →
       (λ c. sym (ap (λ found. merged_value mode (cell_in cell found c) (cell r c)) none ∙ merged-none mode (cell r c)))
       (λ g. sym (ap (λ found. merged_width mode (width_in width found g) (width r g)) none ∙ width-none mode (width r g)))
 
--- a map's keys where a key is put, as names that take up one
+-- a map's keys where a key is put, as names with one more
 pub keys-put : {K R : Type 0} (eq : K → K → Bool) (es : List (K × R)) (key : K) (r : R) → keys_of (insert_entry eq es key r) ≡ with_name eq (keys_of es) key
 keys-put eq [] key r = refl
 keys-put eq (e ∷ es) key r = by (eq key e.0) (keys-put eq es key r)

@@ -18,13 +18,13 @@ use Rattle.kx_merge.specs.Offers.{Offer, is_strong}
 use Rattle.kx_merge.specs.Records.{Shows}
 
 module _ {K C V R : Type 0} (cell : R → C → Option V) (width : R → ℕ → ℕ) (eq : K → K → Bool) where
-  -- records take up offers, unless a fault among some is met
+  -- offers are merged into records, unless a fault among some is met
   pub record Adds {X : Type 0} (names : List K) (at : K → Option R) (answer : Result X Fault) (new_names : List K) (new_at : K → Option R) (added : List (Offer K C V)) (blamed : List Fault) : Type 0 where
     pub shows : (os : List (Offer K C V)) → Shows cell width eq names at os → OnOk answer (Shows cell width eq new_names new_at (os ++ added))
     pub faultless : OnOk answer (blamed ≡ [])
     pub fault : IfErr answer (λ e. Contains (Memory ∷ blamed) e)
 
-  -- the same after some offers that were taken up last
+  -- the same after some offers that were merged last
   pub record AddsBehind {X : Type 0} (last : List (Offer K C V)) (names : List K) (at : K → Option R) (answer : Result X Fault) (new_names : List K) (new_at : K → Option R) (added : List (Offer K C V)) (blamed : List Fault) : Type 0 where
     pub shows : (os : List (Offer K C V)) → Shows cell width eq names at (os ++ last) → OnOk answer (Shows cell width eq new_names new_at ((os ++ last) ++ added))
     pub faultless : OnOk answer (blamed ≡ [])

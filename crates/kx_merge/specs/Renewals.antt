@@ -35,7 +35,7 @@ module _ {K C V : Type 0} (eq : K → K → Bool) where
     pub widths_away : (k : K) (g : ℕ) (os : List (Offer K C V)) → list_any (eq k) keys ≡ false → width_of eq (os ++ picked) k g ≡ width_of eq os k g
     pub named : (ks : List K) → names_behind eq ks all ≡ ks → names_behind eq ks picked ≡ ks
 
--- the records of some keys take up what some offers give to them
+-- what some offers give to the records of some keys is merged into them
 pub record TakesUp {K C V R : Type 0} (cell : R → C → Option V) (width : R → ℕ → ℕ) (eq : K → K → Bool) (keys names : List K) (at : K → Option R) (new_names : List K) (new_at : K → Option R) (all : List (Offer K C V)) : Type 0 where
   pub picked : List (Offer K C V)
   pub picks : Picks eq keys all picked

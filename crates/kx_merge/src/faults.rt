@@ -1,5 +1,5 @@
 //! The faults of values of another kind.
-ghost use Rattle.std.specs.Prelude.{◌≡◌, [], Contains, IfErr, OnOk};
+ghost use Rattle.std.specs.Prelude.{◌≡◌};
 ghost use Rattle.std.specs.Option.{option_map};
 ghost use Rattle.std.specs.Result.{result_ok};
 ghost use Rattle.kx_include.specs.IncludeFaults.{at};

@@ -1,4 +1,4 @@
-ghost use Rattle.std.specs.Prelude.{◌≡◌, ℕ, Bool, true, List, [], ◌∷◌, Option, None, Some, IfOk, IfErr, OnOk, Contains};
+ghost use Rattle.std.specs.Prelude.{◌≡◌, ℕ, true, Option, None, Some, IfOk, IfErr, OnOk};
 ghost use Rattle.kx_merge.specs.Records.{AreOffered, mode_of};
 ghost use Rattle.kx_lex.specs.declared.fault.Fault.TheVariants.{Memory};
 ghost use Rattle.kx_merge.specs.Bodies.{Rules, Moves};
@@ -55,7 +55,7 @@ pub trait Fields<C>: Drop {
         ensures faults { ReportsOrRunsOut result
             ((rules context.now).faults defaults place item.now) };
 
-    /// Takes up what a later record gives.
+    /// Merges what a later record gives.
     fn merge(&mut self, alloc: Global, other: Self, mode: Mode) -> Result<(), Fault>
         ensures cells { OnOk result ((c : Self.Cell)
             → cell self.new c ≡ merged_value mode (cell self.old c) (cell other c)) }
@@ -68,7 +68,7 @@ pub trait Fields<C>: Drop {
         ensures cells { (c : Self.Cell) → cell result c ≡ None }
         ensures widths { (g : ℕ) → width result g ≡ 0 };
 
-    /// Takes up what a record of an included map gives, as it stands where its map is moved to a group; as it is where
+    /// Merges what a record of an included map gives, as it stands where its map is moved to a group; as it is where
     /// it isn't moved.
     fn merge_moved(
         &mut self,

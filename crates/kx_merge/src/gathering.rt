@@ -1,4 +1,4 @@
-ghost use Rattle.std.specs.Prelude.{◌≡◌, ◌+◌, ◌<◌, ◌^◌, ◌++◌, ◌∷◌, [], List, Contains, IfOk, OnOk, IfErr, IsTrue, Some, ℕ, false, true, if◌then◌else◌};
+ghost use Rattle.std.specs.Prelude.{◌≡◌, ◌+◌, ◌<◌, ◌^◌, [], List, IfOk, OnOk, IfErr, IsTrue, Some, ℕ, false, true, if◌then◌else◌};
 ghost use Rattle.kx_include.specs.Expansion.{Body, End};
 ghost use Rattle.kx_include.specs.Shared.{bodies_behind, body_at, expanded_body, links_body, shared_body};
 ghost use Rattle.kx_lex.specs.declared.fault.Fault.TheVariants.{Memory};
@@ -328,7 +328,7 @@ fn merge_again<C, R: Fields<C>>(
     }
 }
 
-/// What the records of some keys take up of an include under augment. `false` where it has to be gone over whole, as where
+/// What the records of some keys get of an include under augment. `false` where it has to be gone over whole, as where
 /// it has so few records that looking up the keys in each of its parts takes longer.
 fn merge_keys<C, R: Fields<C>>(
     alloc: Global,
@@ -383,7 +383,7 @@ fn count_records<C, R: Fields<C>>(
     Ok(count)
 }
 
-/// What the records of some keys take up of the parts of an include, joined, under augment. `false` where the include has
+/// What the records of some keys get of the parts of an include, joined, under augment. `false` where the include has
 /// to be gone over whole.
 fn merge_joined_keys<C, R: Fields<C>>(
     alloc: Global,
@@ -409,7 +409,7 @@ fn merge_joined_keys<C, R: Fields<C>>(
     Ok(true)
 }
 
-/// What the records of some keys take up of the parts of an include, each under its own mode. `false` where a part has to
+/// What the records of some keys get of the parts of an include, each under its own mode. `false` where a part has to
 /// be gone over whole.
 fn merge_links_keys<C, R: Fields<C>>(
     alloc: Global,
@@ -433,7 +433,7 @@ fn merge_links_keys<C, R: Fields<C>>(
     Ok(true)
 }
 
-/// What the records of some keys take up of a part under a mode. `false` where the part has to be gone over whole: where
+/// What the records of some keys get of a part under a mode. `false` where the part has to be gone over whole: where
 /// records become others as its map is moved.
 fn merge_link_keys<C, R: Fields<C>>(
     alloc: Global,

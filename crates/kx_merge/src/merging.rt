@@ -27,7 +27,7 @@ pub fn merged_value<V: Drop>(mode: Mode, old: Option<V>, new: Option<V>) -> Opti
     }
 }
 
-/// Takes up a record under a mode, beside those that are there.
+/// Merges a record under a mode, with those that are there.
 #[inline(always)]
 fn add_one<C, R: Fields<C>>(
     alloc: Global,
@@ -48,7 +48,7 @@ fn add_one<C, R: Fields<C>>(
     }
 }
 
-/// Takes up records under a mode in order, beside those that are there. Most statements of a section give a family of
+/// Merges records under a mode in order, with those that are there. Most statements of a section give a family of
 /// records none, which takes no call where it is inlined.
 #[inline(always)]
 pub(crate) fn add_all<C, R: Fields<C>>(
@@ -69,7 +69,7 @@ pub(crate) fn add_all<C, R: Fields<C>>(
     Ok(())
 }
 
-/// Takes up records under a mode, beside those that are there.
+/// Merges records under a mode, with those that are there.
 pub(crate) fn add_joined<C, R: Fields<C>>(
     alloc: Global,
     records: &mut Ordered<R::Key, R>,
@@ -86,7 +86,7 @@ pub(crate) fn add_joined<C, R: Fields<C>>(
     add_all::<C, R>(alloc, records, mode, given.into_entries())
 }
 
-/// Takes up under a mode, as the record of a key, what a record of an included map gives where its map is moved to a
+/// Merges under a mode, as the record of a key, what a record of an included map gives where its map is moved to a
 /// group.
 fn add_moved<C, R: Fields<C>>(
     alloc: Global,
@@ -111,7 +111,7 @@ fn add_moved<C, R: Fields<C>>(
     Ok(())
 }
 
-/// Takes up a record of an included map under a mode, as it stands where the map is moved to a group.
+/// Merges a record of an included map under a mode, as it stands where the map is moved to a group.
 fn add_found<C, R: Fields<C>>(
     alloc: Global,
     records: &mut Ordered<R::Key, R>,
@@ -133,7 +133,7 @@ fn add_found<C, R: Fields<C>>(
     }
 }
 
-/// Takes up records of an included map under a mode, as they stand where the map is moved to a group, beside those that
+/// Merges records of an included map under a mode, as they stand where the map is moved to a group, with those that
 /// are there.
 pub(crate) fn add_included<C, R: Fields<C>>(
     alloc: Global,
@@ -172,8 +172,8 @@ pub(crate) fn are_kept<C, R: Fields<C>>(keys: &[R::Key], group: Option<u8>) -> b
     true
 }
 
-/// Takes up under a mode what an included map gives to the records of some keys, as it stands where the map is moved to a
-/// group, beside those that are there.
+/// Merges under a mode what an included map gives to the records of some keys, as it stands where the map is moved to a
+/// group, with those that are there.
 pub(crate) fn add_again<C, R: Fields<C>>(
     alloc: Global,
     records: &mut Ordered<R::Key, R>,

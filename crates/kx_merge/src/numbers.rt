@@ -29,7 +29,7 @@ pub enum Counted {
 }
 
 impl Counted {
-    ghost use Rattle.std.specs.Prelude.{◌≡◌, ◌≤◌, ◌^◌, [], Contains, IfErr, IfOk, OnOk, Some, min};
+    ghost use Rattle.std.specs.Prelude.{◌≡◌, ◌≤◌, ◌^◌, [], IfOk, Some, min};
     ghost use Rattle.std.specs.Option.{option_map};
     ghost use Rattle.std.specs.Result.{result_ok};
     ghost use Rattle.std.specs.Str.{str_eq_ignore_ascii_case};

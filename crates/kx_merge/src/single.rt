@@ -1,5 +1,5 @@
 //! Records of one value, under sections without defaults.
-ghost use Rattle.std.specs.Prelude.{◌≡◌, ◌∷◌, [], ℕ, Contains, IfErr, IfOk, List, None, OnOk, Option, Some, true};
+ghost use Rattle.std.specs.Prelude.{◌≡◌, ◌∷◌, [], ℕ, IfErr, IfOk, List, None, OnOk, Option, Some, true};
 ghost use Rattle.kx_include.specs.declared.place.Place.{Place as PlaceValue};
 ghost use Rattle.kx_lex.specs.declared.fault.Fault.{Fault as FaultValue};
 ghost use Rattle.kx_lex.specs.declared.fault.Fault.TheVariants.{Memory};
@@ -168,7 +168,7 @@ impl<C, V: SingleValue<C>> Fields<C> for Single<V> {
             (moved_width (single_moves V.moved) _group (single_width other.now) g)) }
         ensures err { IfErr result (λ e. e ≡ Memory) }
     {
-        // what stays isn't copied for
+        // a value that is there stays, so none is copied
         if mode == Mode::Augment && self.value.is_some() {
             return Ok(());
         }

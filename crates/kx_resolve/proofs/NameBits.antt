@@ -22,7 +22,7 @@ one_or x y small other = grind (arith, nat_tests, small, other)
 pub has_with : (m n bit : ℕ) → has (union m n) bit ≡ (has m bit || has n bit)
 has_with m n bit = ap (λ b. b == 1) (bit_at_or m n bit) ∙ one_or (bit_at m bit) (bit_at n bit) (bit_at-lt m bit) (bit_at-lt n bit)
 
--- a set takes up what the next of some numbers gives
+-- a set with what the next of some numbers gives
 pub next_with : (set more bit n : ℕ) (test : ℕ → Bool) → has set bit ≡ any_below n test → has more bit ≡ test n → has (union set more) bit ≡ any_below (n + 1) test
 next_with set more bit n test before here = has_with set more bit ∙ (λ i. before i || here i) ∙ sym (any_next test n)
 

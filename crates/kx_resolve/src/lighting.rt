@@ -55,7 +55,7 @@ fn indicator<'n>(name: &'n [u8], indicator_map: &IndicatorMap, stands: &[Mods]) 
     }
 }
 
-/// Takes up the indicator of a number after others.
+/// Adds the indicator of a number after others.
 fn push_indicator<'a>(
     lit: &mut Vec<Indicator<'a>>,
     indicators: &'a Indicators,
@@ -103,7 +103,7 @@ fn indicators_lit<'a>(
     Ok(lit)
 }
 
-/// Takes up the name of a group after others.
+/// Adds the name of a group after others.
 fn push_name<'a>(names: &mut Vec<&'a [u8]>, name: &'a [u8]) -> Result<(), Fault>
     requires { length name.now ≤ MOST_NAME_BYTES }
     ensures pushed { OnOk result (map (λ g. g.now) names.new.items

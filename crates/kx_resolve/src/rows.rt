@@ -49,7 +49,7 @@ fn real_mods(set: NameSet, stands: &[Mods]) -> Mods
     real_of(set, stands)
 }
 
-/// Takes up an entry after others.
+/// Adds an entry after others.
 fn add_row(rows: &mut Vec<EntryRow>, entry: TypeEntry, stands: &[Mods]) -> Result<(), AllocError>
     ensures { OnOk result (rows.new.items
         ≡ with_entry (stood_for (stands_for stands.now)) rows.old.items entry) }

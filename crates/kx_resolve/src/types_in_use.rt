@@ -81,7 +81,7 @@ pub(crate) struct UsedTypes {
     pub(crate) group_types: Vec<TypeInUse>,
 }
 
-/// Takes up the type of a group of a key.
+/// Adds the type of a group of a key.
 fn use_group(
     alloc: Global,
     types: &Types,
@@ -102,7 +102,7 @@ fn use_group(
     Ok(())
 }
 
-/// Takes up the types of a key's groups.
+/// Adds the types of a key's groups.
 fn use_key(alloc: Global, types: &Types, key: &KeyRecord, used: &mut UsedTypes) -> Result<(), Fault>
     ensures used { OnOk result ((names : List (List ℕ))
         → AreUsed (type_named types.now) names used.old.names used.old.group_types.items
@@ -117,7 +117,7 @@ fn use_key(alloc: Global, types: &Types, key: &KeyRecord, used: &mut UsedTypes) 
     Ok(())
 }
 
-/// Takes up the types of the key of a code, where the code has a name.
+/// Adds the types of the key of a code, where the code has a name.
 fn use_code(
     alloc: Global,
     codes: &Codes,

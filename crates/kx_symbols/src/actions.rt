@@ -1,8 +1,8 @@
 //! The actions that lists stand for.
-ghost use Rattle.std.specs.Prelude.{◌≡◌, ◌<◌, ◌++◌, ◌∷◌, [], Contains, IfErr, IfOk, OnOk, length};
+ghost use Rattle.std.specs.Prelude.{◌≡◌, ◌<◌, ◌++◌, ◌∷◌, [], Contains, IfOk, length};
 ghost use Rattle.std.specs.List.{flat_map};
 ghost use Rattle.kx_actions.specs.Arguments.{action_faults};
-ghost use Rattle.kx_lex.specs.declared.fault.Fault.TheVariants.{BadValue, Memory};
+ghost use Rattle.kx_lex.specs.declared.fault.Fault.TheVariants.{BadValue};
 ghost use Rattle.kx_symbols.specs.Actions.{actions_of, call_action, calls_in, defined, element_action, only_action};
 ghost use Rattle.kx_symbols.specs.KeyFaults.{action_element_faults, action_part_faults, actions_faults, several_faults, symbol_span};
 ghost use Rattle.kx_merge.specs.Reports.{Reports, ReportsOrRunsOut};

@@ -1,7 +1,6 @@
 //! The defaults of a section.
-ghost use Rattle.std.specs.Prelude.{◌≡◌, ◌∷◌, [], Contains, IfErr, IfOk, OnOk};
+ghost use Rattle.std.specs.Prelude.{◌≡◌, IfOk};
 ghost use Rattle.std.specs.Option.{option_map_or};
-ghost use Rattle.kx_lex.specs.declared.fault.Fault.TheVariants.{Memory};
 ghost use Rattle.kx_key_fields.specs.Attributes.{no_settings};
 ghost use Rattle.kx_symbols.specs.Known.{no_defaults};
 ghost use Rattle.kx_symbols.specs.Keys.{behind_field, field_in, said_next};

@@ -1,6 +1,5 @@
 //! The lists of a key statement, each of its kind and with its group.
-ghost use Rattle.std.specs.Prelude.{◌≡◌, ◌++◌, ◌∷◌, [], Contains, IfErr, IfOk, None, OnOk, Some};
-ghost use Rattle.kx_lex.specs.declared.fault.Fault.TheVariants.{Memory};
+ghost use Rattle.std.specs.Prelude.{◌≡◌, ◌++◌, IfOk, None, OnOk, Some};
 ghost use Rattle.kx_key_fields.specs.Places.{given_list, group_for, place_faults};
 ghost use Rattle.kx_symbols.specs.Actions.{actions_of};
 ghost use Rattle.kx_symbols.specs.KeyFaults.{actions_faults, elements_faults, field_faults, fields_faults, list_faults, named_faults, set_faults};
@@ -28,14 +27,13 @@ pub(crate) struct StatementLists {
 
 impl Model for StatementLists {
     ghost use Rattle.kx_symbols.specs.Lists.{StatementLists as ListsValue};
-    ghost use Rattle.kx_merge.specs.Reports.{ReportsOrRunsOut};
 
     ghost Value = { ListsValue };
 
     ghost view = { λ s. record { symbols = s.symbols.items; actions = s.actions.items } };
 }
 
-/// Takes up a list of keysyms.
+/// Adds a list of keysyms.
 fn add_symbols(
     alloc: Global,
     names: &NameTable,
@@ -58,7 +56,7 @@ fn add_symbols(
     Ok(())
 }
 
-/// Takes up a list of actions.
+/// Adds a list of actions.
 fn add_actions(
     alloc: Global,
     known: &Known,
@@ -81,7 +79,7 @@ fn add_actions(
     Ok(())
 }
 
-/// Takes up a list of a kind.
+/// Adds a list of a kind.
 fn add_list(
     alloc: Global,
     known: &Known,
@@ -109,7 +107,7 @@ fn add_list(
     }
 }
 
-/// Takes up what a field of lists sets.
+/// Adds what a field of lists sets.
 fn add_set(
     alloc: Global,
     known: &Known,
@@ -138,7 +136,7 @@ fn add_set(
     }
 }
 
-/// Takes up the list of a field, where it is one of lists.
+/// Adds the list of a field, where it is one of lists.
 fn add_named(
     alloc: Global,
     known: &Known,
@@ -159,7 +157,7 @@ fn add_named(
     }
 }
 
-/// Takes up a field of a key.
+/// Adds a field of a key.
 fn add_field(
     alloc: Global,
     known: &Known,

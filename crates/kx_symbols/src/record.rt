@@ -115,7 +115,7 @@ impl KeyRecord {
         }
     }
 
-    /// Takes up what a later statement or include gives.
+    /// Merges what a later statement or include gives.
     pub(crate) fn merge_content(&mut self, other: KeyRecord, mode: Mode) -> Result<(), AllocError>
         ensures cells { OnOk result ((c : Cell)
             → cell_in self.new c ≡ merged_value mode (cell_in self.old c) (cell_in other c)) }
@@ -129,7 +129,7 @@ impl KeyRecord {
         Ok(())
     }
 
-    /// Takes up what a record of an included map gives, as it stands where its map is moved to a group.
+    /// Merges what a record of an included map gives, as it stands where its map is moved to a group.
     pub(crate) fn merge_content_moved(
         &mut self,
         alloc: Global,

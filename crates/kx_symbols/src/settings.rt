@@ -1,7 +1,6 @@
 //! What key statements say besides lists.
-ghost use Rattle.std.specs.Prelude.{◌≡◌, ◌∷◌, [], Contains, IfErr, IfOk, OnOk};
+ghost use Rattle.std.specs.Prelude.{◌≡◌, IfOk};
 ghost use Rattle.std.specs.List.{list_any};
-ghost use Rattle.kx_lex.specs.declared.fault.Fault.TheVariants.{Memory};
 ghost use Rattle.kx_key_fields.specs.KeyFields.{effective, setting_faults};
 ghost use Rattle.kx_key_fields.specs.Attributes.{no_settings, attribute_in};
 ghost use Rattle.kx_symbols.specs.Lists.{is_field};

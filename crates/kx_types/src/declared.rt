@@ -1,21 +1,18 @@
 //! The key types that a keymap's statements declare.
-ghost use Rattle.std.specs.Prelude.{◌≡◌, ◌≤◌, ◌++◌, ◌∷◌, [], ℕ, Contains, IfErr, IfOk, List, None, OnOk, Option, Some, length, option_to_list, position, slice_get, unwrap_or, IfSome, IsTrue, ◌↔◌, ◌<◌};
+ghost use Rattle.std.specs.Prelude.{◌≡◌, ◌++◌, ◌∷◌, [], IfOk, None, Option, Some, unwrap_or, ◌<◌};
 ghost use Rattle.std.specs.List.{flat_map};
-ghost use Rattle.std.specs.Option.{option_and_then, option_map};
-ghost use Rattle.std.specs.Str.{bytes_eq};
+ghost use Rattle.std.specs.Option.{option_map};
 ghost use Rattle.std.specs.Cmp.Lexicographic.{bytes_decides};
 ghost use Rattle.std.proofs.Common.{◌∙◌, ap, sym};
 ghost use Rattle.kx_include.specs.Shared.{expanded_body};
-ghost use Rattle.kx_lex.specs.declared.fault.Fault.TheVariants.{Memory};
-ghost use Rattle.kx_merge.specs.Bodies.{faults_of};
 ghost use Rattle.kx_merge.specs.Records.{AreOffered, mode_of};
 ghost use Rattle.kx_merge.specs.Single.{single_cell, single_width};
 ghost use Rattle.kx_parse.specs.Sections.{word_span};
 ghost use Rattle.kx_parse.specs.declared.tree.Mode.{Mode as ModeValue};
-ghost use Rattle.kx_types.specs.KeyTypes.{Definition, definition_of};
+ghost use Rattle.kx_types.specs.KeyTypes.{definition_of};
 ghost use Rattle.kx_types.specs.TypeFaults.{declares_modifiers, item_faults, said_faults, type_in};
 ghost use Rattle.kx_types.specs.TypeFields.{field_faults, sayings_of};
-ghost use Rattle.kx_types.specs.Types.{NamedTypes, TypesShow, item_offers, said_offers, type_named, type_names, type_offer, type_rules, types_faults};
+ghost use Rattle.kx_types.specs.Types.{TypesShow, item_offers, said_offers, type_offer, types_faults};
 ghost use Rattle.kx_merge.specs.Faults.{name_faults};
 ghost use Rattle.kx_merge.specs.Reports.{ReportsOrRunsOut};
 

@@ -1,8 +1,8 @@
 //! The fields of a type statement.
-ghost use Rattle.std.specs.Prelude.{◌≡◌, ◌++◌, ◌∷◌, [], All, Contains, IfErr, IfOk, None, OnOk, Some};
+ghost use Rattle.std.specs.Prelude.{◌≡◌, [], All, IfOk, None, Some};
 ghost use Rattle.std.specs.List.{flat_map};
 ghost use Rattle.std.specs.Option.{option_and_then, option_map};
-ghost use Rattle.kx_lex.specs.declared.fault.Fault.TheVariants.{Memory, UnknownField};
+ghost use Rattle.kx_lex.specs.declared.fault.Fault.TheVariants.{UnknownField};
 ghost use Rattle.kx_include.specs.IncludeFaults.{at};
 ghost use Rattle.kx_virtual_mods.specs.Masks.{mask_faults, mask_set};
 ghost use Rattle.kx_types.specs.Lawful.{IsLevel, NamesLevel};

@@ -38,7 +38,7 @@ or-inner : (a b c : Bool) → ((a || b) || c) ≡ (a || (b || c))
 or-inner true b c = refl
 or-inner false b c = refl
 
--- a set takes up what one more name stands for
+-- a set with what one more name stands for
 pub below_goes : (mods extra i n : ℕ) (b : Bool) (test : ℕ → Bool) → has mods i ≡ (b || any_below n test) → has extra i ≡ test n → has (union mods extra) i ≡ (b || any_below (n + 1) test)
 below_goes mods extra i n b test before more =
     has_union mods extra i ∙ ap (λ x. x || has extra i) before ∙ ap (λ x. (b || any_below n test) || x) more ∙ or-inner b (any_below n test) (test n) ∙ ap (λ x. b || x) (sym (below_more n test))

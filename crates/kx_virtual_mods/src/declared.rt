@@ -1,5 +1,5 @@
 //! What statements declare of virtual modifiers.
-ghost use Rattle.std.specs.Prelude.{◌≡◌, ◌==◌, ◌++◌, ◌∷◌, [], Contains, IfErr, IfOk, None, OnOk, Some, fold, map, nat_eq, unwrap_or, if◌then◌else◌};
+ghost use Rattle.std.specs.Prelude.{◌≡◌, ◌==◌, ◌++◌, [], IfErr, IfOk, None, OnOk, Some, map, nat_eq, unwrap_or, if◌then◌else◌};
 ghost use Rattle.std.specs.List.{flat_map, list_any};
 ghost use Rattle.std.specs.Option.{option_or, option_map};
 ghost use Rattle.std.proofs.Common.{◌∙◌, ap, eqb-true, sym};

@@ -1,5 +1,5 @@
 //! What masks name.
-ghost use Rattle.std.specs.Prelude.{◌≡◌, ◌≤◌, ◌<◌, [], fold, length, Contains, IfErr, IfOk, OnOk, unwrap_or};
+ghost use Rattle.std.specs.Prelude.{◌≡◌, ◌≤◌, ◌<◌, [], fold, length, IfErr, IfOk, unwrap_or};
 ghost use Rattle.std.specs.List.{flat_map};
 ghost use Rattle.kx_mods.specs.Mods.{mask};
 ghost use Rattle.kx_include.specs.IncludeFaults.{at};

@@ -1,11 +1,10 @@
 //! The virtual modifiers of a keymap.
-ghost use Rattle.std.specs.Prelude.{◌≡◌, ◌≤◌, ◌<◌, ◌∷◌, [], ℕ, Contains, IfErr, IfOk, IfSome, List, OnOk, length, slice_get, nat_eq, unwrap_or};
+ghost use Rattle.std.specs.Prelude.{◌≡◌, ◌≤◌, ◌<◌, [], ℕ, IfErr, IfOk, IfSome, List, length, slice_get, nat_eq, unwrap_or};
 ghost use Rattle.std.specs.List.{flat_map};
 ghost use Rattle.std.specs.Option.{option_map, option_map_or};
 ghost use Rattle.indexmap.specs.IndexMap.{get};
 ghost use Rattle.kx_lex.specs.declared.fault.Fault.TheVariants.{Memory};
 ghost use Rattle.kx_merge.specs.Bodies.{faults_of, no_moves};
-ghost use Rattle.kx_merge.specs.Records.{cell_in};
 ghost use Rattle.kx_mods.specs.Mods.{mask};
 ghost use Rattle.kx_virtual_mods.specs.Counted.{all_statements, count_faults};
 ghost use Rattle.kx_virtual_mods.specs.Declarations.{AreModNames, declared_mask, mask_at, mask_rules, modifier_bodies, modifier_faults, named_in, virtual_names};

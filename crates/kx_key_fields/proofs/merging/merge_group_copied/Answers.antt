@@ -1,6 +1,6 @@
 use Rattle.std.proofs.Common.{◌+◌, ◌∙◌, ap, slice_set}
 use Rattle.kx_key_fields.specs.Lists.{widened_to}
-use Rattle.kx_key_fields.proofs.TakenUp.{put_levels, put_widths, was_at}
+use Rattle.kx_key_fields.proofs.LaterLists.{put_levels, put_widths, was_at}
 use Rattle.kx_key_fields.proofs.merging.merge_group_copied.Goals as goal
 
 pub returns-clause-levels : goal.returns-clause-levels

@@ -1,6 +1,6 @@
 use Rattle.std.proofs.Common.{◌∙◌, slice_set, arith}
 use Rattle.std.proofs.lemmas.List.{length-set}
-use Rattle.kx_key_fields.proofs.TakenUp.{lists_go, lists_levels, lists_widths, taken_at, kept_at}
+use Rattle.kx_key_fields.proofs.LaterLists.{lists_go, lists_levels, lists_widths, taken_at, kept_at}
 use Rattle.kx_key_fields.proofs.merging.merge_groups.Goals as goal
 
 pub lists-preserved : goal.lists-preserved

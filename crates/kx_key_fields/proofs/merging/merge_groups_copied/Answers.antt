@@ -1,5 +1,5 @@
 use Rattle.std.proofs.Common.{refl}
-use Rattle.kx_key_fields.proofs.TakenUp.{lists_go, lists_levels, lists_widths, taken_at}
+use Rattle.kx_key_fields.proofs.LaterLists.{lists_go, lists_levels, lists_widths, taken_at}
 use Rattle.kx_key_fields.proofs.merging.merge_groups_copied.Goals as goal
 
 pub lists-preserved : goal.lists-preserved

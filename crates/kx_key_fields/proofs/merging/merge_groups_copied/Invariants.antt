@@ -1,4 +1,4 @@
-use Rattle.kx_key_fields.proofs.TakenUp.{ListsBehind}
+use Rattle.kx_key_fields.proofs.LaterLists.{ListsBehind}
 use Rattle.kx_key_fields.proofs.merging.merge_groups_copied.Given as goal
 
 abbrev pub invariant-lists : goal.invariant-lists

@@ -2,7 +2,7 @@ use Rattle.std.proofs.Common.{◌≡◌, ◌-◌, ℕ, None, cond, max, nat_lt, 
 use Rattle.kx_merge.specs.Offers.{merged_value}
 use Rattle.kx_key_fields.specs.Records.{KeyLists, value_in, width_in_key}
 use Rattle.kx_key_fields.specs.Lists.{level_in, width_in}
-use Rattle.kx_key_fields.proofs.Joining.{joined_values, joined_widths}
+use Rattle.kx_key_fields.proofs.Settling.{joined_values, joined_widths}
 use Rattle.kx_key_fields.proofs.key_lists.GroupLists.merge_lists.Goals as goal
 
 pub returns-clause-cells : goal.returns-clause-cells

@@ -1,6 +1,6 @@
 use Rattle.std.proofs.Common.{◌∙◌, length, slice_set, ap, arith}
 use Rattle.std.proofs.lemmas.List.{length-set}
-use Rattle.kx_key_fields.proofs.TakenUp.{levels_go, levels_end, taken_at, kept_at}
+use Rattle.kx_key_fields.proofs.LaterLists.{levels_go, levels_end, taken_at, kept_at}
 use Rattle.kx_key_fields.proofs.levels.Levels.merge.Goals as goal
 
 pub levels-preserved : goal.levels-preserved

@@ -1,4 +1,4 @@
-use Rattle.kx_key_fields.proofs.TakenUp.{LevelsBehind}
+use Rattle.kx_key_fields.proofs.LaterLists.{LevelsBehind}
 use Rattle.kx_key_fields.proofs.levels.Levels.merge.Given as goal
 
 abbrev pub invariant-levels : goal.invariant-levels

@@ -1,5 +1,5 @@
 use Rattle.std.proofs.Common.{◌∙◌, ap, length, refl, arith, get_or}
-use Rattle.kx_key_fields.proofs.TakenUp.{levels_go, levels_end, taken_at}
+use Rattle.kx_key_fields.proofs.LaterLists.{levels_go, levels_end, taken_at}
 use Rattle.kx_key_fields.proofs.levels.Levels.merge_copied.Goals as goal
 
 pub levels-preserved : goal.levels-preserved

@@ -1,4 +1,4 @@
--- The lists of a key that begin at the first group, and those that were taken up.
+-- The lists of a key that begin at the first group, and those that were merged.
 use Rattle.std.proofs.Common.{◌≡◌, ℕ, ◌-◌, false, cond, max, nat_lt, None, sym, ap, ◌∙◌, arith}
 use Rattle.std.proofs.lemmas.Bool.{le-ltb}
 use Rattle.kx_parse.specs.declared.tree.Mode.{Mode}

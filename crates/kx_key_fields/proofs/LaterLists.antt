@@ -1,4 +1,4 @@
--- Later levels and lists are taken up one by one.
+-- Later levels and lists are merged one by one.
 use Rattle.std.proofs.Common.{◌≡◌, ℕ, ◌+◌, ◌-◌, ◌<◌, ◌≤◌, Bool, true, false, cond, max, nat_eq, nat_lt, List, [], ◌∷◌, ◌++◌, ◌&&◌, not, length, replicate, get_or, zero, suc, slice_set, Option, None, Some, refl, sym, ap, ◌∙◌, arith}
 use Rattle.std.specs.Option.{option_and_then}
 use Rattle.std.specs.List.{slice_get}
@@ -11,14 +11,14 @@ use Rattle.kx_merge.specs.Offers.{is_replace, merged_value}
 use Rattle.kx_key_fields.specs.Lists.{Lists, level_at, level_in, level_of, list_at, widened_to, width_in, width_of}
 use Rattle.kx_key_fields.proofs.Moving.{set-other}
 
--- of later levels those before a place were taken up, and the others are still there
+-- of later levels those before a place were merged, and the others are still there
 pub record LevelsBehind {X : Type 0} (mode : Mode) (old other now left : List (Option X)) (place : ℕ) : Type 0 where
   pub sized : length left ≡ length other
   pub kept : (k : ℕ) → place ≤ k → level_at left k ≡ level_at other k
   pub long : length now ≡ max (length old) place
   pub levels : (k : ℕ) → level_at now k ≡ cond (nat_lt k place) (merged_value mode (level_at old k) (level_at other k)) (level_at old k)
 
--- where nothing is taken up, what is there stays
+-- where nothing is merged, what is there stays
 pub nothing_taken : {X : Type 0} (mode : Mode) (o : Option X) → is_replace mode ≡ false → merged_value mode o None ≡ o
 nothing_taken Augment None h = refl
 nothing_taken Augment (Some x) h = refl
@@ -68,7 +68,7 @@ module _ {X : Type 0} (mode : Mode) (old other : List (Option X)) where
       by true f = refl
       by false f = sym (ap (merged_value mode (level_at old k)) (level_past other k (let past = ltb-false k place f in omega (arith, past, all))) ∙ nothing_taken mode (level_at old k) strong)
 
--- later values are taken up from a place on, one by one
+-- later values are merged from a place on, one by one
 module _ {V : Type 0} (take : V → V → V) (nothing : V) (old other : ℕ → V) (from : ℕ) where
   abbrev inside : ℕ → ℕ → Bool
   inside place g = not (nat_lt g from) && nat_lt (g - from) place
@@ -179,7 +179,7 @@ put_widths lists group old later joined final is was long g = ap width_of (list_
     by true e = long ∙ ap (λ o. max (width_of o) (width_of later)) (was ∙ ap (list_at lists) (sym (eqb-true g group e)))
     by false e = refl
 
--- of later lists those before a place were taken up, and the others are still there
+-- of later lists those before a place were merged, and the others are still there
 pub record ListsBehind {X : Type 0} (mode : Mode) (from : ℕ) (old other now left : Lists X) (place : ℕ) : Type 0 where
   pub sized : length left ≡ length other
   pub kept : (k : ℕ) → place ≤ k → list_at left k ≡ list_at other k
