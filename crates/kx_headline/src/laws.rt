@@ -1,3 +1,4 @@
+//! What a source means is one thing at most.
 ghost use Rattle.std.specs.Prelude.{◌≡◌, List, ℕ};
 ghost use Rattle.ks_core.specs.Entry.{Entry};
 ghost use Rattle.kx_headline.specs.Played.{AnswersAs};

@@ -1,3 +1,4 @@
+//! From a source and events to replies.
 ghost use Rattle.std.specs.Prelude.{◌≡◌, ◌⊎◌, map, IfErr, IfOk};
 ghost use Rattle.kx_headline.specs.Played.{AnswersAs};
 ghost use Rattle.kx_lex.specs.declared.fault.Fault.TheVariants.{Memory};

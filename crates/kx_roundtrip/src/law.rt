@@ -1,3 +1,4 @@
+//! Printed text means the tables that were printed.
 ghost use Rattle.std.specs.Prelude.{◌≡◌, List, []};
 ghost use Rattle.ks_core.specs.Entry.{Entry};
 ghost use Rattle.kx_lex.specs.declared.fault.Fault.{Fault};

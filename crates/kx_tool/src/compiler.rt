@@ -1,3 +1,4 @@
+//! From a source to an image.
 ghost use Rattle.std.specs.Prelude.{◌≡◌, ◌⊎◌, IfErr, IfOk};
 ghost use Rattle.kx_image.specs.Image.{IsImage, image};
 ghost use Rattle.kx_image.specs.declared.header.ImageVersion.TheVariants.{Two};

@@ -1,3 +1,4 @@
+//! Why lines are answered no further.
 use kx_image::ImageFault;
 use kx_lex::Fault;
 use thiserror::Error;

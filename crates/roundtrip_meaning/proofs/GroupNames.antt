@@ -24,9 +24,9 @@ use Rattle.roundtrip_meaning.proofs.Offered.{shown_with, offers_shown, faults_sh
 use Rattle.roundtrip_meaning.proofs.Silent.{own_append3, IsSilent, silent_offers, silent_faults}
 use Rattle.roundtrip_meaning.proofs.Single.{AllOverride, value_here, value_past}
 use Rattle.roundtrip_text.specs.Source.{EachOf, NamedGroup, NameFits, NamesFit, named_from}
-use Rattle.roundtrip_tree.specs.Shows.{AreShown, IsItem, none, more}
+use Rattle.roundtrip_tree.specs.Shows.{AreShown, IsItem, none}
 use Rattle.roundtrip_meaning.proofs.Types.{placed}
-use Rattle.roundtrip_tree.specs.Source.{IsGroupName, IsNameItem, IsKeyItem, IsMapItem}
+use Rattle.roundtrip_tree.specs.Source.{IsGroupName, IsKeyItem, IsMapItem}
 
 -- ---- The statements
 
@@ -83,9 +83,6 @@ each_silent P place silent (i ∷ is) each = (silent i each.0, each_silent P pla
 all_override : (gs : List NamedGroup) → AllOverride nat_eq (map offer_of gs)
 all_override [] = tt
 all_override (g ∷ gs) = (refl, all_override gs)
-
-abbrev named : ℕ → List ℕ → List NamedGroup
-named n name = cond (length name == 0) [] (record { group = n; name = name } ∷ [])
 
 -- groups before them are not offered anything
 none_below : (k n : ℕ) (gs : List (List ℕ)) → k < n → list_any (is_about nat_eq k) (map offer_of (named_from n gs)) ≡ false
@@ -158,12 +155,6 @@ in_range n (g ∷ gs) some few each = by (length g == 0) (in_range (n + 1) gs (o
     by true rest = rest
     by false rest = ((some, omega (arith, few), each.0), rest)
 
-name_forms : (gs : List NamedGroup) (is : List Item) → AreShown (λ (g : NamedGroup) i. IsItem (IsGroupName g.group g.name) i) gs is → EachOf IsNameItem is
-name_forms [] [] none = tt
-name_forms [] (i ∷ is) are = elim are [ ]
-name_forms (g ∷ gs) [] are = elim are [ ]
-name_forms (g ∷ gs) (i ∷ is) (more one are) = (record { statement = one.statement; first = one.first; whole = one.whole; item_is = one.item_is; shows = record { group = g.group; name = g.name; is = one.shows } }, name_forms gs is are)
-
 module _ (place : Place) (gs : List (List ℕ)) (nis kis mis : List Item) (shown : AreShown (λ (g : NamedGroup) i. IsItem (IsGroupName g.group g.name) i) (named_from 1 gs) nis)
     (keys : EachOf IsKeyItem kis) (maps : EachOf IsMapItem mis) (fit : NamesFit gs) where
   abbrev pub symbols : Body
@@ -198,6 +189,3 @@ module _ (place : Place) (gs : List (List ℕ)) (nis kis mis : List Item) (shown
       ∙ faults_shown nat_eq name_rules name_moves IsFitItem tt place (λ g i is. faultless_one place.file g i is) (λ g i is. refl) (named_from 1 gs) nis (own_body place kis (own_body place mis End)) all_shown
       ∙ silent_faults name_rules nat_eq name_moves place tt kis (own_body place mis End) (each_silent IsKeyItem place (key_silent place) kis keys)
       ∙ silent_faults name_rules nat_eq name_moves place tt mis End (each_silent IsMapItem place (map_silent place) mis maps)
-
-  pub name_items : EachOf IsNameItem nis
-  name_items = name_forms (named_from 1 gs) nis shown

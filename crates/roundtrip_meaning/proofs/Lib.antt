@@ -3,7 +3,6 @@ pub mod Keycodes
 pub mod Single
 pub mod Alone
 pub mod Order
-pub mod Section
 pub mod Silent
 pub mod Offered
 pub mod Codes

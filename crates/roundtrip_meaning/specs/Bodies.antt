@@ -1,12 +1,11 @@
 -- Bodies without includes.
-use Rattle.std.specs.Prelude.{ℕ, List, [], ◌∷◌, ◌++◌, ◌≡◌, false, None, Ok}
+use Rattle.std.specs.Prelude.{ℕ, List, [], ◌∷◌, ◌++◌, ◌≡◌, false, Ok}
 use Rattle.std.specs.List.{list_any}
 use Rattle.kx_codes.specs.Pairs.{Pair, shares}
 use Rattle.kx_include.specs.Expansion.{Body, Own}
 use Rattle.kx_include.specs.declared.place.Place.{Place}
 use Rattle.kx_include.specs.Library.{Library}
 use Rattle.kx_parse.specs.declared.tree.Item.{Item}
-use Rattle.kx_parse.specs.declared.tree.Kind.{Kind}
 use Rattle.kx_parse.specs.declared.tree.Section.{Section}
 use Rattle.roundtrip_tree.specs.Shows.{IsItem, IsKeycode}
 
@@ -22,10 +21,6 @@ IsPair p item = IsItem (IsKeycode p.name p.code) item
 abbrev pub Fresh : List Pair → List Pair → Type 0
 Fresh ps [] = Unit {0}
 Fresh ps (q ∷ qs) = (list_any (shares q) ps ≡ false) × Fresh (ps ++ q ∷ []) qs
-
--- a section without flags and name, and a source of such sections alone
-abbrev pub section_of : Kind → List Item → Section
-section_of kind is = record { flags = []; kind = kind; name = None; items = is }
 
 abbrev pub alone : List Section → Library
 alone ss = record { names = []; texts = Ok (record { sections = ss }) ∷ [] }

@@ -1,14 +1,14 @@
 -- How printed blocks, fields and keys are read.
-use Rattle.std.proofs.Common.{◌≡◌, ℕ, ◌<◌, ◌^◌, true, List, [], ◌∷◌, ◌++◌, map, codes, refl, sym, subst, append-nil}
+use Rattle.std.proofs.Common.{◌≡◌, ℕ, ◌<◌, ◌^◌, true, List, [], ◌∷◌, codes, refl}
 use Rattle.std.specs.List.{list_all, flat_map}
 use Rattle.kx_basics.specs.KeyNames.{is_key_byte}
 use Rattle.kx_mods.specs.Mods.{mask}
-use Rattle.kx_print.specs.Phrases.{block, field_at, elements}
+use Rattle.kx_print.specs.Phrases.{block, field_at}
 use Rattle.kx_print.specs.Printed.{type_block, entry_lines, entries_of, modifier_map_line}
 use Rattle.roundtrip_text.specs.Slices.{Slice, Lexes, LexesBefore}
 use Rattle.roundtrip_text.proofs.Lexing.{nothing_lexes, then_lexes, before_lexes, then_before, weaker, key_name_lexes}
 use Rattle.roundtrip_text.proofs.Phrases.{marks_lex, printed_name_lexes, is_byte}
-use Rattle.roundtrip_text.specs.Spelled.{mark, mods_terms, entry_slices, block_slices, type_slices, field_at_slices, elements_slices, modifier_map_slices}
+use Rattle.roundtrip_text.specs.Spelled.{mods_terms, entry_slices, block_slices, type_slices, field_at_slices, modifier_map_slices}
 use Rattle.roundtrip_text.proofs.Lines.{is_text_word, one_word, before_before, mods_lex, setting_lexes, entry_lexes, levels_lex}
 use Rattle.kx_tables.specs.Content.{Content, type_name}
 use Rattle.kx_tables.specs.declared.rows.EntryRow.{EntryRow}
@@ -49,37 +49,6 @@ type_lexes c t fits =
 
 pub field_at_lexes : (w index value : List ℕ) (is ss : List Slice) → is_text_word w ≡ true → LexesBefore index is → LexesBefore value ss → LexesBefore (field_at w index value) (field_at_slices w is ss)
 field_at_lexes w index value is ss h li lv = before_before (one_word w h) refl (then_before (marks_lex (codes "[") refl) (before_before li refl (then_before (marks_lex (codes "]= ") refl) lv)))
-
--- a text and the tokens in it
-abbrev pub Lexeme : Type 0
-Lexeme = List ℕ × List Slice
-
-abbrev pub IsLexeme : Lexeme → Type 0
-IsLexeme p = LexesBefore p.0 p.1
-
-abbrev pub texts_of : List Lexeme → List (List ℕ)
-texts_of ps = map (λ (p : Lexeme). p.0) ps
-
-abbrev pub slices_of : List Lexeme → List (List Slice)
-slices_of ps = map (λ (p : Lexeme). p.1) ps
-
-others_lex : (ps : List Lexeme) → Each IsLexeme ps → LexesBefore (flat_map (λ o. codes ", " ++ o) (texts_of ps)) (flat_map (λ o. mark 44 ∷ o) (slices_of ps))
-others_lex [] no_more = weaker nothing_lexes
-others_lex (p ∷ ps) (and_more h hs) = by ps (then_before (marks_lex (codes ", ") refl) h) (others_lex ps hs)
-  where
-    by : (ps : List Lexeme) → LexesBefore (44 ∷ 32 ∷ p.0) (mark 44 ∷ p.1) → LexesBefore (flat_map (λ o. codes ", " ++ o) (texts_of ps)) (flat_map (λ o. mark 44 ∷ o) (slices_of ps))
-        → LexesBefore ((44 ∷ 32 ∷ p.0) ++ flat_map (λ o. codes ", " ++ o) (texts_of ps)) ((mark 44 ∷ p.1) ++ flat_map (λ o. mark 44 ∷ o) (slices_of ps))
-    by [] one rest = subst (λ bs. LexesBefore bs ((mark 44 ∷ p.1) ++ [])) (sym (append-nil (44 ∷ 32 ∷ p.0))) (subst (λ ss. LexesBefore (44 ∷ 32 ∷ p.0) ss) (sym (append-nil (mark 44 ∷ p.1))) one)
-    by (q ∷ qs) one rest = before_before one refl rest
-
-pub elements_lex : (p : Lexeme) (ps : List Lexeme) → IsLexeme p → Each IsLexeme ps → Lexes (elements (texts_of (p ∷ ps))) (elements_slices (slices_of (p ∷ ps)))
-elements_lex p ps h hs = then_lexes (marks_lex (codes "[ ") refl) (by ps (others_lex ps hs))
-  where
-    by : (ps : List Lexeme) → LexesBefore (flat_map (λ o. codes ", " ++ o) (texts_of ps)) (flat_map (λ o. mark 44 ∷ o) (slices_of ps)) → Lexes ((p.0 ++ flat_map (λ o. codes ", " ++ o) (texts_of ps)) ++ codes " ]") ((p.1 ++ flat_map (λ o. mark 44 ∷ o) (slices_of ps)) ++ mark 93 ∷ [])
-    by [] rest =
-        subst (λ bs. Lexes (bs ++ codes " ]") ((p.1 ++ []) ++ mark 93 ∷ [])) (sym (append-nil p.0))
-        (subst (λ ss. Lexes (p.0 ++ codes " ]") (ss ++ mark 93 ∷ [])) (sym (append-nil p.1)) (before_lexes h refl (marks_lex (codes " ]") refl)))
-    by (q ∷ qs) rest = before_lexes (before_before h refl rest) refl (marks_lex (codes " ]") refl)
 
 -- ---- Modifier maps
 

@@ -6,7 +6,6 @@ pub mod Tables
 pub mod TablesHold
 pub mod TablesLists
 pub mod Lines
-pub mod Bits
 pub mod Blocks
 pub mod Keysyms
 pub mod Actions

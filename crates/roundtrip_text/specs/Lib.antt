@@ -3,7 +3,6 @@ pub mod Rows
 pub mod Source
 pub mod Tables
 pub mod Spelled
-pub mod Bits
 pub mod KeyPhrases
 pub mod Keys
 pub mod ModifierMaps

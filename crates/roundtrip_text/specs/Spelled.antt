@@ -71,19 +71,8 @@ type_slices c t =
     block_slices (word (codes "type") ∷ text (type_name c t) ∷ [])
     (setting_slices (codes "modifiers") (mods_terms t.mods) ++ (flat_map entry_slices (entries_of c t) ++ levels_slices t.levels))
 
--- after the first, each with a comma
-abbrev pub comma_slices : List (List Slice) → List Slice
-comma_slices [] = []
-comma_slices (s ∷ ss) = s ++ flat_map (λ o. mark 44 ∷ o) ss
-
 abbrev pub field_at_slices : List ℕ → List Slice → List Slice → List Slice
 field_at_slices w index value = word w ∷ mark 91 ∷ (index ++ (mark 93 ∷ mark 61 ∷ value))
-
-abbrev pub elements_slices : List (List Slice) → List Slice
-elements_slices ss = mark 91 ∷ (comma_slices ss ++ mark 93 ∷ [])
-
-abbrev pub key_slices : List ℕ → List (List Slice) → List Slice
-key_slices name fields = word (codes "key") ∷ key name ∷ mark 123 ∷ (comma_slices fields ++ closed)
 
 abbrev pub modifier_map_slices : List ℕ → List ℕ → List Slice
 modifier_map_slices name modifier = word (codes "modifier_map") ∷ word modifier ∷ mark 123 ∷ key name ∷ mark 125 ∷ mark 59 ∷ []
