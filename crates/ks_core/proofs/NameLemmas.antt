@@ -1,57 +1,25 @@
 -- What names are made of.
-use Rattle.std.proofs.Common.{◌≡◌, ℕ, zero, suc, ◌<◌, ◌≤◌, Bool, true, false, ◌&&◌, ◌||◌, ◌==◌, not, nat_le, cond, None, Some, List, [], ◌∷◌, length, slice_index, drop, refl, arith, lit<}
+use Rattle.std.proofs.Common.{◌≡◌, ℕ, zero, suc, ◌<◌, ◌≤◌, true, ◌&&◌, not, nat_le, List, [], ◌∷◌, length, slice_index, arith, lit<}
 use Rattle.std.proofs.lemmas.Bool.{and_parts, leb-true}
 use Rattle.std.proofs.lemmas.Str.{IsUtf8-from_ascii}
 use Rattle.std.proofs.lemmas.Bool.Decides.{nat_tests}
-use Rattle.std.specs.Char.{digit_value, is_ascii_digit, is_ascii_hexdigit}
+use Rattle.std.specs.Char.{digit_value, is_ascii_hexdigit}
 use Rattle.std.specs.List.{list_all}
 use Rattle.std.specs.Str.{IsUtf8}
 use Rattle.std.specs.Str.Parse.{AllDigits}
 use Rattle.ks_core.specs.Lines.{is_given_name}
-use Rattle.ks_core.specs.Name.{is_word, is_word_start, is_word_byte, is_hex, is_hex_form, is_u_form, is_decimal}
+use Rattle.ks_core.specs.Name.{is_word, is_word_start, is_word_byte, is_hex, is_u_form}
 
 hex_value : (c : ℕ) → is_ascii_hexdigit c ≡ true → digit_value c < 16
 hex_value c h = grind (arith, nat_tests)
-
-decimal_value : (c : ℕ) → is_ascii_digit c ≡ true → digit_value c < 10
-decimal_value c h = grind (arith, nat_tests)
 
 pub AllDigits-hex : (ds : List ℕ) → list_all is_ascii_hexdigit ds ≡ true → AllDigits 16 ds
 AllDigits-hex [] h = tt
 AllDigits-hex (c ∷ cs) h = let parts = and_parts (is_ascii_hexdigit c) (list_all is_ascii_hexdigit cs) h in (hex_value c parts.0, AllDigits-hex cs parts.1)
 
-pub AllDigits-decimal : (ds : List ℕ) → list_all is_ascii_digit ds ≡ true → AllDigits 10 ds
-AllDigits-decimal [] h = tt
-AllDigits-decimal (c ∷ cs) h = let parts = and_parts (is_ascii_digit c) (list_all is_ascii_digit cs) h in (decimal_value c parts.0, AllDigits-decimal cs parts.1)
-
 pub AllDigits-is_hex : (most : ℕ) (ds : List ℕ) → is_hex most ds ≡ true → AllDigits 16 ds
 unfolding is_hex
 AllDigits-is_hex most ds h = AllDigits-hex ds (and_parts (nat_le 1 (length ds) && nat_le (length ds) most) (list_all is_ascii_hexdigit ds) h).1
-
-pub AllDigits-is_decimal : (ds : List ℕ) → is_decimal ds ≡ true → AllDigits 10 ds
-unfolding is_decimal
-AllDigits-is_decimal ds h = AllDigits-decimal ds (and_parts (nat_le 1 (length ds)) (list_all is_ascii_digit ds) h).1
-
-pub AllDigits-hex_form : (text : List ℕ) → is_hex_form text ≡ true → AllDigits 16 (drop 2 text)
-unfolding is_hex_form
-AllDigits-hex_form text h = AllDigits-is_hex 8 (drop 2 text) (and_parts ((slice_index text 0 == 48) && (slice_index text 1 == 120)) (is_hex 8 (drop 2 text)) h).1
-
-pub AllDigits-u_form : (text : List ℕ) → is_u_form text ≡ true → AllDigits 16 (drop 1 text)
-unfolding is_u_form
-AllDigits-u_form text h = AllDigits-is_hex 6 (drop 1 text) (and_parts (slice_index text 0 == 85) (is_hex 6 (drop 1 text)) h).1
-
--- a value exactly where a test passes
-pub some_if : {X : Type 0} (b : Bool) (x y : X) → Some y ≡ cond b (Some x) None → (b ≡ true) × (y ≡ x)
-some_if true x y h = (refl, cc)
-some_if false x y h = cc
-
-pub none_if : {X : Type 0} (b : Bool) (x : X) → None ≡ cond b (Some x) None → b ≡ false
-none_if true x h = cc
-none_if false x h = refl
-
-pub or_left : (a b : Bool) → (a || b) ≡ true → b ≡ false → a ≡ true
-or_left true b h free = refl
-or_left false b h free = cc
 
 word_byte-ascii : (c : ℕ) → is_word_byte c ≡ true → c < 128
 word_byte-ascii c h = grind (arith, nat_tests)

@@ -1,5 +1,5 @@
 -- Lines that are read in turn.
-use Rattle.std.proofs.Common.{◌≡◌, ℕ, ◌+◌, ◌<◌, ◌≤◌, Bool, true, false, ◌&&◌, not, cond, List, [], ◌∷◌, ◌++◌, ◌⊎◌, inl, inr, length, Option, None, Some, is_some, refl, sym, ap, ap₂, subst, ◌∙◌, arith, append_assoc, append-nil, length-append}
+use Rattle.std.proofs.Common.{◌≡◌, ℕ, ◌+◌, ◌<◌, ◌≤◌, Bool, true, false, ◌&&◌, not, cond, List, [], ◌∷◌, ◌++◌, ◌⊎◌, inl, inr, length, Option, None, Some, is_some, refl, sym, ap, ap₂, subst, ◌∙◌, arith, append_assoc, length-append}
 use Rattle.std.proofs.Math.Seq.{take-append_seam, get_or-append_seam}
 use Rattle.std.proofs.lemmas.Bool.{and_parts, cases_lt}
 use Rattle.std.proofs.lemmas.List.Folds.{list_all-append}
@@ -8,7 +8,7 @@ use Rattle.std.specs.List.{list_all}
 use Rattle.std.specs.Option.{option_or}
 use Rattle.ks_core.specs.BuiltIn.{built_in}
 use Rattle.ks_core.specs.Entry.{Entry, keysym_in}
-use Rattle.ks_core.specs.Lines.{is_skipped, has_shape, is_given_name, is_number, name_part, value_part, number_in, entry_of, known_keysym, own_fault, fault_of_line, with_entry, given_after, given_by, fault_at, is_sound, AreFaultless, IsFirstFault}
+use Rattle.ks_core.specs.Lines.{is_skipped, has_shape, is_given_name, is_number, name_part, value_part, number_in, entry_of, known_keysym, own_fault, fault_of_line, with_entry, given_after, given_by, fault_at, is_sound, IsFirstFault}
 use Rattle.kx_basics.specs.Keysyms.{is_keysym}
 use Rattle.ks_core.specs.declared.fault.NameFault.{NameFault}
 use Rattle.ks_core.specs.declared.fault.NameFault.TheVariants.{LineShape, Value}
@@ -61,14 +61,6 @@ module _ (lines : List (List ℕ)) (number : ℕ) (given : List Entry) (line : L
       by : (index : ℕ) → (index < length h.done) ⊎ (length h.done ≤ index) → index < length h.done + 1 → fault_at lines index ≡ None
       by index (inl before) below = h.valid index before
       by index (inr at) below = let here : index ≡ number = omega (arith, h.counted) in rw here (fault_at-next ∙ none)
-
-pub ReadSoFar-faultless : (lines : List (List ℕ)) (number : ℕ) (given : List Entry) → ReadSoFar lines number given [] → AreFaultless lines
-ReadSoFar-faultless lines number given h =
-    let all = h.parted ∙ append-nil h.done in
-    record { none = λ index within. h.valid index (rw all at within) }
-
-pub ReadSoFar-given : (lines : List (List ℕ)) (number : ℕ) (given : List Entry) → ReadSoFar lines number given [] → given ≡ given_by lines
-ReadSoFar-given lines number given h = h.gave ∙ ap given_by (sym (h.parted ∙ append-nil h.done))
 
 -- ---- each name that is given is sound
 option_or-none : {X : Type 0} (a b : Option X) → option_or a b ≡ None → a ≡ None

@@ -10,7 +10,7 @@ use Rattle.kx_builder.proofs.Placing.{get_before, part_between, rows_length, spl
 use Rattle.kx_builder.proofs.Sounding.{valid_is_small, valid_is_sound}
 use Rattle.kx_builder.specs.Agreement.{ShowsSame}
 use Rattle.kx_builder.specs.Valid.{IsValid}
-use Rattle.kx_builder.specs.IndicatorMaps.{GroupNameIsValid, IndicatorIsValid, IndicatorMapsAreValid, IndicatorMapsFit, ResolvedIndicator, group_name_row, indicator_row, keymap_with, indicator_map_of_indicator, names_of_groups, names_of_indicators, with_indicators, with_indicator_maps}
+use Rattle.kx_builder.specs.IndicatorMaps.{GroupNameIsValid, IndicatorIsValid, IndicatorMapsAreValid, ResolvedIndicator, group_name_row, indicator_row, keymap_with, indicator_map_of_indicator, names_of_groups, names_of_indicators, with_indicators, with_indicator_maps}
 use Rattle.kx_builder.specs.Placed.{content_of_resolved, rows_behind, rows_of}
 use Rattle.kx_builder.specs.Resolved.{Resolved, keymap_of_resolved}
 use Rattle.kx_builder.proofs.Room.{flat_length, name_bytes, All_flat}
@@ -227,23 +227,3 @@ module _ (c : Content) (s : Sound c) (no_indicators : c.indicators ≡ []) (no_g
 pub tables_sound_with : (c : Content) (r : Resolved) (ds : List ResolvedIndicator) (gs : List (List ℕ)) → c ≡ content_of_resolved r → IsValid r → IndicatorMapsAreValid ds gs → Sound (with_indicator_maps c ds gs)
 tables_sound_with c r ds gs held valid indicator_maps =
     subst (λ d. Sound (with_indicator_maps d ds gs)) (sym held) (indicator_maps_sound (content_of_resolved r) (valid_is_sound r valid) refl refl (name_bytes r (valid_is_small r valid)) ds gs indicator_maps)
-
--- the names of what is valid fit
-pub indicator_maps_fit : (r : Resolved) (ds : List ResolvedIndicator) (gs : List (List ℕ)) → IsValid r → IndicatorMapsAreValid ds gs → IndicatorMapsFit (content_of_resolved r) ds gs
-indicator_maps_fit r ds gs valid indicator_maps =
-    let few : length (content_of_resolved r).names ≤ 17755905 = name_bytes r (valid_is_small r valid) in (
-      record {
-        lengths = All-weaker IndicatorIsValid (λ (d : ResolvedIndicator). length d.name < 2 ^ 16) (λ d holds. let h : length d.name ≤ 255 = holds.name_fits in omega (arith, h)) ds indicator_maps.each_indicator;
-        all = omega (arith, few, few_indicator_bytes);
-      },
-      record {
-        lengths = All-weaker GroupNameIsValid (λ (g : List ℕ). length g < 2 ^ 16) (λ g holds. let h : length g ≤ 255 = holds.name_fits in omega (arith, h)) gs indicator_maps.each_group;
-        all = omega (arith, few, few_indicator_bytes, few_group_bytes, length-append (content_of_resolved r).names (names_of_indicators ds));
-      },
-    )
-  where
-    few_indicator_bytes : length (names_of_indicators ds) ≤ 8160
-    few_indicator_bytes = omega (arith, indicator_maps.few_indicators, flat_length (λ (d : ResolvedIndicator). d.name) 255 ds (All-weaker IndicatorIsValid (λ (d : ResolvedIndicator). length d.name ≤ 255) (λ d holds. holds.name_fits) ds indicator_maps.each_indicator))
-
-    few_group_bytes : length (names_of_groups gs) ≤ 8160
-    few_group_bytes = omega (arith, indicator_maps.few_groups, flat_length (λ (g : List ℕ). g) 255 gs (All-weaker GroupNameIsValid (λ (g : List ℕ). length g ≤ 255) (λ g holds. holds.name_fits) gs indicator_maps.each_group))

@@ -1,3 +1,4 @@
+//! The builder of tables: what is pushed, in order.
 ghost use Rattle.std.specs.Prelude.{◌≡◌, ◌<◌, [], OnOk, OnErr, IfErr, IfOk, length, map, ⊤};
 ghost use Rattle.kx_builder.specs.Added.{TypeFits, KeyFits, GroupFits, CellFits};
 ghost use Rattle.kx_builder.specs.Agreement.{ShowsSame};

@@ -1,3 +1,4 @@
+//! Why something can't be pushed.
 ghost use Rattle.std.specs.Prelude.{◌≡◌};
 ghost use Rattle.kx_builder.specs.declared.fault.BuildFault.TheVariants.{Memory};
 

@@ -1,3 +1,4 @@
+//! Indicators and names of groups as rows.
 ghost use Rattle.std.specs.Prelude.{◌≡◌, ⊤, [], OnOk, IfErr, IfOk, length, map};
 ghost use Rattle.kx_builder.specs.Faults.{IsCause};
 ghost use Rattle.kx_builder.specs.IndicatorMaps.{NamesFit, indicator_of, with_group_names, with_indicators};

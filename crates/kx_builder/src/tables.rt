@@ -1,3 +1,4 @@
+//! Rows and their places, as they are built.
 ghost use Rattle.std.specs.Prelude.{◌≡◌, ◌+◌, ◌<◌, ◌≤◌, ◌^◌, [], IfOk, IfErr, OnOk, OnErr, length};
 ghost use Rattle.kx_builder.specs.Added.{TypeFits, KeyFits, CellFits, next_type, next_key, next_cell, with_type_row, with_key_row, with_group_row, with_cell_row, last_count};
 ghost use Rattle.kx_builder.specs.Faults.{IsCause};

@@ -1,13 +1,10 @@
 -- Where codes with names end.
-use Rattle.std.proofs.Common.{◌≡◌, ℕ, zero, suc, ◌+◌, ◌-◌, ◌<◌, ◌≤◌, arith, Bool, true, false, cond, ◌==◌, take, List, [], ◌∷◌, ◌++◌, Option, None, Some, All, IsSome, refl, sym, ap, ◌∙◌, subst}
+use Rattle.std.proofs.Common.{◌≡◌, ℕ, zero, suc, ◌+◌, ◌-◌, ◌<◌, ◌≤◌, arith, Bool, true, false, cond, ◌==◌, List, [], ◌∷◌, Option, None, Some, All, IsSome, refl, ap, ◌∙◌}
 use Rattle.std.proofs.lemmas.Bool.Decides.{nat_tests}
-use Rattle.std.proofs.lemmas.List.{take_more}
-use Rattle.std.proofs.lemmas.List.Elements.{All-head, All-push, All-tail, All-weaker}
-use Rattle.std.specs.List.{slice_get}
+use Rattle.std.proofs.lemmas.List.Elements.{All-head, All-tail}
 use Rattle.kx_basics.specs.declared.limits.TheConstants.{CODES}
 use Rattle.kx_codes.specs.Codes.{IsEnd}
 use Rattle.kx_codes.specs.Pairs.{Pair, name_in}
-use Rattle.kx_codes.proofs.Standing.{got_at, within_at}
 
 -- what is so of the pairs that were gone through, of all
 pub record Reached (end : ℕ) (done all : List Pair) : Type 0 where
@@ -28,13 +25,6 @@ unnamed_of end (p ∷ ps) above code le low = by (code == p.code) refl (unnamed_
 
 pub all_reached : (end : ℕ) (ps : List Pair) → Reached end ps ps → IsEnd end (name_in ps)
 all_reached end ps r = record { within = r.within; unnamed = unnamed_of end ps r.above; greatest = r.named }
-
--- one pair more, and where the codes with names end that it has by itself
-module _ (end : ℕ) (all : List Pair) (i : ℕ) (p : Pair) (is : slice_get all i ≡ Some p) (r : Reached end (take i all) all) where
-  one_more : (new : ℕ) → end ≤ new → (p.code < CODES → p.code < new) → All (λ q. q.code < CODES → q.code < new) (take (i + 1) all)
-  one_more new le low =
-      subst (All (λ q. q.code < CODES → q.code < new)) (sym (take_more all i p (within_at all i p is) ∙ ap (λ q. take i all ++ q ∷ []) (got_at all i p is)))
-      (All-push (λ q. q.code < CODES → q.code < new) (take i all) p (All-weaker (λ q. q.code < CODES → q.code < end) (λ q. q.code < CODES → q.code < new) (λ q h few. let less : q.code < end = h few in omega (arith, less, le)) (take i all) r.above) low)
 
 -- what doesn't grow at codes without a name is whole where the codes with names end
 module _ {X : Type 0} (f : ℕ → X) (end : ℕ) (name : ℕ → Option (List ℕ)) (is : IsEnd end name) (still : (code : ℕ) → name code ≡ None → f (code + 1) ≡ f code) where

@@ -5,7 +5,7 @@ use Rattle.std.proofs.lemmas.List.Sums.{fold_more}
 use Rattle.std.specs.List.{slice_get, list_any, AllByRecursion, IsDistinct}
 use Rattle.std.specs.Map.{keys_of}
 use Rattle.std.proofs.lemmas.Map.Keys.{IsDistinct-head, IsDistinct-tail}
-use Rattle.kx_codes.specs.Codes.{named, coded}
+use Rattle.kx_codes.specs.Codes.{coded}
 use Rattle.std.specs.Option.{option_or, option_map}
 use Rattle.std.specs.Str.{bytes_eq}
 use Rattle.std.proofs.lemmas.Bool.{false≢true}
@@ -187,11 +187,6 @@ pub put_new : (mode : Mode) (y : Indexed) (ps : List Pair) (p : Pair) → list_a
 put_new Augment y ps p none s = subst (λ b. Stands y (cond b ps (ps ++ p ∷ []))) (sym none) s
 put_new Override y ps p none s = subst (λ qs. Stands y (qs ++ p ∷ [])) (sym (without-none p ps none)) s
 put_new Replace y ps p none s = subst (λ qs. Stands y (qs ++ p ∷ [])) (sym (without-none p ps none)) s
-
--- the same over the entries of maps
-module _ {K : Type 0} (f : K → List ℕ) (es : List (K × ℕ)) (fs : List (ℕ × List ℕ)) where
-  abbrev pub shown : Indexed
-  shown = record { by_name = named f es; by_code = coded fs }
 
 -- maps of which the keys are distinct hold distinct pairs, where each name has one code
 none-coded : (es : List (ℕ × List ℕ)) (k : ℕ) → AllByRecursion (λ y. nat_eq k y ≡ false) (keys_of es) → list_any (λ q. nat_eq k q.code) (coded es) ≡ false

@@ -57,9 +57,6 @@ aliases_of body = map (λ (o : AliasOffer). (o.name, value_of bytes_eq (alias_of
 
 -- ---- Under names, for clauses and proofs
 
-abbrev pub said_offers : Mode → Option (Name × Name) → List AliasOffer
-said_offers mode a = option_map_or (λ a. alias_offer mode a.0.bytes a.1.bytes ∷ []) a []
-
 abbrev pub said_name_faults : ℕ → Span → Option (Name × Name) → List Fault
 said_name_faults file whole a = option_map_or (λ a. name_faults file whole a.0 ++ name_faults file whole a.1) a []
 

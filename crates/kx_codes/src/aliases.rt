@@ -53,7 +53,8 @@ fn read_item(
     item: &Item,
 ) -> Result<Vec<(ShortName, Single<AliasTarget>)>, Fault>
     ensures records { IfOk result (λ records.
-        AreOffered (mode_of item.now) single_cell single_width records.items (item_offers item.now)) }
+        AreOffered (mode_of item.now) single_cell single_width records.items
+        (item_offers item.now)) }
     ensures faults { ReportsOrRunsOut result (item_name_faults file item.now) }
 {
     match item {

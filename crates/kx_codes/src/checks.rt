@@ -1,3 +1,4 @@
+//! The faults of keycodes statements.
 ghost use Rattle.std.specs.Prelude.{◌≡◌, IfOk};
 ghost use Rattle.kx_codes.specs.CodeFaults.{code_faults, is_limit};
 ghost use Rattle.kx_merge.specs.Faults.{name_faults};

@@ -1,3 +1,4 @@
+//! Which pairs are left, offer by offer.
 ghost use Rattle.kx_codes.specs.Left.{IsLeft, offers_of};
 ghost use Rattle.kx_codes.specs.Pairs.{Pair, code_in, name_in, pairs_of};
 ghost use Rattle.kx_include.specs.Expansion.{Body};

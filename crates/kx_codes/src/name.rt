@@ -1,3 +1,4 @@
+//! Names of keys, as aliases and statements have them.
 ghost use Rattle.std.specs.Prelude.{◌≡◌, IfErr, IfOk};
 ghost use Rattle.kx_lex.specs.declared.fault.Fault.TheVariants.{Memory};
 ghost use Rattle.kx_basics.specs.KeyNames.{IsKeyName};

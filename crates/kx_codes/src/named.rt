@@ -1,3 +1,4 @@
+//! The pairs that are left, by keycode.
 ghost use Rattle.std.specs.Prelude.{◌≡◌, [], ◌∷◌, ◌++◌, ◌≤◌, ◌<◌, ◌+◌, ℕ, slice_get, IfErr, IfOk, IfSome, IsSome, OnOk, List, Some, false};
 ghost use Rattle.std.specs.List.{list_any};
 ghost use Rattle.std.specs.Option.{option_map};

@@ -1,3 +1,4 @@
+//! Pairs of a name and a keycode, by number.
 ghost use Rattle.std.specs.Prelude.{◌≡◌, if◌then◌else◌, [], ℕ, nat_eq, slice_get, length, IfErr, IfOk, IfSome, OnOk, List, None, Some};
 ghost use Rattle.std.specs.List.{list_any};
 ghost use Rattle.std.specs.Option.{option_map};

@@ -1,3 +1,4 @@
+//! What the keycodes of a source leave: the public call.
 ghost use Rattle.std.specs.Prelude.{◌≡◌, ◌↔◌, ℕ, List, IfOk, Some};
 ghost use Rattle.kx_include.specs.Shared.{expanded_body};
 ghost use Rattle.kx_codes.specs.CodeFaults.{faults_of};

@@ -1,3 +1,4 @@
+//! What a single keycodes statement says.
 ghost use Rattle.std.specs.Prelude.{List, OnOk};
 ghost use Rattle.kx_codes.specs.CodeFaults.{own_faults, said_faults};
 ghost use Rattle.kx_codes.specs.Numbers.{Grows, IsOnce, StandsIn};

@@ -1,3 +1,4 @@
+//! Codes by name, and names by code.
 ghost use Rattle.std.specs.Prelude.{◌≡◌, map, IfSome};
 ghost use Rattle.std.specs.Option.{option_map};
 ghost use Rattle.kx_codes.specs.Aliases.{target_in};

@@ -1,3 +1,4 @@
+//! The walk over sections of keycodes and their includes.
 ghost use Rattle.std.specs.Prelude.{◌≡◌, ◌∷◌, [], ℕ, IfErr, List, None, OnOk};
 ghost use Rattle.kx_include.specs.Expansion.{Body, End, Inc};
 ghost use Rattle.kx_include.specs.Shared.{entries_body, expanded_body, links_body, shared_body, shared_sections};

@@ -1,3 +1,4 @@
+//! The handle of a follower.
 ghost use Rattle.std.specs.Prelude.{◌≡◌, MatchOption, None, Option, Some};
 ghost use Rattle.kx_run.specs.Player.{Followed};
 ghost use Rattle.kx_handles.specs.contracts.shared_follower.SharedFollower.{the_row};

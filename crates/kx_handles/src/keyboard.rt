@@ -1,3 +1,4 @@
+//! The handle of a keyboard.
 ghost use Rattle.std.specs.Prelude.{◌≡◌, MatchOption, None, Option, Some};
 ghost use Rattle.kx_run.specs.Player.{Played};
 ghost use Rattle.kx_handles.specs.contracts.shared_keyboard.SharedKeyboard.{the_row};

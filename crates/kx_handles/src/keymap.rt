@@ -1,3 +1,4 @@
+//! The handle of a keymap's tables.
 ghost use Rattle.std.specs.Prelude.{◌≡◌, MatchOption, None, Option, Some};
 ghost use Rattle.kx_tables.specs.Content.{Content};
 ghost use Rattle.kx_handles.specs.contracts.tables.SharedTables.{the_row};

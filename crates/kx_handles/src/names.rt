@@ -1,3 +1,4 @@
+//! The handle of names of keysyms.
 ghost use Rattle.std.specs.Prelude.{◌≡◌, List, MatchOption, None, Option, Some};
 ghost use Rattle.ks_core.specs.Entry.{Entry};
 ghost use Rattle.ks_core.specs.contracts.names.NameTable.{the_row};

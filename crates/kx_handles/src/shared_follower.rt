@@ -1,3 +1,4 @@
+//! Followers over tables with several owners.
 ghost use Rattle.std.specs.Prelude.{◌≡◌};
 ghost use Rattle.kx_tables.specs.Keymap.{keymap_of};
 ghost use Rattle.kx_run.specs.Replies.{lit_in, look_at, looked, status_in, told};

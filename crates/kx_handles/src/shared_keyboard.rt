@@ -1,3 +1,4 @@
+//! Keyboards over tables with several owners.
 ghost use Rattle.std.specs.Prelude.{◌≡◌, IfOk};
 ghost use Rattle.kx_tables.specs.Keymap.{keymap_of};
 ghost use Rattle.kx_run.specs.Laws.{IsBounded};

@@ -1,3 +1,4 @@
+//! Tables with several owners.
 ghost use Rattle.std.specs.Prelude.{◌≡◌, IfOk, IfErr};
 ghost use Rattle.kx_image.specs.Image.{IsImage, HasImageFault};
 ghost use Rattle.kx_handles.specs.declared.tables.OpenFault.{OpenFault};

@@ -1,20 +1,10 @@
 -- A table's records checked: the fault that names one of them is a fault of the bytes.
-use Rattle.std.proofs.Common.{ℕ, List, ◌≡◌, ◌+◌, None, Result, Ok, Err, OnOk, IfErr, arith, sym, subst, inl, inr}
-use Rattle.std.proofs.lemmas.Bool.{cases_lt}
+use Rattle.std.proofs.Common.{ℕ, List, ◌≡◌, None, Result, Ok, Err, OnOk, IfErr, sym, subst, inl}
 use Rattle.kx_tables.specs.declared.check.RecordKind.{RecordKind}
-use Rattle.kx_image.specs.Cut.{record_at}
 use Rattle.kx_image.specs.Image.{IsCanonical, HasImageFault, RecordGarbled, Garbled}
 use Rattle.kx_image.specs.Shape.{shape_fault}
 use Rattle.kx_image.specs.Canonical.{IsCanonicalTable, NamesGarbled}
 use Rattle.kx_image.specs.declared.fault.ImageFault.{ImageFault}
-
-pub writes_more : (is_canonical : List ℕ → Type 0) (size n start : ℕ) (s : List ℕ) → IsCanonicalTable is_canonical size n start s → is_canonical (record_at s start size n) → IsCanonicalTable is_canonical size (n + 1) start s
-writes_more is_canonical size n start s so_far here = record {
-  each = λ i lt. elim (cases_lt i n) [
-    | inl earlier ↦ so_far.each i earlier
-    | inr later ↦ let same : n ≡ i = omega arith in subst (λ (j : ℕ). is_canonical (record_at s start size j)) same here
-  ];
-}
 
 pub table_told : (is_canonical : List ℕ → Type 0) (size count start count' start' : ℕ) (s : List ℕ) (r : Result (Unit {0}) ImageFault) → count ≡ count' → start ≡ start' → OnOk r (IsCanonicalTable is_canonical size count start s) → OnOk r (IsCanonicalTable is_canonical size count' start' s)
 table_told is_canonical size count start count' start' s r count_is start_is told =

@@ -1,3 +1,4 @@
+//! Why bytes are no image.
 use kx_tables::RecordKind;
 use thiserror::Error;
 

@@ -1,3 +1,4 @@
+//! The header of an image.
 ghost use Rattle.std.specs.Prelude.{◌≡◌, ◌≤◌, ◌+◌, ◌*◌, None, Some, MatchResult, length};
 ghost use Rattle.kx_image.specs.Records as Records;
 ghost use Rattle.kx_image.specs.Shape as spec;

@@ -1,3 +1,4 @@
+//! From an image of any version to one of version 2.
 ghost use Rattle.kx_image.specs.Upgrade.{Upgrades};
 
 use crate::fault::ImageFault;

@@ -1,3 +1,4 @@
+//! From tables to the bytes of an image.
 ghost use Rattle.std.specs.Prelude.{◌≡◌};
 ghost use Rattle.std.specs.List.{flat_map};
 ghost use Rattle.ks_core.specs.Device.{Puts};

@@ -1,6 +1,5 @@
 -- Texts of files, read one after another.
 use Rattle.std.proofs.Common.{◌≡◌, ℕ, ◌+◌, ◌<◌, zero, suc, List, [], ◌∷◌, ◌++◌, length, take, Some, Ok, refl, ap, subst, arith}
-use Rattle.std.proofs.lemmas.List.{take_all}
 use Rattle.std.specs.List.{slice_get}
 use Rattle.kx_parse.specs.declared.tree.Tree.{Tree}
 use Rattle.kx_include.specs.Library.{Text}
@@ -24,6 +23,3 @@ read_more i tree files items text r within is =
     let same : i + 1 ≡ 1 + i = omega arith in
     let next : suc i ≡ i + 1 = omega arith in
     (r.0 ++ text ∷ [], ap (λ ts. ts ++ text ∷ []) r.1, subst (λ m. AreTexts 1 (take m files) (r.0 ++ text ∷ [])) next (one_more 1 i files r.0 text r.2 within (λ file found. subst (λ m. IsText m file.1 text) same (is file found))))
-
-pub all_read : (tree : Tree) (files : List (List ℕ × List ℕ)) (items : List Text) → AreRead (length files) tree files items → (rest : List Text) × (items ≡ Ok tree ∷ rest) × AreTexts 1 files rest
-all_read tree files items r = (r.0, r.1, subst (λ fs. AreTexts 1 fs r.0) (take_all (length files) files (omega arith)) r.2)

@@ -9,8 +9,8 @@ use Rattle.kx_include.specs.Library.{Library}
 use Rattle.kx_include.specs.Limits.{most_parts}
 use Rattle.kx_include.specs.Sharing.{AreKnown, Blames, Expands, Grows, bodies_of}
 use Rattle.kx_include.specs.declared.expansion.Map.{Map}
-use Rattle.kx_include.proofs.Knowing.{grows_none, grows_on, regrow}
-use Rattle.kx_include.proofs.Progress.{Left, left_all, left-step, left-none, fault-left, fault-first}
+use Rattle.kx_include.proofs.Knowing.{grows_on, regrow}
+use Rattle.kx_include.proofs.Progress.{Left, left-step, left-none, fault-left, fault-first}
 
 module _ (library : Library) (kind : Kind) {E X : Type 0} (found : ℕ → X → Findings) (Are : ℕ → List Body → List X → List E → Type 0) (Is : ℕ → List Body → X → E → Type 0) where
   pub record GoneAt (bodies : List Body) (seen count d : ℕ) (all left : List X) (made : List E) : Type 0 where
@@ -23,15 +23,6 @@ module _ (library : Library) (kind : Kind) {E X : Type 0} (found : ℕ → X →
     pub gone : (d : ℕ) → depth ≤ d → GoneAt (bodies_of new) seen count d all left made
     pub within : depth ≤ most
     pub few : count ≤ most_parts
-
-  pub gone_none : (most seen : ℕ) (ms : List Map) (all : List X) (made : List E) → made ≡ [] → seen ≤ most_parts → AreKnown library kind ms → Gone most seen ms ms all all made 0 seen
-  gone_none most seen ms all made none few are = subst (λ es. Gone most seen ms ms all all es 0 seen) (sym none) (record {
-    grown = grows_none ms;
-    known = are;
-    gone = λ d h. record { going = left_all seen (all_of (found d) all); joins = λ more rest are_rest. are_rest };
-    within = omega arith;
-    few = few;
-  })
 
   pub gone_fault : (most seen : ℕ) (old now : List Map) (all left : List X) (made : List E) (depth count : ℕ) (x : X) (rest : List X) (e : Fault) → left ≡ x ∷ rest → Gone most seen old now all left made depth count → Blames count (found most x) e → Blames seen (all_of (found most) all) e
   gone_fault most seen old now all left made depth count x rest e is gone (inl memory) = inl memory

@@ -1,3 +1,4 @@
+//! The bodies of a keymap, with what its includes name.
 ghost use Rattle.std.specs.Prelude.{◌≡◌, ◌+◌, ◌≤◌, ◌∷◌, [], ◌⊎◌, IfOk, IfErr, IfSome, OnOk, Some};
 ghost use Rattle.std.specs.Option.{option_map};
 ghost use Rattle.kx_include.specs.Bodies.{AreBodies, expansion_of};

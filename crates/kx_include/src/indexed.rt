@@ -1,3 +1,4 @@
+//! A text with the index of its maps.
 ghost use Rattle.std.specs.Prelude.{◌≡◌, IfOk, Some};
 ghost use Rattle.std.specs.Option.{option_map};
 ghost use Rattle.kx_include.specs.IncludeFaults.{fault_in};

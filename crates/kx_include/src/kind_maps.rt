@@ -1,3 +1,4 @@
+//! A section for each kind.
 ghost use Rattle.std.specs.Prelude.{◌≡◌, None};
 ghost use Rattle.kx_parse.specs.declared.tree.Kind.{Kind};
 ghost use Rattle.kx_include.specs.MapIndex.{number_in, with_map};

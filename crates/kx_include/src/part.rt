@@ -1,3 +1,4 @@
+//! The text of an include as parts.
 ghost use Rattle.std.specs.Prelude.{◌≡◌, ◌<◌, ◌≤◌, length, IfOk, IfSome};
 ghost use Rattle.std.specs.Option.{option_map};
 ghost use Rattle.kx_include.specs.IncludeText.{is_name_byte, is_number, name_len, group_number, ending, closing, behind_file, part_of, join_of, split, parts_of};

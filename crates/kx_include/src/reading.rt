@@ -1,3 +1,4 @@
+//! A source and its files as a library.
 ghost use Rattle.std.specs.Prelude.{◌≡◌, ◌⊎◌, IfOk, IfErr};
 ghost use Rattle.kx_include.specs.Source.{HasNoTree, HasTooManyFiles, IsRead};
 ghost use Rattle.kx_lex.specs.Reading.{whole_of};

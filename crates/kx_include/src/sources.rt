@@ -1,3 +1,4 @@
+//! The library: the source's tree, and the texts of the files.
 ghost use Rattle.std.specs.Prelude.{◌≡◌, ◌≤◌, ◌<◌, ◌⊎◌, map, length, slice_get, IfOk, IfErr, IfSome, Some, List, ℕ};
 ghost use Rattle.std.specs.Option.{option_map};
 ghost use Rattle.kx_lex.specs.declared.fault.Fault.TheVariants.{Memory, TooMany};

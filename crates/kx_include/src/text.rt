@@ -1,3 +1,4 @@
+//! The tree of a file, or why it has none.
 ghost use Rattle.std.specs.Prelude.{◌≡◌, ◌⊎◌, IfOk, IfErr, true, false};
 ghost use Rattle.kx_lex.specs.declared.fault.Fault.TheVariants.{Memory};
 ghost use Rattle.kx_include.specs.Texts.{IsTree, IsText, IsStop, in_file};

@@ -1,3 +1,4 @@
+//! The faults of sources, and where they stand.
 ghost use Rattle.std.specs.Prelude.{◌≡◌};
 ghost use Rattle.kx_lex.specs.declared.fault.Fault.TheVariants.{Memory};
 

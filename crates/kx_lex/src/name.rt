@@ -1,3 +1,4 @@
+//! Rows, names and numbers, of which trees are made.
 use crate::kept::Bytes;
 use crate::scan::are_key_bytes;
 use crate::token::Span;

@@ -1,3 +1,4 @@
+//! What text between quotes stands for.
 ghost use Rattle.std.specs.Prelude.{◌≡◌, ℕ, List, ◌∷◌, ◌++◌, IfOk};
 ghost use Rattle.kx_lex.specs.Strings.{text_value, escaped_byte, is_octal, octal_goes_on};
 ghost use Rattle.kx_lex.specs.declared.string.EscapeState.TheVariants.{Plain, Escaped, Octal};

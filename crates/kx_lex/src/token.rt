@@ -1,3 +1,4 @@
+//! Tokens, and the bytes that they take.
 use crate::keyword::Keyword;
 use std::fmt;
 

@@ -1,6 +1,5 @@
 -- Offers under augment, once more, change nothing, where nothing between them takes a value back.
-use Rattle.std.proofs.Common.{◌≡◌, ℕ, Bool, true, false, cond, max, List, [], ◌∷◌, ◌++◌, map, Option, None, Some, Result, Ok, Err, OnOk, refl, sym, ap, ◌∙◌, subst, arith}
-use Rattle.kx_lex.specs.declared.fault.Fault.{Fault}
+use Rattle.std.proofs.Common.{◌≡◌, ℕ, Bool, true, false, cond, max, List, [], ◌∷◌, ◌++◌, map, Option, None, Some, refl, sym, ap, ◌∙◌, subst, arith}
 use Rattle.std.proofs.lemmas.Bool.{false≢true, or_from}
 use Rattle.std.specs.Cmp.{IsEquivalence}
 use Rattle.std.specs.List.{list_any}
@@ -102,11 +101,6 @@ module _ {K C V : Type 0} where
     weak_moved None os weak = weak
     weak_moved (Some n) [] no_offer = no_offer
     weak_moved (Some n) (o ∷ os) (an_offer one rest) = weak-both (option_map_or (λ k. moved_to moves n o k ∷ []) (moves.key n o.name) []) (moved moves (Some n) os) (weak-at n o one (moves.key n o.name)) (weak_moved (Some n) os rest)
-
--- what holds, holds of an answer
-pub on_ok : {X P : Type 0} (r : Result X Fault) → P → OnOk r P
-on_ok (Ok x) p = p
-on_ok (Err e) p = tt
 
 -- records that are read under a mode
 pub offered_gentle : {K C V R : Type 0} {cell : R → C → Option V} {width : R → ℕ → ℕ} (mode : Mode) (rs : List (K × R)) (os : List (Offer K C V)) → is_replace mode ≡ false → AreOffered mode cell width rs os → AreGentle os

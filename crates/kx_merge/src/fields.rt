@@ -1,3 +1,4 @@
+//! What a kind of statement gives records: the trait of each kind.
 ghost use Rattle.std.specs.Prelude.{◌≡◌, ℕ, true, Option, None, Some, IfOk, IfErr, OnOk};
 ghost use Rattle.kx_merge.specs.Records.{AreOffered, mode_of};
 ghost use Rattle.kx_lex.specs.declared.fault.Fault.TheVariants.{Memory};

@@ -1,3 +1,4 @@
+//! The walk over a body and its includes.
 ghost use Rattle.std.specs.Prelude.{◌≡◌, ◌+◌, ◌<◌, ◌^◌, [], List, IfOk, OnOk, IfErr, IsTrue, Some, ℕ, false, true, if◌then◌else◌};
 ghost use Rattle.kx_include.specs.Expansion.{Body, End};
 ghost use Rattle.kx_include.specs.Shared.{bodies_behind, body_at, expanded_body, links_body, shared_body};

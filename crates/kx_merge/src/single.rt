@@ -59,7 +59,8 @@ pub trait SingleValue<C>: Drop {
         ensures { result ≡ moved_key (single_moves moved) group key.now };
 
     // No two records of a map that is moved become one.
-    ghost apart: { (n : ℕ) (j k to : Self.Key) → moved n j ≡ Some to → moved n k ≡ Some to → j ≡ k };
+    ghost apart: { (n : ℕ) (j k to : Self.Key)
+        → moved n j ≡ Some to → moved n k ≡ Some to → j ≡ k };
 
     // Keys that are equal are the same.
     ghost same: { (j k : Self.Key) → Self.Key.PartialEq.eq j k ≡ true → j ≡ k };

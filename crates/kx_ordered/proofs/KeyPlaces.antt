@@ -10,7 +10,7 @@ use Rattle.std.specs.Ordering.{is_eq, match_ordering}
 use Rattle.std.specs.declared.cmp.Ordering.{Ordering}
 use Rattle.std.specs.List.{AllByRecursion, IsDistinct, position, position_from}
 use Rattle.std.specs.Map.{keys_of, lookup}
-use Rattle.std.specs.Option.{option_and_then, option_map, option_or}
+use Rattle.std.specs.Option.{option_map, option_or}
 use Rattle.indexmap.specs.IndexMap.{insert_entry}
 use Rattle.kx_ordered.specs.KeyPlaces.{Respects, place_in, with_value}
 
@@ -94,11 +94,6 @@ module _ {K V : Type 0} (test : K → Bool) where
   place_kept [] i w = refl
   place_kept (e ∷ es) zero w = refl
   place_kept (e ∷ es) (suc i) w = ap (λ o. cond (test e.0) (Some 0) (option_map suc o)) (place_kept es i w)
-
--- what is looked up is the value at the key's place
-pub looked_by_place : {K V : Type 0} (test : K → Bool) (es : List (K × V)) (o : Option ℕ) → o ≡ position test (keys_of es) → lookup test es ≡ option_and_then (λ i. option_map (λ e. e.1) (slice_get es i)) o
-looked_by_place test es None at = missing test es (sym (place_is test es) ∙ sym at)
-looked_by_place test es (Some i) at = found test es i (sym (place_is test es) ∙ sym at)
 
 -- where keys that are equal are those that `cmp` doesn't tell apart
 pub by_order : {K V : Type 0} (eq : K → K → Bool) (cmp : K → K → Ordering) → ((x y : K) → eq x y ≡ is_eq (cmp x y)) → (k : K) (es : List (K × V)) → place_in (is_at (cmp k)) es ≡ place_in (eq k) es

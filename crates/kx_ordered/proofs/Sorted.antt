@@ -6,10 +6,8 @@ use Rattle.std.proofs.lemmas.List.Sorted.{IsPartitionedBy-ltb, searchable_from_s
 use Rattle.std.specs.List.Sorted.{IsNonDecreasingBy, IsPartitionedBy, IsPartitionPoint, IsSortedByKey, IsStableByKey}
 use Rattle.std.specs.Map.{lookup}
 use Rattle.std.specs.Ordering.{is_eq, is_lt, ordering_index, ordering_reverse}
-use Rattle.std.specs.Str.{bytes_eq}
 use Rattle.std.specs.declared.cmp.Ordering.{Ordering}
 use Rattle.std.specs.declared.cmp.Ordering.TheVariants.{Less, Equal, Greater}
-use Rattle.kx_ordered.specs.Names.{name_cmp, name_cmp_ties, name_cmp_total}
 
 -- ---- A stable sort
 
@@ -113,7 +111,3 @@ module _ {K : Type 0} {eq : K → K → Bool} {cmp : K → K → Ordering} (tota
       by : (o : Option (K × V)) → value_at (λ k. cmp k key) o ≡ value_after eq key o
       by None = refl
       by (Some e) = ap (λ b. cond b (Some e.1) None) (key_test key e.0)
-
--- the same where a name is looked up by its key
-pub found_by : {V : Type 0} (key name : List ℕ) → key ≡ name → (es : List (List ℕ × V)) (i : ℕ) → IsSortedByKey (λ (e : List ℕ × V). e.0) name_cmp es → IsPartitionPoint (λ (e : List ℕ × V). is_lt (name_cmp e.0 key) ≡ true) (λ (e : List ℕ × V). is_lt (name_cmp e.0 key) ≡ false) es i → (o : Option (List ℕ × V)) → o ≡ slice_get es i → lookup (bytes_eq name) es ≡ value_after bytes_eq name o
-found_by {V} key name same es i sorted point o at = ap (λ n. lookup (bytes_eq n) es) (sym same) ∙ found name_cmp_total name_cmp_ties key es i sorted point o at ∙ ap (λ n. value_after bytes_eq n o) same

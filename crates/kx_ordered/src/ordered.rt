@@ -1,3 +1,4 @@
+//! Values by key, in order.
 ghost use Rattle.std.specs.Prelude.{◌≡◌, ℕ, Option, IfSome, ◌++◌, ◌∷◌, [], length, position, slice_get, IfOk, OnOk, IfErr, OnErr, None, Some, ◌<◌, if◌then◌else◌, unwrap_or};
 ghost use Rattle.std.specs.BTreeMap as tree;
 ghost use Rattle.std.specs.Option.{option_map, option_copied, option_copied_mut};

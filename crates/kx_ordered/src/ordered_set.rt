@@ -1,3 +1,4 @@
+//! Items, each once, in order.
 ghost use Rattle.std.specs.Prelude.{◌≡◌, [], OnOk, OnErr, IfErr};
 ghost use Rattle.indexmap.specs.IndexSet.{insert_key};
 

@@ -1,3 +1,4 @@
+//! Reading fields and blocks.
 ghost use Rattle.std.specs.Prelude.{◌≡◌, true};
 ghost use Rattle.kx_lex.specs.Gives.{Gives};
 ghost use Rattle.kx_parse.specs.Statements.{setting, bare_field, field, block_field, block, key_field, declared_mask, declaration, predicate, entry};

@@ -1,3 +1,4 @@
+//! Reading sections, sources and files.
 ghost use Rattle.std.specs.Prelude.{◌≡◌, ◌⊎◌, ℕ, List, IfOk, IfErr, is_some, true};
 ghost use Rattle.kx_lex.specs.declared.fault.At.{At as AtValue};
 ghost use Rattle.kx_lex.specs.declared.fault.Fault.{Fault as FaultValue};

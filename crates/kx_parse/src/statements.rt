@@ -1,3 +1,4 @@
+//! Reading statements.
 ghost use Rattle.std.specs.Prelude.{◌≡◌, ◌&&◌, ◌||◌, codes};
 ghost use Rattle.kx_lex.specs.Gives.{Gives};
 ghost use Rattle.kx_lex.specs.Kinds.{front, is_mark, is_word, is_number, is_text, is_key_name, is_keyword};

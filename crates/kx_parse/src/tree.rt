@@ -1,3 +1,4 @@
+//! The tree.
 use kx_lex::{Boxed, KeyName, Name, Number, Row, SmallRow, Span};
 
 /// A keysym as it is written: a name or a number.

@@ -1,3 +1,4 @@
+//! Reading expressions, calls and lists.
 ghost use Rattle.std.specs.Prelude.{◌≡◌, true};
 ghost use Rattle.kx_lex.specs.Gives.{Gives};
 ghost use Rattle.kx_lex.specs.Kinds.{front};

@@ -1,6 +1,5 @@
 -- The names whose bits are set, name by name.
-use Rattle.std.proofs.Common.{◌≡◌, ℕ, ◌+◌, ◌%◌, ◌/◌, ◌==◌, ◌<◌, ◌≤◌, cond, List, [], ◌∷◌, ◌++◌, Some, drop, length, get_or, slice_get, refl, sym, ap, ◌∙◌, subst, append_assoc, append-nil}
-use Rattle.std.proofs.Math.ListN.{drop_of_length-le}
+use Rattle.std.proofs.Common.{◌≡◌, ℕ, ◌+◌, ◌%◌, ◌/◌, ◌==◌, ◌<◌, cond, List, [], ◌∷◌, ◌++◌, Some, drop, length, get_or, slice_get, sym, ap, ◌∙◌, subst, append_assoc, append-nil}
 use Rattle.std.proofs.lemmas.Bool.{eq-eqb, ne_eqb}
 use Rattle.std.proofs.lemmas.Option.{slice_get-get_or}
 use Rattle.kx_print.specs.Masks.{chosen}
@@ -9,9 +8,6 @@ use Rattle.kx_print.proofs.Rows.{drop-at}
 -- of the names from an index on, those whose bits are set are still to be chosen
 pub record ChosenSoFar (all : ℕ) (bits : ℕ) (names : List (List ℕ)) (index : ℕ) (done : List (List ℕ)) : Type 0 where
   pub split : chosen all names ≡ done ++ chosen bits (drop index names)
-
-pub chosen_nothing : (bits : ℕ) (names : List (List ℕ)) → ChosenSoFar bits bits names 0 []
-chosen_nothing bits names = record { split = refl }
 
 chosen_more : (all bits : ℕ) (names : List (List ℕ)) (index : ℕ) (name : List ℕ) (done : List (List ℕ)) → slice_get names index ≡ Some name → ChosenSoFar all bits names index done
     → ChosenSoFar all (bits / 2) names (index + 1) (done ++ cond (bits % 2 == 1) (name ∷ []) [])
@@ -32,7 +28,3 @@ chosen_no all bits names index done within clear h =
     let more = chosen_more all bits names index name done (slice_get-get_or names index [] within) h in
     subst (λ ns. ChosenSoFar all (bits / 2) names (index + 1) ns) (append-nil done)
     (subst (λ b. ChosenSoFar all (bits / 2) names (index + 1) (done ++ cond b (name ∷ []) [])) (ne_eqb (bits % 2) 1 clear) more)
-
--- all names were gone over
-pub chosen_all : (all bits : ℕ) (names : List (List ℕ)) (index : ℕ) (done : List (List ℕ)) → length names ≤ index → ChosenSoFar all bits names index done → chosen all names ≡ done
-chosen_all all bits names index done past h = h.split ∙ ap (λ ns. done ++ chosen bits ns) (drop_of_length-le names past) ∙ append-nil done

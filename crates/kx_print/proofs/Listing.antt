@@ -4,7 +4,6 @@ use Rattle.std.proofs.lemmas.Grind.{flat_map-append}
 use Rattle.std.proofs.lemmas.List.{map-append}
 use Rattle.std.specs.List.{flat_map}
 use Rattle.ks_core.specs.BufferedOut.{Gathered, Writes}
-use Rattle.ks_core.proofs.BufferedOutLemmas.{writes_nothing}
 use Rattle.kx_print.specs.Phrases.{joined}
 use Rattle.kx_print.proofs.Rows.{take-at}
 use Rattle.kx_print.proofs.Writing.{◌⨟◌, rewritten}
@@ -30,9 +29,6 @@ module _ {D : Type 0} (written : D → Option (List ℕ)) (failures : D → ℕ)
   pub record Listed (mark : List ℕ) (d e : D) (p q : Gathered) (before : List ℕ) (pieces : List (List ℕ)) : Type 0 where
     pub told : Writes written failures d p e q (joined mark pieces)
     pub before_is : before ≡ lead mark pieces
-
-  pub listed_nothing : (mark : List ℕ) (d : D) (p : Gathered) → Listed mark d d p p [] []
-  listed_nothing mark d p = record { told = writes_nothing written failures d p; before_is = refl }
 
   -- some pieces more, which are not none
   pub listed_append : (mark : List ℕ) (d e f : D) (p q r : Gathered) (before : List ℕ) (pieces : List (List ℕ)) (y : List ℕ) (ys : List (List ℕ)) → Listed mark d e p q before pieces

@@ -3,7 +3,7 @@ use Rattle.std.proofs.Common.{ℕ, ◌≡◌, ◌<◌, ◌^◌, ◌==◌, ◌&&�
 use Rattle.std.proofs.Math.Path.{fun_ext}
 use Rattle.std.proofs.lemmas.Bool.{eqb-true, or_right}
 use Rattle.std.proofs.lemmas.Bool.Decides.{nat_tests}
-use Rattle.std.proofs.lemmas.Nat.Bits.{bit_at-lt, bit_at-zero, bit_at_or}
+use Rattle.std.proofs.lemmas.Nat.Bits.{bit_at-lt, bit_at_or}
 use Rattle.std.specs.Int.{bit_at}
 use Rattle.std.specs.List.{list_any}
 use Rattle.std.specs.Option.{option_map_or}
@@ -21,9 +21,6 @@ has_or a b r = ap (λ n. n == 1) (bit_at_or a b r) ∙ max_bits (bit_at a r) (bi
 
 pub mods_joined : (mods : Mods) (one other : ℕ) → mask mods < 2 ^ 8 → mask mods ≡ bit_or one other → mods ≡ mods_of (λ real. has one real || has other real)
 mods_joined mods one other small are = mods_is mods (λ real. has one real || has other real) small (λ r within. ap (λ n. has n r) are ∙ has_or one other r)
-
-pub none_at : (real : ℕ) → has 0 real ≡ false
-none_at real = ap (λ n. n == 1) (bit_at-zero real)
 
 -- ---- One modifier more at a code
 

@@ -8,7 +8,7 @@ use Rattle.std.specs.List.{list_any, remove}
 use Rattle.std.proofs.lemmas.Option.{get_or_from_slice_get, slice_get_within}
 use Rattle.std.proofs.lemmas.List.Sums.{sum_by-remove}
 use Rattle.std.proofs.Common.{SFits, w32, to_z, of_z}
-use Rattle.std.proofs.lemmas.Int.{ints, to_z-of_z, fits_signed_from_abs}
+use Rattle.std.proofs.lemmas.Int.{ints, to_z-of_z}
 use Rattle.std.proofs.lemmas.Grind.{common_steps}
 use Rattle.std.proofs.lemmas.List.Sums.{fold-append}
 use Rattle.std.proofs.lemmas.List.Folds.{fold-map}
@@ -354,13 +354,6 @@ small_group keys sound =
     let few = length-sound keys sound in
     let size = fold_size (pos 0) keys sound.sizes in
     small_abs (base_group keys) (omega arith)
-
-pub small_more : (keys : List HeldKey) (action : Action) → AreSound keys → action_size action ≤ 32 → SFits w32 (base_group_after action (base_group keys))
-small_more keys action sound size =
-    let few = length-sound keys sound in
-    let before = fold_size (pos 0) keys sound.sizes in
-    let after = base_group_after_size action (base_group keys) in
-    fits_signed_from_abs w32 (base_group_after action (base_group keys)) (omega arith)
 
 pub kept_small : (z group : ℤ) → IsSmall z → group ≡ z → to_z w32 (of_z w32 group) ≡ z
 kept_small z group small same = rw same (to_z-of_z w32 z small.fits)

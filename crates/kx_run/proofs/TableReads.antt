@@ -1,14 +1,13 @@
 -- What the rows of sound tables give a look-up.
 use Rattle.std.proofs.Common.{◌≡◌, ℕ, zero, suc, ◌+◌, ◌-◌, ◌<◌, ◌≤◌, ◌==◌, Bool, true, false, cond, List, [], ◌∷◌, length, take, drop, Option, Some, None, slice_get, refl, sym, ap, ◌∙◌, arith, pos, negsuc}
-use Rattle.std.specs.Prelude.{find, sum_by, IfSome}
+use Rattle.std.specs.Prelude.{find, sum_by}
 use Rattle.std.proofs.Common.{◌*◌, ◌^◌}
 use Rattle.std.proofs.lemmas.List.Sums.{sum_by-cons}
-use Rattle.kx_tables.specs.declared.rows.EntryRow.{EntryRow}
 use Rattle.std.proofs.lemmas.Int.{ints}
 use Rattle.std.proofs.lemmas.Bool.{eqb-true}
 use Rattle.kx_tables.proofs.Bounds.{groups_within}
 use Rattle.kx_tables.specs.Content.{Content, part, greatest_groups}
-use Rattle.kx_tables.specs.Keymap.{key_with, level_of, keymap_of}
+use Rattle.kx_tables.specs.Keymap.{key_with, keymap_of}
 use Rattle.kx_tables.specs.Sound.{Sound, KeyHolds, ActionHolds, GroupChangeHolds, EntryHolds}
 use Rattle.kx_tables.specs.declared.rows.Action.{Action}
 use Rattle.kx_tables.specs.declared.rows.Action.TheVariants as actions
@@ -138,11 +137,6 @@ pub few_groups : (c : Content) → Sound c → length c.groups < 2 ^ 32
 few_groups c sound =
     let few = few_groups_of c.keys (λ i k at. let holds : KeyHolds c i k = sound.keys i k at in holds.groups) in
     omega (arith, sound.counts.groups, sound.counts.keys)
-
--- the level that an entry chooses is one of the type's
-pub level_within : (entry : Option EntryRow) (levels : ℕ) → 1 ≤ levels → IfSome entry (λ e. 1 ≤ e.level) → IfSome entry (λ e. e.level ≤ levels) → level_of entry < levels
-level_within None levels many some most = many
-level_within (Some e) levels many some most = omega arith
 
 -- ---- indicators
 

@@ -1,3 +1,4 @@
+//! Events.
 /// What happens to a key in an event.
 #[derive(Clone, Copy, PartialEq, Eq, Debug)]
 pub enum Direction {

@@ -1,3 +1,4 @@
+//! A keyboard whose state is told from elsewhere.
 ghost use Rattle.std.specs.Prelude.{◌≡◌};
 ghost use Rattle.kx_tables.specs.Keymap.{keymap_of};
 ghost use Rattle.kx_run.specs.Replies.{answer, lit_in, look_at, looked, status_in, told};

@@ -1,3 +1,4 @@
+//! The state of a keyboard: what presses and releases make of it.
 ghost use Rattle.std.specs.Prelude.{◌≡◌, ◌<◌, ◌≤◌, false, IfOk, if◌then◌else◌};
 ghost use Rattle.std.specs.Int.RustNames.{bit_and};
 ghost use Rattle.kx_mods.specs.Mods.{mask};

@@ -1,3 +1,4 @@
+//! A keyboard over a keymap's tables.
 ghost use Rattle.std.specs.Prelude.{◌≡◌, ◌<◌, ◌≤◌, false, [], map, IfOk, OnOk, OnErr};
 ghost use Rattle.kx_tables.specs.Keymap.{Keymap, keymap_of};
 ghost use Rattle.kx_run.specs.Held.{action_size};

@@ -1,3 +1,4 @@
+//! What an event is answered.
 use arrayvec::ArrayVec;
 use kx_mods::Mods;
 

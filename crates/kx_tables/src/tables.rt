@@ -1,3 +1,4 @@
+//! What tables are to their readers: the traits.
 ghost use Rattle.std.specs.Prelude.{◌≡◌, ◌<◌, ◌≤◌, length, slice_get, Some, None, MatchOption, IfSome, ◌+◌};
 ghost use Rattle.kx_tables.specs.Content.{Content, counts_of, type_name, key_name, indicator_name, group_name, greatest_groups, part};
 ghost use Rattle.kx_tables.specs.Keymap.{key_with};

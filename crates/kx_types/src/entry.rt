@@ -1,3 +1,4 @@
+//! An entry of a key type.
 use kx_virtual_mods::NameSet;
 
 /// An entry of a key type.

@@ -1,10 +1,9 @@
 -- Names that are there stay there, and add nothing.
-use Rattle.std.proofs.Common.{◌≡◌, ℕ, ◌+◌, ◌≤◌, ◌<◌, Bool, true, false, cond, ◌||◌, List, [], ◌∷◌, ◌++◌, length, nat_lt, drop, get_or, refl, sym, ap, ◌∙◌, subst, arith}
-use Rattle.std.specs.List.{flat_map, list_any}
+use Rattle.std.proofs.Common.{◌≡◌, ℕ, ◌+◌, ◌≤◌, Bool, true, false, cond, ◌||◌, List, [], ◌∷◌, ◌++◌, length, nat_lt, refl, sym, ap, ◌∙◌, subst, arith}
+use Rattle.std.specs.List.{list_any}
 use Rattle.std.specs.Str.{bytes_eq}
 use Rattle.std.proofs.lemmas.Bool.Decides.{nat_tests}
 use Rattle.std.proofs.lemmas.List.Folds.{list_any-append}
-use Rattle.std.proofs.lemmas.List.Sums.{fold-append}
 use Rattle.std.proofs.lemmas.Slice.Eq.{bytes_eq-Decides}
 use mathlib.Core.Bool.{or-true}
 use Rattle.kx_lex.specs.declared.fault.Fault.TheVariants.{TooMany}
@@ -13,7 +12,6 @@ use Rattle.kx_merge.specs.Offers.{with_name}
 use Rattle.kx_parse.specs.declared.tree.Item.{Item}
 use Rattle.kx_virtual_mods.specs.Counted.{Said, Text, crossing, names_behind, names_with, whole_span, with_names}
 use Rattle.kx_virtual_mods.specs.Tallies.{HasAll, HasEach}
-use Rattle.kx_merge.proofs.Going.{drop_next}
 
 abbrev is_there : List Text → Text → Bool
 is_there there name = list_any (bytes_eq name) there
@@ -78,7 +76,3 @@ module _ (names : Item → List Text) where
   all_cross limit ks (said ∷ saids) has few =
       let same = each-adds ks (names said.1) has.0 in
       few_cross limit ks said saids (subst (λ xs. length xs ≤ limit) (sym same) few) ∙ ap (λ xs. crossing names limit xs saids) same ∙ all_cross limit ks saids has.1 few
-
--- what is left of some elements adds what the next one gives first
-pub with_next : {X : Type 0} (f : X → List Text) (ks : List Text) (xs : List X) (i : ℕ) (x : X) → i < length xs → x ≡ get_or xs i x → with_names (with_names ks (f x)) (flat_map f (drop (i + 1) xs)) ≡ with_names ks (flat_map f (drop i xs))
-with_next f ks xs i x within is = sym (ap (λ ys. with_names ks (flat_map f ys)) (drop_next xs i x within is) ∙ fold-append (with_name bytes_eq) ks (f x) (flat_map f (drop (i + 1) xs)))

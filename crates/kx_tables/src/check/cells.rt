@@ -1,3 +1,4 @@
+//! Cells: their numbers and actions.
 ghost use Rattle.std.specs.Prelude.{◌≡◌, ◌↔◌, IsTrue, OnOk, IfErr, length};
 ghost use Rattle.kx_tables.specs.Broken.{Breaks};
 ghost use Rattle.kx_tables.specs.SoFar.{CellsAre, CellNumbers, EachBelow};

@@ -1,3 +1,4 @@
+//! That no two names are the same.
 ghost use Rattle.std.specs.Prelude.{◌≡◌, ◌<◌, ◌≤◌, ◌+◌, ℕ, List, [], IfSome, IfNone, OnOk, IfErr, length, slice_get, slice_index, ◌^◌};
 ghost use Rattle.std.specs.Option.{option_map_or};
 ghost use Rattle.kx_tables.specs.Content.{type_name, key_name, indicator_name, part};

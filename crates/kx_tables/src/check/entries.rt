@@ -1,3 +1,4 @@
+//! Entries of key types.
 ghost use Rattle.std.specs.Prelude.{◌≡◌, ◌≤◌, ◌<◌, ◌+◌, ◌^◌, ◌↔◌, ℕ, IsTrue, OnOk, IfErr, Some, length, slice_get};
 ghost use Rattle.kx_tables.specs.Broken.{Breaks};
 ghost use Rattle.kx_tables.specs.SoFar.{EntryNumbers, EntriesBegin, EntriesLie};

@@ -1,3 +1,4 @@
+//! Groups of keys.
 ghost use Rattle.std.specs.Prelude.{◌≡◌, ◌↔◌, IsTrue, OnOk, IfErr, length};
 ghost use Rattle.kx_tables.specs.Broken.{Breaks};
 ghost use Rattle.kx_tables.specs.Content.{types_used};

@@ -1,3 +1,4 @@
+//! That no two records of a kind have one name.
 ghost use Rattle.std.specs.Prelude.{OnOk, IfErr};
 ghost use Rattle.kx_tables.specs.Broken.{Breaks};
 ghost use Rattle.kx_tables.specs.Content.{type_name, key_name, indicator_name};
