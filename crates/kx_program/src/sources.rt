@@ -58,23 +58,27 @@ fn hand_in(files: &mut Files, name: &str, bytes: Vec<u8>) -> Result<(), AllocErr
     }
 }
 
-/// The files that a source may include: those that are handed in, and after them those that were found, of which none keeps
-/// its bytes.
-pub(crate) fn files_of(
+/// The files that are handed in.
+pub(crate) fn handed_in(
     alloc: Global,
     included: &[Included],
     bytes: Vec<Vec<u8>>,
-    found: &mut [Found],
 ) -> Result<Files, AllocError> {
     let mut files = Files::new(alloc);
     for (file, bytes) in included.iter().zip(bytes) {
         hand_in(&mut files, file.name, bytes)?;
     }
-    for file in found {
-        let bytes = mem::replace(&mut file.bytes, Vec::new(alloc));
-        hand_in(&mut files, file.name.as_str(), bytes)?;
-    }
     Ok(files)
+}
+
+/// Adds the files that were found after those that are handed in; none of them keeps its bytes.
+pub(crate) fn add_found(files: &mut Files, found: &mut [Found]) -> Result<(), AllocError> {
+    for file in found {
+        let none = Vec::new(*file.bytes.allocator());
+        let bytes = mem::replace(&mut file.bytes, none);
+        hand_in(files, file.name.as_str(), bytes)?;
+    }
+    Ok(())
 }
 
 /// The files that a source may include, as texts: those that are handed in, and after them those that were found.
@@ -118,34 +122,18 @@ fn open_folders<'a>(
     Ok(folders)
 }
 
-/// The files that are handed in, as texts.
-fn handed_texts<'t, 'a: 't>(
-    alloc: Global,
-    included: &[Included<'a>],
-    handed: &'t [Vec<u8>],
-) -> Result<Vec<Text<'t>>, AllocError> {
-    let mut texts = Vec::new(alloc);
-    for (file, bytes) in included.iter().zip(handed.iter()) {
-        let name = file.name;
-        let path = file.path;
-        let bytes = bytes.as_slice();
-        texts.push(Text { name, path, bytes })?;
-    }
-    Ok(texts)
-}
-
 /// The files that a source's includes reach in folders. Where none are named, nothing is looked for.
 pub(crate) fn find<'a>(
     rt: &(impl FileSystem + AllocGlobal),
     includes: &Includes<'a>,
-    handed: &[Vec<u8>],
+    handed: &Files,
     source: &[u8],
 ) -> Result<Vec<Found>, Failure<'a>> {
     let folders = open_folders(rt, includes.folders.as_slice())?;
     if folders.is_empty() {
         return Ok(Vec::new(rt.alloc()));
     }
-    let files = handed_texts(rt.alloc(), includes.files.as_slice(), handed)?;
+    let files = texts_of(rt.alloc(), includes.files.as_slice(), &[], handed)?;
     let texts = Texts {
         source: Text {
             name: "",

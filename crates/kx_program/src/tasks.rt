@@ -2,7 +2,7 @@
 use crate::keeping::Kept;
 use crate::looking::{find_in_image, print_names, show_image};
 use crate::showing::{Shown, Warned};
-use crate::sources::{files_of, find, read, read_included, read_names, texts_of};
+use crate::sources::{add_found, find, handed_in, read, read_included, read_names, texts_of};
 use crate::usage::explain;
 use crate::words::{Includes, Task, task_in};
 use crate::writing::write_whole;
@@ -14,7 +14,7 @@ use kx_image::{UpgradeFault, View, upgrade};
 use kx_lex::Fault;
 use kx_noted::{Listed, warnings};
 use kx_print::print;
-use kx_tool::{Files, ReplayFault, SessionFault, compile, dump, replay, session};
+use kx_tool::{Files, ReplayFault, SessionFault, compile_once, dump, replay, session};
 use std::alloc::AllocError;
 use std::io;
 use std::rt::Files as FileSystem;
@@ -84,10 +84,10 @@ fn compile_to<'a>(
 ) -> Result<(), Failure<'a>> {
     let names = read_names(rt, names)?;
     let bytes = read(rt, path)?;
-    let included_bytes = read_included(rt, includes.files.as_slice())?;
-    let mut found = find(rt, includes, included_bytes.as_slice(), bytes.as_slice())?;
     let included = includes.files.as_slice();
-    let files = files_of(rt.alloc(), included, included_bytes, found.as_mut_slice())?;
+    let mut files = handed_in(rt.alloc(), included, read_included(rt, included)?)?;
+    let mut found = find(rt, includes, &files, bytes.as_slice())?;
+    add_found(&mut files, found.as_mut_slice())?;
     let texts = texts_of(rt.alloc(), included, found.as_slice(), &files)?;
     let texts = Texts {
         source: Text {
@@ -110,7 +110,7 @@ fn compile_texts<'a>(
     image: &'a str,
     is_quiet: bool,
 ) -> Result<(), Failure<'a>> {
-    match compile(rt.alloc(), texts.source.bytes, files, names) {
+    match compile_once(rt.alloc(), texts.source.bytes, files, names) {
         Ok((bytes, notes)) => {
             put_file(rt, image, bytes.as_slice())?;
             if !is_quiet && notes != Notes::new() {
@@ -170,7 +170,7 @@ fn answer_found<'a>(
     rt: &(impl FileSystem + Input + Print + Eprint + AllocGlobal),
     names: &NameTable,
     includes: &Includes<'a>,
-    handed: Vec<Vec<u8>>,
+    mut files: Files,
 ) -> Result<(), Failure<'a>> {
     let feed = match Ahead::read(rt.alloc(), Lent::new(rt.reader())) {
         Ok(feed) => feed,
@@ -179,10 +179,14 @@ fn answer_found<'a>(
         }
         Err(_) => return Err(Failure::Replay(ReplayFault::Read)),
     };
-    let mut found = find(rt, includes, handed.as_slice(), feed.source())?;
-    let included = includes.files.as_slice();
-    let files = files_of(rt.alloc(), included, handed, found.as_mut_slice())?;
-    let texts = texts_of(rt.alloc(), included, found.as_slice(), &files)?;
+    let mut found = find(rt, includes, &files, feed.source())?;
+    add_found(&mut files, found.as_mut_slice())?;
+    let texts = texts_of(
+        rt.alloc(),
+        includes.files.as_slice(),
+        found.as_slice(),
+        &files,
+    )?;
     answer_feed(rt, feed, names, texts.as_slice(), &files, includes)
 }
 
@@ -193,11 +197,10 @@ fn answer_source<'a>(
 ) -> Result<(), Failure<'a>> {
     let names = read_names(rt, names)?;
     let included = includes.files.as_slice();
-    let handed = read_included(rt, included)?;
+    let files = handed_in(rt.alloc(), included, read_included(rt, included)?)?;
     if !includes.folders.is_empty() {
-        return answer_found(rt, &names, includes, handed);
+        return answer_found(rt, &names, includes, files);
     }
-    let files = files_of(rt.alloc(), included, handed, &mut [])?;
     let texts = texts_of(rt.alloc(), included, &[], &files)?;
     let feed = Lent::new(rt.reader());
     answer_feed(rt, feed, &names, texts.as_slice(), &files, includes)

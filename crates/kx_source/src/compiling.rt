@@ -8,6 +8,7 @@ ghost use Rattle.kx_source.specs.Meaning.{keymap_in};
 ghost use Rattle.kx_source.specs.Source.{HasFault, HasFaultIn, HoldsAll, Means, statement_faults};
 ghost use Rattle.kx_tables.specs.Keymap.{keymap_of};
 
+use crate::leaving::{Ending, GivenBack, Left};
 use crate::parts::parts_of;
 use ks_core::{NameTable, Notes};
 use kx_codes::codes;
@@ -19,7 +20,7 @@ use kx_virtual_mods::ModNames;
 use std::alloc::Global;
 
 /// The tables of what the bodies say that a source and its files expand to, and what was passed over.
-fn tables_over(
+fn tables_over<E: Ending>(
     alloc: Global,
     library: &Library,
     names: &NameTable,
@@ -37,12 +38,18 @@ fn tables_over(
 {
     let codes = codes(alloc, &bodies.keycodes)?;
     let types = types(alloc, &bodies.types, modifiers)?;
-    let (parts, notes) = parts_of(alloc, bodies, names, modifiers, &codes, &types)?;
+    let (parts, notes) = parts_of::<E>(alloc, bodies, names, modifiers, &codes, &types)?;
+    E::end(codes);
+    E::end(types);
     Ok((Owned::from_sound(parts), notes))
 }
 
 /// The tables of what a source and its files say, and what was passed over.
-fn tables_of(alloc: Global, library: &Library, names: &NameTable) -> Result<(Owned, Notes), Fault>
+fn tables_of<E: Ending>(
+    alloc: Global,
+    library: &Library,
+    names: &NameTable,
+) -> Result<(Owned, Notes), Fault>
     ensures whole { OnOk result (IsWhole library.now) }
     ensures faultless { OnOk result (statement_faults names.now library.now ≡ []) }
     ensures holds { IfOk result (λ made. HoldsAll names.now library.now made.0) }
@@ -51,7 +58,10 @@ fn tables_of(alloc: Global, library: &Library, names: &NameTable) -> Result<(Own
 {
     let bodies = library.expand(alloc)?;
     let modifiers = ModNames::of(alloc, &bodies)?;
-    tables_over(alloc, library, names, &bodies, &modifiers)
+    let made = tables_over::<E>(alloc, library, names, &bodies, &modifiers);
+    E::end(bodies);
+    E::end(modifiers);
+    made
 }
 
 /// The tables of a source, and what was passed over: they hold the keys, with their names, that the source's statements
@@ -69,5 +79,25 @@ pub fn tables(
     ensures fault { IfErr result (λ e. (e ≡ Memory) ⊎ HasFault source.now files.now names.now e) }
 {
     let library = Library::of_source(alloc, source, files)?;
-    tables_of(alloc, &library, names)
+    tables_of::<GivenBack>(alloc, &library, names)
+}
+
+/// The same as [`tables`], for a program that ends soon after: what was read of the source isn't given back, but left to the
+/// system.
+///
+/// # Errors
+/// A fault of the source with its place, or `Memory`.
+pub fn tables_once(
+    alloc: Global,
+    source: &[u8],
+    files: &Files,
+    names: &NameTable,
+) -> Result<(Owned, Notes), Fault>
+    ensures means { IfOk result (λ made. Means source.now files.now names.now made.0) }
+    ensures fault { IfErr result (λ e. (e ≡ Memory) ⊎ HasFault source.now files.now names.now e) }
+{
+    let library = Library::of_source(alloc, source, files)?;
+    let made = tables_of::<Left>(alloc, &library, names);
+    Left::end(library);
+    made
 }

@@ -3,6 +3,7 @@
 
 mod compiling;
 mod keys;
+mod leaving;
 mod parts;
 
-pub use compiling::tables;
+pub use compiling::{tables, tables_once};

@@ -13,6 +13,7 @@ ghost use Rattle.kx_tables.specs.RawTables.{content_of};
 ghost use Rattle.kx_tables.specs.Sound.{Sound};
 
 use crate::keys::{MappedKeys, read_keys};
+use crate::leaving::Ending;
 use ks_core::{NameTable, Notes};
 use kx_codes::Codes;
 use kx_compat::{Interpretations, interpretations};
@@ -29,7 +30,7 @@ use std::alloc::Global;
 
 /// The tables of keys and types, with the indicators and the names of groups, and what was passed over. `stands` is what
 /// each virtual modifier stands for, by its number.
-fn lit_parts(
+fn lit_parts<E: Ending>(
     alloc: Global,
     bodies: &Bodies,
     modifiers: &ModNames,
@@ -62,12 +63,14 @@ fn lit_parts(
         group_names: &groups,
     };
     let made = resolve(alloc, read)?;
+    E::end(groups);
+    E::end(indicators);
     Ok(made)
 }
 
 /// The tables of keys and types, with what the keymap says besides by interpretations that are read, and what was passed
 /// over, these `passed` among it.
-fn standing_parts(
+fn standing_parts<E: Ending>(
     alloc: Global,
     bodies: &Bodies,
     modifiers: &ModNames,
@@ -99,7 +102,7 @@ fn standing_parts(
         interpretations,
         declared,
     )?;
-    let (parts, lost) = lit_parts(
+    let (parts, lost) = lit_parts::<E>(
         alloc,
         bodies,
         modifiers,
@@ -109,11 +112,12 @@ fn standing_parts(
         interpretations,
         stands.as_slice(),
     )?;
+    E::end(stands);
     Ok((parts, passed.saturating_add(lost)))
 }
 
 /// The tables of keys and types, with what the keymap says besides, and what was passed over in it.
-fn interpreted_parts(
+fn interpreted_parts<E: Ending>(
     alloc: Global,
     bodies: &Bodies,
     names: &NameTable,
@@ -132,7 +136,7 @@ fn interpreted_parts(
         (expanded_body bodies.now.symbols)) }
 {
     let (interpretations, passed) = interpretations(alloc, &bodies.compat, modifiers, names)?;
-    standing_parts(
+    let made = standing_parts::<E>(
         alloc,
         bodies,
         modifiers,
@@ -141,11 +145,13 @@ fn interpreted_parts(
         mapped,
         &interpretations,
         passed,
-    )
+    );
+    E::end(interpretations);
+    made
 }
 
 /// The tables of bodies whose codes and types are read, and what was passed over.
-pub(crate) fn parts_of(
+pub(crate) fn parts_of<E: Ending>(
     alloc: Global,
     bodies: &Bodies,
     names: &NameTable,
@@ -162,6 +168,10 @@ pub(crate) fn parts_of(
         (expanded_body bodies.now.symbols)) }
 {
     let mapped = read_keys(alloc, &bodies.symbols, codes, names, modifiers, types)?;
-    let (parts, lost) = interpreted_parts(alloc, bodies, names, modifiers, codes, types, &mapped)?;
-    Ok((parts, mapped.notes.saturating_add(lost)))
+    let (parts, lost) = interpreted_parts::<E>(
+        alloc, bodies, names, modifiers, codes, types, &mapped,
+    )?;
+    let notes = mapped.notes.saturating_add(lost);
+    E::end(mapped);
+    Ok((parts, notes))
 }

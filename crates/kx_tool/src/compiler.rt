@@ -14,9 +14,10 @@ use ks_core::{Keysym, Lent, NameTable, Notes};
 use kx_include::Files;
 use kx_lex::Fault;
 use kx_roundtrip::printed_means_itself;
-use kx_source::tables;
+use kx_source::{tables, tables_once};
 use kx_tables::{Owned, Tables};
 use std::alloc::Global;
+use std::mem;
 
 /// The image of tables, version 2.
 fn image_of(alloc: Global, tables: &Owned) -> Result<Vec<u8>, Fault>
@@ -67,4 +68,29 @@ pub fn compile(
     let (tables, notes) = tables(alloc, source, files, names)?;
     let image = image_of(alloc, &tables)?;
     Ok((image, notes))
+}
+
+/// The same as [`compile`], for a program that ends soon after: what was read of the source is left to the system.
+///
+/// # Errors
+/// A fault of the source with its place, or `Memory`.
+pub fn compile_once(
+    alloc: Global,
+    source: &[u8],
+    files: &Files,
+    names: &NameTable,
+) -> Result<(Vec<u8>, Notes), Fault>
+    ensures answers { IfOk result (λ made. (content : Content) → IsImage content made.0.items
+        → IsCompiled source.now files.now names.now (keymap_of content)) }
+    ensures image { IfOk result (λ made. (content : Content)
+        × IsWritten source.now files.now names.now content made.0.items) }
+    ensures fault { IfErr result (λ e. (e ≡ Memory) ⊎ HasFault source.now files.now names.now e) }
+    ensures printed { IfOk result (λ made. IsImageAgain source.now files.now made.0.items) }
+    ensures printed_memory { IfErr result (IsMemoryAlone source.now files.now) }
+{
+    read_printed_again(names);
+    let (tables, notes) = tables_once(alloc, source, files, names)?;
+    let bytes = image_of(alloc, &tables)?;
+    mem::forget(tables);
+    Ok((bytes, notes))
 }

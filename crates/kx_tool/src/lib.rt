@@ -16,7 +16,7 @@ mod source;
 mod state_text;
 mod tails;
 
-pub use compiler::compile;
+pub use compiler::{compile, compile_once};
 pub use dumping::dump;
 pub use fault::{ReplayFault, SessionFault};
 pub use input::MOST_BYTES;

@@ -1,3 +1,4 @@
+//! Rows that are pushed to a builder, and the tables that it makes.
 use kx_builder::{BuildFault, Builder, Indicator};
 use kx_mods::Mods;
 use kx_tables::{

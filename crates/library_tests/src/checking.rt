@@ -1,3 +1,4 @@
+//! Tables that are checked: sound ones, and those that break a rule.
 use kx_mods::Mods;
 use kx_tables::*;
 use std::alloc::{AllocError, Global};

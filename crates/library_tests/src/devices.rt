@@ -1,3 +1,4 @@
+//! Devices in memory, which are slow or fail, and what is put to them.
 use ks_core::{BufferedOut, Feed, Lent, MemFeed, MemOut, Out, put_all};
 use std::io;
 use std::io::{ErrorKind, Write};

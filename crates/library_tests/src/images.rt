@@ -1,3 +1,4 @@
+//! Images that are written, opened, cut and changed.
 mod desktop;
 mod full;
 mod slow;

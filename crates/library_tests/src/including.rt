@@ -1,3 +1,4 @@
+//! Includes: their parts, the files that they name, and the bodies that they expand to.
 use kx_include::{Bodies, Entry, Expansion, Files, Library, Link, Place, include_parts};
 use kx_lex::Fault;
 use kx_parse::{Kind, Mode};

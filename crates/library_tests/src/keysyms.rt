@@ -1,3 +1,4 @@
+//! Keysyms by their numbers, and counts of notes.
 use ks_core::{Keysym, Note, Notes};
 
 #[test]

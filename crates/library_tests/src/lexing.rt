@@ -1,3 +1,4 @@
+//! Tokens, and the rows and names that keep what is read of them.
 ghost use Rattle.kx_lex.specs.Kinds.{front, is_mark};
 ghost use Rattle.kx_lex.specs.Tokens.{mark, semicolon};
 

@@ -1,3 +1,4 @@
+//! Trees of texts.
 use kx_lex::{Fault, Span, lex};
 use kx_parse::{Item, Kind, Mode, Statement, Tree, parse};
 use std::alloc::Global;

@@ -8,7 +8,7 @@ use Rattle.kx_source.specs.Source.{HasFaultIn}
 use Rattle.kx_source.proofs.compiling.tables_of.Goals as goal
 
 pub returns-in_err-modifiers-clause-fault : goal.returns-in_err-modifiers-clause-fault
-returns-in_err-modifiers-clause-fault c =
+returns-in_err-modifiers-clause-fault g c =
     passed c.from_residual-in_err-modifiers.result (λ (e : Fault). (e ≡ Memory) ⊎ HasFaultIn c.args.names.now c.args.library.now e) c.in_err-modifiers.field-0.0 c.from_residual-in_err-modifiers.ensures.1
     (modifiers_refused c.args.names.now c.args.library.now c.in_ok-bodies.ensures.whole c.in_err-modifiers.field-0.0
     (subst (λ bodies. Contains (Memory ∷ modifier_faults bodies) c.in_err-modifiers.field-0.0) (bodies_same c.args.library.now c.in_ok-bodies.bodies c.in_ok-bodies.ensures.bodies) c.in_err-modifiers.ensures.faults.1))

@@ -14,20 +14,20 @@ use Rattle.kx_types.specs.Types.{types_faults}
 use Rattle.kx_source.proofs.compiling.tables_over.Goals as goal
 
 pub returns-in_err-codes-clause-fault : goal.returns-in_err-codes-clause-fault
-returns-in_err-codes-clause-fault c =
+returns-in_err-codes-clause-fault g c =
     passed c.from_residual.result (λ (e : Fault). (e ≡ Memory) ⊎ HasFaultIn c.args.names.now c.args.library.now e) c.in_err-codes.field-0.0 c.from_residual.ensures.1
     (keycodes_refused c.args.names.now c.args.library.now c.requires.whole c.in_err-codes.field-0.0
     (subst (λ body. Contains (Memory ∷ keycodes_faults body) c.in_err-codes.field-0.0) c.requires.bodies.keycodes c.in_err-codes.ensures.faults.1))
 
 pub returns-in_err-types-clause-fault : goal.returns-in_err-types-clause-fault
-returns-in_err-types-clause-fault c =
+returns-in_err-types-clause-fault g c =
     let same = modifiers_same c.args.library.now c.args.bodies.now c.requires.bodies c.args.modifiers.now c.requires.names in
     passed c.from_residual-in_err-types.result (λ (e : Fault). (e ≡ Memory) ⊎ HasFaultIn c.args.names.now c.args.library.now e) c.in_err-types.field-0.0 c.from_residual-in_err-types.ensures.1
     (types_refused c.args.names.now c.args.library.now c.requires.whole c.in_err-types.field-0.0
     (subst (λ fs. Contains (Memory ∷ fs) c.in_err-types.field-0.0) (λ i. types_faults (same i) (c.requires.bodies.types i)) c.in_err-types.ensures.faults.1))
 
 pub returns-in_err-parts-clause-fault : goal.returns-in_err-parts-clause-fault
-returns-in_err-parts-clause-fault c =
+returns-in_err-parts-clause-fault g c =
     let library = c.args.library.now in
     let names = c.args.names.now in
     let bodies = c.args.bodies.now in
@@ -42,23 +42,23 @@ returns-in_err-parts-clause-fault c =
     (subst (λ fs. Contains (Memory ∷ fs) c.in_err-parts.field-0.0) (parts_faults_same library bodies are m shows types types_show c.in_ok-codes.codes codes_show names) c.in_err-parts.ensures.faults.1))
 
 pub from_sound-requires : goal.from_sound-requires
-from_sound-requires c = c.in_ok-parts.ensures.sound
+from_sound-requires g c = c.in_ok-parts.ensures.sound
 
 pub returns-clause-keymap : goal.returns-clause-keymap
-returns-clause-keymap c =
+returns-clause-keymap g c =
     let are = c.requires.bodies in
     let codes_show = subst (CodesShow c.in_ok-codes.codes) are.keycodes c.in_ok-codes.ensures.shows in
     ap keymap_of c.from_sound.ensures
     ∙ made_keymap c.args.library.now c.args.bodies.now are c.args.modifiers.now c.requires.names c.in_ok-types.types c.in_ok-types.ensures.shows c.in_ok-codes.codes codes_show c.args.names.now (content_of c.in_ok-parts.parts) c.in_ok-parts.ensures.made
 
 pub returns-clause-holds : goal.returns-clause-holds
-returns-clause-holds c =
+returns-clause-holds g c =
     let are = c.requires.bodies in
     let codes_show = subst (CodesShow c.in_ok-codes.codes) are.keycodes c.in_ok-codes.ensures.shows in
     subst (HoldsAll c.args.names.now c.args.library.now) (sym c.from_sound.ensures) (made_holds c.args.library.now c.args.bodies.now are c.args.modifiers.now c.requires.names c.in_ok-types.types c.in_ok-types.ensures.shows c.in_ok-codes.codes codes_show c.args.names.now (content_of c.in_ok-parts.parts) c.in_ok-parts.ensures.made)
 
 pub returns-clause-faultless : goal.returns-clause-faultless
-returns-clause-faultless c =
+returns-clause-faultless g c =
     let library = c.args.library.now in
     let names = c.args.names.now in
     let bodies = c.args.bodies.now in
