@@ -1,9 +1,8 @@
--- How long a word is, as far as its bytes were seen.
-use Rattle.std.proofs.Common.{◌≡◌, ℕ, ◌+◌, List, length}
+-- How many bytes of a kind stand at the front of a text, as far as they were seen.
+use Rattle.std.proofs.Common.{◌≡◌, ℕ, ◌+◌, Bool, List, length}
 use Rattle.std.specs.List.{prefix_len}
-use Rattle.kx_lex.specs.Bytes.{is_word_byte}
 
--- so many bytes before what is left of a text stand in the word at its front
-pub record SoFar (bytes rest : List ℕ) (len : ℕ) : Type 0 where
-  pub word : len + prefix_len is_word_byte rest ≡ prefix_len is_word_byte bytes
+-- so many bytes before what is left of a text stand at its front
+pub record SoFar (has : ℕ → Bool) (bytes rest : List ℕ) (len : ℕ) : Type 0 where
+  pub run : len + prefix_len has rest ≡ prefix_len has bytes
   pub all : len + length rest ≡ length bytes

@@ -185,6 +185,10 @@ fn may_spell(word: &[u8]) -> bool
 pub(crate) fn keyword_of(word: &[u8]) -> Option<Keyword>
     ensures { result ≡ keyword_of word.now }
 {
+    // Most keywords are this one.
+    if word == b"key".as_slice() {
+        return Some(Keyword::Key);
+    }
     if may_spell(word) {
         spelled_in(word, of_length(word.len()))
     } else {

@@ -1,5 +1,5 @@
 //! From a text to its tokens.
-ghost use Rattle.std.specs.Prelude.{◌≡◌, ◌≢◌, ℕ, true, All, List, IsTrue, ◌+◌, ◌<◌, ◌≤◌, ◌^◌, ◌⊎◌, slice_index, false, length, IfOk, IfErr, OnOk, drop};
+ghost use Rattle.std.specs.Prelude.{◌≡◌, ◌≢◌, ℕ, Bool, true, All, List, IsTrue, ◌+◌, ◌<◌, ◌≤◌, ◌^◌, ◌⊎◌, slice_index, false, length, IfOk, IfErr, OnOk, drop};
 ghost use Rattle.std.specs.List.{list_all, prefix_len};
 ghost use Rattle.kx_basics.specs.KeyNames.{is_key_byte};
 ghost use Rattle.kx_lex.specs.Bytes.{is_word_byte, is_blank, is_not_line_feed};
@@ -42,44 +42,83 @@ pub enum Piece {
     OpenKeyName(usize),
 }
 
-fn short_word_len(bytes: &[u8]) -> usize
-    ensures exact { result ≡ prefix_len is_word_byte bytes.now }
-    ensures within { result ≤ length bytes.now }
-{
-    bytes.iter().take_while(|b| is_word_byte(**b)).count()
+/// A kind of bytes that stand one after another in a text.
+trait Run {
+    ghost has: { ℕ → Bool };
+
+    fn has(byte: u8) -> bool
+        ensures { result ≡ has byte };
 }
 
-/// Four bytes a turn, since most bytes of a text stand in words.
-fn word_len(bytes: &[u8]) -> usize
-    ensures exact { result ≡ prefix_len is_word_byte bytes.now }
+/// Those of a word.
+struct InWord;
+
+impl Run for InWord {
+    ghost has = { is_word_byte };
+
+    #[inline(always)]
+    fn has(byte: u8) -> bool {
+        is_word_byte(byte)
+    }
+}
+
+/// Blanks.
+struct Blanks;
+
+impl Run for Blanks {
+    ghost has = { is_blank };
+
+    #[inline(always)]
+    fn has(byte: u8) -> bool {
+        is_blank(byte)
+    }
+}
+
+/// Those of a line.
+struct InLine;
+
+impl Run for InLine {
+    ghost has = { is_not_line_feed };
+
+    #[inline(always)]
+    fn has(byte: u8) -> bool {
+        byte != b'\n'
+    }
+}
+
+fn short_run_len<R: Run>(bytes: &[u8]) -> usize
+    ensures exact { result ≡ prefix_len R.has bytes.now }
+    ensures within { result ≤ length bytes.now }
+{
+    bytes.iter().take_while(|b| R::has(**b)).count()
+}
+
+/// How many bytes of a kind stand at the front. Four bytes a turn, since most bytes of a text stand in words, comments and
+/// blanks.
+#[inline(always)]
+fn run_len<R: Run>(bytes: &[u8]) -> usize
+    ensures exact { result ≡ prefix_len R.has bytes.now }
     ensures within { result ≤ length bytes.now }
 {
     let mut len = 0;
     let mut rest = bytes;
     'fours: while let [first, second, third, fourth, left @ ..] = rest {
-        if !is_word_byte(*first) {
+        if !R::has(*first) {
             return len;
         }
-        if !is_word_byte(*second) {
+        if !R::has(*second) {
             return len + 1;
         }
-        if !is_word_byte(*third) {
+        if !R::has(*third) {
             return len + 2;
         }
-        if !is_word_byte(*fourth) {
+        if !R::has(*fourth) {
             return len + 3;
         }
         len += 4;
         rest = left;
     }
-    len + short_word_len(rest)
-}
-
-fn blank_len(bytes: &[u8]) -> usize
-    ensures exact { result ≡ prefix_len is_blank bytes.now }
-    ensures within { result ≤ length bytes.now }
-{
-    bytes.iter().take_while(|b| is_blank(**b)).count()
+    len + short_run_len::<R>(rest)
 }
 
 fn digit_len(bytes: &[u8]) -> usize
@@ -94,13 +133,6 @@ fn hex_len(bytes: &[u8]) -> usize
     ensures within { result ≤ length bytes.now }
 {
     bytes.iter().take_while(|b| b.is_ascii_hexdigit()).count()
-}
-
-fn line_len(bytes: &[u8]) -> usize
-    ensures exact { result ≡ prefix_len is_not_line_feed bytes.now }
-    ensures within { result ≤ length bytes.now }
-{
-    bytes.iter().take_while(|b| **b != b'\n').count()
 }
 
 fn key_len(bytes: &[u8]) -> usize
@@ -240,11 +272,11 @@ fn piece_at(bytes: &[u8]) -> Piece
         return Piece::End;
     };
     match start_of(*first) {
-        Start::Word => word_of(bytes, 1 + word_len(rest)),
+        Start::Word => word_of(bytes, 1 + run_len::<InWord>(rest)),
         Start::Digit => number_piece(bytes),
-        Start::Blank => Piece::Gap(1 + blank_len(rest)),
-        Start::Hash => Piece::Gap(1 + line_len(rest)),
-        Start::Slash if byte_at(rest, 0) == b'/' => Piece::Gap(1 + line_len(rest)),
+        Start::Blank => Piece::Gap(1 + run_len::<Blanks>(rest)),
+        Start::Hash => Piece::Gap(1 + run_len::<InLine>(rest)),
+        Start::Slash if byte_at(rest, 0) == b'/' => Piece::Gap(1 + run_len::<InLine>(rest)),
         Start::Slash | Start::Mark => Piece::Lexeme(TokenKind::Mark(*first), 1),
         Start::Quote => string_piece(rest),
         Start::Angle => key_name_piece(rest),

@@ -1,3 +1,4 @@
+//! What fields of key types say.
 use kx_virtual_mods::NameSet;
 
 /// What a field of a type says.
