@@ -2,8 +2,9 @@
 #![tactic(auto)]
 
 mod groups;
+mod noted;
 mod statements;
 mod warning;
 
-pub use groups::warnings;
+pub use noted::Noted;
 pub use warning::{Listed, Warning, Warnings};

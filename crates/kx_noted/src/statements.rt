@@ -1,8 +1,7 @@
 //! What is passed over in statements.
 use crate::warning::Warnings;
-use ks_core::{NameTable, Notes};
+use ks_core::Notes;
 use kx_actions::is_action_word;
-use kx_codes::Codes;
 use kx_explain::quoted;
 use kx_include::{Entry as MapEntry, Expansion, Map};
 use kx_lex::At;
@@ -10,15 +9,15 @@ use kx_parse::{
     BracePart, Call, Element, Entry, Field, Item, KeyField, KeyName, List, Setting, Statement,
     Symbol, Value,
 };
+use kx_source::ReadSource;
 use kx_symbols::symbol_keysym;
 use std::alloc::{AllocError, Global};
 
-/// By what names are known, and where each key was last given something.
+/// What was read of a source, what is said of it, and where each key was last given something.
 #[derive(Drop)]
-pub(crate) struct Reader<'n, 'c, 'l> {
+pub(crate) struct Reader<'a, 'l> {
     pub alloc: Global,
-    pub names: &'n NameTable,
-    pub codes: &'c Codes<'l>,
+    pub read: ReadSource<'a, 'l>,
     pub warnings: Box<Warnings>,
     /// By keycode.
     pub places: Vec<Option<At>>,
@@ -33,39 +32,41 @@ fn empty_places(alloc: Global, count: u16) -> Result<Vec<Option<At>>, AllocError
     Ok(places)
 }
 
-impl<'n, 'c, 'l> Reader<'n, 'c, 'l> {
+impl<'a, 'l> Reader<'a, 'l> {
     pub(crate) fn new(
         alloc: Global,
-        names: &'n NameTable,
-        codes: &'c Codes<'l>,
-    ) -> Result<Reader<'n, 'c, 'l>, AllocError> {
+        read: ReadSource<'a, 'l>,
+    ) -> Result<Reader<'a, 'l>, AllocError> {
         let warnings = Box::new(alloc, Warnings::new(alloc))?;
-        let places = empty_places(alloc, codes.end())?;
+        let places = empty_places(alloc, read.codes.end())?;
         Ok(Reader {
             alloc,
-            names,
-            codes,
+            read,
             warnings,
             places,
         })
     }
 }
 
-impl Reader<'_, '_, '_> {
+impl Reader<'_, '_> {
     fn note_symbol(&mut self, file: u32, symbol: &Symbol) -> Result<(), AllocError> {
-        let alloc = self.alloc;
         let Symbol::Word(word) = symbol else {
             return Ok(());
         };
+        if self.read.notes.keysyms == 0 {
+            return Ok(());
+        }
         let mut notes = Notes::new();
-        let _ = symbol_keysym(self.names, file, symbol, &mut notes);
+        let _ = symbol_keysym(self.read.names, file, symbol, &mut notes);
         if notes.keysyms == 0 {
             return Ok(());
         }
         let span = word.span;
         let name = quoted(word.bytes.as_slice());
-        let message = format!(in alloc; "no keysym is named {name}")?;
-        self.warnings.keysyms.add(At { file, span }, message)
+        let message = format_args!("no keysym is named {name}");
+        self.warnings
+            .keysyms
+            .add(self.alloc, At { file, span }, message)
     }
 
     fn note_call(&mut self, file: u32, call: &Call) -> Result<(), AllocError> {
@@ -114,13 +115,12 @@ impl Reader<'_, '_, '_> {
 
     /// Notes a key's name without a code; of another the place is kept. A place in the source stays.
     fn note_key(&mut self, file: u32, name: &KeyName) -> Result<(), AllocError> {
-        let alloc = self.alloc;
         let span = name.span();
         let at = At { file, span };
-        let Some(code) = self.codes.code_of(name.as_slice()) else {
+        let Some(code) = self.read.codes.code_of(name.as_slice()) else {
             let name = str::from_utf8(name.as_slice()).unwrap_or("");
-            let message = format!(in alloc; "no keycode is named <{name}>")?;
-            return self.warnings.keys.add(at, message);
+            let message = format_args!("no keycode is named <{name}>");
+            return self.warnings.keys.add(self.alloc, at, message);
         };
         if let Some(place) = self.places.get_mut(usize::from(code)) {
             *place = match *place {
@@ -141,7 +141,7 @@ impl Reader<'_, '_, '_> {
     fn note_entry(&mut self, file: u32, entry: &Entry) -> Result<(), AllocError> {
         match entry {
             Entry::Symbol(symbol) => self.note_symbol(file, symbol),
-            Entry::KeyName(name) if self.codes.code_of(name.as_slice()).is_none() => {
+            Entry::KeyName(name) if self.read.codes.code_of(name.as_slice()).is_none() => {
                 self.note_key(file, name)
             }
             Entry::KeyName(_) => Ok(()),

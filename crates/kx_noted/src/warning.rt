@@ -3,6 +3,7 @@ use kx_explain::quoted;
 use kx_lex::At;
 use kx_ordered::{Ordered, OwnedName};
 use std::alloc::{AllocError, Global};
+use std::fmt;
 
 /// So many warnings of a kind are said.
 pub const MOST_SHOWN: usize = 20;
@@ -30,8 +31,14 @@ impl Listed {
     }
 
     /// Adds a warning, which is said where there is room.
-    pub(crate) fn add(&mut self, at: At, message: String) -> Result<(), AllocError> {
+    pub(crate) fn add(
+        &mut self,
+        alloc: Global,
+        at: At,
+        message: impl fmt::Display + Drop,
+    ) -> Result<(), AllocError> {
         if self.shown.len() < MOST_SHOWN {
+            let message = format!(in alloc; "{message}")?;
             self.shown.push(Warning { at, message })?;
         } else {
             self.more = self.more.saturating_add(1);
@@ -100,8 +107,8 @@ impl Warnings {
             let word = quoted(word.as_slice());
             let places = idle.places;
             let noun = if places == 1 { "place" } else { "places" };
-            let message = format!(in alloc; "the action {word} has no effect ({places} {noun})")?;
-            listed.add(idle.first, message)?;
+            let message = format_args!("the action {word} has no effect ({places} {noun})");
+            listed.add(alloc, idle.first, message)?;
         }
         Ok(listed)
     }

@@ -3,7 +3,7 @@
 use kx_explain::{Explanation, Text, Texts, explain, place_of, plain_message, write_shown};
 use kx_lex::{At, Fault};
 use kx_noted::Listed;
-use kx_tool::locate;
+use kx_tool::{Position, locate};
 use std::alloc::Global;
 use std::fmt;
 use std::fmt::{Formatter, Write};
@@ -90,12 +90,57 @@ fn show_line<W: Write>(
 }
 
 /// The path of a text, and the line and column of a place in it.
-fn show_place<W: Write>(f: &mut Formatter<W>, text: Text, at: At) -> fmt::Result {
+fn show_position<W: Write>(f: &mut Formatter<W>, text: Text, position: Position) -> fmt::Result {
     let path = text.path;
-    let position = locate(text.bytes, at.span.start as usize);
     let line = position.line;
     let column = position.column;
     write!(f, "{path}:{line}:{column}")
+}
+
+/// The path of a text, and where a place stands in it.
+fn show_place<W: Write>(f: &mut Formatter<W>, text: Text, at: At) -> fmt::Result {
+    show_position(f, text, locate(text.bytes, at.span.start as usize))
+}
+
+/// A place whose position is known, from which those behind it in the same text are found.
+#[derive(Clone, Copy)]
+struct Known {
+    file: u32,
+    place: usize,
+    position: Position,
+}
+
+impl Known {
+    /// The start of the source.
+    fn new() -> Known {
+        Known {
+            file: 0,
+            place: 0,
+            position: Position { line: 1, column: 1 },
+        }
+    }
+
+    /// The position of a place in a text, which is known then.
+    fn find(&mut self, text: &[u8], at: At) -> Position {
+        let place = at.span.start as usize;
+        if at.file != self.file || place < self.place {
+            *self = Known {
+                file: at.file,
+                ..Known::new()
+            };
+        }
+        let passed = text.get(self.place..place).unwrap_or(&[]);
+        let further = locate(passed, passed.len());
+        if further.line == 1 {
+            self.position.column = self.position.column.saturating_add(passed.len());
+        } else {
+            let line = self.position.line.saturating_add(further.line - 1);
+            let column = further.column;
+            self.position = Position { line, column };
+        }
+        self.place = place;
+        self.position
+    }
 }
 
 /// The include that led to what is shown above.
@@ -139,9 +184,10 @@ pub struct Warned<'a> {
 
 impl fmt::Display for Warned<'_> {
     fn fmt<W: Write>(&self, f: &mut Formatter<W>) -> fmt::Result {
+        let mut known = Known::new();
         for warning in self.listed.shown.as_slice() {
             if let Some(text) = self.texts.text_of(warning.at.file) {
-                show_place(f, text, warning.at)?;
+                show_position(f, text, known.find(text.bytes, warning.at))?;
                 let message = warning.message.as_str();
                 writeln!(f, ": warning: {message}")?;
             }

@@ -12,7 +12,7 @@ use kx_failure::Failure;
 use kx_finding::Ahead;
 use kx_image::{UpgradeFault, View, upgrade};
 use kx_lex::Fault;
-use kx_noted::{Listed, warnings};
+use kx_noted::{Listed, Noted, Warnings};
 use kx_print::print;
 use kx_tool::{Files, ReplayFault, SessionFault, compile_once, dump, replay, session};
 use std::alloc::AllocError;
@@ -37,17 +37,8 @@ fn show_warnings(rt: &(impl Eprint + AllocGlobal), count: u32, listed: &Listed, 
     }
 }
 
-/// Shows on standard error where what was noted stands. Nothing is shown where memory is refused for that.
-fn show_notes(
-    rt: &(impl Eprint + AllocGlobal),
-    texts: Texts,
-    files: &Files,
-    names: &NameTable,
-    notes: Notes,
-) {
-    let Ok(warnings) = warnings(rt.alloc(), texts.source.bytes, files, names) else {
-        return;
-    };
+/// Shows on standard error where what was noted stands.
+fn show_notes(rt: &(impl Eprint + AllocGlobal), warnings: &Warnings, notes: Notes, texts: Texts) {
     show_warnings(rt, notes.keysyms, &warnings.keysyms, texts);
     show_warnings(rt, notes.keys, &warnings.keys, texts);
     show_warnings(rt, notes.types, &warnings.types, texts);
@@ -110,11 +101,12 @@ fn compile_texts<'a>(
     image: &'a str,
     is_quiet: bool,
 ) -> Result<(), Failure<'a>> {
-    match compile_once(rt.alloc(), texts.source.bytes, files, names) {
+    let mut noted = Noted::new(!is_quiet);
+    match compile_once(rt.alloc(), texts.source.bytes, files, names, &mut noted) {
         Ok((bytes, notes)) => {
             put_file(rt, image, bytes.as_slice())?;
-            if !is_quiet && notes != Notes::new() {
-                show_notes(rt, texts, files, names, notes);
+            if let Some(warnings) = &noted.warnings {
+                show_notes(rt, warnings, notes, texts);
             }
             print_notes(rt, notes)
         }
@@ -270,7 +262,8 @@ fn upgrade_image<'a>(
     }
 }
 
-/// Does what the words ask for.
+/// Does what the words ask for. What is read of a source that is compiled is left to the system, so the program is to end soon
+/// after.
 pub fn run<'a>(
     rt: &(impl FileSystem + Input + Print + Eprint + AllocGlobal),
     task: Task<'a>,
@@ -312,6 +305,7 @@ fn fail(rt: &impl Print, failure: Failure) -> u8 {
 
 /// Does what the words ask for, and answers the status to end with: 0, 1 where something is refused, 2 where the words
 /// are wrong, 3 where a file, the input or the output can't be used. The first word is the program's own name.
+/// Memory is left as by [`run`].
 pub fn run_words(
     rt: &(impl FileSystem + Input + Print + Eprint + AllocGlobal),
     words: &[String],

@@ -9,6 +9,7 @@ ghost use Rattle.kx_source.specs.Source.{HasFault, HasFaultIn, HoldsAll, Means, 
 ghost use Rattle.kx_tables.specs.Keymap.{keymap_of};
 
 use crate::leaving::{Ending, GivenBack, Left};
+use crate::observer::{Nobody, Observer};
 use crate::parts::parts_of;
 use ks_core::{NameTable, Notes};
 use kx_codes::codes;
@@ -20,12 +21,13 @@ use kx_virtual_mods::ModNames;
 use std::alloc::Global;
 
 /// The tables of what the bodies say that a source and its files expand to, and what was passed over.
-fn tables_over<E: Ending>(
+fn tables_over<'l, E: Ending, O: Observer>(
     alloc: Global,
     library: &Library,
     names: &NameTable,
-    bodies: &Bodies,
+    bodies: &Bodies<'l>,
     modifiers: &ModNames,
+    observer: &mut O,
 ) -> Result<(Owned, Notes), Fault>
     requires whole { IsWhole library.now }
     requires bodies { AreBodies library.now bodies.now }
@@ -38,17 +40,20 @@ fn tables_over<E: Ending>(
 {
     let codes = codes(alloc, &bodies.keycodes)?;
     let types = types(alloc, &bodies.types, modifiers)?;
-    let (parts, notes) = parts_of::<E>(alloc, bodies, names, modifiers, &codes, &types)?;
+    let (parts, notes) = parts_of::<E, O>(
+        alloc, bodies, names, modifiers, &codes, &types, observer,
+    )?;
     E::end(codes);
     E::end(types);
     Ok((Owned::from_sound(parts), notes))
 }
 
 /// The tables of what a source and its files say, and what was passed over.
-fn tables_of<E: Ending>(
+fn tables_of<E: Ending, O: Observer>(
     alloc: Global,
     library: &Library,
     names: &NameTable,
+    observer: &mut O,
 ) -> Result<(Owned, Notes), Fault>
     ensures whole { OnOk result (IsWhole library.now) }
     ensures faultless { OnOk result (statement_faults names.now library.now ≡ []) }
@@ -58,7 +63,7 @@ fn tables_of<E: Ending>(
 {
     let bodies = library.expand(alloc)?;
     let modifiers = ModNames::of(alloc, &bodies)?;
-    let made = tables_over::<E>(alloc, library, names, &bodies, &modifiers);
+    let made = tables_over::<E, O>(alloc, library, names, &bodies, &modifiers, observer);
     E::end(bodies);
     E::end(modifiers);
     made
@@ -79,25 +84,26 @@ pub fn tables(
     ensures fault { IfErr result (λ e. (e ≡ Memory) ⊎ HasFault source.now files.now names.now e) }
 {
     let library = Library::of_source(alloc, source, files)?;
-    tables_of::<GivenBack>(alloc, &library, names)
+    tables_of::<GivenBack, Nobody>(alloc, &library, names, &mut Nobody)
 }
 
 /// The same as [`tables`], for a program that ends soon after: what was read of the source isn't given back, but left to the
-/// system.
+/// system, once the observer was shown it.
 ///
 /// # Errors
 /// A fault of the source with its place, or `Memory`.
-pub fn tables_once(
+pub fn tables_once<O: Observer>(
     alloc: Global,
     source: &[u8],
     files: &Files,
     names: &NameTable,
+    observer: &mut O,
 ) -> Result<(Owned, Notes), Fault>
     ensures means { IfOk result (λ made. Means source.now files.now names.now made.0) }
     ensures fault { IfErr result (λ e. (e ≡ Memory) ⊎ HasFault source.now files.now names.now e) }
 {
     let library = Library::of_source(alloc, source, files)?;
-    let made = tables_of::<Left>(alloc, &library, names);
+    let made = tables_of::<Left, O>(alloc, &library, names, observer);
     Left::end(library);
     made
 }

@@ -4,6 +4,8 @@
 mod compiling;
 mod keys;
 mod leaving;
+mod observer;
 mod parts;
 
 pub use compiling::{tables, tables_once};
+pub use observer::{Observer, ReadSource};

@@ -14,6 +14,7 @@ ghost use Rattle.kx_tables.specs.Sound.{Sound};
 
 use crate::keys::{MappedKeys, read_keys};
 use crate::leaving::Ending;
+use crate::observer::{Observer, ReadSource};
 use ks_core::{NameTable, Notes};
 use kx_codes::Codes;
 use kx_compat::{Interpretations, interpretations};
@@ -150,14 +151,15 @@ fn interpreted_parts<E: Ending>(
     made
 }
 
-/// The tables of bodies whose codes and types are read, and what was passed over.
-pub(crate) fn parts_of<E: Ending>(
+/// The tables of bodies whose codes and types are read, and what was passed over. The observer is shown what was read.
+pub(crate) fn parts_of<'l, E: Ending, O: Observer>(
     alloc: Global,
-    bodies: &Bodies,
+    bodies: &Bodies<'l>,
     names: &NameTable,
     modifiers: &ModNames,
-    codes: &Codes,
+    codes: &Codes<'l>,
     types: &Types,
+    observer: &mut O,
 ) -> Result<(RawTables, Notes), Fault>
     ensures made { IfOk result (λ made.
         IsMade names.now modifiers.now (expanded_body bodies.now.compat)
@@ -172,6 +174,15 @@ pub(crate) fn parts_of<E: Ending>(
         alloc, bodies, names, modifiers, codes, types, &mapped,
     )?;
     let notes = mapped.notes.saturating_add(lost);
+    let read = ReadSource {
+        bodies,
+        names,
+        codes,
+        types,
+        keys: &mapped.keys,
+        notes,
+    };
+    observer.observe(alloc, read);
     E::end(mapped);
     Ok((parts, notes))
 }

@@ -14,7 +14,7 @@ use ks_core::{Keysym, Lent, NameTable, Notes};
 use kx_include::Files;
 use kx_lex::Fault;
 use kx_roundtrip::printed_means_itself;
-use kx_source::{tables, tables_once};
+use kx_source::{Observer, tables, tables_once};
 use kx_tables::{Owned, Tables};
 use std::alloc::Global;
 use std::mem;
@@ -70,15 +70,17 @@ pub fn compile(
     Ok((image, notes))
 }
 
-/// The same as [`compile`], for a program that ends soon after: what was read of the source is left to the system.
+/// The same as [`compile`], for a program that ends soon after: what was read of the source is left to the system, once the
+/// observer was shown it.
 ///
 /// # Errors
 /// A fault of the source with its place, or `Memory`.
-pub fn compile_once(
+pub fn compile_once<O: Observer>(
     alloc: Global,
     source: &[u8],
     files: &Files,
     names: &NameTable,
+    observer: &mut O,
 ) -> Result<(Vec<u8>, Notes), Fault>
     ensures answers { IfOk result (λ made. (content : Content) → IsImage content made.0.items
         → IsCompiled source.now files.now names.now (keymap_of content)) }
@@ -89,7 +91,7 @@ pub fn compile_once(
     ensures printed_memory { IfErr result (IsMemoryAlone source.now files.now) }
 {
     read_printed_again(names);
-    let (tables, notes) = tables_once(alloc, source, files, names)?;
+    let (tables, notes) = tables_once(alloc, source, files, names, observer)?;
     let bytes = image_of(alloc, &tables)?;
     mem::forget(tables);
     Ok((bytes, notes))

@@ -3,7 +3,7 @@ use Rattle.kx_tool.proofs.Written.{found_is_compiled}
 use Rattle.kx_tool.proofs.compiler.compile_once.Goals as goal
 
 pub returns-clause-image : goal.returns-clause-image
-returns-clause-image c = (
+returns-clause-image g c = (
   c.in_ok-tables.tables,
   record {
     image = c.in_ok-bytes.ensures.image;
@@ -13,7 +13,7 @@ returns-clause-image c = (
 )
 
 pub returns-clause-answers : goal.returns-clause-answers
-returns-clause-answers c = λ content found. found_is_compiled (returns-clause-image c).1 content found
+returns-clause-answers g c = λ content found. found_is_compiled (returns-clause-image g c).1 content found
 
 pub returns-clause-printed : goal.returns-clause-printed
-returns-clause-printed c = image_again _ _ _ c.read_printed_again.ensures.content _ _ (returns-clause-image c).1
+returns-clause-printed g c = image_again _ _ _ c.read_printed_again.ensures.content _ _ (returns-clause-image g c).1
