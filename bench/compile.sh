@@ -2,8 +2,9 @@
 # Compiles keymaps with `xkc compile`, the whole program, and with libxkbcommon where Debian's package libxkbcommon-dev is
 # installed: one of nearly 1 MiB and 4,096 keys, whose keysyms' names are built in; that of a desktop with three layouts,
 # where `xkbcli` (libxkbcommon-tools) is installed; the same desktop's by the include files of xkb-data, found by -I, where
-# these are installed; and a small one. Prints of both programs the median time of 21 runs
-# that are taken in turn, the instructions where valgrind is installed, and the most memory where /usr/bin/time is.
+# these are installed; and a small one. xkc is run with --quiet, since libxkbcommon shows no notes, and without it. Prints of
+# each the median time of 21 runs that are taken in turn, the instructions where valgrind is installed, and the most memory
+# where /usr/bin/time is.
 set -eu
 . "$(dirname "$0")/program.sh"
 awk 'BEGIN {
@@ -73,7 +74,7 @@ once() {
     times=$1
     shift
     start=$(date +%s%N)
-    "$@" > /dev/null
+    "$@" > /dev/null 2>&1
     stop=$(date +%s%N)
     echo $(((stop - start) / 1000)) >> "$times"
 }
@@ -95,17 +96,19 @@ told() {
 
 for input in $inputs; do
     echo "$input, $(wc -c < "$work/$input") bytes"
-    rm -f "$work/ours" "$work/theirs"
-    set -- "$program" compile --quiet "$work/$input" "$work/image"
+    rm -f "$work/ours" "$work/noted" "$work/theirs"
+    set -- "$work/$input" "$work/image"
     folder=
     if [ "$input" = files ]; then
         set -- "$@" -I "$data"
         folder=$data
     fi
     for turn in $(seq 21); do
-        once "$work/ours" "$@"
+        once "$work/ours" "$program" compile --quiet "$@"
+        once "$work/noted" "$program" compile "$@"
         [ -z "$libxkbcommon" ] || once "$work/theirs" "$libxkbcommon" "$work/$input" ${folder:+"$folder"}
     done
-    told '    xkc compile' "$work/ours" "$@"
+    told '    xkc compile --quiet' "$work/ours" "$program" compile --quiet "$@"
+    told '    xkc compile' "$work/noted" "$program" compile "$@"
     [ -z "$libxkbcommon" ] || told '    libxkbcommon' "$work/theirs" "$libxkbcommon" "$work/$input" ${folder:+"$folder"}
 done
