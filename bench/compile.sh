@@ -74,9 +74,13 @@ once() {
     times=$1
     shift
     start=$(date +%s%N)
-    "$@" > /dev/null 2>&1
+    "$@" > /dev/null
     stop=$(date +%s%N)
     echo $(((stop - start) / 1000)) >> "$times"
+}
+
+noted() {
+    "$program" compile "$@" 2> /dev/null
 }
 
 # told NAME TIMES COMMAND...: prints the median of the times, and the instructions and the memory of one more run
@@ -105,7 +109,7 @@ for input in $inputs; do
     fi
     for turn in $(seq 21); do
         once "$work/ours" "$program" compile --quiet "$@"
-        once "$work/noted" "$program" compile "$@"
+        once "$work/noted" noted "$@"
         [ -z "$libxkbcommon" ] || once "$work/theirs" "$libxkbcommon" "$work/$input" ${folder:+"$folder"}
     done
     told '    xkc compile --quiet' "$work/ours" "$program" compile --quiet "$@"
