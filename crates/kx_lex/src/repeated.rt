@@ -93,11 +93,27 @@ impl<R: Repeated> Repeated for AfterComma<R> {
     }
 }
 
+/// Reads one, and more behind commas, into a list without items.
+#[tactic(auto, using(crate::proofs::Rounds::read_lists))]
+fn read_sequence_into<'a, R: Repeated>(
+    start: Vec<R::Value>,
+    alloc: Global,
+    text: &[u8],
+    tokens: &'a [Token],
+) -> Parsed<'a, Row<R::Value>>
+    requires { start.items ≡ [] }
+    ensures { Gives result (sequence_read text.now (R.reading text.now) tokens.now) }
+{
+    let mut items = start;
+    let (first, rest) = R::read_next(alloc, text, tokens)?;
+    items.push(first)?;
+    read_behind::<AfterComma<R>>(items, alloc, text, rest)
+}
+
 /// Reads one, and more behind commas.
 ///
 /// # Errors
 /// The fault of the first that cannot be read, and [`Fault::Memory`] where a growth is refused.
-#[tactic(auto, using(crate::proofs::Rounds::read_lists))]
 pub fn read_sequence<'a, R: Repeated>(
     alloc: Global,
     text: &[u8],
@@ -105,10 +121,14 @@ pub fn read_sequence<'a, R: Repeated>(
 ) -> Parsed<'a, Row<R::Value>>
     ensures { Gives result (sequence_read text.now (R.reading text.now) tokens.now) }
 {
-    let (first, rest) = R::read_next(alloc, text, tokens)?;
-    let mut items = Vec::new(alloc);
-    items.push(first)?;
-    read_behind::<AfterComma<R>>(items, alloc, text, rest)
+    read_sequence_into::<R>(Vec::new(alloc), alloc, text, tokens)
+}
+
+/// So many items stand in a list at the most that this mark closes: one more than there are commas before the mark.
+fn room_before(close: u8, tokens: &[Token]) -> usize {
+    let listed = tokens.iter().take_while(|token| !is_mark(close, token));
+    let commas = listed.filter(|token| is_mark(b',', token)).count();
+    commas.saturating_add(1)
 }
 
 /// Reads none at the end or where the mark stands that closes the list, by its byte; else one, and
@@ -127,7 +147,8 @@ pub fn read_listed<'a, R: Repeated>(
     if !is_before_mark(close, tokens) {
         return Ok((Row::of(Vec::new(alloc)), tokens));
     }
-    read_sequence::<R>(alloc, text, tokens)
+    let items = Vec::with_capacity(alloc, room_before(close, tokens))?;
+    read_sequence_into::<R>(items, alloc, text, tokens)
 }
 
 /// Reads one, and more behind commas; one alone takes no allocation.

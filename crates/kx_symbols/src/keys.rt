@@ -63,7 +63,7 @@ fn one_record(alloc: Global, code: u16, key: KeyRecord) -> Result<Vec<(u16, KeyR
         → IfOk result (λ records. AreOffered mode (cell_in) (width_in_key) records.items (o ∷ [])) }
     ensures err { IfErr result (λ e. e ≡ Memory) }
 {
-    let mut records = Vec::new(alloc);
+    let mut records = Vec::with_capacity(alloc, 1)?;
     records.push((code, key))?;
     Ok(records)
 }
