@@ -15,7 +15,7 @@ use kx_lex::Fault;
 use kx_noted::{Listed, Noted, Warnings};
 use kx_print::print;
 use kx_tool::{Files, ReplayFault, SessionFault, compile_once, dump, replay, session};
-use std::alloc::AllocError;
+use std::alloc::{AllocError, Global};
 use std::io;
 use std::rt::Files as FileSystem;
 
@@ -65,6 +65,15 @@ fn print_notes<'a>(rt: &impl Print, notes: Notes) -> Result<(), Failure<'a>> {
     }
 }
 
+/// The greatest block of which glibc's `malloc` learns: see [`keep_on_heap`].
+const GREATEST_BLOCK: usize = 0x1ff_0000;
+
+/// Has blocks of up to 32 MiB come from the heap, where what is given back is used again: glibc's `malloc` maps a block of 128 KiB
+/// or more by itself, and unmaps it, until one as large was given back. The block isn't touched; nothing is lost without it.
+fn keep_on_heap(alloc: Global) {
+    let _: Result<Vec<u8>, AllocError> = Vec::with_capacity(alloc, GREATEST_BLOCK);
+}
+
 fn compile_to<'a>(
     rt: &(impl FileSystem + Print + Eprint + AllocGlobal),
     names: Option<&'a str>,
@@ -73,6 +82,7 @@ fn compile_to<'a>(
     includes: &Includes<'a>,
     is_quiet: bool,
 ) -> Result<(), Failure<'a>> {
+    keep_on_heap(rt.alloc());
     let names = read_names(rt, names)?;
     let bytes = read(rt, path)?;
     let included = includes.files.as_slice();
