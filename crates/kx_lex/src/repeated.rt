@@ -124,7 +124,8 @@ pub fn read_sequence<'a, R: Repeated>(
     read_sequence_into::<R>(Vec::new(alloc), alloc, text, tokens)
 }
 
-/// So many items stand in a list at the most that this mark closes: one more than there are commas before the mark.
+/// Room for what stands in a list that this mark closes: one more than there are commas before the
+/// first such mark. A list in which the mark also stands further in may want more, and grows.
 fn room_before(close: u8, tokens: &[Token]) -> usize {
     let listed = tokens.iter().take_while(|token| !is_mark(close, token));
     let commas = listed.filter(|token| is_mark(b',', token)).count();
