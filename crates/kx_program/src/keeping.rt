@@ -1,7 +1,7 @@
 //! A reader whose first bytes are kept.
 use ks_core::Feed;
-use kx_finding::source_in;
 use kx_lex::MOST_TEXT_BYTES;
+use kx_reach::source_in;
 use std::alloc::Global;
 use std::io;
 

@@ -3,7 +3,7 @@ use crate::words::{Included, Includes};
 use ks_core::NameTable;
 use kx_explain::{Text, Texts};
 use kx_failure::Failure;
-use kx_finding::{FindFault, Folder, Found, find_files, read_file};
+use kx_reach::{FindFault, Folder, Found, find_files, read_file};
 use kx_tool::Files;
 use std::alloc::{AllocError, Global};
 use std::mem;

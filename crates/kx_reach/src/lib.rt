@@ -1,14 +1,24 @@
-//! The texts of a keymap, their trees, and the maps that the source's includes reach among them.
+//! What a source's includes reach: maps among texts that were handed in, and files as they lie under folders.
 #![tactic(auto)]
 
+mod ahead;
 mod chain;
+mod folder;
+mod kinds;
 mod maps;
+mod pieces;
+mod reading;
+mod search;
 mod text;
 mod trees;
 mod walk;
+mod words;
 
+pub use ahead::{Ahead, source_in};
 pub use chain::{chain_to, is_in};
-pub use maps::kind_name;
+pub use folder::{Folder, read_file};
+pub use kinds::kind_name;
+pub use search::{FindFault, Found, find_files};
 pub use text::{Text, Texts, bytes_in, is_within};
 pub use trees::{Trees, holds, item_at, item_span};
 pub use walk::{MOST_PARTS, Origin, Reached, place_named, reached_from, reached_maps};

@@ -1,5 +1,5 @@
 //! The trees of texts.
-use crate::maps::full_name;
+use crate::kinds::full_name;
 use crate::text::{Text, Texts, is_within};
 use kx_include::MapIndex;
 use kx_lex::{Fault, Span, lex};

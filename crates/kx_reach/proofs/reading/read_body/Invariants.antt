@@ -1,5 +1,5 @@
 use Rattle.std.proofs.Common.{length, ◌≤◌}
-use Rattle.kx_finding.proofs.reading.read_body.Given as goal
+use Rattle.kx_reach.proofs.reading.read_body.Given as goal
 
 abbrev pub invariant-pieces : goal.invariant-pieces
 invariant-pieces l = length l.rest ≤ length l.body

@@ -1,10 +1,12 @@
 //! The walk over includes that finds files.
 use crate::folder::Folder;
+use crate::kinds::kind_name;
 use crate::maps::{Map, Maps};
 use crate::reading::read_on;
+use crate::text::Texts;
+use crate::walk::MOST_PARTS;
 use kx_include::{Part, include_parts};
 use kx_parse::Kind;
-use kx_reach::{MOST_PARTS, Texts, kind_name};
 use std::alloc::{AllocError, Global};
 use std::collections::BTreeMap;
 use std::io;

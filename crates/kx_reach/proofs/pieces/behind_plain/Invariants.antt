@@ -1,5 +1,5 @@
 use Rattle.std.proofs.Common.{length, ◌≤◌}
-use Rattle.kx_finding.proofs.pieces.behind_plain.Given as goal
+use Rattle.kx_reach.proofs.pieces.behind_plain.Given as goal
 
 abbrev pub invariant-fours : goal.invariant-fours
 invariant-fours l = length l.rest ≤ length l.bytes
