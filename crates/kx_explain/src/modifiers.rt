@@ -1,14 +1,10 @@
 //! Words that are no modifiers, and the modifiers that they are near to.
 use crate::near::letters_apart;
 use crate::quotes::quoted;
+use kx_mods::Mods;
 use kx_parse::{Declaration, Item, Section, Statement};
 use kx_reach::{Reached, Trees};
 use std::alloc::AllocError;
-
-/// The words for real modifiers.
-static REAL: [&str; 8] = [
-    "Shift", "Lock", "Control", "Mod1", "Mod2", "Mod3", "Mod4", "Mod5",
-];
 
 /// A modifier that a word is near to.
 #[derive(Clone, Copy)]
@@ -68,8 +64,9 @@ fn near_among<'a>(word: &[u8], trees: &'a Trees, reached: &[Reached]) -> Option<
             nearest = nearer(nearest, near_in(word, section));
         }
     }
-    for name in REAL {
-        nearest = nearer(nearest, near_to(word, name.as_bytes(), true));
+    for bit in 0..8 {
+        let name = Mods::name_of(bit).as_bytes();
+        nearest = nearer(nearest, near_to(word, name, true));
     }
     nearest
 }

@@ -1,5 +1,5 @@
 //! Sets of real modifiers.
-ghost use Rattle.std.specs.Prelude.{◌≡◌, ◌==◌, ◌<◌, ◌^◌, ⊤, [], ◌∷◌, codes};
+ghost use Rattle.std.specs.Prelude.{◌≡◌, ◌==◌, ◌<◌, ◌^◌, ⊤, [], ◌∷◌, Some, codes, slice_get};
 ghost use Rattle.std.specs.Int.RustNames.{bit_and, bit_or};
 
 use bitflags::{Flag, Flags, bitflag_items};
@@ -46,7 +46,7 @@ impl Flags for Mods {
 }
 
 impl Mods {
-    ghost use Rattle.kx_mods.specs.Mods.{mask, mask_without};
+    ghost use Rattle.kx_mods.specs.Mods.{mask, mask_without, mod_names};
 
     /// The empty set.
     pub const NONE: Mods = Mods(0);
@@ -92,5 +92,23 @@ impl Mods {
         ensures { mask result ≡ mask_without (mask self) (mask other) }
     {
         Mods(self.0 & !other.0)
+    }
+
+    /// The name of the modifier of a bit, counted from 0.
+    #[tactic(auto, unfolding(crate::specs::Mods::mod_names))]
+    pub fn name_of(bit: u8) -> &'static str
+        requires { bit < 8 }
+        ensures { slice_get mod_names bit ≡ Some result.now }
+    {
+        match bit {
+            0 => "Shift",
+            1 => "Lock",
+            2 => "Control",
+            3 => "Mod1",
+            4 => "Mod2",
+            5 => "Mod3",
+            6 => "Mod4",
+            _ => "Mod5",
+        }
     }
 }

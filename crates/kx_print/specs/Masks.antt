@@ -1,17 +1,12 @@
 -- Sets by the names of their members.
 use Rattle.std.specs.Prelude.{ℕ, ◌%◌, ◌/◌, ◌==◌, List, [], ◌∷◌, ◌++◌, codes, if◌then◌else◌}
-use Rattle.kx_mods.specs.Mods.{mask}
+use Rattle.kx_mods.specs.Mods.{mask, mod_names}
 use Rattle.kx_mods.specs.declared.mods.Mods.{Mods}
 use Rattle.kx_tables.specs.States.{state_bits}
 use Rattle.kx_tables.specs.declared.rows.States.{States}
 use Rattle.kx_print.specs.Phrases.{joined}
 use Rattle.kx_print.specs.declared.sets.Names.{Names}
 use Rattle.kx_print.specs.declared.sets.Names.TheVariants as names
-
--- the real modifiers, from bit 0 on
-unfoldable pub mod_names : List (List ℕ)
-mod_names =
-    codes "Shift" ∷ codes "Lock" ∷ codes "Control" ∷ codes "Mod1" ∷ codes "Mod2" ∷ codes "Mod3" ∷ codes "Mod4" ∷ codes "Mod5" ∷ []
 
 -- the states of modifiers and groups, from bit 0 on
 unfoldable pub state_names : List (List ℕ)

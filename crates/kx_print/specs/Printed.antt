@@ -3,7 +3,7 @@ use Rattle.std.specs.Prelude.{ℕ, ◌+◌, ◌==◌, List, [], ◌∷◌, ◌++
 use Rattle.std.specs.List.{flat_map}
 use Rattle.std.specs.Option.{option_map_or}
 use Rattle.ks_core.specs.Names.{name_of_keysym}
-use Rattle.kx_mods.specs.Mods.{mask}
+use Rattle.kx_mods.specs.Mods.{mask, mod_names}
 use Rattle.kx_tables.specs.Content.{Content, group_name, indicator_name, key_name, levels_of, part, type_name}
 use Rattle.kx_tables.specs.declared.rows.CellRow.{CellRow}
 use Rattle.kx_tables.specs.declared.rows.EntryRow.{EntryRow}
@@ -15,7 +15,7 @@ use Rattle.kx_tables.specs.declared.rows.Range.{Range}
 use Rattle.kx_tables.specs.declared.rows.Range.TheVariants.{Wrap, Clamp, Redirect}
 use Rattle.kx_tables.specs.declared.rows.TypeRow.{TypeRow}
 use Rattle.kx_print.specs.ActionText.{action_text}
-use Rattle.kx_print.specs.Masks.{chosen, mod_names, mods_text, states_text}
+use Rattle.kx_print.specs.Masks.{chosen, mods_text, states_text}
 use Rattle.kx_print.specs.Phrases.{block, elements, field_at, hexadecimal, joined, numbered, quoted, setting, setting_at}
 
 -- ---- keycodes

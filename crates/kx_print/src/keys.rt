@@ -2,10 +2,10 @@
 ghost use Rattle.std.specs.Prelude.{◌≡◌, ◌+◌, ◌<◌, ◌≤◌, ◌++◌, codes, decimal, length};
 ghost use Rattle.std.specs.List.{flat_map};
 ghost use Rattle.ks_core.specs.BufferedOut.{Writes};
-ghost use Rattle.kx_mods.specs.Mods.{mask};
+ghost use Rattle.kx_mods.specs.Mods.{mask, mod_names};
 ghost use Rattle.kx_tables.specs.Content.{key_name};
 ghost use Rattle.kx_tables.specs.Sound.{Sound};
-ghost use Rattle.kx_print.specs.Masks.{chosen, mod_names};
+ghost use Rattle.kx_print.specs.Masks.{chosen};
 ghost use Rattle.kx_print.specs.Phrases.{setting};
 ghost use Rattle.kx_print.specs.Printed.{bracketed, key_block, keycode_line, keycodes_section, modifier_map_line, modifier_map_lines, symbols_section};
 

@@ -12,3 +12,4 @@ mod types;
 mod words;
 
 pub use printer::print;
+pub use sets::write_mods;

@@ -1,7 +1,7 @@
 //! Sets by the names of their members.
 ghost use Rattle.std.specs.Prelude.{◌≡◌, ◌<◌, ◌++◌, Some, codes, length, slice_get};
 ghost use Rattle.ks_core.specs.BufferedOut.{Writes};
-ghost use Rattle.kx_print.specs.Masks.{chosen, mod_names, mods_text, names_of, set_text, states_text};
+ghost use Rattle.kx_print.specs.Masks.{chosen, mods_text, names_of, set_text, states_text};
 ghost use Rattle.kx_print.specs.Phrases.{joined};
 
 use ks_core::{BufferedOut, Out};
@@ -19,7 +19,7 @@ pub enum Names {
 
 impl Names {
     /// How many names there are.
-    #[tactic(auto, unfolding(crate::specs::Masks::mod_names, crate::specs::Masks::state_names))]
+    #[tactic(auto, unfolding(kx_mods::specs::Mods::mod_names, crate::specs::Masks::state_names))]
     pub fn count(self) -> u8
         ensures { result ≡ length (names_of self) }
     {
@@ -35,26 +35,9 @@ impl Names {
         ensures { slice_get (names_of self) bit ≡ Some result.now }
     {
         match self {
-            Names::Modifiers => mod_name(bit),
+            Names::Modifiers => Mods::name_of(bit),
             Names::States => state_name(bit),
         }
-    }
-}
-
-#[tactic(auto, unfolding(crate::specs::Masks::mod_names))]
-fn mod_name(bit: u8) -> &'static str
-    requires { bit < 8 }
-    ensures { slice_get mod_names bit ≡ Some result.now }
-{
-    match bit {
-        0 => "Shift",
-        1 => "Lock",
-        2 => "Control",
-        3 => "Mod1",
-        4 => "Mod2",
-        5 => "Mod3",
-        6 => "Mod4",
-        _ => "Mod5",
     }
 }
 

@@ -9,11 +9,6 @@ use kx_mods::Mods;
 use kx_tables::{CellRow, GroupRow, KeyRow, Rows, Tables, TypeRow};
 use std::alloc::{AllocError, Global};
 
-/// The names of the modifiers, in the order of their bits.
-static NAMES: [&str; 8] = [
-    "Shift", "Lock", "Control", "Mod1", "Mod2", "Mod3", "Mod4", "Mod5",
-];
-
 /// Where a keysym is given: the index of a key, and a group and a level counted from 0.
 #[derive(Clone, Copy, Debug, PartialEq, Eq)]
 pub struct Spot {
@@ -86,12 +81,12 @@ fn write_mods(out: &mut String, mods: Mods) -> Result<(), AllocError> {
         return out.push_str("none");
     }
     let mut is_first = true;
-    for (bit, name) in NAMES.iter().enumerate() {
+    for bit in 0..8 {
         if (mods.mask() >> bit) & 1 == 1 {
             if !is_first {
                 out.push('+')?;
             }
-            out.push_str(name)?;
+            out.push_str(Mods::name_of(bit))?;
             is_first = false;
         }
     }

@@ -1,23 +1,13 @@
 -- The end of an answer in which no indicator is lit.
-use Rattle.std.proofs.Common.{◌≡◌, ℕ, List, [], ◌∷◌, ◌++◌, Option, codes, map, refl, sym, ap, ◌∙◌, subst}
+use Rattle.std.proofs.Common.{◌≡◌, ℕ, List, [], ◌∷◌, ◌++◌, Option, sym, ap, subst}
 use Rattle.ks_core.specs.BufferedOut.{Gathered, Writes}
 use Rattle.kx_tables.specs.Content.{Content}
 use Rattle.kx_run.specs.Replies.{Answer}
-use Rattle.kx_tool.specs.Answer.{all_mods_text, group_text, lit_name, tail_text, unlit_tail}
-use Rattle.kx_tool.specs.Listing.{chosen, listed}
-
--- no bit of 0 is set
-chosen-none : (names : List (List ℕ)) → chosen 0 names ≡ []
-chosen-none [] = refl
-chosen-none (name ∷ names) = chosen-none names
+use Rattle.kx_tool.specs.Answer.{all_mods_text, group_text, lit_text, tail_text, unlit_tail}
 
 pub unlit_is_tail : (content : Content) (answer : Answer) → answer.lit ≡ 0 → unlit_tail answer.look.consumed answer.state ≡ tail_text content answer
 unlit_is_tail content answer dark =
-    sym (ap (λ pieces. all_mods_text answer.look.consumed answer.state ++ (group_text answer.state ++ (listed (codes " lit=") (codes ",") pieces ++ 10 ∷ [])))
-    (ap (λ n. chosen n names) dark ∙ chosen-none names))
-  where
-    names : List (List ℕ)
-    names = map (lit_name content) content.indicators
+    sym (ap (λ lit. all_mods_text answer.look.consumed answer.state ++ (group_text answer.state ++ (lit_text content lit ++ 10 ∷ []))) dark)
 
 -- a text that was written is the end of an answer
 pub writes_unlit : {D : Type 0} (written : D → Option (List ℕ)) (failures : D → ℕ) (d e : D) (p q : Gathered) (content : Content) (answer : Answer) → answer.lit ≡ 0

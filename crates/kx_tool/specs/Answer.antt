@@ -11,20 +11,17 @@ use Rattle.kx_run.specs.World.{World}
 use Rattle.kx_run.specs.declared.direction.Direction.{Direction}
 use Rattle.kx_run.specs.declared.direction.Direction.TheVariants.{Down, Up}
 use Rattle.kx_run.specs.declared.direction.Event.{Event}
-use Rattle.kx_tool.specs.Listing.{listed, chosen}
+use Rattle.kx_mods.specs.Mods.{mod_names}
+use Rattle.kx_print.specs.Masks.{chosen, set_text}
+use Rattle.kx_print.specs.Phrases.{joined}
 
--- the real modifiers, from bit 0 on
-unfoldable pub mod_names : List (List ℕ)
-mod_names =
-    codes "Shift" ∷ codes "Lock" ∷ codes "Control" ∷ codes "Mod1" ∷ codes "Mod2" ∷ codes "Mod3" ∷ codes "Mod4" ∷ codes "Mod5" ∷ []
-
--- modifiers after a label, joined by `+`
+-- modifiers after a label, as printed text writes them
 abbrev pub mods_text : List ℕ → ℕ → List ℕ
-mods_text label mask = if mask == 0 then label ++ codes "none" else listed label (codes "+") (chosen mask mod_names)
+mods_text label mask = label ++ set_text mod_names mask
 
 -- keysyms joined by commas, by the names that are written for them
 abbrev pub keysym_names : List Entry → List ℕ → List ℕ
-keysym_names names keysyms = listed [] (codes ",") (map (name_of_keysym names) keysyms)
+keysym_names names keysyms = joined (codes ",") (map (name_of_keysym names) keysyms)
 
 -- `?` for an unknown code, `-` for no keysym
 abbrev pub keysyms_text : List Entry → Glance → List ℕ
@@ -52,9 +49,13 @@ group_text state = codes " group=" ++ decimal (state.effective_group + 1)
 abbrev pub lit_name : Content → IndicatorRow → List ℕ
 lit_name content row = printed_name (indicator_name content row)
 
--- the lit indicators joined by commas, where there are any
+-- the lit indicators joined by commas
+abbrev pub lit_names : Content → ℕ → List ℕ
+lit_names content lit = joined (codes ",") (chosen lit (map (lit_name content) content.indicators))
+
+-- they, where there are any
 abbrev pub lit_text : Content → ℕ → List ℕ
-lit_text content lit = listed (codes " lit=") (codes ",") (chosen lit (map (lit_name content) content.indicators))
+lit_text content lit = if lit == 0 then [] else codes " lit=" ++ lit_names content lit
 
 -- the end of an answer: the modifiers, the group and the lit indicators
 abbrev pub tail_text : Content → Answer → List ℕ

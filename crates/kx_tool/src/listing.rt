@@ -1,37 +1,13 @@
-//! Lists in an answer: a label before the first piece, and a mark before each other.
-ghost use Rattle.std.specs.Prelude.{◌≡◌, ◌++◌, ◌<◌, Some, codes, length, map, slice_get};
+//! Lists in an answer: a mark before each piece but the first.
+ghost use Rattle.std.specs.Prelude.{◌++◌};
 ghost use Rattle.ks_core.specs.Names.{name_of_keysym};
 ghost use Rattle.ks_core.specs.BufferedOut.{Writes};
 ghost use Rattle.ks_core.specs.PrintedName.{printed_name};
-ghost use Rattle.kx_mods.specs.Mods.{mask};
-ghost use Rattle.kx_tool.specs.Answer.{keysym_names, lit_text, mod_names};
-ghost use Rattle.kx_tool.specs.Listing.{chosen, listed};
+ghost use Rattle.kx_tool.specs.Answer.{keysym_names, lit_names, lit_text};
 
 use arrayvec::ArrayString;
 use ks_core::{BufferedOut, Keysym, NameTable, Out, write_printed_name};
-use kx_mods::Mods;
 use kx_tables::Tables;
-
-/// How many real modifiers there are.
-const MODS: u8 = 8;
-
-/// The name of a real modifier.
-#[tactic(auto, unfolding(crate::specs::Answer::mod_names))]
-fn mod_name(bit: u8) -> &'static str
-    requires { bit < 8 }
-    ensures { slice_get mod_names bit ≡ Some result.now }
-{
-    match bit {
-        0 => "Shift",
-        1 => "Lock",
-        2 => "Control",
-        3 => "Mod1",
-        4 => "Mod2",
-        5 => "Mod3",
-        6 => "Mod4",
-        _ => "Mod5",
-    }
-}
 
 /// Writes the next piece of a list, and what stands before it.
 fn write_piece<O: Out>(buffered: &mut BufferedOut, out: &mut O, before: &[u8], piece: &[u8])
@@ -49,22 +25,6 @@ fn write_name<O: Out>(buffered: &mut BufferedOut, out: &mut O, before: &[u8], na
 {
     buffered.write(out, before);
     write_printed_name(buffered, out, name);
-}
-
-/// The modifiers' names in the order of their bits, joined by `+`.
-pub fn write_mod_names<O: Out>(buffered: &mut BufferedOut, out: &mut O, label: &[u8], mods: Mods)
-    ensures { Writes O.written O.failures out.old buffered.old out.new buffered.new
-        (listed label.now (codes "+") (chosen (mask mods) mod_names)) }
-{
-    let mut before = label;
-    let mut bits = mods.mask();
-    for bit in 0..MODS {
-        if bits % 2 == 1 {
-            write_piece(buffered, out, before, mod_name(bit).as_bytes());
-            before = b"+";
-        }
-        bits /= 2;
-    }
 }
 
 /// The keysyms' names joined by commas.
@@ -87,11 +47,11 @@ pub fn write_keysym_names<O: Out>(
 }
 
 /// The names of the indicators that are lit, joined by commas and written as in printed text.
-pub fn write_lit<T: Tables, O: Out>(buffered: &mut BufferedOut, out: &mut O, tables: &T, lit: u32)
+fn write_lit_names<T: Tables, O: Out>(buffered: &mut BufferedOut, out: &mut O, tables: &T, lit: u32)
     ensures { Writes O.written O.failures out.old buffered.old out.new buffered.new
-        (lit_text (T.content tables.now) lit) }
+        (lit_names (T.content tables.now) lit) }
 {
-    let mut before: &[u8] = b" lit=";
+    let mut before: &[u8] = b"";
     let mut bits = lit;
     for index in 0..tables.counts().indicators {
         if bits % 2 == 1 {
@@ -99,5 +59,17 @@ pub fn write_lit<T: Tables, O: Out>(buffered: &mut BufferedOut, out: &mut O, tab
             before = b",";
         }
         bits /= 2;
+    }
+}
+
+/// The indicators that are lit, where there are any.
+#[tactic(auto, using(ks_core::proofs::BufferedOutLemmas::writes_nothing))]
+pub fn write_lit<T: Tables, O: Out>(buffered: &mut BufferedOut, out: &mut O, tables: &T, lit: u32)
+    ensures { Writes O.written O.failures out.old buffered.old out.new buffered.new
+        (lit_text (T.content tables.now) lit) }
+{
+    if lit != 0 {
+        buffered.write(out, b" lit=");
+        write_lit_names(buffered, out, tables, lit);
     }
 }

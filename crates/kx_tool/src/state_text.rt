@@ -5,7 +5,6 @@ ghost use Rattle.kx_mods.specs.Mods.{mask};
 ghost use Rattle.kx_run.specs.Replies.{told};
 ghost use Rattle.kx_tool.specs.Answer.{all_mods_text, group_text, mods_text};
 
-use crate::listing::write_mod_names;
 use itoa::Buffer;
 use ks_core::{BufferedOut, Out};
 use kx_mods::Mods;
@@ -25,12 +24,8 @@ fn write_mods<O: Out>(buffered: &mut BufferedOut, out: &mut O, label: &[u8], mod
     ensures { Writes O.written O.failures out.old buffered.old out.new buffered.new
         (mods_text label.now (mask mods)) }
 {
-    if mods.mask() == 0 {
-        buffered.write(out, label);
-        buffered.write(out, b"none");
-    } else {
-        write_mod_names(buffered, out, label, mods);
-    }
+    buffered.write(out, label);
+    kx_print::write_mods(buffered, out, mods);
 }
 
 /// The consumed modifiers, and those of the state.

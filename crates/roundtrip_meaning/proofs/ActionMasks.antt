@@ -18,7 +18,7 @@ use Rattle.kx_virtual_mods.specs.Sets.{virtual_set}
 use Rattle.kx_parse.specs.declared.tree.Expression.{Expression}
 use Rattle.kx_parse.specs.declared.tree.Operation.{Operation}
 use Rattle.kx_parse.specs.declared.tree.Term.{Term}
-use Rattle.kx_print.specs.Masks.{mod_names}
+use Rattle.kx_mods.specs.Mods.{mod_names}
 use Rattle.kx_merge.specs.Words.{single, term_word}
 use Rattle.roundtrip_text.specs.Spelled.{set_words}
 use Rattle.roundtrip_tree.specs.Keys.{IsWordTermOf, IsAddedWord, AreWordsOf}

@@ -9,13 +9,12 @@ use Rattle.kx_lex.specs.declared.fault.Fault.TheVariants.{UnknownModifier}
 use Rattle.kx_lex.specs.declared.token.Span.{Span}
 use Rattle.kx_virtual_mods.specs.Masks.{joined, mask_set, mask_faults, term_faults, word_faults, word_set}
 use Rattle.kx_virtual_mods.specs.Sets.{union}
-use Rattle.kx_mods.specs.Mods.{mask}
+use Rattle.kx_mods.specs.Mods.{mask, mod_names}
 use Rattle.kx_mods.specs.declared.mods.Mods.{Mods}
 use Rattle.kx_parse.specs.declared.tree.Expression.{Expression}
 use Rattle.kx_parse.specs.declared.tree.Operation.{Operation}
 use Rattle.kx_parse.specs.declared.tree.Term.{Term}
 use Rattle.kx_parse.specs.declared.tree.Term.TheVariants as terms
-use Rattle.kx_print.specs.Masks.{mod_names}
 use Rattle.kx_merge.specs.Terms.{terms_faults}
 use Rattle.roundtrip_text.specs.Spelled.{set_words}
 use Rattle.roundtrip_tree.specs.Shows.{AreShown, name_at, none, more}

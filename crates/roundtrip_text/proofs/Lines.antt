@@ -6,9 +6,9 @@ use Rattle.std.specs.Fmt.{decimal}
 use Rattle.std.specs.List.{list_all, flat_map}
 use Rattle.kx_basics.specs.KeyNames.{is_key_byte}
 use Rattle.kx_lex.specs.Bytes.{is_word_start, is_word_byte}
-use Rattle.kx_mods.specs.Mods.{mask}
+use Rattle.kx_mods.specs.Mods.{mask, mod_names}
 use Rattle.kx_mods.specs.declared.mods.Mods.{Mods}
-use Rattle.kx_print.specs.Masks.{chosen, mod_names, mods_text, set_text}
+use Rattle.kx_print.specs.Masks.{chosen, mods_text, set_text}
 use Rattle.kx_print.specs.Phrases.{joined, setting, setting_at, quoted}
 use Rattle.kx_print.specs.Printed.{keycode_line, entry_lines, preserve_line, levels_line}
 use Rattle.roundtrip_text.specs.Slices.{Slice, Lexes, LexesBefore, parts}

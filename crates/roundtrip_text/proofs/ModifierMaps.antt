@@ -3,8 +3,8 @@ use Rattle.std.proofs.Common.{◌≡◌, ℕ, true, List, [], ◌∷◌, map, re
 use Rattle.std.proofs.lemmas.Bool.{and_parts}
 use Rattle.std.specs.List.{list_all, flat_map}
 use Rattle.kx_basics.specs.KeyNames.{is_key_byte}
-use Rattle.kx_mods.specs.Mods.{mask}
-use Rattle.kx_print.specs.Masks.{chosen, mod_names}
+use Rattle.kx_mods.specs.Mods.{mask, mod_names}
+use Rattle.kx_print.specs.Masks.{chosen}
 use Rattle.kx_print.specs.Printed.{modifier_map_line, modifier_map_lines}
 use Rattle.kx_tables.specs.Content.{Content, key_name}
 use Rattle.kx_tables.specs.declared.rows.KeyRow.{KeyRow}

@@ -2,9 +2,8 @@
 use Rattle.std.specs.Prelude.{ℕ, pos, negsuc, ◌+◌, Bool, true, false, List, [], ◌∷◌, ◌++◌, codes, map, if◌then◌else◌}
 use Rattle.kx_builder.specs.Resolved.{ResolvedCell}
 use Rattle.ks_core.specs.Name.{is_word}
-use Rattle.kx_mods.specs.Mods.{mask}
+use Rattle.kx_mods.specs.Mods.{mask, mod_names}
 use Rattle.kx_mods.specs.declared.mods.Mods.{Mods}
-use Rattle.kx_print.specs.Masks.{mod_names}
 use Rattle.kx_print.specs.Printed.{keysym_text}
 use Rattle.kx_tables.specs.declared.rows.Action.{Action}
 use Rattle.kx_tables.specs.declared.rows.Action.TheVariants as actions

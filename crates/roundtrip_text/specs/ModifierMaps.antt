@@ -1,7 +1,7 @@
 -- The lines of printed modifier maps.
 use Rattle.std.specs.Prelude.{ℕ, List, map}
-use Rattle.kx_mods.specs.Mods.{mask}
-use Rattle.kx_print.specs.Masks.{chosen, mod_names}
+use Rattle.kx_mods.specs.Mods.{mask, mod_names}
+use Rattle.kx_print.specs.Masks.{chosen}
 use Rattle.roundtrip_text.specs.Slices.{Slice}
 use Rattle.roundtrip_text.specs.Source.{PrintedKey}
 use Rattle.roundtrip_text.specs.Spelled.{modifier_map_slices}

@@ -4,9 +4,9 @@ use Rattle.std.specs.List.{flat_map}
 use Rattle.ks_core.specs.PrintedName.{printed_name}
 use Rattle.kx_lex.specs.Keywords.{keyword_of}
 use Rattle.kx_lex.specs.declared.token.TokenKind.TheVariants.{Word, Number, KeyName, Text, Mark}
-use Rattle.kx_mods.specs.Mods.{mask}
+use Rattle.kx_mods.specs.Mods.{mask, mod_names}
 use Rattle.kx_mods.specs.declared.mods.Mods.{Mods}
-use Rattle.kx_print.specs.Masks.{chosen, mod_names}
+use Rattle.kx_print.specs.Masks.{chosen}
 use Rattle.roundtrip_text.specs.Slices.{Slice, slice}
 use Rattle.kx_print.specs.Printed.{entries_of}
 use Rattle.kx_tables.specs.Content.{Content, key_name, type_name}

@@ -11,14 +11,14 @@ use Rattle.kx_lex.specs.declared.keyword.Keyword.TheVariants as keywords
 use Rattle.kx_lex.specs.declared.token.Span.{Span}
 use Rattle.kx_lex.specs.declared.token.Token.{Token}
 use Rattle.kx_lex.specs.declared.token.TokenKind.TheVariants.{Word, Text, Mark}
-use Rattle.kx_mods.specs.Mods.{mask}
+use Rattle.kx_mods.specs.Mods.{mask, mod_names}
 use Rattle.kx_mods.specs.declared.mods.Mods.{Mods}
 use Rattle.kx_parse.specs.Sections.{item, join_of, mode_of}
 use Rattle.kx_parse.specs.Statements.{statement, keycodes_statement, types_statement, key_type}
 use Rattle.kx_parse.specs.declared.tree.Item.TheVariants as items
 use Rattle.kx_parse.specs.declared.tree.Mode.TheVariants.{Override}
 use Rattle.kx_parse.specs.declared.tree.Statement.TheVariants as statements
-use Rattle.kx_print.specs.Masks.{chosen, mod_names}
+use Rattle.kx_print.specs.Masks.{chosen}
 use Rattle.kx_tables.specs.declared.rows.EntryRow.{EntryRow}
 use Rattle.roundtrip_text.specs.Slices.{IsAt, Begins, none, more}
 use Rattle.roundtrip_text.proofs.Phrases.{name_value}

@@ -3,12 +3,11 @@ use Rattle.std.specs.Prelude.{ℕ, List, [], ◌∷◌, ◌++◌, ◌≡◌, ◌
 use Rattle.std.specs.List.{flat_map}
 use Rattle.kx_builder.specs.Resolved.{ResolvedType}
 use Rattle.kx_lex.specs.declared.token.Span.{Span}
-use Rattle.kx_mods.specs.Mods.{mask}
+use Rattle.kx_mods.specs.Mods.{mask, mod_names}
 use Rattle.kx_mods.specs.declared.mods.Mods.{Mods}
 use Rattle.kx_parse.specs.declared.tree.Field.{Field}
 use Rattle.kx_parse.specs.declared.tree.Statement.{Statement}
 use Rattle.kx_parse.specs.declared.tree.Statement.TheVariants as statements
-use Rattle.kx_print.specs.Masks.{mod_names}
 use Rattle.kx_tables.specs.declared.rows.EntryRow.{EntryRow}
 use Rattle.roundtrip_text.specs.Spelled.{set_words}
 use Rattle.roundtrip_tree.specs.Shows.{AreShown, name_at}

@@ -1,6 +1,5 @@
 use Rattle.std.proofs.Common.{◌<◌, [], ◌∷◌, ◌++◌, length, arith}
-use Rattle.kx_mods.specs.Mods.{mask}
-use Rattle.kx_print.specs.Masks.{mod_names}
+use Rattle.kx_mods.specs.Mods.{mask, mod_names}
 use Rattle.kx_print.specs.Printed.{modifier_map_line}
 use Rattle.kx_print.proofs.Chosen.{chosen_no, chosen_yes}
 use Rattle.kx_print.proofs.Rows.{flat_map-more}

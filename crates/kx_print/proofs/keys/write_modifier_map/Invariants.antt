@@ -1,8 +1,7 @@
 use Rattle.std.proofs.Common.{List, ℕ}
 use Rattle.std.specs.List.{flat_map}
 use Rattle.ks_core.specs.BufferedOut.{Writes}
-use Rattle.kx_mods.specs.Mods.{mask}
-use Rattle.kx_print.specs.Masks.{mod_names}
+use Rattle.kx_mods.specs.Mods.{mask, mod_names}
 use Rattle.kx_print.specs.Printed.{modifier_map_line}
 use Rattle.kx_print.proofs.Chosen.{ChosenSoFar}
 use Rattle.kx_print.proofs.keys.write_modifier_map.Given as goal

@@ -1,9 +1,9 @@
 use Rattle.ks_core.proofs.BufferedOutLemmas.{writes_more}
 use Rattle.std.proofs.Common.{ap, slice_get}
 use Rattle.std.specs.List.{flat_map}
-use Rattle.kx_mods.specs.Mods.{mask}
+use Rattle.kx_mods.specs.Mods.{mask, mod_names}
 use Rattle.kx_tables.specs.Content.{key_name}
-use Rattle.kx_print.specs.Masks.{chosen, mod_names}
+use Rattle.kx_print.specs.Masks.{chosen}
 use Rattle.kx_print.specs.Printed.{modifier_map_line, modifier_map_lines}
 use Rattle.kx_print.proofs.Rows.{of_row}
 use Rattle.kx_print.proofs.Writing.{rewritten}

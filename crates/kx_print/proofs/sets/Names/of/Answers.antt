@@ -1,9 +1,10 @@
-use Rattle.kx_print.specs.Masks.{mod_names, state_names}
+use Rattle.kx_mods.specs.Mods.{mod_names}
+use Rattle.kx_print.specs.Masks.{state_names}
 use Rattle.kx_print.proofs.sets.Names.of.Goals as goal
 
-pub mod_name-requires : goal.mod_name-requires
+pub name_of-requires : goal.name_of-requires
 unfolding mod_names
-mod_name-requires c = rw c.in-Modifiers.is at c.requires
+name_of-requires c = rw c.in-Modifiers.is at c.requires
 
 pub state_name-requires : goal.state_name-requires
 unfolding state_names
