@@ -7,6 +7,3 @@ use Rattle.cases_parts.specs.Sheet.{sheet_cell, sheet_offer, sheet_value}
 pub one_offered : {R : Type 0} (cell : R → ℕ → Option ℕ) (width : R → ℕ → ℕ) (mode : Mode) (key number : ℕ) (r : R) (items : List (ℕ × R)) → items ≡ (key, r) ∷ [] → ((c : ℕ) → cell r c ≡ sheet_cell (sheet_value number) None c) → ((g : ℕ) → width r g ≡ 0)
     → AreOffered mode cell width items (sheet_offer mode key number ∷ [])
 one_offered cell width mode key number r items e cells widths = subst (λ xs. AreOffered mode cell width xs (sheet_offer mode key number ∷ [])) (sym e) (more (record { mode_is = refl; name_is = refl; value_is = λ c. sym (cells c); width_is = λ g. sym (widths g) }) none)
-
-pub nothing_offered : {R : Type 0} (cell : R → ℕ → Option ℕ) (width : R → ℕ → ℕ) (mode : Mode) (items : List (ℕ × R)) → items ≡ [] → AreOffered {K = ℕ} mode cell width items []
-nothing_offered cell width mode items e = subst (λ xs. AreOffered {K = ℕ} mode cell width xs []) (sym e) none

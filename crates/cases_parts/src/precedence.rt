@@ -11,6 +11,7 @@ ghost use Rattle.cases_parts.specs.Sheet.{keycode_in, sheet_cell, sheet_moves, s
 
 use crate::sources::{bodies_of, library_of, text_of};
 use cases_kit::{Case, Trouble};
+use ks_core::{Note, Notes};
 use kx_include::{Expansion, Place};
 use kx_lex::Fault;
 use kx_merge::{Fields, Merged, merge, merged_value};
@@ -74,7 +75,7 @@ fn one_sheet(alloc: Global, key: u8, number: u32) -> Result<Vec<(u8, Sheet)>, Fa
 }
 
 /// No records.
-#[tactic(auto, using(crate::proofs::Sheets::nothing_offered))]
+#[tactic(auto, using(kx_merge::proofs::Offered::nothing_offered))]
 fn no_sheets(alloc: Global) -> Vec<(u8, Sheet)>
     ensures { (mode : ModeValue) → AreOffered mode (λ s c. sheet_cell s.one s.two c) (λ s g. 0)
         result.items [] }
@@ -90,8 +91,6 @@ impl Fields<()> for Sheet {
     type Value = u32;
 
     type Defaults = ();
-
-    type Notes = u32;
 
     ghost rules = { λ context. sheet_rules };
 
@@ -109,9 +108,9 @@ impl Fields<()> for Sheet {
         _defaults: (),
         _place: Place,
         item: &Item,
-        notes: &mut u32,
+        notes: &mut Notes,
     ) -> Result<(Vec<(u8, Sheet)>, ()), Fault> {
-        *notes = notes.saturating_add(1);
+        notes.count(Note::UnknownKey);
         let sheets = match item {
             Item::Include { .. } => no_sheets(alloc),
             Item::Statement { statement, .. } => match keycode_in(statement) {
@@ -152,21 +151,13 @@ impl Fields<()> for Sheet {
         Some(*key)
     }
 
-    fn no_notes() -> u32 {
-        0
-    }
-
-    fn add_notes(notes: &mut u32, other: &u32) {
-        *notes = notes.saturating_add(*other);
-    }
-
     ghost apart = { λ n j k to one two. ap (λ key. unwrap_or key 0) (one ∙ sym two) };
 
     ghost same = { λ j k e. eqb-true j k e };
 }
 
 /// A box with what the bodies of some sections are merged to.
-fn records_of(alloc: Global, body: &Expansion) -> Result<Box<Merged<u8, Sheet, u32>>, Fault> {
+fn records_of(alloc: Global, body: &Expansion) -> Result<Box<Merged<u8, Sheet>>, Fault> {
     Ok(Box::new(alloc, merge::<(), Sheet>(alloc, &(), body)?)?)
 }
 
@@ -185,9 +176,9 @@ fn push_sheet(all: &mut String, name: u8, sheet: &Sheet) -> Result<(), Trouble> 
 }
 
 /// The notes and the records of merged bodies.
-fn text(alloc: Global, kind: &str, merged: &Merged<u8, Sheet, u32>) -> Result<String, Trouble> {
+fn text(alloc: Global, kind: &str, merged: &Merged<u8, Sheet>) -> Result<String, Trouble> {
     let mut all = String::new(alloc);
-    let notes = merged.notes;
+    let notes = merged.notes.keys;
     write!(all, "{kind}: {notes}")?;
     for record in merged.records.as_slice() {
         push_sheet(&mut all, record.0, &record.1)?;

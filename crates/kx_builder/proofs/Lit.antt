@@ -7,7 +7,7 @@ use Rattle.std.proofs.lemmas.Option.{get_or_from_slice_get, slice_get-get_or, sl
 use Rattle.kx_builder.proofs.Agreeing.{All_at, tables_agree}
 use Rattle.kx_builder.proofs.Counting.{each_row, row_from, sum_before, sum_of_rows}
 use Rattle.kx_builder.proofs.Placing.{get_before, part_between, rows_length, split_at}
-use Rattle.kx_builder.proofs.Sounding.{valid_is_small, valid_is_sound}
+use Rattle.kx_builder.proofs.Sounding.{valid_is_small, valid_is_sound, any, all_any}
 use Rattle.kx_builder.specs.Agreement.{ShowsSame}
 use Rattle.kx_builder.specs.Valid.{IsValid}
 use Rattle.kx_builder.specs.IndicatorMaps.{GroupNameIsValid, IndicatorIsValid, IndicatorMapsAreValid, ResolvedIndicator, group_name_row, indicator_row, keymap_with, indicator_map_of_indicator, names_of_groups, names_of_indicators, with_indicators, with_indicator_maps}
@@ -44,13 +44,6 @@ sum_at : {X : Type 0} (f : X → ℕ) (xs : List X) (i : ℕ) (x : X) → slice_
 sum_at f xs i x at =
     let within : i < length xs = slice_get_within xs i x at in
     subst (λ y. sum_by f (take i xs) + f y ≤ sum_by f xs) (get_or_from_slice_get xs i x x at) (sum_by_more_le f xs i x within)
-
-any : {X : Type 0} → X → Type 0
-any x = Unit {0}
-
-all_any : {X : Type 0} (xs : List X) → All any xs
-unfolding any
-all_any xs = λ k d within. tt
 
 module _ (c : Content) (s : Sound c) (no_indicators : c.indicators ≡ []) (no_groups : c.group_names ≡ []) (few : length c.names ≤ 17755905) (ds : List ResolvedIndicator) (gs : List (List ℕ)) (valid : IndicatorMapsAreValid ds gs) where
   names_are : length c.names ≡ type_names c + key_names c

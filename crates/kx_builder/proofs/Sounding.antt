@@ -24,11 +24,10 @@ use Rattle.kx_tables.specs.declared.rows.KeyRow.{KeyRow}
 use Rattle.kx_tables.specs.declared.rows.TypeRow.{TypeRow}
 
 -- no condition on a thing
-any : {X : Type 0} → X → Type 0
+abbrev pub any : {X : Type 0} → X → Type 0
 any x = Unit {0}
 
-all_any : {X : Type 0} (xs : List X) → All any xs
-unfolding any
+pub all_any : {X : Type 0} (xs : List X) → All any xs
 all_any xs = λ k d within. tt
 
 -- types that groups have met, by rows

@@ -4,7 +4,7 @@ pub mod Ends
 mod Entries
 mod Faultless
 mod Left
-mod Matching
+pub mod Matching
 mod Names
 mod Naming
 mod NumberMaps

@@ -1,17 +1,15 @@
 -- What is left where a pair takes the place of those that share its name or its code.
-use Rattle.std.proofs.Common.{◌≡◌, IfSome, ℕ, Bool, true, false, cond, List, Option, None, Some, Decides, refl, sym, ap, ◌∙◌, nat_eq}
+use Rattle.std.proofs.Common.{◌≡◌, IfSome, ℕ, Bool, true, false, cond, List, Option, None, Some, refl, sym, ap, ◌∙◌, nat_eq}
 use Rattle.std.proofs.lemmas.Slice.Eq.{bytes_eq-Decides}
 use Rattle.std.specs.Cmp.{unsigned_Decides}
 use Rattle.std.specs.Str.{bytes_eq}
 use Rattle.kx_parse.specs.declared.tree.Mode.TheVariants.{Override}
 use Rattle.kx_codes.proofs.Distinct.{code_of_name, name_of_code, taken_distinct}
-use Rattle.kx_codes.proofs.Matching.{bool_same, gone_none, gone_some, look_without_other, unless}
+use Rattle.kx_codes.proofs.Matching.{gone_none, gone_some, look_without_other, unless}
 use Rattle.kx_codes.proofs.Standing.{apart, apart-back, over-codes, over-names, over-step, same_pair}
 use Rattle.kx_codes.specs.Indexed.{Indexed, Stands}
 use Rattle.kx_codes.specs.Pairs.{Pair, code_in, name_in}
-
-flip : {N : Type 0} (eq : N → N → Bool) → ((x y : N) → Decides (eq x y) (x ≡ y)) → (x y : N) → eq x y ≡ eq y x
-flip eq d x y = bool_same (eq x y) (eq y x) (λ h. (d y x).1 (sym ((d x y).0 h))) (λ h. (d x y).1 (sym ((d y x).0 h)))
+use Rattle.kx_codes.proofs.Entries.{flip}
 
 -- what is left at a key where another's entry, if there is one, is dropped
 abbrev pub dropped : {K V : Type 0} → (K → K → Bool) → Option K → K → Option V → Option V

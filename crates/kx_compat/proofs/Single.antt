@@ -8,15 +8,17 @@ use Rattle.kx_parse.specs.declared.tree.Mode.{Mode}
 use Rattle.kx_compat.specs.SameMatch.{same_match}
 use Rattle.kx_compat.specs.declared.interpretation_match.InterpretationMatch.{InterpretationMatch}
 use Rattle.kx_compat.specs.Given.{FieldValues}
-use Rattle.kx_compat.specs.Meaning.{InterpretationOffer, compat_rules, offers_to, said_offers}
+use Rattle.kx_compat.specs.Meaning.{InterpretationOffer, compat_rules, said_offers}
 use Rattle.kx_compat.specs.Sections.{Interpreted, interpretation_in, values_of}
 use Rattle.kx_compat.specs.Matches.{match_of}
 use Rattle.kx_compat.specs.declared.defaults.CompatDefaults.{CompatDefaults}
+use Rattle.kx_merge.specs.Offers.{offers_to}
+use Rattle.kx_compat.specs.Giving.{values_cell}
 
 abbrev AreApart : List InterpretationOffer → Type 0
 AreApart os = IsDistinct same_match (map (λ (o : InterpretationOffer). o.name) os)
 
-one_match : (mode : Mode) (values : FieldValues) (o : Option InterpretationMatch) → AreApart (offers_to mode values o)
+one_match : (mode : Mode) (values : FieldValues) (o : Option InterpretationMatch) → AreApart (offers_to values_cell mode values o)
 unfolding IsDistinct
 one_match mode values None = tt
 one_match mode values (Some interpretation_match) = (tt, tt)

@@ -79,12 +79,9 @@ module _ (file : ℕ) where
   call_faults faults whole On = BadValue (at file whole) ∷ []
 
   module _ (names : List (List ℕ)) where
-    abbrev pub unknown_faults : Name → List Fault
-    unknown_faults word = if is_some (virtual_number names word.bytes) then [] else UnknownModifier (at file word.span) ∷ []
-
     abbrev pub word_faults : Span → Option Name → List Fault
     word_faults whole None = BadValue (at file whole) ∷ []
-    word_faults whole (Some word) = if is_some (real_mask word.bytes) then BadValue (at file whole) ∷ [] else unknown_faults word
+    word_faults whole (Some word) = if is_some (real_mask word.bytes) then BadValue (at file whole) ∷ [] else if is_some (virtual_number names word.bytes) then [] else UnknownModifier (at file word.span) ∷ []
 
     -- one word, a virtual modifier
     abbrev pub modifier_faults : Expression → List Fault

@@ -1,11 +1,11 @@
 -- The interpretations that the statements of a compat body declare.
-use Rattle.std.specs.Prelude.{ℕ, false, List, [], ◌∷◌, map, Option, unwrap_or}
+use Rattle.std.specs.Prelude.{ℕ, false, List, [], map, Option, unwrap_or}
 use Rattle.std.specs.Option.{option_and_then, option_map_or}
 use Rattle.ks_core.specs.Entry.{Entry}
 use Rattle.kx_include.specs.Expansion.{Body}
 use Rattle.kx_lex.specs.declared.fault.Fault.{Fault}
 use Rattle.kx_merge.specs.Bodies.{Moves, Rules, faults_of, offers_of, no_moves}
-use Rattle.kx_merge.specs.Offers.{Offer, names_of, value_of, plain_offer}
+use Rattle.kx_merge.specs.Offers.{Offer, names_of, offers_to, value_of}
 use Rattle.kx_parse.specs.declared.tree.Item.{Item}
 use Rattle.kx_parse.specs.declared.tree.Item.TheVariants.{Include, Statement}
 use Rattle.kx_parse.specs.declared.tree.Mode.{Mode}
@@ -19,20 +19,15 @@ use Rattle.kx_compat.specs.declared.defaults.CompatDefaults.{CompatDefaults}
 use Rattle.kx_compat.specs.declared.values.Cell.{Cell}
 use Rattle.kx_compat.specs.declared.values.Cell.TheVariants as cells
 use Rattle.kx_compat.specs.declared.values.FieldValue.{FieldValue}
-use Rattle.kx_compat.specs.Given.{FieldValues}
 
 abbrev pub InterpretationOffer : Type 0
 InterpretationOffer = Offer InterpretationMatch Cell FieldValue
-
--- what a statement offers the interpretations of an interpretation match
-abbrev pub offers_to : Mode → FieldValues → Option InterpretationMatch → List InterpretationOffer
-offers_to mode values interpretation_match = option_map_or (λ t. plain_offer mode t (values_cell values) ∷ []) interpretation_match []
 
 -- `table` are the names of keysyms, `names` the virtual modifiers by number
 module _ (table : List Entry) (names : List (List ℕ)) where
   -- an interpretation of an unknown keysym offers nothing
   abbrev pub said_offers : CompatDefaults → Mode → Option Interpreted → List InterpretationOffer
-  said_offers d mode i = option_map_or (λ i. offers_to mode (values_of names d i.2) (match_of table i.0 i.1)) i []
+  said_offers d mode i = option_map_or (λ i. offers_to values_cell mode (values_of names d i.2) (match_of table i.0 i.1)) i []
 
   abbrev pub item_offers : CompatDefaults → Item → List InterpretationOffer
   item_offers d (Statement mode statement first whole) = said_offers d mode (interpretation_in statement)
@@ -62,9 +57,6 @@ module _ (table : List Entry) (names : List (List ℕ)) (body : Body) where
   compat_faults = faults_of same_match (compat_rules table names) no_moves body
 
 -- ---- Under names, for clauses and proofs
-
-abbrev pub values_offer : Mode → InterpretationMatch → FieldValues → InterpretationOffer
-values_offer mode interpretation_match values = plain_offer mode interpretation_match (values_cell values)
 
 abbrev pub compat_moves : Moves InterpretationMatch Cell
 compat_moves = no_moves

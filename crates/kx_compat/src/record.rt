@@ -35,8 +35,6 @@ impl<'a> Fields<Context<'a>> for FieldValues {
 
     type Defaults = CompatDefaults;
 
-    type Notes = Notes;
-
     ghost rules = { λ context. compat_rules context.table.now context.names.now.names };
 
     ghost moves = { compat_moves };
@@ -111,14 +109,6 @@ impl<'a> Fields<Context<'a>> for FieldValues {
         ensures { result ≡ moved_key compat_moves _group key.now }
     {
         Some(*key)
-    }
-
-    fn no_notes() -> Notes {
-        Notes::new()
-    }
-
-    fn add_notes(notes: &mut Notes, other: &Notes) {
-        *notes = notes.saturating_add(*other);
     }
 
     ghost apart = { λ n j k to one two. ap (λ key. unwrap_or key to) (one ∙ sym two) };

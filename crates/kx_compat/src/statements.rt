@@ -1,12 +1,11 @@
 //! What the statements of a compat section say of interpretations.
-ghost use Rattle.std.specs.Prelude.{◌≡◌, ◌++◌, ◌∷◌, [], IfErr, IfOk};
+ghost use Rattle.std.specs.Prelude.{◌≡◌, ◌++◌, [], IfOk, Some};
 ghost use Rattle.std.specs.List.{flat_map};
 ghost use Rattle.std.specs.Option.{option_map};
-ghost use Rattle.kx_lex.specs.declared.fault.Fault.TheVariants.{Memory};
 ghost use Rattle.kx_parse.specs.declared.tree.Mode.{Mode as ModeValue};
 ghost use Rattle.kx_merge.specs.Records.{AreOffered, mode_of};
 ghost use Rattle.kx_symbols.specs.KeyFaults.{symbol_faults};
-ghost use Rattle.kx_compat.specs.Meaning.{item_offers, offers_to, said_offers, values_offer};
+ghost use Rattle.kx_compat.specs.Meaning.{item_offers, said_offers};
 ghost use Rattle.kx_compat.specs.Sections.{interpretation_faults, interpretation_in, item_faults, next_default, next_said, own_faults, own_value, said_faults, values_of};
 ghost use Rattle.kx_symbols.specs.Keys.{field_in};
 ghost use Rattle.kx_compat.specs.Matches.{predicate_faults, match_of, match_with};
@@ -21,7 +20,7 @@ use crate::predicates::{read_keysym, read_predicate};
 use crate::values::{FieldValue, FieldValues};
 use ks_core::{NameTable, Notes};
 use kx_lex::{Boxed, Fault, Row, Span};
-use kx_merge::unknown_field;
+use kx_merge::{records_for, unknown_field};
 use kx_mods::Mods;
 use kx_parse::{Field, Item, Predicate, Statement, Symbol};
 use kx_virtual_mods::ModNames;
@@ -118,42 +117,11 @@ fn read_values(
     Ok(values)
 }
 
+#[tactic(auto, using(kx_merge::proofs::Offered::nothing_offered))]
 fn no_records(alloc: Global) -> Vec<(InterpretationMatch, FieldValues)>
     ensures { (mode : ModeValue) → AreOffered mode (values_cell) (values_width) result.items [] }
 {
     Vec::new(alloc)
-}
-
-fn one_record(
-    alloc: Global,
-    interpretation_match: InterpretationMatch,
-    values: FieldValues,
-) -> Result<Vec<(InterpretationMatch, FieldValues)>, Fault>
-    ensures records { (mode : ModeValue)
-        → IfOk result (λ records. AreOffered mode (values_cell) (values_width) records.items
-        (values_offer mode interpretation_match values ∷ [])) }
-    ensures err { IfErr result (λ e. e ≡ Memory) }
-{
-    let mut records = Vec::new(alloc);
-    records.push((interpretation_match, values))?;
-    Ok(records)
-}
-
-/// What is given to the interpretation for some keys.
-fn records_for(
-    alloc: Global,
-    interpretation_match: Option<InterpretationMatch>,
-    values: FieldValues,
-) -> Result<Vec<(InterpretationMatch, FieldValues)>, Fault>
-    ensures records { (mode : ModeValue)
-        → IfOk result (λ records. AreOffered mode (values_cell) (values_width) records.items
-        (offers_to mode values interpretation_match)) }
-    ensures err { IfErr result (λ e. e ≡ Memory) }
-{
-    match interpretation_match {
-        None => Ok(no_records(alloc)),
-        Some(interpretation_match) => one_record(alloc, interpretation_match, values),
-    }
 }
 
 /// What an interpretation gives.

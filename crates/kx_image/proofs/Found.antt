@@ -121,7 +121,7 @@ front_whole s whole =
       }
     ]
 
-same_header : (e : ImageVersion) (a b c d f g h i j a' b' c' d' f' g' h' i' j' : ℕ) → a ≡ a' → b ≡ b' → c ≡ c' → d ≡ d' → f ≡ f' → g ≡ g' → h ≡ h' → i ≡ i' → j ≡ j'
+pub same_header : (e : ImageVersion) (a b c d f g h i j a' b' c' d' f' g' h' i' j' : ℕ) → a ≡ a' → b ≡ b' → c ≡ c' → d ≡ d' → f ≡ f' → g ≡ g' → h ≡ h' → i ≡ i' → j ≡ j'
     → ◌≡◌ {A = Header} (record { version = e; groups = a; types = b; keys = c; entries = d; cells = f; keysyms = g; names = h; indicators = i; group_names = j }) (record { version = e; groups = a'; types = b'; keys = c'; entries = d'; cells = f'; keysyms = g'; names = h'; indicators = i'; group_names = j' })
 same_header e a b c d f g h i j a' b' c' d' f' g' h' i' j' p q r t u v w x y = cc
 

@@ -10,6 +10,7 @@ use Rattle.kx_image.specs.Shape.{front_fault, header_bytes, header_of, header_si
 use Rattle.kx_image.specs.declared.header.Header.{Header}
 use Rattle.kx_image.specs.declared.header.ImageVersion.{ImageVersion}
 use Rattle.kx_image.specs.declared.header.ImageVersion.TheVariants.{One, Two}
+use Rattle.kx_image.proofs.Found.{same_header}
 
 -- a header whose numbers fit
 pub record HeaderFits (h : Header) : Type 0 where
@@ -27,10 +28,6 @@ pub record HeaderFits (h : Header) : Type 0 where
 abbrev pub Old : ImageVersion → Header → Type 0
 Old One h = (h.indicators ≡ 0) × (h.group_names ≡ 0)
 Old Two h = Unit {0}
-
-same_header : (e : ImageVersion) (a b c d f g h i j a' b' c' d' f' g' h' i' j' : ℕ) → a ≡ a' → b ≡ b' → c ≡ c' → d ≡ d' → f ≡ f' → g ≡ g' → h ≡ h' → i ≡ i' → j ≡ j'
-    → ◌≡◌ {A = Header} (record { version = e; groups = a; types = b; keys = c; entries = d; cells = f; keysyms = g; names = h; indicators = i; group_names = j }) (record { version = e; groups = a'; types = b'; keys = c'; entries = d'; cells = f'; keysyms = g'; names = h'; indicators = i'; group_names = j' })
-same_header e a b c d f g h i j a' b' c' d' f' g' h' i' j' p q r t u v w x y = cc
 
 header_at : (e : ImageVersion) (a b c d f g k n i j : ℕ) (rest : List ℕ) (h : Header) → h ≡ record { version = e; groups = a; types = b; keys = c; entries = d; cells = f; keysyms = g; names = k; indicators = i; group_names = j } → n ≡ 0 → HeaderFits h → Old e h
     → header_of (header_bytes (record { version = e; groups = a; types = b; keys = c; entries = d; cells = f; keysyms = g; names = k; indicators = i; group_names = j }) ++ rest) ≡ record { version = e; groups = a; types = b; keys = c; entries = d; cells = f; keysyms = g; names = k; indicators = i; group_names = j }

@@ -9,12 +9,14 @@ use Rattle.kx_parse.specs.declared.tree.Item.TheVariants.{Include, Statement}
 use Rattle.kx_parse.specs.declared.tree.Mode.{Mode}
 use Rattle.kx_indicators.specs.Blocks.{indicator_in, values_of}
 use Rattle.kx_indicators.specs.Given.{IndicatorMapValues}
-use Rattle.kx_indicators.specs.Meaning.{IndicatorMapOffer, indicator_map_rules, offers_to, said_offers}
+use Rattle.kx_indicators.specs.Meaning.{IndicatorMapOffer, indicator_map_rules, said_offers}
+use Rattle.kx_merge.specs.Offers.{offers_to}
+use Rattle.kx_indicators.specs.Giving.{values_cell}
 
 abbrev AreApart : List IndicatorMapOffer → Type 0
 AreApart os = IsDistinct nat_eq (map (λ (o : IndicatorMapOffer). o.name) os)
 
-one_number : (mode : Mode) (values : IndicatorMapValues) (o : Option ℕ) → AreApart (offers_to mode values o)
+one_number : (mode : Mode) (values : IndicatorMapValues) (o : Option ℕ) → AreApart (offers_to values_cell mode values o)
 unfolding IsDistinct
 one_number mode values None = tt
 one_number mode values (Some number) = (tt, tt)

@@ -1,5 +1,5 @@
 -- The indicators that the statements of a compat body declare.
-use Rattle.std.specs.Prelude.{◌≡◌, ℕ, ◌<◌, ◌≤◌, nat_eq, List, [], ◌∷◌, ◌++◌, length, position, slice_get, Option, Some}
+use Rattle.std.specs.Prelude.{◌≡◌, ℕ, ◌<◌, ◌≤◌, nat_eq, List, [], ◌++◌, length, position, slice_get, Option, Some}
 use Rattle.std.specs.Option.{option_and_then, option_map_or}
 use Rattle.std.specs.Str.{bytes_eq}
 use Rattle.kx_include.specs.Expansion.{Body}
@@ -7,7 +7,7 @@ use Rattle.kx_lex.specs.declared.fault.Fault.{Fault}
 use Rattle.kx_lex.specs.declared.name.Name.{Name}
 use Rattle.kx_virtual_mods.specs.Counted.{count_faults, names_of, statements_of}
 use Rattle.kx_merge.specs.Bodies.{Moves, Rules, faults_of, offers_of, no_moves}
-use Rattle.kx_merge.specs.Offers.{Offer, value_of, plain_offer}
+use Rattle.kx_merge.specs.Offers.{Offer, offers_to, value_of}
 use Rattle.kx_parse.specs.declared.tree.Field.{Field}
 use Rattle.kx_parse.specs.declared.tree.Item.{Item}
 use Rattle.kx_parse.specs.declared.tree.Item.TheVariants.{Include, Statement}
@@ -25,14 +25,10 @@ use Rattle.kx_indicators.specs.declared.limits.TheConstants.{MOST_INDICATORS}
 abbrev pub IndicatorMapOffer : Type 0
 IndicatorMapOffer = Offer ℕ IndicatorMapField IndicatorMapValue
 
--- what a statement offers the indicator of a number
-abbrev pub offers_to : Mode → IndicatorMapValues → Option ℕ → List IndicatorMapOffer
-offers_to mode values number = option_map_or (λ n. plain_offer mode n (values_cell values) ∷ []) number []
-
 -- `indicator_maps` are the names of indicators, `names` the virtual modifiers, both by number
 module _ (indicator_maps names : List (List ℕ)) where
   abbrev pub item_offers : IndicatorMapValues → Item → List IndicatorMapOffer
-  item_offers d (Statement mode statement first whole) = option_map_or (λ i. offers_to mode (values_of names d i.1) (position (bytes_eq i.0.bytes) indicator_maps)) (indicator_in statement) []
+  item_offers d (Statement mode statement first whole) = option_map_or (λ i. offers_to values_cell mode (values_of names d i.1) (position (bytes_eq i.0.bytes) indicator_maps)) (indicator_in statement) []
   item_offers d (Include mode text span) = []
 
   abbrev pub indicator_map_rules : Rules ℕ IndicatorMapField IndicatorMapValue IndicatorMapValues
@@ -73,11 +69,8 @@ pub record AreIndicators (is : Indicators) (names : List (List ℕ)) (body : Bod
 
 -- ---- Under names, for clauses and proofs
 
-abbrev pub values_offer : Mode → IndicatorMapValues → ℕ → IndicatorMapOffer
-values_offer mode values number = plain_offer mode number (values_cell values)
-
 abbrev pub said_offers : List (List ℕ) → List (List ℕ) → IndicatorMapValues → Mode → Option (Name × List Field) → List IndicatorMapOffer
-said_offers indicator_maps names d mode i = option_map_or (λ i. offers_to mode (values_of names d i.1) (position (bytes_eq i.0.bytes) indicator_maps)) i []
+said_offers indicator_maps names d mode i = option_map_or (λ i. offers_to values_cell mode (values_of names d i.1) (position (bytes_eq i.0.bytes) indicator_maps)) i []
 
 abbrev pub indicator_map_moves : Moves ℕ IndicatorMapField
 indicator_map_moves = no_moves

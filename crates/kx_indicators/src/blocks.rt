@@ -1,12 +1,11 @@
 //! What the statements of a compat section say of indicators.
-ghost use Rattle.std.specs.Prelude.{◌≡◌, ◌++◌, ◌∷◌, [], IfErr, IfOk, Some};
+ghost use Rattle.std.specs.Prelude.{◌≡◌, ◌++◌, [], IfOk, Some};
 ghost use Rattle.std.specs.List.{flat_map};
-ghost use Rattle.kx_lex.specs.declared.fault.Fault.TheVariants.{Memory};
 ghost use Rattle.kx_parse.specs.declared.tree.Mode.{Mode as ModeValue};
 ghost use Rattle.kx_merge.specs.Records.{AreOffered, mode_of};
 ghost use Rattle.kx_indicators.specs.Blocks.{default_faults, default_in, given_value, indicator_in, item_faults, next_default, own_faults, own_value, said_faults, values_of};
 ghost use Rattle.kx_indicators.specs.Giving.{values_cell, values_width, with_value};
-ghost use Rattle.kx_indicators.specs.Meaning.{item_offers, offers_to, said_offers, values_offer};
+ghost use Rattle.kx_indicators.specs.Meaning.{item_offers, said_offers};
 ghost use Rattle.kx_merge.specs.Faults.{name_faults};
 ghost use Rattle.kx_merge.specs.Reports.{Reports, ReportsOrRunsOut};
 
@@ -16,6 +15,7 @@ use crate::naming::indicator_in;
 use crate::values::{IndicatorMapValue, IndicatorMapValues};
 use kx_basics::MOST_NAME_BYTES;
 use kx_lex::{At, Fault, Name, Span};
+use kx_merge::records_for;
 use kx_parse::{Field, Item, Statement};
 use kx_virtual_mods::{ModNames, Names};
 use std::alloc::Global;
@@ -48,42 +48,11 @@ fn read_values(
     Ok(values)
 }
 
+#[tactic(auto, using(kx_merge::proofs::Offered::nothing_offered))]
 fn no_records(alloc: Global) -> Vec<(usize, IndicatorMapValues)>
     ensures { (mode : ModeValue) → AreOffered mode (values_cell) (values_width) result.items [] }
 {
     Vec::new(alloc)
-}
-
-fn one_record(
-    alloc: Global,
-    number: usize,
-    values: IndicatorMapValues,
-) -> Result<Vec<(usize, IndicatorMapValues)>, Fault>
-    ensures records { (mode : ModeValue)
-        → IfOk result (λ records. AreOffered mode (values_cell) (values_width) records.items
-        (values_offer mode values number ∷ [])) }
-    ensures err { IfErr result (λ e. e ≡ Memory) }
-{
-    let mut records = Vec::new(alloc);
-    records.push((number, values))?;
-    Ok(records)
-}
-
-/// What is given to the indicator of a number.
-fn records_for(
-    alloc: Global,
-    number: Option<usize>,
-    values: IndicatorMapValues,
-) -> Result<Vec<(usize, IndicatorMapValues)>, Fault>
-    ensures records { (mode : ModeValue)
-        → IfOk result (λ records. AreOffered mode (values_cell) (values_width) records.items
-        (offers_to mode values number)) }
-    ensures err { IfErr result (λ e. e ≡ Memory) }
-{
-    match number {
-        None => Ok(no_records(alloc)),
-        Some(number) => one_record(alloc, number, values),
-    }
 }
 
 /// What an indicator gives; `whole` is the statement.

@@ -9,6 +9,7 @@ ghost use Rattle.kx_indicators.specs.Meaning.{indicator_map_moves, indicator_map
 
 use crate::blocks::read_item;
 use crate::values::{IndicatorMapField, IndicatorMapValue, IndicatorMapValues};
+use ks_core::Notes;
 use kx_include::Place;
 use kx_lex::Fault;
 use kx_merge::Fields;
@@ -33,8 +34,6 @@ impl<'a> Fields<Context<'a>> for IndicatorMapValues {
 
     type Defaults = IndicatorMapValues;
 
-    type Notes = ();
-
     ghost rules = { λ context. indicator_map_rules context.indicator_maps.now
         context.names.now.names };
 
@@ -54,7 +53,7 @@ impl<'a> Fields<Context<'a>> for IndicatorMapValues {
         defaults: IndicatorMapValues,
         place: Place,
         item: &Item,
-        _notes: &mut (),
+        _notes: &mut Notes,
     ) -> Result<(Vec<(usize, IndicatorMapValues)>, IndicatorMapValues), Fault> {
         read_item(
             alloc,
@@ -110,10 +109,6 @@ impl<'a> Fields<Context<'a>> for IndicatorMapValues {
     {
         Some(*key)
     }
-
-    fn no_notes() {}
-
-    fn add_notes(_notes: &mut (), _other: &()) {}
 
     ghost apart = { λ n j k to one two. ap (λ key. unwrap_or key 0) (one ∙ sym two) };
 

@@ -1,15 +1,14 @@
 -- Later levels and lists are merged one by one.
 use Rattle.std.proofs.Common.{◌≡◌, ℕ, ◌+◌, ◌-◌, ◌<◌, ◌≤◌, Bool, true, false, cond, max, nat_eq, nat_lt, List, [], ◌∷◌, ◌++◌, ◌&&◌, not, length, replicate, get_or, zero, suc, slice_set, Option, None, Some, refl, sym, ap, ◌∙◌, arith}
 use Rattle.std.specs.Option.{option_and_then}
-use Rattle.std.specs.List.{slice_get}
 use Rattle.std.proofs.lemmas.List.{length-append, length-replicate, length-set}
-use Rattle.std.proofs.lemmas.Option.{slice_get_past, slice_get-get_or}
+use Rattle.std.proofs.lemmas.Option.{slice_get_past}
 use Rattle.std.proofs.lemmas.Bool.{false≢true, eqb-true, eq-eqb, ltb-true, ltb-false, lt-ltb, le-ltb}
 use Rattle.kx_parse.specs.declared.tree.Mode.{Mode}
 use Rattle.kx_parse.specs.declared.tree.Mode.TheVariants.{Augment, Override, Replace}
 use Rattle.kx_merge.specs.Offers.{is_replace, merged_value}
 use Rattle.kx_key_fields.specs.Lists.{Lists, level_at, level_in, level_of, list_at, widened_to, width_in, width_of}
-use Rattle.kx_key_fields.proofs.Moving.{set-other}
+use Rattle.kx_key_fields.proofs.Moving.{set-other, taken_at, set-here}
 
 -- of later levels those before a place were merged, and the others are still there
 pub record LevelsBehind {X : Type 0} (mode : Mode) (old other now left : List (Option X)) (place : ℕ) : Type 0 where
@@ -114,18 +113,6 @@ module _ {V : Type 0} (take : V → V → V) (nothing : V) (old other : ℕ → 
       by true c f = sym (stays (old g))
       by false true f = refl
       by false false f = sym (ap (take (old g)) (past (g - from) (ltb-false (g - from) count f)) ∙ stays (old g))
-
--- an element that is taken out, and those after it
-pub taken_at : {X : Type 0} (xs : List (Option X)) (i : ℕ) (x d : Option X) → i < length xs → x ≡ get_or xs i d → x ≡ option_and_then (λ p. p) (slice_get xs i)
-taken_at xs i x d within is = is ∙ sym (ap (λ o. option_and_then (λ p. p) o) (slice_get-get_or xs i d within))
-
-pub kept_at : {X : Type 0} (xs : List (Option X)) (i : ℕ) (y : Option X) (k : ℕ) → i + 1 ≤ k → option_and_then (λ p. p) (slice_get (slice_set xs i y) k) ≡ option_and_then (λ p. p) (slice_get xs k)
-kept_at xs i y k behind = ap (λ o. option_and_then (λ p. p) o) (set-other xs i y k (λ e. absurd (omega (arith, behind, e))))
-
-set-here : {X : Type 0} (xs : List X) (i : ℕ) (y : X) → i < length xs → slice_get (slice_set xs i y) i ≡ Some y
-set-here [] i y within = absurd (omega (arith, within))
-set-here (x ∷ xs) zero y within = refl
-set-here (x ∷ xs) (suc i) y within = set-here xs i y (omega (arith, within))
 
 none-at : {X : Type 0} (n k : ℕ) → list_at {X = X} (replicate n None) k ≡ None
 none-at zero k = refl

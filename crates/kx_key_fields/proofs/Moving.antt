@@ -2,19 +2,13 @@
 use Rattle.std.proofs.Common.{◌≡◌, ℕ, ◌+◌, ◌-◌, ◌==◌, ◌<◌, ◌≤◌, Bool, true, false, cond, max, nat_eq, nat_lt, List, [], ◌∷◌, ◌++◌, length, replicate, get_or, zero, suc, slice_set, Option, None, Some, refl, sym, ap, ◌∙◌, arith}
 use Rattle.std.specs.Option.{option_and_then}
 use Rattle.std.specs.List.{slice_get}
-use Rattle.std.proofs.lemmas.List.{append_assoc, length-append, length-replicate}
+use Rattle.std.proofs.lemmas.List.{length-append, length-replicate}
 use Rattle.std.proofs.lemmas.Option.{slice_get_past, slice_get-get_or}
 use Rattle.std.proofs.lemmas.Bool.{false≢true, eqb-true, eq-eqb, ltb-true, ltb-false, lt-ltb, le-ltb}
 use Rattle.kx_parse.specs.declared.tree.Mode.{Mode}
 use Rattle.kx_parse.specs.declared.tree.Mode.TheVariants.{Augment, Override, Replace}
 use Rattle.kx_merge.specs.Offers.{is_replace, merged_value}
 use Rattle.kx_key_fields.specs.Attributes.{GroupTypes, type_at, widened_to, with_type}
-
-pub widen_goes : {X : Type 0} (xs : List X) (x : X) (count : ℕ) → length xs < count → (xs ++ x ∷ []) ++ replicate (count - length (xs ++ x ∷ [])) x ≡ xs ++ replicate (count - length xs) x
-widen_goes xs x count more =
-    let longer : length (xs ++ x ∷ []) ≡ length xs + 1 = length-append xs (x ∷ []) in
-    let one : count - length xs ≡ suc (count - length (xs ++ x ∷ [])) = omega (arith, longer, more) in
-    append_assoc xs (x ∷ []) (replicate (count - length (xs ++ x ∷ [])) x) ∙ ap (λ n. xs ++ replicate n x) (sym one)
 
 -- of later types those before a place were merged, and the others are still there
 pub record TypesBehind (mode : Mode) (old other now left : GroupTypes) (place : ℕ) : Type 0 where
@@ -37,7 +31,7 @@ set-other (x ∷ xs) zero y (suc k) other = refl
 set-other (x ∷ xs) (suc i) y zero other = refl
 set-other (x ∷ xs) (suc i) y (suc k) other = set-other xs i y k (λ e. other (ap suc e))
 
-set-here : {X : Type 0} (xs : List X) (i : ℕ) (y : X) → i < length xs → slice_get (slice_set xs i y) i ≡ Some y
+pub set-here : {X : Type 0} (xs : List X) (i : ℕ) (y : X) → i < length xs → slice_get (slice_set xs i y) i ≡ Some y
 set-here [] i y within = absurd (omega (arith, within))
 set-here (x ∷ xs) zero y within = refl
 set-here (x ∷ xs) (suc i) y within = set-here xs i y (omega (arith, within))

@@ -28,11 +28,8 @@ module _ (names : List (List ℕ)) where
   virtual_mask e = fold with_term (term_virtual e.first) e.rest
 
   module _ (file : ℕ) where
-    abbrev pub declared_faults : Name → List Fault
-    declared_faults word = if is_some (virtual_number names word.bytes) then [] else UnknownModifier (at file word.span) ∷ []
-
     abbrev pub virtual_word_faults : Name → List Fault
-    virtual_word_faults word = if is_some (real_mask word.bytes) then BadValue (at file word.span) ∷ [] else declared_faults word
+    virtual_word_faults word = if is_some (real_mask word.bytes) then BadValue (at file word.span) ∷ [] else if is_some (virtual_number names word.bytes) then [] else UnknownModifier (at file word.span) ∷ []
 
     abbrev pub virtual_term_faults : Term → List Fault
     virtual_term_faults (Word word) = virtual_word_faults word

@@ -125,21 +125,21 @@ left_over {cell = cell} {width = width} {eq = eq} {rules = rules} {moves = moves
     subst (λ ys. Left cell width eq rules moves names at d whole now_names now_at now_d (shared_sections bodies ys)) (drop_all i xs over) l
 
 -- maps that are done
-module _ {K C V D R N : Type 0} (cell : R → C → Option V) (width : R → ℕ → ℕ) (eq : K → K → Bool) (rules : Rules K C V D) (moves : Moves K C) where
-  pub gathered_at : (rs : List (Result (Merged K R N) Fault)) (bs : List Body) (n : ℕ) (r : Result (Merged K R N) Fault) → AreGathered cell width eq rules moves rs bs → n < length rs → r ≡ get_or rs n r → IsGathered cell width eq rules moves r (body_at bs n)
+module _ {K C V D R : Type 0} (cell : R → C → Option V) (width : R → ℕ → ℕ) (eq : K → K → Bool) (rules : Rules K C V D) (moves : Moves K C) where
+  pub gathered_at : (rs : List (Result (Merged K R) Fault)) (bs : List Body) (n : ℕ) (r : Result (Merged K R) Fault) → AreGathered cell width eq rules moves rs bs → n < length rs → r ≡ get_or rs n r → IsGathered cell width eq rules moves r (body_at bs n)
   gathered_at [] bs n r are within at = absurd (omega (arith, within))
   gathered_at (x ∷ rs) [] n r are within at = elim are [ ]
   gathered_at (x ∷ rs) (b ∷ bs) zero r (more one rest) within at = subst (λ y. IsGathered cell width eq rules moves y b) (sym at) one
   gathered_at (x ∷ rs) (b ∷ bs) (suc n) r (more one rest) within at = gathered_at rs bs n r rest (omega (arith, within)) at
 
-  pub gathered_past : (rs : List (Result (Merged K R N) Fault)) (bs : List Body) (n : ℕ) → AreGathered cell width eq rules moves rs bs → length rs ≤ n → body_at bs n ≡ End
+  pub gathered_past : (rs : List (Result (Merged K R) Fault)) (bs : List Body) (n : ℕ) → AreGathered cell width eq rules moves rs bs → length rs ≤ n → body_at bs n ≡ End
   gathered_past [] [] n are over = refl
   gathered_past [] (b ∷ bs) n are over = elim are [ ]
   gathered_past (x ∷ rs) [] n are over = elim are [ ]
   gathered_past (x ∷ rs) (b ∷ bs) zero (more one rest) over = absurd (omega (arith, over))
   gathered_past (x ∷ rs) (b ∷ bs) (suc n) (more one rest) over = gathered_past rs bs n rest (omega (arith, over))
 
-  pub gathered_more : (rs : List (Result (Merged K R N) Fault)) (bs : List Body) (r : Result (Merged K R N) Fault) (b : Body) → AreGathered cell width eq rules moves rs bs → IsGathered cell width eq rules moves r b → AreGathered cell width eq rules moves (rs ++ r ∷ []) (bs ++ b ∷ [])
+  pub gathered_more : (rs : List (Result (Merged K R) Fault)) (bs : List Body) (r : Result (Merged K R) Fault) (b : Body) → AreGathered cell width eq rules moves rs bs → IsGathered cell width eq rules moves r b → AreGathered cell width eq rules moves (rs ++ r ∷ []) (bs ++ b ∷ [])
   gathered_more [] [] r b are one = more one none
   gathered_more [] (c ∷ bs) r b are one = elim are [ ]
   gathered_more (x ∷ rs) [] r b are one = elim are [ ]

@@ -1,6 +1,7 @@
 pub mod Going
 pub mod Precedence
 pub mod Given
+pub mod Offered
 pub mod Steps
 pub mod Movings
 pub mod Behind

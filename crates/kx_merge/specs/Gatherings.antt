@@ -38,16 +38,16 @@ module _ {K C V R : Type 0} (cell : R → C → Option V) (width : R → ℕ →
     abbrev pub TableAddsBehind : List (Offer K C V) → List (Offer K C V) → List Fault → Type 0
     TableAddsBehind last added blamed = AddsBehind last (keys old) (get eq old) answer (keys new) (get eq new) added blamed
 
-module _ {K C V D R N : Type 0} (cell : R → C → Option V) (width : R → ℕ → ℕ) (eq : K → K → Bool) (rules : Rules K C V D) (moves : Moves K C) where
+module _ {K C V D R : Type 0} (cell : R → C → Option V) (width : R → ℕ → ℕ) (eq : K → K → Bool) (rules : Rules K C V D) (moves : Moves K C) where
   -- a map's records show its body, or a fault of its stands in their place
-  abbrev pub IsGathered : Result (Merged K R N) Fault → Body → Type 0
+  abbrev pub IsGathered : Result (Merged K R) Fault → Body → Type 0
   IsGathered (Ok g) b = Shows cell width eq (keys g.records) (get eq g.records) (offers_of eq rules moves b) × (faults_of eq rules moves b ≡ [])
   IsGathered (Err e) b = Contains (Memory ∷ faults_of eq rules moves b) e
 
   -- maps in order are bodies in order
-  pub data AreGathered : List (Result (Merged K R N) Fault) → List Body → Type 0 where
+  pub data AreGathered : List (Result (Merged K R) Fault) → List Body → Type 0 where
     none : AreGathered [] []
-    more : {r : Result (Merged K R N) Fault} {b : Body} {rs : List (Result (Merged K R N) Fault)} {bs : List Body} → IsGathered r b → AreGathered rs bs → AreGathered (r ∷ rs) (b ∷ bs)
+    more : {r : Result (Merged K R) Fault} {b : Body} {rs : List (Result (Merged K R) Fault)} {bs : List Body} → IsGathered r b → AreGathered rs bs → AreGathered (r ∷ rs) (b ∷ bs)
 
 -- an entry of a map, under the defaults before it
 module _ {K C V D : Type 0} (eq : K → K → Bool) (rules : Rules K C V D) (moves : Moves K C) (bodies : List Body) (place : Place) where

@@ -2,7 +2,7 @@
 -- modes have it.
 use Rattle.std.specs.Prelude.{ℕ, Bool, true, false, not, ◌&&◌, max, List, [], ◌∷◌, ◌++◌, Option, None, if◌then◌else◌}
 use Rattle.std.specs.List.{list_any}
-use Rattle.std.specs.Option.{option_or}
+use Rattle.std.specs.Option.{option_map_or, option_or}
 use Rattle.kx_parse.specs.declared.tree.Mode.{Mode}
 use Rattle.kx_parse.specs.declared.tree.Mode.TheVariants.{Augment, Override, Replace}
 
@@ -16,6 +16,10 @@ pub record Offer (K C V : Type 0) : Type 0 where
 -- an offer to a record that has no groups
 abbrev pub plain_offer : {K C V : Type 0} → Mode → K → (C → Option V) → Offer K C V
 plain_offer mode name value = record { mode = mode; name = name; value = value; width = λ _. 0 }
+
+-- what is offered to a record without groups where its name is known
+abbrev pub offers_to : {K C V R : Type 0} → (R → C → Option V) → Mode → R → Option K → List (Offer K C V)
+offers_to cell mode given name = option_map_or (λ n. plain_offer mode n (cell given) ∷ []) name []
 
 abbrev pub is_replace : Mode → Bool
 is_replace Replace = true

@@ -7,6 +7,7 @@ ghost use Rattle.kx_merge.specs.Moved.{moved_key, moved_value, moved_width};
 ghost use Rattle.kx_merge.specs.Offers.{merged_value, merged_width};
 ghost use Rattle.kx_merge.specs.Reports.{ReportsOrRunsOut};
 
+use ks_core::Notes;
 use kx_include::Place;
 use kx_lex::Fault;
 use kx_ordered::TableKey;
@@ -23,8 +24,6 @@ pub trait Fields<C>: Drop {
     type Value;
     /// The default statements of a section, gathered.
     type Defaults: Drop;
-    /// What reading tells beside records, and is no fault.
-    type Notes: Drop;
 
     ghost rules: { C → Rules Self.Key Self.Cell Self.Value Self.Defaults };
 
@@ -46,7 +45,7 @@ pub trait Fields<C>: Drop {
         defaults: Self::Defaults,
         place: Place,
         item: &Item,
-        notes: &mut Self::Notes,
+        notes: &mut Notes,
     ) -> Result<(Vec<(Self::Key, Self)>, Self::Defaults), Fault>
         ensures records { IfOk result (λ said.
             AreOffered (mode_of item.now) (cell) (width) said.0.items
@@ -89,12 +88,6 @@ pub trait Fields<C>: Drop {
     /// What a record is told apart by where its map is moved to a group; `None` where none is left of it.
     fn key_in(key: &Self::Key, group: Option<u8>) -> Option<Self::Key>
         ensures { result ≡ moved_key moves group key.now };
-
-    /// Nothing is noted.
-    fn no_notes() -> Self::Notes;
-
-    /// Adds what is noted with the records of an included map.
-    fn add_notes(notes: &mut Self::Notes, other: &Self::Notes);
 
     // No two records of a map that is moved become one.
     ghost apart: { (n : ℕ) (j k to : Self.Key)

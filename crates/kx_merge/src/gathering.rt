@@ -15,6 +15,7 @@ use crate::fields::Fields;
 use crate::merging::{add_again, add_included, add_joined, are_kept, merge_own};
 use crate::repeats::{PartRepeats, Repeats};
 use crate::replaced::Replaced;
+use ks_core::Notes;
 use kx_include::{Entry, Expansion, Link, Map, Place};
 use kx_lex::Fault;
 use kx_ordered::{Ordered, TableKey};
@@ -23,10 +24,10 @@ use std::alloc::Global;
 
 /// Records, and what is noted of the statements that they were read from.
 #[derive(Drop)]
-pub struct Merged<K: Ord + TableKey + Drop, R, N> {
+pub struct Merged<K: Ord + TableKey + Drop, R> {
     /// By what tells them apart, in the order in which they were first named.
     pub records: Ordered<K, R>,
-    pub notes: N,
+    pub notes: Notes,
 }
 
 /// The records of a section kind in the order in which the items of its expanded body name them: each cell has its value
@@ -39,7 +40,7 @@ pub fn merge<C, R: Fields<C>>(
     alloc: Global,
     context: &C,
     expansion: &Expansion,
-) -> Result<Merged<R::Key, R, R::Notes>, Fault>
+) -> Result<Merged<R::Key, R>, Fault>
     ensures shows { IfOk result (λ m. TableShows R.cell R.width R.Key.eq m.records
         (offers_of R.Key.eq (R.rules context.now) R.moves (expanded_body expansion.now))) }
     ensures faults { ReportsOrRunsOut result
@@ -47,7 +48,7 @@ pub fn merge<C, R: Fields<C>>(
 {
     let done = gather_maps::<C, R>(alloc, context, expansion.maps.as_slice())?;
     let mut records = Ordered::new(alloc);
-    let mut notes = R::no_notes();
+    let mut notes = Notes::new();
     'sections: for section in &expansion.sections {
         merge_map::<C, R>(
             alloc,
@@ -67,7 +68,7 @@ fn gather_maps<C, R: Fields<C>>(
     alloc: Global,
     context: &C,
     maps: &[Map],
-) -> Result<Vec<Result<Merged<R::Key, R, R::Notes>, Fault>>, Fault>
+) -> Result<Vec<Result<Merged<R::Key, R>, Fault>>, Fault>
     ensures gathered { IfOk result (λ done. AreGathered R.cell R.width R.Key.eq
         (R.rules context.now) R.moves done.items (bodies_behind [] maps.now)) }
     ensures err { IfErr result (λ e. e ≡ Memory) }
@@ -84,16 +85,16 @@ fn gather_maps<C, R: Fields<C>>(
 fn gather_map<C, R: Fields<C>>(
     alloc: Global,
     context: &C,
-    done: &[Result<Merged<R::Key, R, R::Notes>, Fault>],
+    done: &[Result<Merged<R::Key, R>, Fault>],
     map: &Map,
-) -> Result<Merged<R::Key, R, R::Notes>, Fault>
+) -> Result<Merged<R::Key, R>, Fault>
     ensures { (bodies : List Body)
         → AreGathered R.cell R.width R.Key.eq (R.rules context.now) R.moves done.now bodies
         → IsGathered R.cell R.width R.Key.eq (R.rules context.now) R.moves result
         (shared_body bodies map.now End) }
 {
     let mut records = Ordered::new(alloc);
-    let mut notes = R::no_notes();
+    let mut notes = Notes::new();
     merge_map::<C, R>(alloc, context, done, map, &mut records, &mut notes)?;
     Ok(Merged { records, notes })
 }
@@ -104,10 +105,10 @@ fn gather_map<C, R: Fields<C>>(
 fn merge_map<C, R: Fields<C>>(
     alloc: Global,
     context: &C,
-    done: &[Result<Merged<R::Key, R, R::Notes>, Fault>],
+    done: &[Result<Merged<R::Key, R>, Fault>],
     map: &Map,
     records: &mut Ordered<R::Key, R>,
-    notes: &mut R::Notes,
+    notes: &mut Notes,
 ) -> Result<(), Fault>
     ensures { (bodies : List Body)
         → AreGathered R.cell R.width R.Key.eq (R.rules context.now) R.moves done.now bodies
@@ -194,14 +195,14 @@ fn since_after(since: usize, place: usize, mode: Mode) -> usize
 fn merge_entry<C, R: Fields<C>>(
     alloc: Global,
     context: &C,
-    done: &[Result<Merged<R::Key, R, R::Notes>, Fault>],
+    done: &[Result<Merged<R::Key, R>, Fault>],
     place: Place,
     last: Included,
     entry: &Entry,
     defaults: R::Defaults,
     records: &mut Ordered<R::Key, R>,
     replaced: &mut Vec<R::Key>,
-    notes: &mut R::Notes,
+    notes: &mut Notes,
 ) -> Result<R::Defaults, Fault>
     ensures adds { (bodies : List Body)
         → AreGathered R.cell R.width R.Key.eq (R.rules context.now) R.moves done.now bodies
@@ -257,20 +258,20 @@ pub(crate) fn are_same_links(some: &[Link], others: &[Link]) -> bool
 
 /// Adds what is noted with the map of a part.
 fn note_link<C, R: Fields<C>>(
-    done: &[Result<Merged<R::Key, R, R::Notes>, Fault>],
+    done: &[Result<Merged<R::Key, R>, Fault>],
     link: Link,
-    notes: &mut R::Notes,
+    notes: &mut Notes,
 ) {
     if let Some(Ok(found)) = done.get(link.map) {
-        R::add_notes(notes, &found.notes);
+        *notes = notes.saturating_add(found.notes);
     }
 }
 
 /// Adds what is noted with the maps of some parts.
 fn note_links<C, R: Fields<C>>(
-    done: &[Result<Merged<R::Key, R, R::Notes>, Fault>],
+    done: &[Result<Merged<R::Key, R>, Fault>],
     links: &[Link],
-    notes: &mut R::Notes,
+    notes: &mut Notes,
 ) {
     for link in links {
         note_link::<C, R>(done, *link, notes);
@@ -280,11 +281,11 @@ fn note_links<C, R: Fields<C>>(
 /// What an include makes of records right after another, which changes nothing where both are the same.
 fn merge_after<C, R: Fields<C>>(
     alloc: Global,
-    done: &[Result<Merged<R::Key, R, R::Notes>, Fault>],
+    done: &[Result<Merged<R::Key, R>, Fault>],
     last: Included,
     included: Included,
     records: &mut Ordered<R::Key, R>,
-    notes: &mut R::Notes,
+    notes: &mut Notes,
 ) -> Result<(), Fault>
     ensures { (rules : Rules R.Key R.Cell R.Value R.Defaults) (bodies : List Body)
         → AreGathered R.cell R.width R.Key.eq rules R.moves done.now bodies
@@ -307,7 +308,7 @@ fn merge_after<C, R: Fields<C>>(
 /// given anew since. `false` where it has to be gone over whole.
 fn merge_again<C, R: Fields<C>>(
     alloc: Global,
-    done: &[Result<Merged<R::Key, R, R::Notes>, Fault>],
+    done: &[Result<Merged<R::Key, R>, Fault>],
     links: &[Link],
     stood: Option<usize>,
     replaced: &Replaced<R::Key>,
@@ -333,7 +334,7 @@ fn merge_again<C, R: Fields<C>>(
 /// it has so few records that looking up the keys in each of its parts takes longer.
 fn merge_keys<C, R: Fields<C>>(
     alloc: Global,
-    done: &[Result<Merged<R::Key, R, R::Notes>, Fault>],
+    done: &[Result<Merged<R::Key, R>, Fault>],
     links: &[Link],
     renewed: &[R::Key],
     records: &mut Ordered<R::Key, R>,
@@ -363,7 +364,7 @@ fn merge_keys<C, R: Fields<C>>(
 /// How many records are gone over for the parts of an include. Those of a part that is passed over don't count.
 fn count_records<C, R: Fields<C>>(
     alloc: Global,
-    done: &[Result<Merged<R::Key, R, R::Notes>, Fault>],
+    done: &[Result<Merged<R::Key, R>, Fault>],
     links: &[Link],
 ) -> Result<usize, Fault>
     ensures { IfErr result (λ e. e ≡ Memory) }
@@ -388,7 +389,7 @@ fn count_records<C, R: Fields<C>>(
 /// to be gone over whole.
 fn merge_joined_keys<C, R: Fields<C>>(
     alloc: Global,
-    done: &[Result<Merged<R::Key, R, R::Notes>, Fault>],
+    done: &[Result<Merged<R::Key, R>, Fault>],
     links: &[Link],
     renewed: &[R::Key],
     records: &mut Ordered<R::Key, R>,
@@ -414,7 +415,7 @@ fn merge_joined_keys<C, R: Fields<C>>(
 /// be gone over whole.
 fn merge_links_keys<C, R: Fields<C>>(
     alloc: Global,
-    done: &[Result<Merged<R::Key, R, R::Notes>, Fault>],
+    done: &[Result<Merged<R::Key, R>, Fault>],
     links: &[Link],
     renewed: &[R::Key],
     records: &mut Ordered<R::Key, R>,
@@ -438,7 +439,7 @@ fn merge_links_keys<C, R: Fields<C>>(
 /// records become others as its map is moved.
 fn merge_link_keys<C, R: Fields<C>>(
     alloc: Global,
-    done: &[Result<Merged<R::Key, R, R::Notes>, Fault>],
+    done: &[Result<Merged<R::Key, R>, Fault>],
     mode: Mode,
     link: Link,
     renewed: &[R::Key],
@@ -466,11 +467,11 @@ fn merge_link_keys<C, R: Fields<C>>(
 /// What an include makes of records under its mode. What a single part brings needs no joining.
 fn merge_include<C, R: Fields<C>>(
     alloc: Global,
-    done: &[Result<Merged<R::Key, R, R::Notes>, Fault>],
+    done: &[Result<Merged<R::Key, R>, Fault>],
     mode: Mode,
     links: &[Link],
     records: &mut Ordered<R::Key, R>,
-    notes: &mut R::Notes,
+    notes: &mut Notes,
 ) -> Result<(), Fault>
     ensures { (rules : Rules R.Key R.Cell R.Value R.Defaults) (bodies : List Body)
         → AreGathered R.cell R.width R.Key.eq rules R.moves done.now bodies
@@ -487,11 +488,11 @@ fn merge_include<C, R: Fields<C>>(
 /// What the parts of an include, joined, make of records under its mode.
 fn merge_joined<C, R: Fields<C>>(
     alloc: Global,
-    done: &[Result<Merged<R::Key, R, R::Notes>, Fault>],
+    done: &[Result<Merged<R::Key, R>, Fault>],
     mode: Mode,
     links: &[Link],
     records: &mut Ordered<R::Key, R>,
-    notes: &mut R::Notes,
+    notes: &mut Notes,
 ) -> Result<(), Fault>
     ensures { (rules : Rules R.Key R.Cell R.Value R.Defaults) (bodies : List Body)
         → AreGathered R.cell R.width R.Key.eq rules R.moves done.now bodies
@@ -508,10 +509,10 @@ fn merge_joined<C, R: Fields<C>>(
 /// stands before it, and nothing between takes a value back.
 fn merge_links<C, R: Fields<C>>(
     alloc: Global,
-    done: &[Result<Merged<R::Key, R, R::Notes>, Fault>],
+    done: &[Result<Merged<R::Key, R>, Fault>],
     links: &[Link],
     records: &mut Ordered<R::Key, R>,
-    notes: &mut R::Notes,
+    notes: &mut Notes,
 ) -> Result<(), Fault>
     ensures { (rules : Rules R.Key R.Cell R.Value R.Defaults) (bodies : List Body)
         → AreGathered R.cell R.width R.Key.eq rules R.moves done.now bodies
@@ -537,11 +538,11 @@ fn merge_links<C, R: Fields<C>>(
 /// What a part of an include makes of records under a mode.
 fn merge_link<C, R: Fields<C>>(
     alloc: Global,
-    done: &[Result<Merged<R::Key, R, R::Notes>, Fault>],
+    done: &[Result<Merged<R::Key, R>, Fault>],
     mode: Mode,
     link: Link,
     records: &mut Ordered<R::Key, R>,
-    notes: &mut R::Notes,
+    notes: &mut Notes,
 ) -> Result<(), Fault>
     ensures { (rules : Rules R.Key R.Cell R.Value R.Defaults) (bodies : List Body)
         → AreGathered R.cell R.width R.Key.eq rules R.moves done.now bodies
@@ -554,7 +555,7 @@ fn merge_link<C, R: Fields<C>>(
         None => Ok(()),
         Some(Err(fault)) => Err(*fault),
         Some(Ok(found)) => {
-            R::add_notes(notes, &found.notes);
+            *notes = notes.saturating_add(found.notes);
             add_included::<C, R>(alloc, records, mode, &found.records, link.group)
         }
     }

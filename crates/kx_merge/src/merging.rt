@@ -11,6 +11,7 @@ ghost use Rattle.kx_merge.specs.Offers.{Offer, is_replace, merged_value};
 ghost use Rattle.kx_merge.specs.Records.{AreOffered, IsGood, IsOffered, TableShows, mode_of};
 
 use crate::fields::Fields;
+use ks_core::Notes;
 use kx_include::Place;
 use kx_lex::Fault;
 use kx_ordered::{Ordered, TableKey};
@@ -250,7 +251,7 @@ pub(crate) fn merge_own<C, R: Fields<C>>(
     item: &Item,
     records: &mut Ordered<R::Key, R>,
     replaced: &mut Vec<R::Key>,
-    notes: &mut R::Notes,
+    notes: &mut Notes,
 ) -> Result<R::Defaults, Fault>
     ensures adds { TableAdds R.cell R.width R.Key.eq records.old result records.new
         ((R.rules context.now).offers defaults place item.now)

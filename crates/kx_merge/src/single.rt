@@ -1,10 +1,10 @@
 //! Records of one value, under sections without defaults.
-ghost use Rattle.std.specs.Prelude.{◌≡◌, ◌∷◌, [], ℕ, IfErr, IfOk, List, None, OnOk, Option, Some, true};
+ghost use Rattle.std.specs.Prelude.{◌≡◌, ◌∷◌, [], ℕ, IfErr, IfOk, List, None, Option, Some, true};
 ghost use Rattle.kx_include.specs.declared.place.Place.{Place as PlaceValue};
 ghost use Rattle.kx_lex.specs.declared.fault.Fault.{Fault as FaultValue};
 ghost use Rattle.kx_lex.specs.declared.fault.Fault.TheVariants.{Memory};
-ghost use Rattle.kx_merge.specs.Moved.{moved_key, moved_value, moved_width};
-ghost use Rattle.kx_merge.specs.Offers.{Offer, plain_offer, merged_value, merged_width};
+ghost use Rattle.kx_merge.specs.Moved.{moved_key};
+ghost use Rattle.kx_merge.specs.Offers.{Offer, plain_offer, merged_value};
 ghost use Rattle.kx_merge.specs.Records.{AreOffered, mode_of};
 ghost use Rattle.kx_merge.specs.Single.{single_cell, single_moves, single_rules, single_width};
 ghost use Rattle.kx_parse.specs.declared.tree.Item.{Item as ItemValue};
@@ -13,6 +13,7 @@ ghost use Rattle.kx_merge.specs.Reports.{ReportsOrRunsOut};
 
 use crate::fields::Fields;
 use crate::merging::merged_value;
+use ks_core::Notes;
 use kx_include::Place;
 use kx_lex::Fault;
 use kx_ordered::TableKey;
@@ -111,8 +112,6 @@ impl<C, V: SingleValue<C>> Fields<C> for Single<V> {
 
     type Defaults = ();
 
-    type Notes = ();
-
     ghost rules = { λ context. single_rules (V.offers context) (V.faults context) };
 
     ghost moves = { single_moves V.moved };
@@ -129,28 +128,17 @@ impl<C, V: SingleValue<C>> Fields<C> for Single<V> {
         _defaults: (),
         place: Place,
         item: &Item,
-        _notes: &mut (),
+        _notes: &mut Notes,
     ) -> Result<(Vec<(V::Key, Single<V>)>, ()), Fault> {
         Ok((V::read(alloc, context, place, item)?, ()))
     }
 
-    fn merge(&mut self, _alloc: Global, other: Single<V>, mode: Mode) -> Result<(), Fault>
-        ensures cells { OnOk result ((c : Unit {0})
-            → single_cell self.new c ≡ merged_value mode (single_cell self.old c)
-            (single_cell other c)) }
-        ensures widths { OnOk result ((g : ℕ)
-            → single_width self.new g ≡ merged_width mode (single_width self.old g)
-            (single_width other g)) }
-        ensures err { IfErr result (λ e. e ≡ Memory) }
-    {
+    fn merge(&mut self, _alloc: Global, other: Single<V>, mode: Mode) -> Result<(), Fault> {
         self.value = merged_value(mode, self.value.take(), other.value);
         Ok(())
     }
 
-    fn none(_alloc: Global) -> Single<V>
-        ensures cells { (c : Unit {0}) → single_cell result c ≡ None }
-        ensures widths { (g : ℕ) → single_width result g ≡ 0 }
-    {
+    fn none(_alloc: Global) -> Single<V> {
         Single { value: None }
     }
 
@@ -160,15 +148,7 @@ impl<C, V: SingleValue<C>> Fields<C> for Single<V> {
         other: &Single<V>,
         _group: Option<u8>,
         mode: Mode,
-    ) -> Result<(), Fault>
-        ensures cells { OnOk result ((c : Unit {0})
-            → single_cell self.new c ≡ merged_value mode (single_cell self.old c)
-            (moved_value (single_moves V.moved) _group (single_cell other.now) c)) }
-        ensures widths { OnOk result ((g : ℕ)
-            → single_width self.new g ≡ merged_width mode (single_width self.old g)
-            (moved_width (single_moves V.moved) _group (single_width other.now) g)) }
-        ensures err { IfErr result (λ e. e ≡ Memory) }
-    {
+    ) -> Result<(), Fault> {
         // a value that is there stays, so none is copied
         if mode == Mode::Augment && self.value.is_some() {
             return Ok(());
@@ -181,10 +161,6 @@ impl<C, V: SingleValue<C>> Fields<C> for Single<V> {
     fn key_in(key: &V::Key, group: Option<u8>) -> Option<V::Key> {
         V::key_in(key, group)
     }
-
-    fn no_notes() {}
-
-    fn add_notes(_notes: &mut (), _other: &()) {}
 
     ghost apart = { V.apart };
 

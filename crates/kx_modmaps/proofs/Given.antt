@@ -9,9 +9,6 @@ use Rattle.kx_modmaps.specs.declared.record.Assigned.{Assigned}
 use Rattle.kx_modmaps.specs.declared.record.Cell.{Cell}
 use Rattle.kx_modmaps.specs.declared.target.Target.{Target}
 
-pub nothing_offered : (mode : Mode) (records : List (Target × Assigned)) → records ≡ [] → AreAssigned mode records []
-nothing_offered mode records e = subst (λ xs. AreAssigned mode xs []) (sym e) none
-
 push-offered : (mode : Mode) (records : List (Target × Assigned)) (os : List (Offer Target Cell ℕ)) (mods : ℕ) (target : Target) (a : Assigned) → AreAssigned mode records os → IsOffered {K = Target} {C = Cell} {V = ℕ} {R = Assigned} mode assigned_cell assigned_width target a (map_offer mode mods target)
     → AreAssigned mode (records ++ (target, a) ∷ []) (os ++ map_offer mode mods target ∷ [])
 push-offered mode [] [] mods target a are is = more is none

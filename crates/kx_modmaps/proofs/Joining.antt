@@ -1,10 +1,7 @@
 -- What modifier maps give more than once.
-use Rattle.std.proofs.Common.{◌≡◌, ℕ, ◌^◌, ◌<◌, ◌==◌, ◌||◌, Bool, true, false, cond, max, Option, Some, None, bit_or, refl, sym, ap, ◌∙◌, arith}
-use Rattle.std.specs.Int.{bit_at}
+use Rattle.std.proofs.Common.{◌≡◌, ℕ, ◌^◌, ◌==◌, ◌||◌, Bool, true, false, cond, Option, Some, None, bit_or, refl, sym, ap, ◌∙◌}
 use Rattle.std.specs.Option.{option_map, option_or}
-use Rattle.std.proofs.lemmas.Bool.Decides.{nat_tests}
-use Rattle.std.proofs.lemmas.Nat.Bits.{bit_at-lt, bit_at_or}
-use Rattle.kx_virtual_mods.specs.Sets.{has, union}
+use Rattle.kx_virtual_mods.specs.Sets.{has}
 use Rattle.kx_merge.specs.Offers.{merged_value}
 use Rattle.kx_mods.specs.Mods.{mask}
 use Rattle.kx_mods.specs.declared.mods.Mods.{Mods}
@@ -14,12 +11,7 @@ use Rattle.kx_modmaps.specs.Maps.{assigned_cell, present}
 use Rattle.kx_modmaps.specs.declared.record.Assigned.{Assigned}
 use Rattle.kx_modmaps.specs.declared.record.Cell.{Cell}
 use Rattle.kx_modmaps.specs.declared.record.Cell.TheVariants.{Present, Only}
-
-one-or : (x y : ℕ) → x < 2 → y < 2 → (max x y == 1) ≡ ((x == 1) || (y == 1))
-one-or x y small other = grind (arith, nat_tests, small, other)
-
-has-union : (m n i : ℕ) → has (union m n) i ≡ (has m i || has n i)
-has-union m n i = ap (λ b. b == 1) (bit_at_or m n i) ∙ one-or (bit_at m i) (bit_at n i) (bit_at-lt m i) (bit_at-lt n i)
+use Rattle.kx_virtual_mods.proofs.Bits.{has_union}
 
 either : (b c : Bool) (x : ℕ) → cond (b || c) (Some x) None ≡ option_or (cond b (Some x) None) (cond c (Some x) None)
 either true c x = refl
@@ -39,12 +31,12 @@ first-only None b = refl
 module _ (old new got : Assigned) (mode : Mode) (whole : mask got.present ≡ bit_or (mask old.present) (mask new.present)) where
   pub joined_weak : mode ≡ Augment → got.only ≡ option_or old.only new.only → (c : Cell) → assigned_cell got c ≡ merged_value mode (assigned_cell old c) (assigned_cell new c)
   joined_weak is only (Present r) =
-      ap (λ m. present m r) whole ∙ ap (λ b. cond b (Some (2 ^ r)) None) (has-union (mask old.present) (mask new.present) r) ∙ either (has (mask old.present) r) (has (mask new.present) r) (2 ^ r)
+      ap (λ m. present m r) whole ∙ ap (λ b. cond b (Some (2 ^ r)) None) (has_union (mask old.present) (mask new.present) r) ∙ either (has (mask old.present) r) (has (mask new.present) r) (2 ^ r)
       ∙ ap (λ m. merged_value m (present (mask old.present) r) (present (mask new.present) r)) (sym is)
   joined_weak is only Only = ap (option_map mask) only ∙ first-only old.only new.only ∙ ap (λ m. merged_value m (option_map mask old.only) (option_map mask new.only)) (sym is)
 
   pub joined_strong : mode ≡ Override → got.only ≡ option_or new.only old.only → (c : Cell) → assigned_cell got c ≡ merged_value mode (assigned_cell old c) (assigned_cell new c)
   joined_strong is only (Present r) =
-      ap (λ m. present m r) whole ∙ ap (λ b. cond b (Some (2 ^ r)) None) (has-union (mask old.present) (mask new.present) r) ∙ other (has (mask old.present) r) (has (mask new.present) r) (2 ^ r)
+      ap (λ m. present m r) whole ∙ ap (λ b. cond b (Some (2 ^ r)) None) (has_union (mask old.present) (mask new.present) r) ∙ other (has (mask old.present) r) (has (mask new.present) r) (2 ^ r)
       ∙ ap (λ m. merged_value m (present (mask old.present) r) (present (mask new.present) r)) (sym is)
   joined_strong is only Only = ap (option_map mask) only ∙ first-only new.only old.only ∙ ap (λ m. merged_value m (option_map mask old.only) (option_map mask new.only)) (sym is)

@@ -136,6 +136,7 @@ fn read_map(
     records_for(alloc, targets.as_slice(), mods)
 }
 
+#[tactic(auto, using(kx_merge::proofs::Offered::nothing_offered))]
 fn no_records(alloc: Global) -> Vec<(Target, Assigned)>
     ensures { (mode : ModeValue) → AreAssigned mode result.items [] }
 {
@@ -189,8 +190,6 @@ impl<'a, 'l> Fields<Context<'a, 'l>> for Assigned {
     type Value = u8;
 
     type Defaults = ();
-
-    type Notes = Notes;
 
     ghost rules = { λ context. map_rules context.codes.now context.names.now
         context.modifiers.now.names };
@@ -269,14 +268,6 @@ impl<'a, 'l> Fields<Context<'a, 'l>> for Assigned {
         ensures { result ≡ moved_key map_moves _group key.now }
     {
         Some(*key)
-    }
-
-    fn no_notes() -> Notes {
-        Notes::new()
-    }
-
-    fn add_notes(notes: &mut Notes, other: &Notes) {
-        *notes = notes.saturating_add(*other);
     }
 
     ghost apart = { λ n j k to one two. ap (λ key. unwrap_or key to) (one ∙ sym two) };

@@ -4,25 +4,12 @@ use Rattle.std.proofs.lemmas.Grind.{flat_map-append}
 use Rattle.std.specs.List.{flat_map}
 use Rattle.kx_tables.specs.Content.{part}
 use Rattle.kx_print.specs.Phrases.{numbered}
+use Rattle.kx_tables.proofs.Parts.{slice_get-part}
 
 -- what is said of the row at an index is said of the row that was read there
 pub of_row : {X : Type 0} (f : X → List ℕ) (found : Option X) (x : X) (text : List ℕ) → found ≡ Some x → IfSome found (λ y. text ≡ f y) → text ≡ f x
 of_row f None x text is holds = cc
 of_row f (Some y) x text is holds = let same : y ≡ x = cc in holds ∙ ap f same
-
-slice_get-take_in : {X : Type 0} (xs : List X) (n i : ℕ) → i < n → slice_get (take n xs) i ≡ slice_get xs i
-slice_get-take_in xs zero i within = absurd (omega arith)
-slice_get-take_in [] (suc n) i within = refl
-slice_get-take_in (y ∷ ys) (suc n) zero within = refl
-slice_get-take_in (y ∷ ys) (suc n) (suc i) within = slice_get-take_in ys n i (omega arith)
-
-slice_get-drop : {X : Type 0} (xs : List X) (n i : ℕ) → slice_get (drop n xs) i ≡ slice_get xs (n + i)
-slice_get-drop xs zero i = let e : 0 + i ≡ i = omega arith in ap (slice_get xs) (sym e)
-slice_get-drop [] (suc n) i = refl
-slice_get-drop (y ∷ ys) (suc n) i = let e : suc n + i ≡ suc (n + i) = omega arith in slice_get-drop ys n i ∙ ap (slice_get (y ∷ ys)) (sym e)
-
-slice_get-part : {X : Type 0} (xs : List X) (first count i : ℕ) → i < count → slice_get (part xs first count) i ≡ slice_get xs (first + i)
-slice_get-part xs first count i within = slice_get-take_in (drop first xs) count i within ∙ slice_get-drop xs first i
 
 -- the row read at a place of a table is the one at its index in the part
 pub at_part : {X : Type 0} (xs : List X) (first count i j : ℕ) (x : X) → i < count → j ≡ i → slice_get xs (first + j) ≡ Some x → slice_get (part xs first count) i ≡ Some x

@@ -1,11 +1,9 @@
 -- Whether a key has an action.
-use Rattle.std.proofs.Common.{ℕ, zero, suc, ◌+◌, ◌≡◌, ◌||◌, Bool, false, None, is_some, refl, ap, sym, ◌∙◌, subst, arith}
+use Rattle.std.proofs.Common.{ℕ, zero, suc, ◌+◌, ◌≡◌, ◌||◌, Bool, false, None, is_some, refl, ap, sym, ◌∙◌, subst}
 use Rattle.kx_virtual_mods.specs.Sets.{any_below}
 use Rattle.kx_resolve.specs.Given.{KeyGiven}
 use Rattle.kx_resolve.specs.GroupTypes.{group_count, has_action}
-
-one_more : (n : ℕ) → suc n ≡ n + 1
-one_more n = omega arith
+use Rattle.kx_resolve.proofs.Counting.{one_more}
 
 module _ (test : ℕ → Bool) where
   pub any_none : any_below 0 test ≡ false

@@ -16,6 +16,7 @@ use Rattle.kx_resolve.specs.Going.{AreAlike, ComesOf, IsRowOf, RowsOf, entry_at,
 use Rattle.kx_resolve.specs.Rows.{entry_rows, has_row, row_of, set_mask, with_entry}
 use Rattle.kx_resolve.specs.Selecting.{RealSet, are_same, is_live}
 use Rattle.kx_resolve.proofs.Bits.{has_set, mask_test, set_small}
+use Rattle.kx_codes.proofs.Matching.{or-none}
 
 some≢none : {X : Type 0} (x : X) → Some x ≡ None → ⊥
 some≢none x e = cc
@@ -41,10 +42,6 @@ any_mapped m (row ∷ rows) = λ i. eqb-flips m (mask row.mods) i || any_mapped 
 map-push : (rows : List EntryRow) (row : EntryRow) → map mask_of (rows ++ row ∷ []) ≡ map mask_of rows ++ mask_of row ∷ []
 map-push [] row = refl
 map-push (r ∷ rows) row = ap (λ ms. mask_of r ∷ ms) (map-push rows row)
-
-or-none : {X : Type 0} (o : Option X) → option_or o None ≡ o
-or-none None = refl
-or-none (Some x) = refl
 
 module _ (real : ℕ → RealSet) where
   alike_more : (old new : Option EntryRow) (before more : Option TypeEntry) → AreAlike real old before → (old ≡ None → AreAlike real new more) → AreAlike real (option_or old new) (option_or before more)

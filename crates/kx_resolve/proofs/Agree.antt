@@ -1,11 +1,10 @@
 -- The keymap of what keys resolve to is the one that keys and types mean.
-use Rattle.std.proofs.Common.{ℕ, zero, suc, pos, ◌-◌, ◌≡◌, ◌<◌, ◌≤◌, ◌==◌, ◌^◌, ◌%◌, max, nat_lt, Bool, true, false, All, List, [], ◌∷◌, ◌++◌, Option, None, Some, is_some, map, slice_get, unwrap_or, cond, if◌then◌else◌, refl, ap, ◌∙◌, subst, sym, arith, ◌⊎◌, inl, inr}
+use Rattle.std.proofs.Common.{ℕ, zero, suc, pos, ◌-◌, ◌≡◌, ◌<◌, ◌≤◌, ◌==◌, ◌^◌, ◌%◌, max, nat_lt, Bool, true, false, List, [], ◌∷◌, ◌++◌, Option, None, Some, is_some, map, slice_get, unwrap_or, cond, if◌then◌else◌, refl, ap, ◌∙◌, subst, sym, arith, ◌⊎◌, inl, inr}
 use Rattle.std.specs.List.{find, list_any}
 use Rattle.std.specs.Option.{IfSome, option_or}
 use Rattle.std.specs.Str.{bytes_eq}
 use Rattle.std.specs.Int.RustNames.{bit_and}
 use Rattle.std.proofs.lemmas.Bool.{cases_lt, eqb-false, eqb-true, le-ltb, lt-ltb}
-use Rattle.std.proofs.lemmas.List.Elements.{All-head, All-tail}
 use Rattle.std.proofs.lemmas.List.Folds.{find-append}
 use Rattle.std.proofs.lemmas.Nat.{and_le_l, and_le_r, and_mod}
 use Rattle.kx_builder.proofs.Agreeing.{group_below}
@@ -27,12 +26,9 @@ use Rattle.kx_resolve.specs.Shown.{groups_if, keymap_meant, most_groups_below, n
 use Rattle.kx_tables.specs.Keymap.{level_of, nothing_shown}
 use Rattle.kx_tables.specs.Range.{in_range}
 use Rattle.kx_types.specs.KeyTypes.{Definition}
+use Rattle.kx_resolve.proofs.RowsShown.{find_holds}
 
 -- ---- A type
-
-find_holds : {X : Type 0} (P : X → Type 0) (p : X → Bool) (xs : List X) → All P xs → IfSome (find p xs) P
-find_holds P p [] all = tt
-find_holds P p (x ∷ xs) all = elim (p x) as (λ b. IfSome (cond b (Some x) (find p xs)) P) [ true ↦ All-head P x xs all | false ↦ find_holds P p xs (All-tail P x xs all) ]
 
 small_part : (w : ℕ) → real_part w < 2 ^ 8
 small_part w = omega arith

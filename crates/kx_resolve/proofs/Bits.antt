@@ -1,9 +1,9 @@
 -- Sets of real modifiers and their masks.
-use Rattle.std.proofs.Common.{◌≡◌, ℕ, ◌-◌, ◌<◌, ◌≤◌, ◌==◌, ◌^◌, ◌&&◌, ◌||◌, not, Bool, true, false, zero, suc, min, nat_eq, nat_lt, max, refl, sym, ap, ◌∙◌, subst, arith, if◌then◌else◌, ◌⊎◌, inl, inr}
+use Rattle.std.proofs.Common.{◌≡◌, ℕ, ◌-◌, ◌<◌, ◌≤◌, ◌==◌, ◌^◌, ◌&&◌, ◌||◌, not, Bool, true, false, zero, suc, min, nat_eq, nat_lt, refl, sym, ap, ◌∙◌, subst, arith, if◌then◌else◌, ◌⊎◌, inl, inr}
 use Rattle.std.specs.Int.{bit_at}
 use Rattle.std.specs.Int.RustNames.{bit_and}
 use Rattle.std.proofs.lemmas.Bool.{cases_lt, false≢true, eqb-true, eqb-false, eq-eqb, le-ltb, lt-ltb}
-use Rattle.std.proofs.lemmas.Nat.Bits.{bit_at_and, bit_at_or, bit_at-lt, bit_at-pow_same, bit_at-pow_other, bit_at-zero, bit_at-trailing_zeros, same_from_bits_below, bit_at_not}
+use Rattle.std.proofs.lemmas.Nat.Bits.{bit_at_and, bit_at-lt, bit_at-pow_same, bit_at-pow_other, bit_at-zero, bit_at-trailing_zeros, same_from_bits_below, bit_at_not}
 use Rattle.std.proofs.Common.{w8}
 use Rattle.std.proofs.lemmas.Nat.{and_le_l, or_lt, pow_pos}
 use Rattle.std.proofs.Math.Pow.{pow-lt}
@@ -14,6 +14,7 @@ use Rattle.kx_mods.specs.Mods.{mask}
 use Rattle.kx_mods.specs.declared.mods.Mods.{Mods}
 use Rattle.kx_resolve.specs.Rows.{mask_below, mods_of, set_mask}
 use Rattle.kx_resolve.specs.Selecting.{RealSet, are_same, differ}
+use Rattle.kx_virtual_mods.proofs.Bits.{has_union}
 
 pub none_of : (n : ℕ) (f : ℕ → Bool) → any_below n f ≡ false → (k : ℕ) → k < n → f k ≡ false
 unfolding any_below
@@ -121,18 +122,6 @@ within_mask m n small wider = same_masks (bit_and m n) m (let less = and_le_l m 
 
 -- ---- The mask of a set
 
-pub max_bits : (a b : ℕ) → a < 2 → b < 2 → (max a b == 1) ≡ ((a == 1) || (b == 1))
-max_bits zero zero low small = refl
-max_bits zero (suc zero) low small = refl
-max_bits zero (suc (suc b)) low small = absurd (omega (arith, small))
-max_bits (suc zero) zero low small = refl
-max_bits (suc zero) (suc zero) low small = refl
-max_bits (suc zero) (suc (suc b)) low small = absurd (omega (arith, small))
-max_bits (suc (suc a)) b low small = absurd (omega (arith, low))
-
-has_or : (a b r : ℕ) → has (bit_or a b) r ≡ (has a r || has b r)
-has_or a b r = ap (λ n. n == 1) (bit_at_or a b r) ∙ max_bits (bit_at a r) (bit_at b r) (bit_at-lt a r) (bit_at-lt b r)
-
 power_if : ℕ → Bool → ℕ
 power_if n b = if b then 2 ^ n else 0
 
@@ -153,7 +142,7 @@ has_below : (n : ℕ) (s : RealSet) (r : ℕ) → has (mask_below n s) r ≡ (na
 unfolding mask_below
 has_below zero s r = ap (λ m. m == 1) (bit_at-zero r) ∙ sym (ap (λ c. c && s r) (le-ltb r 0 (omega arith)))
 has_below (suc n) s r =
-    ap (λ m. has m r) (below_is n s) ∙ has_or (mask_below n s) (power_if n (s n)) r
+    ap (λ m. has m r) (below_is n s) ∙ has_union (mask_below n s) (power_if n (s n)) r
     ∙ (λ i. has_below n s r i || has_power n r (s n) i)
     ∙ cases (cases_lt r n) (r == n) refl
   where

@@ -1,9 +1,9 @@
 -- How many groups a key has.
-use Rattle.std.proofs.Common.{ℕ, zero, suc, ◌+◌, ◌≡◌, ◌<◌, ◌≤◌, min, nat_lt, Bool, true, false, refl, subst, ap, ◌∙◌, arith, sym, eq-or-lt_of_le, lt-suc_self, lt_trans, inl, inr, if◌then◌else◌}
-use Rattle.kx_resolve.specs.Given.{KeyGiven}
+use Rattle.std.proofs.Common.{ℕ, zero, suc, ◌+◌, ◌≡◌, ◌<◌, ◌≤◌, min, nat_lt, Bool, true, false, None, refl, subst, ap, ◌∙◌, arith, sym, eq-or-lt_of_le, lt-suc_self, lt_trans, inl, inr, if◌then◌else◌}
+use Rattle.kx_resolve.specs.Given.{KeyGiven, given_in}
 use Rattle.kx_resolve.specs.GroupTypes.{group_count, groups_within, has_level}
 
-one_more : (n : ℕ) → suc n ≡ n + 1
+pub one_more : (n : ℕ) → suc n ≡ n + 1
 one_more n = omega arith
 
 module _ (key : KeyGiven) where
@@ -48,3 +48,12 @@ module _ (key : KeyGiven) where
   pub count_few : group_count key ≤ 32
   unfolding group_count
   count_few = groups_few 32
+
+none_within : (n : ℕ) → groups_within (given_in None) n ≡ 0
+unfolding groups_within
+none_within zero = refl
+none_within (suc n) = none_within n
+
+pub none_count : group_count (given_in None) ≡ 0
+unfolding group_count
+none_count = none_within 32

@@ -3,11 +3,9 @@ use Rattle.std.proofs.Common.{ℕ, ◌≡◌, ◌<◌, ◌^◌, ◌==◌, ◌&&�
 use Rattle.std.proofs.Math.Path.{fun_ext}
 use Rattle.std.proofs.lemmas.Bool.{eqb-true, or_right}
 use Rattle.std.proofs.lemmas.Bool.Decides.{nat_tests}
-use Rattle.std.proofs.lemmas.Nat.Bits.{bit_at-lt, bit_at_or}
-use Rattle.std.specs.Int.{bit_at}
 use Rattle.std.specs.List.{list_any}
 use Rattle.std.specs.Option.{option_map_or}
-use Rattle.kx_resolve.proofs.Bits.{mods_is, max_bits}
+use Rattle.kx_resolve.proofs.Bits.{mods_is}
 use Rattle.kx_resolve.specs.Rows.{mods_of}
 use Rattle.kx_virtual_mods.specs.Sets.{has}
 use Rattle.kx_mods.specs.Mods.{mask}
@@ -15,12 +13,10 @@ use Rattle.kx_mods.specs.declared.mods.Mods.{Mods}
 use Rattle.kx_resolve.specs.Finding.{Firsts}
 use Rattle.kx_resolve.specs.Mapping.{Mapping, first_place, is_at, modmap_of}
 use Rattle.kx_resolve.specs.declared.places.LevelPlace.{LevelPlace}
-
-has_or : (a b r : ℕ) → has (bit_or a b) r ≡ (has a r || has b r)
-has_or a b r = ap (λ n. n == 1) (bit_at_or a b r) ∙ max_bits (bit_at a r) (bit_at b r) (bit_at-lt a r) (bit_at-lt b r)
+use Rattle.kx_virtual_mods.proofs.Bits.{has_union}
 
 pub mods_joined : (mods : Mods) (one other : ℕ) → mask mods < 2 ^ 8 → mask mods ≡ bit_or one other → mods ≡ mods_of (λ real. has one real || has other real)
-mods_joined mods one other small are = mods_is mods (λ real. has one real || has other real) small (λ r within. ap (λ n. has n r) are ∙ has_or one other r)
+mods_joined mods one other small are = mods_is mods (λ real. has one real || has other real) small (λ r within. ap (λ n. has n r) are ∙ has_union one other r)
 
 -- ---- One modifier more at a code
 
@@ -36,7 +32,7 @@ module _ (code : ℕ) (old new : ℕ → Option Mods) (before mods all : Mods) w
   at was are c real false other = or_false (has_at old c real)
   at was are c real true same =
       ap (λ n. has n real) are
-      ∙ has_or (mask before) (mask mods) real
+      ∙ has_union (mask before) (mask mods) real
       ∙ ap (λ n. has n real || has (mask mods) real) was
       ∙ ap (λ k. has_at old k real || has (mask mods) real) (eqb-true code c same)
 

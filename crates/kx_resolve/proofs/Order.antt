@@ -3,19 +3,19 @@ use Rattle.std.proofs.Common.{ℕ, zero, suc, ◌+◌, ◌≡◌, ◌<◌, ◌�
 use Rattle.std.specs.List.{IsDistinct, list_any, position_or_len}
 use Rattle.std.specs.Option.{option_map}
 use Rattle.std.specs.Str.{bytes_eq}
-use Rattle.std.specs.Cmp.Lexicographic.{bytes_decides, nat_list_eq_equiv}
+use Rattle.std.specs.Cmp.Lexicographic.{bytes_decides}
 use Rattle.std.proofs.lemmas.Bool.{false≢true, lt-ltb}
 use Rattle.std.proofs.lemmas.List.{append-nil, length-append, length-map, map-append, take-append-drop, take-map, take_more}
 use Rattle.std.proofs.Math.Seq.{take-length}
 use Rattle.std.proofs.lemmas.List.Folds.{list_any-append}
 use Rattle.std.proofs.lemmas.List.Sums.{fold-append}
-use Rattle.std.proofs.lemmas.Map.Keys.{IsDistinct-push}
 use Rattle.std.proofs.lemmas.Option.{same_Some, slice_get-get_or, slice_get_within, slice_get-map}
 use mathlib.Core.Bool.{or-true, or-false}
 use Rattle.kx_builder.specs.Valid.{InOrderOfUse, types_met}
 use Rattle.kx_builder.specs.Resolved.{ResolvedGroup}
 use Rattle.kx_virtual_mods.specs.Counted.{with_names}
 use Rattle.kx_merge.specs.Offers.{with_name}
+use Rattle.kx_types.proofs.Few.{with_distinct}
 
 -- ---- Names, each once
 
@@ -27,13 +27,6 @@ with_next ks xs x = fold-append (with_name bytes_eq) ks xs (x ∷ [])
 
 pub with_more : (ks xs ys : List Text) → with_names ks (xs ++ ys) ≡ with_names (with_names ks xs) ys
 with_more ks xs ys = fold-append (with_name bytes_eq) ks xs ys
-
-with_distinct : (ks : List Text) (k : Text) → IsDistinct bytes_eq ks → IsDistinct bytes_eq (with_name bytes_eq ks k)
-with_distinct ks k distinct = by (list_any (bytes_eq k) ks) refl
-  where
-    by : (b : Bool) → list_any (bytes_eq k) ks ≡ b → IsDistinct bytes_eq (if b then ks else ks ++ k ∷ [])
-    by true h = distinct
-    by false h = IsDistinct-push nat_list_eq_equiv ks k distinct h
 
 behind_distinct : (ks xs : List Text) → IsDistinct bytes_eq ks → IsDistinct bytes_eq (with_names ks xs)
 behind_distinct ks [] distinct = distinct

@@ -1,12 +1,10 @@
 -- What one number more makes of the places of a keysym.
-use Rattle.std.proofs.Common.{ℕ, zero, suc, ◌+◌, ◌≡◌, List, [], ◌++◌, append-nil, Option, None, Some, refl, subst, ap, ◌∙◌, arith}
+use Rattle.std.proofs.Common.{ℕ, ◌+◌, ◌≡◌, List, [], ◌++◌, append-nil, Option, None, Some, refl, subst, ap, ◌∙◌}
 use Rattle.kx_resolve.specs.Given.{KeyGiven, given_in}
-use Rattle.kx_resolve.specs.GroupTypes.{group_count, group_levels, groups_within}
+use Rattle.kx_resolve.specs.GroupTypes.{group_levels}
 use Rattle.kx_types.specs.KeyTypes.{Definition}
 use Rattle.kx_resolve.specs.Mapping.{Mapping, first_of, first_place, group_places, key_places, level_places, place_at, places_below}
-
-one_more : (n : ℕ) → suc n ≡ n + 1
-one_more n = omega arith
+use Rattle.kx_resolve.proofs.Counting.{none_count, one_more}
 
 module _ (keysym : ℕ) where
   module _ (key : KeyGiven) (code : ℕ) where
@@ -45,15 +43,6 @@ module _ (keysym : ℕ) where
     first_is = refl
 
 -- ---- A key that no statement names
-
-none_within : (n : ℕ) → groups_within (given_in None) n ≡ 0
-unfolding groups_within
-none_within zero = refl
-none_within (suc n) = none_within n
-
-none_count : group_count (given_in None) ≡ 0
-unfolding group_count
-none_count = none_within 32
 
 pub none_places : (keysym : ℕ) (declared : List ℕ → Option Definition) (code : ℕ) (name : Option (List ℕ)) → key_places keysym declared code name (given_in None) ≡ []
 none_places keysym declared code None = refl

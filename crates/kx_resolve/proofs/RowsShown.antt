@@ -19,7 +19,7 @@ use Rattle.kx_resolve.specs.Rows.{RowsShow, resolved_type}
 use Rattle.kx_resolve.specs.Selecting.{RealSet, entry_selected, is_selected, preserved_by}
 use Rattle.kx_resolve.proofs.Bits.{has_and, has_without}
 
-find_holds : {X : Type 0} (P : X → Type 0) (p : X → Bool) (xs : List X) → All P xs → IfSome (find p xs) P
+pub find_holds : {X : Type 0} (P : X → Type 0) (p : X → Bool) (xs : List X) → All P xs → IfSome (find p xs) P
 find_holds P p [] all = tt
 find_holds P p (x ∷ xs) all = elim (p x) as (λ b. IfSome (cond b (Some x) (find p xs)) P) [ true ↦ All-head P x xs all | false ↦ find_holds P p xs (All-tail P x xs all) ]
 

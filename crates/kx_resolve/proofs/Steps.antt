@@ -1,15 +1,13 @@
 -- What one number more makes of keys, groups, levels and the types that they use.
-use Rattle.std.proofs.Common.{ℕ, zero, suc, ◌+◌, ◌≡◌, List, [], ◌∷◌, ◌++◌, Option, None, map, refl, subst, ap, ◌∙◌, arith}
+use Rattle.std.proofs.Common.{ℕ, ◌+◌, ◌≡◌, List, [], ◌∷◌, ◌++◌, Option, None, map, refl, subst, ap, ◌∙◌}
 use Rattle.kx_resolve.specs.Selecting.{RealSet}
 use Rattle.kx_virtual_mods.specs.Counted.{with_names}
 use Rattle.kx_resolve.specs.Given.{KeyGiven, given_in}
-use Rattle.kx_resolve.specs.GroupTypes.{group_count, group_type_name, groups_within}
+use Rattle.kx_resolve.specs.GroupTypes.{group_count, group_type_name}
 use Rattle.kx_resolve.specs.LevelActions.{LevelActions}
 use Rattle.kx_resolve.specs.Keys.{Keyed, cell_of, cells_of, resolved_group, groups_of, key_if_named, keys_below, resolved_of, type_names, type_names_below, type_names_if, type_of, types_used}
 use Rattle.kx_types.specs.KeyTypes.{Definition}
-
-one_more : (n : ℕ) → suc n ≡ n + 1
-one_more n = omega arith
+use Rattle.kx_resolve.proofs.Counting.{none_count, one_more}
 
 -- ---- Levels
 
@@ -70,15 +68,6 @@ unfolding resolved_of
 resolved_is real declared keyed = refl
 
 -- ---- A key that no statement names
-
-none_within : (n : ℕ) → groups_within (given_in None) n ≡ 0
-unfolding groups_within
-none_within zero = refl
-none_within (suc n) = none_within n
-
-pub none_count : group_count (given_in None) ≡ 0
-unfolding group_count
-none_count = none_within 32
 
 module _ (declared : List ℕ → Option Definition) where
   pub none_groups : (used : List (List ℕ)) (level_actions : LevelActions) → groups_of declared used level_actions (given_in None) (group_count (given_in None)) ≡ []

@@ -1,5 +1,5 @@
 -- What keys bear.
-use Rattle.std.proofs.Common.{◌≡◌, ◌&&◌, ◌||◌, ◌+◌, ℕ, zero, suc, Bool, true, false, List, Option, None, is_some, refl, ap, ◌∙◌}
+use Rattle.std.proofs.Common.{◌≡◌, ◌&&◌, ◌||◌, ◌+◌, ℕ, Bool, true, false, List, Option, None, is_some, refl, ap, ◌∙◌}
 use mathlib.Core.Bool.{or-false}
 use Rattle.std.specs.Option.{option_map_or}
 use Rattle.kx_resolve.specs.Vmodmap.{ReadKeymap, is_in_vmodmap, brings, gives, interpretation_at, is_given}
@@ -10,16 +10,8 @@ use Rattle.kx_mods.specs.declared.mods.Mods.{Mods}
 use Rattle.kx_types.specs.KeyTypes.{Definition}
 use Rattle.kx_resolve.proofs.Acting.{any_next, any_none}
 use Rattle.kx_resolve.specs.Given.{KeyGiven, given_in}
-use Rattle.kx_resolve.specs.GroupTypes.{content_group, group_count, group_levels, groups_within}
-
-none_within : (n : ℕ) → groups_within (given_in None) n ≡ 0
-unfolding groups_within
-none_within zero = refl
-none_within (suc n) = none_within n
-
-none_count : group_count (given_in None) ≡ 0
-unfolding group_count
-none_count = none_within 32
+use Rattle.kx_resolve.specs.GroupTypes.{content_group, group_levels}
+use Rattle.kx_resolve.proofs.Counting.{none_count}
 
 module _ (interpretations : List Interpretation) (modmap : Mods) where
   pub is_in_vmodmap_is : (key : KeyGiven) (declared : List ℕ → Option Definition) (number : ℕ) → option_map_or (λ set. has_virtual set number) key.virtual_mods (is_given interpretations modmap key declared number) ≡ is_in_vmodmap interpretations modmap key declared number

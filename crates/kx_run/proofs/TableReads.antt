@@ -1,8 +1,7 @@
 -- What the rows of sound tables give a look-up.
 use Rattle.std.proofs.Common.{◌≡◌, ℕ, zero, suc, ◌+◌, ◌-◌, ◌<◌, ◌≤◌, ◌==◌, Bool, true, false, cond, List, [], ◌∷◌, length, take, drop, Option, Some, None, slice_get, refl, sym, ap, ◌∙◌, arith, pos, negsuc}
-use Rattle.std.specs.Prelude.{find, sum_by}
+use Rattle.std.specs.Prelude.{find}
 use Rattle.std.proofs.Common.{◌*◌, ◌^◌}
-use Rattle.std.proofs.lemmas.List.Sums.{sum_by-cons}
 use Rattle.std.proofs.lemmas.Int.{ints}
 use Rattle.std.proofs.lemmas.Bool.{eqb-true}
 use Rattle.kx_tables.proofs.Bounds.{groups_within}
@@ -25,33 +24,16 @@ use Rattle.std.proofs.Math.Seq.{drop-cons}
 use Rattle.kx_run.specs.Replies.{Status, is_lit, lit_mask}
 use Rattle.kx_run.specs.Held.{change_size, action_size}
 use Rattle.kx_run.specs.Lookup.{NamesLevels}
-use Rattle.kx_tables.proofs.Finding.{find_first}
+use Rattle.kx_tables.proofs.Finding.{find_first, find_nothing}
+use Rattle.kx_tables.proofs.Parts.{slice_get-drop, slice_get-part}
 
 -- ---- the first that passes, in a part of a list
-
-find_nothing : {X : Type 0} (p : X → Bool) (xs : List X) → ((j : ℕ) (y : X) → slice_get xs j ≡ Some y → p y ≡ false) → find p xs ≡ None
-find_nothing p [] fails = refl
-find_nothing p (y ∷ ys) fails = rw (fails 0 y refl) (find_nothing p ys (λ j z at. fails (suc j) z at))
 
 slice_get-take : {X : Type 0} (xs : List X) (n i : ℕ) (x : X) → slice_get (take n xs) i ≡ Some x → (i < n) × (slice_get xs i ≡ Some x)
 slice_get-take xs zero i x e = cc
 slice_get-take [] (suc n) i x e = cc
 slice_get-take (y ∷ ys) (suc n) zero x e = (omega arith, e)
 slice_get-take (y ∷ ys) (suc n) (suc i) x e = let rest = slice_get-take ys n i x e in (omega arith, rest.1)
-
-slice_get-take_in : {X : Type 0} (xs : List X) (n i : ℕ) → i < n → slice_get (take n xs) i ≡ slice_get xs i
-slice_get-take_in xs zero i within = absurd (omega arith)
-slice_get-take_in [] (suc n) i within = refl
-slice_get-take_in (y ∷ ys) (suc n) zero within = refl
-slice_get-take_in (y ∷ ys) (suc n) (suc i) within = slice_get-take_in ys n i (omega arith)
-
-slice_get-drop : {X : Type 0} (xs : List X) (n i : ℕ) → slice_get (drop n xs) i ≡ slice_get xs (n + i)
-slice_get-drop xs zero i = let e : 0 + i ≡ i = omega arith in ap (slice_get xs) (sym e)
-slice_get-drop [] (suc n) i = refl
-slice_get-drop (y ∷ ys) (suc n) i = let e : suc n + i ≡ suc (n + i) = omega arith in slice_get-drop ys n i ∙ ap (slice_get (y ∷ ys)) (sym e)
-
-slice_get-part : {X : Type 0} (xs : List X) (first count i : ℕ) → i < count → slice_get (part xs first count) i ≡ slice_get xs (first + i)
-slice_get-part xs first count i within = slice_get-take_in (drop first xs) count i within ∙ slice_get-drop xs first i
 
 pub found_in_part : {X : Type 0} (p : X → Bool) (xs : List X) (first count place : ℕ) (x : X) → first ≤ place → place < first + count → slice_get xs place ≡ Some x → p x ≡ true → ((k : ℕ) (y : X) → first ≤ k → k < place → slice_get xs k ≡ Some y → p y ≡ false) → find p (part xs first count) ≡ Some x
 found_in_part {X} p xs first count place x low high at passes fails =
@@ -124,19 +106,6 @@ names_levels c i t sound at = record {
   some = λ place e low high read. let holds : EntryHolds c t place e = sound.entries i t at place e low high read in holds.some_level;
   most = λ place e low high read. let holds : EntryHolds c t place e = sound.entries i t at place e low high read in holds.level;
 }
-
-few_groups_of : (keys : List KeyRow) → ((i : ℕ) (k : KeyRow) → slice_get keys i ≡ Some k → k.groups ≤ 32) → sum_by (λ (k : KeyRow). k.groups) keys ≤ 32 * length keys
-few_groups_of [] few = omega arith
-few_groups_of (key ∷ keys) few =
-    let rest = few_groups_of keys (λ i k at. few (suc i) k at) in
-    let first = few 0 key refl in
-    omega (arith, sum_by-cons (λ (k : KeyRow). k.groups) key keys)
-
--- all groups together are few
-pub few_groups : (c : Content) → Sound c → length c.groups < 2 ^ 32
-few_groups c sound =
-    let few = few_groups_of c.keys (λ i k at. let holds : KeyHolds c i k = sound.keys i k at in holds.groups) in
-    omega (arith, sound.counts.groups, sound.counts.keys)
 
 -- ---- indicators
 

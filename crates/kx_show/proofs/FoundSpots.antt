@@ -1,9 +1,6 @@
 -- Spots that are found, one after the other.
-use Rattle.std.proofs.Common.{suc, ◌*◌, ◌^◌, length, ◌≡◌, ℕ, ◌+◌, ◌<◌, ◌≤◌, ◌++◌, ◌∷◌, [], ◌⊎◌, inl, inr, List, Some, slice_get, arith, refl, sym}
+use Rattle.std.proofs.Common.{◌≡◌, ℕ, ◌+◌, ◌<◌, ◌++◌, ◌∷◌, [], ◌⊎◌, inl, inr, List, Some, slice_get, arith, refl, sym}
 use Rattle.std.specs.List.{Contains}
-use Rattle.std.specs.Prelude.{sum_by}
-use Rattle.std.proofs.lemmas.List.Sums.{sum_by-cons}
-use Rattle.kx_tables.specs.Sound.{Sound, KeyHolds}
 use Rattle.std.proofs.lemmas.Bool.{cases_lt}
 use Rattle.std.proofs.lemmas.List.Elements.{Contains-append_left, Contains-push, Contains-push_cases}
 use Rattle.kx_tables.specs.Content.{Content}
@@ -77,16 +74,3 @@ gives_level c keysym key row key_type place group s has_key has_row has_type is_
       within = rw (← same_type) gives.is_level.within;
       gives = rw (← same_row) gives.is_level.gives;
     }
-
-few_groups_of : (keys : List KeyRow) → ((i : ℕ) (k : KeyRow) → slice_get keys i ≡ Some k → k.groups ≤ 32) → sum_by (λ (k : KeyRow). k.groups) keys ≤ 32 * length keys
-few_groups_of [] few = omega arith
-few_groups_of (key ∷ keys) few =
-    let rest = few_groups_of keys (λ i k at. few (suc i) k at) in
-    let first = few 0 key refl in
-    omega (arith, sum_by-cons (λ (k : KeyRow). k.groups) key keys)
-
--- all groups together are few
-pub few_groups : (c : Content) → Sound c → length c.groups < 2 ^ 32
-few_groups c sound =
-    let few = few_groups_of c.keys (λ i k at. let holds : KeyHolds c i k = sound.keys i k at in holds.groups) in
-    omega (arith, sound.counts.groups, sound.counts.keys)

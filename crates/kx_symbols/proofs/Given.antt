@@ -1,10 +1,9 @@
--- Records of offers: none and one.
-use Rattle.std.proofs.Common.{◌≡◌, ℕ, ◌-◌, cond, false, max, nat_lt, List, [], ◌∷◌, None, refl, subst, sym, ap, ◌∙◌, arith}
+-- What a key statement gives is what it offers.
+use Rattle.std.proofs.Common.{◌≡◌, ℕ, ◌-◌, cond, false, max, nat_lt, List, [], ◌∷◌, None, refl, sym, ap, ◌∙◌, arith}
 use Rattle.std.specs.Option.{option_map}
 use Rattle.std.proofs.lemmas.Bool.{le-ltb}
 use Rattle.kx_key_fields.specs.Lists.{Lists, level_in, width_in}
 use Rattle.kx_key_fields.specs.Records.{value_in, width_in_key as list_width}
-use Rattle.kx_merge.specs.Offers.{Offer}
 use Rattle.kx_key_fields.specs.KeyFields.{effective}
 use Rattle.kx_key_fields.specs.Attributes.{Settings, attribute_in}
 use Rattle.kx_key_fields.specs.declared.cells.AttributeCell.{AttributeCell}
@@ -12,18 +11,12 @@ use Rattle.kx_parse.specs.declared.tree.KeyField.{KeyField}
 use Rattle.kx_symbols.specs.Known.{Known}
 use Rattle.kx_symbols.specs.Lists.{StatementLists, lists_of}
 use Rattle.kx_parse.specs.declared.tree.Mode.{Mode}
-use Rattle.kx_merge.specs.Records.{AreOffered, IsOffered, none, more}
+use Rattle.kx_merge.specs.Records.{IsOffered}
 use Rattle.kx_symbols.specs.Keys.{KeyContent, cell_in, content_of, given_cell, given_width, key_offer, width_in_key}
 use Rattle.kx_symbols.specs.declared.cells.Cell.{Cell}
 use Rattle.kx_symbols.specs.declared.cells.Cell.TheVariants as cells
 use Rattle.kx_symbols.specs.declared.cells.CellValue.TheVariants as values
 use Rattle.kx_symbols.specs.declared.cells.CellValue.{CellValue}
-
-pub nothing_offered : (mode : Mode) (items : List (ℕ × KeyContent)) → items ≡ [] → AreOffered {K = ℕ} {C = Cell} {V = CellValue} {R = KeyContent} mode cell_in width_in_key items []
-nothing_offered mode items e = subst (λ xs. AreOffered {K = ℕ} {C = Cell} {V = CellValue} {R = KeyContent} mode cell_in width_in_key xs []) (sym e) none
-
-pub one_offered : (mode : Mode) (code : ℕ) (key : KeyContent) (o : Offer ℕ Cell CellValue) (items : List (ℕ × KeyContent)) → items ≡ (code, key) ∷ [] → IsOffered {K = ℕ} {C = Cell} {V = CellValue} {R = KeyContent} mode cell_in width_in_key code key o → AreOffered {K = ℕ} {C = Cell} {V = CellValue} {R = KeyContent} mode cell_in width_in_key items (o ∷ [])
-one_offered mode code key o items e one = subst (λ xs. AreOffered {K = ℕ} {C = Cell} {V = CellValue} {R = KeyContent} mode cell_in width_in_key xs (o ∷ [])) (sym e) (more one none)
 
 module _ {X : Type 0} (lists : Lists X) where
   -- the first of these lists is that of the first group

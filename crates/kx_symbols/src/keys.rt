@@ -51,6 +51,7 @@ fn key_in(statement: &Statement) -> Option<(&KeyName, &SmallRow<KeyField>)>
     }
 }
 
+#[tactic(auto, using(kx_merge::proofs::Offered::nothing_offered))]
 fn no_records(alloc: Global) -> Vec<(u16, KeyRecord)>
     ensures { (mode : ModeValue) → AreOffered mode (cell_in) (width_in_key) result.items [] }
 {
@@ -205,8 +206,6 @@ impl<'a, 'l> Fields<Context<'a, 'l>> for KeyRecord {
 
     type Defaults = SectionDefaults;
 
-    type Notes = Notes;
-
     ghost rules = { λ context. key_rules context.codes.now context.names.now
         context.modifiers.now.names };
 
@@ -273,14 +272,6 @@ impl<'a, 'l> Fields<Context<'a, 'l>> for KeyRecord {
         ensures { result ≡ moved_key key_moves _group key.now }
     {
         Some(*key)
-    }
-
-    fn no_notes() -> Notes {
-        Notes::new()
-    }
-
-    fn add_notes(notes: &mut Notes, other: &Notes) {
-        *notes = notes.saturating_add(*other);
     }
 
     ghost apart = { λ n j k to one two. ap (λ key. unwrap_or key 0) (one ∙ sym two) };

@@ -1,8 +1,8 @@
 -- Where the rows of sound tables lie: what a row owns is within its table.
 use Rattle.std.specs.Prelude.{ℕ, List, ◌≡◌, ◌+◌, ◌<◌, ◌≤◌, Some, length, take, sum_by, slice_get}
 use Rattle.std.specs.Option.{option_map_or}
-use Rattle.std.proofs.Common.{arith, ap, get_or}
-use Rattle.std.proofs.lemmas.List.Sums.{sum_by_more_le}
+use Rattle.std.proofs.Common.{suc, ◌*◌, ◌^◌, [], ◌∷◌, arith, ap, get_or, refl}
+use Rattle.std.proofs.lemmas.List.Sums.{sum_by-cons, sum_by_more_le}
 use Rattle.std.proofs.lemmas.Option.{slice_get_within, get_or_from_slice_get}
 use Rattle.kx_tables.specs.Content.{Content, levels_of}
 use Rattle.kx_tables.specs.Sound.{Sound, TypeHolds, KeyHolds, GroupHolds, CellHolds, IndicatorHolds, GroupNameHolds}
@@ -61,3 +61,16 @@ module _ (c : Content) (sound : Sound c) where
   group_name_within i g e =
       let holds : GroupNameHolds c i g = sound.group_names i g e in
       omega (arith, sum_up_to (λ h. h.name_length) c.group_names i g e, holds.first_name, sound.counts.names)
+
+few_groups_of : (keys : List KeyRow) → ((i : ℕ) (k : KeyRow) → slice_get keys i ≡ Some k → k.groups ≤ 32) → sum_by (λ (k : KeyRow). k.groups) keys ≤ 32 * length keys
+few_groups_of [] few = omega arith
+few_groups_of (key ∷ keys) few =
+    let rest = few_groups_of keys (λ i k at. few (suc i) k at) in
+    let first = few 0 key refl in
+    omega (arith, sum_by-cons (λ (k : KeyRow). k.groups) key keys)
+
+-- all groups together are few
+pub few_groups : (c : Content) → Sound c → length c.groups < 2 ^ 32
+few_groups c sound =
+    let few = few_groups_of c.keys (λ i k at. let holds : KeyHolds c i k = sound.keys i k at in holds.groups) in
+    omega (arith, sound.counts.groups, sound.counts.keys)

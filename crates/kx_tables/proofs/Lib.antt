@@ -8,3 +8,4 @@ pub mod Sorting
 pub mod Fitting
 pub mod Whole
 pub mod Unsound
+pub mod Parts

@@ -21,10 +21,7 @@ use Rattle.kx_lex.specs.declared.name.Name.{Name}
 use Rattle.kx_types.specs.KeyTypes.{Definition}
 use Rattle.kx_types.specs.TypeFaults.{type_in}
 use Rattle.kx_types.specs.Types.{NamedTypes, TypeOffer, TypesShow, declared_names, item_offers, said_offers, type_names, type_offers, type_rules, written_name}
-
-or_or : (a b c : Bool) → ((a || b) || c) ≡ (a || (b || c))
-or_or true b c = refl
-or_or false b c = refl
+use Rattle.kx_virtual_mods.proofs.Bits.{or-inner}
 
 -- ---- A name is among names to which others were added where it is among either
 
@@ -47,7 +44,7 @@ module _ (q : Text) where
   more_among : (ks more : List Text) → among (with_names ks more) ≡ (among ks || among more)
   unfolding among
   more_among ks [] = sym (or-false (among ks))
-  more_among ks (k ∷ more) = more_among (with_name bytes_eq ks k) more ∙ ap (λ b. b || among more) (with_among ks k) ∙ or_or (among ks) (bytes_eq q k) (among more)
+  more_among ks (k ∷ more) = more_among (with_name bytes_eq ks k) more ∙ ap (λ b. b || among more) (with_among ks k) ∙ or-inner (among ks) (bytes_eq q k) (among more)
 
   written : List Said → List Text
   written saids = flat_map (λ (s : Said). type_names s.1) saids
@@ -58,7 +55,7 @@ module _ (q : Text) where
   saids_among ks (s ∷ saids) =
       saids_among (names_with type_names ks s) saids
       ∙ ap (λ b. b || among (written saids)) (more_among ks (type_names s.1))
-      ∙ or_or (among ks) (among (type_names s.1)) (among (written saids))
+      ∙ or-inner (among ks) (among (type_names s.1)) (among (written saids))
       ∙ ap (λ b. among ks || b) (sym (list_any-append (bytes_eq q) (type_names s.1) (written saids)))
 
   offered : List TypeOffer → Bool
@@ -67,7 +64,7 @@ module _ (q : Text) where
   offers_among : (ks : List Text) (os : List TypeOffer) → among (names_behind bytes_eq ks os) ≡ (among ks || offered os)
   unfolding among offered
   offers_among ks [] = sym (or-false (among ks))
-  offers_among ks (o ∷ os) = offers_among (with_name bytes_eq ks o.name) os ∙ ap (λ b. b || offered os) (with_among ks o.name) ∙ or_or (among ks) (bytes_eq q o.name) (offered os)
+  offers_among ks (o ∷ os) = offers_among (with_name bytes_eq ks o.name) os ∙ ap (λ b. b || offered os) (with_among ks o.name) ∙ or-inner (among ks) (bytes_eq q o.name) (offered os)
 
   -- ---- What a body offers is offered to the names that its statements write
 
@@ -115,7 +112,7 @@ module _ (q : Text) where
 
 -- ---- No name is there twice
 
-with_distinct : (ks : List Text) (k : Text) → IsDistinct bytes_eq ks → IsDistinct bytes_eq (with_name bytes_eq ks k)
+pub with_distinct : (ks : List Text) (k : Text) → IsDistinct bytes_eq ks → IsDistinct bytes_eq (with_name bytes_eq ks k)
 with_distinct ks k distinct = by (list_any (bytes_eq k) ks) refl
   where
     by : (b : Bool) → list_any (bytes_eq k) ks ≡ b → IsDistinct bytes_eq (if b then ks else ks ++ k ∷ [])

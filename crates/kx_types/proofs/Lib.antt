@@ -1,4 +1,4 @@
-mod Few
+pub mod Few
 mod Given
 mod Laws
 mod Loops

@@ -19,7 +19,7 @@ without_narrow m n small other = same_from_bits (bit_and m (255 - n)) (without m
         let none : bit_at m i ≡ 0 = bit_at_above m 8 i small high in
         omega arith
 
-one-or : (x y : ℕ) → x < 2 → y < 2 → (max x y == 1) ≡ ((x == 1) || (y == 1))
+pub one-or : (x y : ℕ) → x < 2 → y < 2 → (max x y == 1) ≡ ((x == 1) || (y == 1))
 one-or x y small other = grind (arith, nat_tests, small, other)
 
 pub has_union : (m n i : ℕ) → has (union m n) i ≡ (has m i || has n i)
@@ -34,7 +34,7 @@ unfolding any_below
 below_none true test = refl
 below_none false test = refl
 
-or-inner : (a b c : Bool) → ((a || b) || c) ≡ (a || (b || c))
+pub or-inner : (a b c : Bool) → ((a || b) || c) ≡ (a || (b || c))
 or-inner true b c = refl
 or-inner false b c = refl
 

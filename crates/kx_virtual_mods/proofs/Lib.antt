@@ -1,5 +1,5 @@
 mod Adding
-mod Bits
+pub mod Bits
 mod Distinct
 mod Going
 mod Keyed

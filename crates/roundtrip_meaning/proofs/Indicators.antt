@@ -19,7 +19,7 @@ use Rattle.kx_indicators.specs.Given.{IndicatorMapValues}
 use Rattle.kx_indicators.specs.Giving.{no_values, values_cell, last_values, only}
 use Rattle.kx_indicators.specs.IndicatorMapFields.{expression_value, expression_faults}
 use Rattle.kx_indicators.specs.IndicatorMaps.{IndicatorMap, indicator_map_with}
-use Rattle.kx_indicators.specs.Meaning.{IndicatorMapOffer, values_offer, item_offers, said_offers, indicator_map_rules, indicator_names, indicator_map_offers, indicator_map_of, indicator_maps_faults}
+use Rattle.kx_indicators.specs.Meaning.{IndicatorMapOffer, item_offers, said_offers, indicator_map_rules, indicator_names, indicator_map_offers, indicator_map_of, indicator_maps_faults}
 use Rattle.kx_indicators.specs.declared.limits.TheConstants.{MOST_INDICATORS}
 use Rattle.kx_indicators.specs.declared.values.IndicatorMapField.{IndicatorMapField}
 use Rattle.kx_indicators.specs.declared.values.IndicatorMapField.TheVariants as fields
@@ -29,7 +29,7 @@ use Rattle.kx_lex.specs.declared.fault.Fault.{Fault}
 use Rattle.kx_lex.specs.declared.fault.Fault.TheVariants.{TooMany}
 use Rattle.kx_lex.specs.declared.token.Span.{Span}
 use Rattle.kx_merge.specs.Bodies.{offers_of, no_moves}
-use Rattle.kx_merge.specs.Offers.{value_of}
+use Rattle.kx_merge.specs.Offers.{plain_offer, value_of}
 use Rattle.kx_mods.specs.Mods.{mask}
 use Rattle.kx_mods.specs.declared.mods.Mods.{Mods}
 use Rattle.kx_parse.specs.declared.tree.Expression.{Expression}
@@ -218,13 +218,13 @@ module _ (ds : List ResolvedIndicator) where
   IsNumberedItem d i = IsNumbered d × IsIndicatorMapItem d i
 
   abbrev offer_of : ResolvedIndicator → IndicatorMapOffer
-  offer_of d = values_offer Override (indicator_map_values d) (number_of d)
+  offer_of d = plain_offer Override (number_of d) (values_cell (indicator_map_values d))
 
   offered : (d : ResolvedIndicator) (i : Item) → IsNumberedItem d i → item_offers (names ds) [] no_values i ≡ offer_of d ∷ []
   offered d i is =
       let s = is.1.1 in
       ap (item_offers (names ds) [] no_values) s.item_is ∙ ap (λ said. said_offers (names ds) [] no_values Override (indicator_in said)) s.shows.is
-      ∙ ap₂ (λ v n. option_map_or (λ n. values_offer Override v n ∷ []) n []) (values_shown d s.shows.fields is.1.0 s.shows.are) is.0
+      ∙ ap₂ (λ v n. option_map_or (λ n. plain_offer Override n (values_cell v) ∷ []) n []) (values_shown d s.shows.fields is.1.0 s.shows.are) is.0
 
 item_faultless : (file : ℕ) (d : ResolvedIndicator) (i : Item) → IsIndicatorMapItem d i → item_faults file [] i ≡ []
 item_faultless file d i is =

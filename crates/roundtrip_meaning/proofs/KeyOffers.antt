@@ -2,9 +2,9 @@
 use Rattle.std.proofs.Common.{◌≡◌, ℕ, ◌+◌, ◌<◌, max, nat_eq, Bool, true, false, not, cond, ◌&&◌, ◌||◌, List, [], ◌∷◌, refl, sym, ap, ap₂, ◌∙◌, arith}
 use Rattle.std.proofs.lemmas.Bool.{ne_eqb, eq-eqb}
 use Rattle.std.specs.List.{list_any}
-use Rattle.kx_merge.specs.Offers.{Offer, is_about, is_hidden, is_replace, seen, value_of, width_of, greatest}
+use Rattle.kx_merge.specs.Offers.{Offer, is_about, is_hidden, seen, value_of, width_of, greatest}
 use Rattle.kx_parse.specs.declared.tree.Mode.TheVariants.{Override}
-use Rattle.roundtrip_meaning.proofs.Single.{AllOverride, value_here, value_past}
+use Rattle.roundtrip_meaning.proofs.Single.{AllOverride, value_here, value_past, not_hidden, not_seen}
 use Rattle.roundtrip_text.specs.Source.{EachOf, AreRising}
 use Rattle.roundtrip_tree.specs.Shows.{AreShown, none, more}
 
@@ -14,26 +14,10 @@ module _ {K C V : Type 0} (eq : K → K → Bool) where
   width_past : (o : Offer K C V) (os : List (Offer K C V)) (k : K) (g : ℕ) → eq k o.name ≡ false → width_of eq (o ∷ os) k g ≡ width_of eq os k g
   width_past o os k g other = ap (λ t. greatest g (cond (t && not (is_hidden eq k os)) (o ∷ seen eq k os) (seen eq k os))) other
 
-  none_hidden : (k : K) (os : List (Offer K C V)) → AllOverride eq os → is_hidden eq k os ≡ false
-  none_hidden k [] all = refl
-  none_hidden k (o ∷ os) all = ap₂ (λ a b. a || b) (by (is_about eq k o)) (none_hidden k os all.1)
-    where
-      by : (t : Bool) → (t && is_replace o.mode) ≡ false
-      by true = ap is_replace all.0
-      by false = refl
-
-  none_seen : (k : K) (os : List (Offer K C V)) → list_any (is_about eq k) os ≡ false → seen eq k os ≡ []
-  none_seen k [] h = refl
-  none_seen k (o ∷ os) h = by (is_about eq k o) h (none_seen k os)
-    where
-      by : (t : Bool) → (t || list_any (is_about eq k) os) ≡ false → (list_any (is_about eq k) os ≡ false → seen eq k os ≡ []) → cond (t && not (is_hidden eq k os)) (o ∷ seen eq k os) (seen eq k os) ≡ []
-      by true h rest = cc
-      by false h rest = rest h
-
   width_here : (o : Offer K C V) (os : List (Offer K C V)) (k : K) (g : ℕ) → AllOverride eq (o ∷ os) → eq k o.name ≡ true → list_any (is_about eq k) os ≡ false → width_of eq (o ∷ os) k g ≡ o.width g
   width_here o os k g all here once =
-      ap₂ (λ t h. greatest g (cond (t && not h) (o ∷ seen eq k os) (seen eq k os))) here (none_hidden k os all.1)
-      ∙ ap (λ (s : List (Offer K C V)). max (o.width g) (greatest g s)) (none_seen k os once) ∙ (let same : max (o.width g) 0 ≡ o.width g = omega arith in same)
+      ap₂ (λ t h. greatest g (cond (t && not h) (o ∷ seen eq k os) (seen eq k os))) here (not_hidden eq k os all.1)
+      ∙ ap (λ (s : List (Offer K C V)). max (o.width g) (greatest g s)) (not_seen eq k os once) ∙ (let same : max (o.width g) 0 ≡ o.width g = omega arith in same)
 
 -- ---- Records by rising numbers
 

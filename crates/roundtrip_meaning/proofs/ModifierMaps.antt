@@ -15,24 +15,24 @@ use Rattle.kx_include.specs.declared.place.Place.{Place}
 use Rattle.kx_lex.specs.declared.fault.Fault.{Fault}
 use Rattle.kx_virtual_mods.specs.Sets.{has}
 use Rattle.kx_merge.specs.Bodies.{Rules, offers, faults, faults_of, no_moves}
-use Rattle.kx_merge.specs.Offers.{Offer, is_about, is_hidden, is_replace, is_strong, seen, last_strong, first_weak, value_of, names_behind, with_name, plain_offer}
+use Rattle.kx_merge.specs.Offers.{Offer, is_about, is_hidden, is_strong, seen, last_strong, first_weak, value_of, names_behind, with_name, plain_offer}
 use Rattle.kx_modmaps.specs.Entries.{same_target, word_mask, item_faults}
 use Rattle.kx_modmaps.specs.Maps.{given, item_offers, offers_to, map_rules, map_offers_of, keysym_given, keysyms_given, present}
 use Rattle.kx_modmaps.specs.declared.record.Cell.{Cell}
 use Rattle.kx_modmaps.specs.declared.record.Cell.TheVariants.{Present}
 use Rattle.kx_modmaps.specs.declared.target.Target.{Target}
 use Rattle.kx_modmaps.specs.declared.target.Target.TheVariants.{Key}
-use Rattle.kx_mods.specs.Mods.{mask}
+use Rattle.kx_mods.specs.Mods.{mask, mod_names}
 use Rattle.kx_parse.specs.declared.tree.Entry.TheVariants as entries
 use Rattle.kx_parse.specs.declared.tree.Item.{Item}
 use Rattle.kx_parse.specs.declared.tree.Item.TheVariants as items
 use Rattle.kx_parse.specs.declared.tree.Mode.TheVariants.{Override}
 use Rattle.kx_parse.specs.declared.tree.Statement.{Statement}
 use Rattle.kx_parse.specs.declared.tree.Statement.TheVariants as statements
-use Rattle.kx_print.specs.Masks.{chosen, mod_names}
+use Rattle.kx_print.specs.Masks.{chosen}
 use Rattle.roundtrip_meaning.specs.Bodies.{own_body}
 use Rattle.roundtrip_meaning.proofs.Silent.{IsSilent, own_append3, silent_offers, silent_faults}
-use Rattle.roundtrip_meaning.proofs.Single.{AllOverride}
+use Rattle.roundtrip_meaning.proofs.Single.{AllOverride, not_hidden}
 use Rattle.roundtrip_text.specs.Source.{EachOf, AreRising, PrintedKey, KeyFits}
 use Rattle.roundtrip_text.specs.ModifierMaps.{MapLine, map_line, maps_of_key}
 use Rattle.roundtrip_tree.specs.Shows.{AreShown, IsItem, IsModifierMap, name_at, none, more}
@@ -96,14 +96,6 @@ module _ {C V : Type 0} {K : Type 0} (eq : K → K → Bool) where
   abbrev is_given : K → C → Offer K C V → Bool
   is_given k c o = is_about eq k o && is_some (o.value c)
 
-  none_hidden : (k : K) (os : List (Offer K C V)) → AllOverride eq os → is_hidden eq k os ≡ false
-  none_hidden k [] all = refl
-  none_hidden k (o ∷ os) all = ap₂ (λ a b. a || b) (by (is_about eq k o)) (none_hidden k os all.1)
-    where
-      by : (t : Bool) → (t && is_replace o.mode) ≡ false
-      by true = ap is_replace all.0
-      by false = refl
-
   no_weak : (k : K) (c : C) (os : List (Offer K C V)) → AllOverride eq os → first_weak c (seen eq k os) ≡ None
   no_weak k c [] all = refl
   no_weak k c (o ∷ os) all = by (is_about eq k o && not (is_hidden eq k os)) (no_weak k c os all.1)
@@ -115,7 +107,7 @@ module _ {C V : Type 0} {K : Type 0} (eq : K → K → Bool) where
   strong_given : (k : K) (c : C) (os : List (Offer K C V)) → AllOverride eq os → is_some (last_strong c (seen eq k os)) ≡ list_any (is_given k c) os
   strong_given k c [] all = refl
   strong_given k c (o ∷ os) all =
-      ap (λ h. is_some (last_strong c (cond (is_about eq k o && not h) (o ∷ seen eq k os) (seen eq k os)))) (none_hidden k os all.1)
+      ap (λ h. is_some (last_strong c (cond (is_about eq k o && not h) (o ∷ seen eq k os) (seen eq k os)))) (not_hidden eq k os all.1)
       ∙ by (is_about eq k o) (strong_given k c os all.1)
     where
       either : (a b : Option V) → is_some (option_or a b) ≡ (is_some b || is_some a)

@@ -14,7 +14,7 @@ module _ {K C V : Type 0} (eq : K → K → Bool) where
   AllOverride [] = Unit {0}
   AllOverride (o ∷ os) = (o.mode ≡ Override) × AllOverride os
 
-  not_hidden : (k : K) (os : List (Offer K C V)) → AllOverride os → is_hidden eq k os ≡ false
+  pub not_hidden : (k : K) (os : List (Offer K C V)) → AllOverride os → is_hidden eq k os ≡ false
   not_hidden k [] all = refl
   not_hidden k (o ∷ os) all = ap₂ (λ a b. a || b) (by (is_about eq k o)) (not_hidden k os all.1)
     where
@@ -22,7 +22,7 @@ module _ {K C V : Type 0} (eq : K → K → Bool) where
       by true = ap is_replace all.0
       by false = refl
 
-  not_seen : (k : K) (os : List (Offer K C V)) → list_any (is_about eq k) os ≡ false → seen eq k os ≡ []
+  pub not_seen : (k : K) (os : List (Offer K C V)) → list_any (is_about eq k) os ≡ false → seen eq k os ≡ []
   not_seen k [] h = refl
   not_seen k (o ∷ os) h = by (is_about eq k o) h (not_seen k os)
     where

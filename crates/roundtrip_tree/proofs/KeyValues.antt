@@ -1,5 +1,5 @@
 -- What the values of a printed key's fields are spelled as.
-use Rattle.std.proofs.Common.{◌≡◌, ℕ, ◌<◌, ◌^◌, Bool, true, false, ◌||◌, List, [], ◌∷◌, ◌++◌, map, codes, refl, sym, ap, ap₂, ◌∙◌, subst, arith}
+use Rattle.std.proofs.Common.{◌≡◌, ℕ, ◌<◌, ◌^◌, Bool, true, false, ◌||◌, List, [], ◌∷◌, ◌++◌, map, codes, refl, sym, ap, ◌∙◌, subst, arith}
 use Rattle.std.proofs.lemmas.List.Folds.{flat_map-map}
 use Rattle.std.specs.Fmt.{decimal}
 use Rattle.ks_core.specs.PrintedName.{printed_name}
@@ -36,16 +36,13 @@ use Rattle.roundtrip_tree.specs.Shows.{none as shows_none, more as shows_more}
 use Rattle.roundtrip_tree.proofs.KeyRows.{Kept, kept, kept_slices, kept_shown, each_listed}
 use Rattle.roundtrip_tree.proofs.Rows.{Stops, stop, parted}
 use Rattle.roundtrip_tree.proofs.Spellings.{after_spelled, mark_spelled, first_spelled, second_spelled, made_spelled, placed_spelled, both_spelled, ended_spelled}
-use Rattle.roundtrip_tree.proofs.Terms.{Term1, plus_slices, IsPlus, IsTerms, terms_reads, text_expression_reads, set_argument_reads, flag_reads, call_reads}
+use Rattle.roundtrip_tree.proofs.Terms.{Term1, plus_slices, IsPlus, IsTerms, terms_reads, text_expression_reads, set_argument_reads, flag_reads, call_reads, stop_no_sign}
 use Rattle.roundtrip_tree.proofs.Tokens.{token, number_spelled, word_spelled}
 use Rattle.roundtrip_tree.proofs.Values.{stop_ne, number_expression_reads}
 
 -- what is read has a property, and so another that follows
 pub reads_so : {A : Type 0} {p : Production A} {P Q : A → Type 0} {ts rest : List Token} → ((x : A) → P x → Q x) → ReadsAs p P ts rest → ReadsAs p Q ts rest
 reads_so f r = record { value = r.value; spelled = r.spelled; is = f r.value r.is }
-
-pub stop_no_sign : (rest : List Token) → Stops rest → front is_sign rest ≡ false
-stop_no_sign rest (stop {b = b} h) = ap₂ (λ p q. p || q) (stop_ne b 43 refl h) (stop_ne b 45 refl h)
 
 pub wide : (n : ℕ) → n < 2 ^ 32 → n < 2 ^ 64
 wide n small = omega (arith, small)

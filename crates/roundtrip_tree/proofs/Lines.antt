@@ -1,5 +1,5 @@
 -- What printed lines of fields, and blocks of them, are spelled as.
-use Rattle.std.proofs.Common.{◌≡◌, ℕ, true, false, ◌||◌, List, [], ◌∷◌, ◌++◌, map, refl, sym, ap, ap₂, subst, append_assoc}
+use Rattle.std.proofs.Common.{◌≡◌, ℕ, true, false, ◌||◌, List, [], ◌∷◌, ◌++◌, map, refl, sym, ap, subst, append_assoc}
 use Rattle.std.specs.List.{flat_map}
 use Rattle.kx_lex.specs.Keywords.{keyword_of}
 use Rattle.kx_lex.specs.Kinds.{front, is_mark, before_mark}
@@ -9,7 +9,7 @@ use Rattle.kx_lex.specs.declared.token.Span.{Span}
 use Rattle.kx_lex.specs.declared.token.Token.{Token}
 use Rattle.kx_lex.specs.declared.token.TokenKind.TheVariants.{Mark, Word}
 use Rattle.kx_parse.specs.Statements.{field, setting, block, block_field}
-use Rattle.kx_parse.specs.Values.{place, member, index, value, expression, begins_call, is_sign}
+use Rattle.kx_parse.specs.Values.{place, member, index, value, expression, begins_call}
 use Rattle.kx_parse.specs.declared.tree.Expression.{Expression}
 use Rattle.kx_parse.specs.declared.tree.Field.{Field}
 use Rattle.kx_parse.specs.declared.tree.FieldPlace.{FieldPlace}
@@ -28,7 +28,7 @@ use Rattle.roundtrip_text.specs.Spelled.{word, mark}
 use Rattle.roundtrip_tree.specs.ShowsLines.{Written, Words, Digits, Quoted, Line, Set, SetAt, written_slices, line_slices, IsReadable, IsReadableLine, IsPlusWord, IsWritten, IsSetting, IsSettingAt, IsLine}
 use Rattle.roundtrip_tree.proofs.Rows.{Stops, stop, Rows, parted, optional_none, optional_some}
 use Rattle.roundtrip_tree.proofs.Spellings.{after_spelled, mark_spelled, first_spelled, second_spelled, made_spelled, made3_spelled, placed_spelled, both_spelled, ended_spelled}
-use Rattle.roundtrip_tree.proofs.Terms.{Term1, plus_slices, IsPlus, terms_reads, text_expression_reads}
+use Rattle.roundtrip_tree.proofs.Terms.{Term1, plus_slices, IsPlus, terms_reads, text_expression_reads, stop_no_sign}
 use Rattle.roundtrip_tree.proofs.Tokens.{token, word_spelled}
 use Rattle.roundtrip_tree.proofs.Values.{number_expression_reads, stop_ne}
 
@@ -50,16 +50,13 @@ plus_shown [] (o ∷ os) are = elim are [ ]
 plus_shown (w ∷ ws) [] are = elim are [ ]
 plus_shown (w ∷ ws) (o ∷ os) (shows_more one are) = shows_more one (plus_shown ws os are)
 
-no_sign : (rest : List Token) → Stops rest → front is_sign rest ≡ false
-no_sign rest (stop {b = b} h) = ap₂ (λ p q. p || q) (stop_ne b 43 refl h) (stop_ne b 45 refl h)
-
 written_reads : (text : List ℕ) (x : Written) → IsReadable x → (ts rest : List Token) → Begins text (written_slices x) ts rest → Stops rest → ReadsAs (expression text) (IsWritten x) ts rest
 written_reads text (Words []) good ts rest begins h = cc
 written_reads text (Words (w ∷ ws)) good ts rest begins h =
-    let r = terms_reads text (word_of w) (map word_of ws) ts rest (subst (λ ss. Begins text (word w ∷ ss) ts rest) (plus_same ws) begins) (no_sign rest h) in
+    let r = terms_reads text (word_of w) (map word_of ws) ts rest (subst (λ ss. Begins text (word w ∷ ss) ts rest) (plus_same ws) begins) (stop_no_sign rest h) in
     record { value = r.value; spelled = r.spelled; is = record { first = r.is.first; rest = plus_shown ws r.value.rest r.is.rest } }
 written_reads text (Digits bytes n) good ts rest begins h = number_expression_reads text bytes n good.0 good.1 ts rest begins h
-written_reads text (Quoted name) good ts rest begins h = text_expression_reads text _ name (name_value name good) ts rest begins (no_sign rest h)
+written_reads text (Quoted name) good ts rest begins h = text_expression_reads text _ name (name_value name good) ts rest begins (stop_no_sign rest h)
 
 -- no call, and no list
 no_call : (text : List ℕ) (x : Written) → IsReadable x → (ts rest : List Token) → Begins text (written_slices x) ts rest → Stops rest → begins_call ts ≡ false

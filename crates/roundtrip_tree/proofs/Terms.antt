@@ -107,7 +107,7 @@ pub record IsFlag (w : Term1) (a : PlacedArgument) : Type 0 where
   pub argument_is : a.argument ≡ arguments.Plain value
   pub is : IsTerms w [] value
 
-stop_no_sign : (rest : List Token) → Stops rest → front is_sign rest ≡ false
+pub stop_no_sign : (rest : List Token) → Stops rest → front is_sign rest ≡ false
 stop_no_sign rest (stop {b = b} h) = ap₂ (λ p q. p || q) (stop_ne b 43 refl h) (stop_ne b 45 refl h)
 
 no_set : (w : Term1) (span : Span) (rest : List Token) → Stops rest → begins_set (token (Word w.keyword) span ∷ rest) ≡ false

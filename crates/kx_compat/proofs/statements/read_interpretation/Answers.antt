@@ -1,11 +1,12 @@
-use Rattle.std.proofs.Common.{◌++◌}
+use Rattle.std.proofs.Common.{◌++◌, refl}
 use Rattle.std.specs.List.{flat_map}
 use Rattle.kx_lex.specs.declared.fault.Fault.TheVariants.{Memory}
 use Rattle.kx_symbols.specs.KeyFaults.{symbol_faults}
 use Rattle.kx_compat.specs.Sections.{own_faults, values_of}
+use Rattle.kx_compat.specs.Giving.{values_cell, values_width}
 use Rattle.kx_compat.specs.Matches.{predicate_faults, match_of}
 use Rattle.kx_merge.proofs.Going.{blamed_behind, blamed_front, reported_or_out}
-use Rattle.kx_compat.proofs.Offering.{same_offered}
+use Rattle.kx_merge.proofs.Offered.{given_offered}
 use Rattle.kx_compat.proofs.statements.read_interpretation.Goals as goal
 
 pub returns-in_err-interpretation_match-clause-faults : goal.returns-in_err-interpretation_match-clause-faults
@@ -24,5 +25,5 @@ returns-in_err-values-clause-faults c =
 
 pub returns-clause-records : goal.returns-clause-records
 returns-clause-records c = λ mode.
-    same_offered (λ v. v.items) c.records_for.result mode c.in_ok-values.values (values_of c.args.names.now.names c.args.defaults.now c.args.fields.now) c.in_ok-interpretation_match.interpretation_match (match_of c.args.table.now c.args.symbol.now c.args.predicate.now)
-    c.in_ok-values.ensures.value c.in_ok-interpretation_match.ensures.value (c.records_for.ensures.records mode)
+    given_offered values_cell values_width mode (λ v g. refl) (λ v. v.items) c.records_for.result c.in_ok-interpretation_match.interpretation_match (match_of c.args.table.now c.args.symbol.now c.args.predicate.now) c.in_ok-values.values (values_of c.args.names.now.names c.args.defaults.now c.args.fields.now)
+    c.in_ok-interpretation_match.ensures.value c.in_ok-values.ensures.value c.records_for.ensures.records

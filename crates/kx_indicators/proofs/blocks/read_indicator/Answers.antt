@@ -1,10 +1,11 @@
-use Rattle.std.proofs.Common.{◌++◌, ap, ◌∙◌, position}
+use Rattle.std.proofs.Common.{◌++◌, ap, refl, ◌∙◌, position}
 use Rattle.std.specs.List.{flat_map}
 use Rattle.std.specs.Str.{bytes_eq}
 use Rattle.kx_lex.specs.declared.fault.Fault.TheVariants.{Memory}
+use Rattle.kx_indicators.specs.Giving.{values_cell, values_width}
 use Rattle.kx_indicators.specs.Blocks.{own_faults, values_of}
 use Rattle.kx_merge.proofs.Going.{blamed_behind, reported_or_out}
-use Rattle.kx_indicators.proofs.Offering.{same_offered}
+use Rattle.kx_merge.proofs.Offered.{given_offered}
 use Rattle.kx_indicators.proofs.blocks.read_indicator.Goals as goal
 use Rattle.kx_merge.specs.Faults.{name_faults}
 
@@ -17,5 +18,5 @@ returns-in_err-values-clause-faults c =
 
 pub returns-clause-records : goal.returns-clause-records
 returns-clause-records c = λ mode.
-    same_offered (λ v. v.items) c.records_for.result mode c.in_ok-values.values (values_of c.args.names.now.names c.args.defaults c.args.fields.now) c.number_of.result (position (bytes_eq c.args.name.now.bytes) c.args.indicator_maps.now)
-    c.in_ok-values.ensures.value (c.number_of.ensures.value ∙ ap (λ bytes. position (bytes_eq bytes) c.args.indicator_maps.now) c.as_slice-bytes.ensures) (c.records_for.ensures.records mode)
+    given_offered values_cell values_width mode (λ v g. refl) (λ v. v.items) c.records_for.result c.number_of.result (position (bytes_eq c.args.name.now.bytes) c.args.indicator_maps.now) c.in_ok-values.values (values_of c.args.names.now.names c.args.defaults c.args.fields.now)
+    (c.number_of.ensures.value ∙ ap (λ bytes. position (bytes_eq bytes) c.args.indicator_maps.now) c.as_slice-bytes.ensures) c.in_ok-values.ensures.value c.records_for.ensures.records

@@ -1,7 +1,8 @@
 use Rattle.std.proofs.Common.{◌∙◌, slice_set, arith}
 use Rattle.std.proofs.lemmas.List.{length-set}
-use Rattle.kx_key_fields.proofs.LaterLists.{lists_go, lists_levels, lists_widths, taken_at, kept_at}
+use Rattle.kx_key_fields.proofs.LaterLists.{lists_go, lists_levels, lists_widths}
 use Rattle.kx_key_fields.proofs.merging.merge_groups.Goals as goal
+use Rattle.kx_key_fields.proofs.Moving.{taken_at, kept_at}
 
 pub lists-preserved : goal.lists-preserved
 lists-preserved t c =

@@ -1,6 +1,7 @@
 use Rattle.std.proofs.Common.{refl}
-use Rattle.kx_key_fields.proofs.LaterLists.{lists_go, lists_levels, lists_widths, taken_at}
+use Rattle.kx_key_fields.proofs.LaterLists.{lists_go, lists_levels, lists_widths}
 use Rattle.kx_key_fields.proofs.merging.merge_groups_copied.Goals as goal
+use Rattle.kx_key_fields.proofs.Moving.{taken_at}
 
 pub lists-preserved : goal.lists-preserved
 lists-preserved t c =

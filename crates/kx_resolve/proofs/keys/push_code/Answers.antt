@@ -11,7 +11,8 @@ use Rattle.kx_mods.specs.declared.mods.Mods.{Mods}
 use Rattle.kx_resolve.proofs.Growing.{small_with_key}
 use Rattle.kx_resolve.proofs.Names.{bare_of, bounds_of, pushed_of}
 use Rattle.kx_resolve.proofs.TypesInUse.{groups_ahead, types_after, valid_ahead}
-use Rattle.kx_resolve.proofs.Steps.{none_count, none_names}
+use Rattle.kx_resolve.proofs.Counting.{none_count}
+use Rattle.kx_resolve.proofs.Steps.{none_names}
 use Rattle.kx_builder.specs.Pushes.{with_key}
 use Rattle.kx_resolve.specs.Bounds.{KeepsBounds}
 use Rattle.kx_resolve.specs.Keys.{type_names_if}

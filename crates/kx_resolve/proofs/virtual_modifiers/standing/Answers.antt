@@ -2,10 +2,11 @@ use Rattle.std.proofs.Common.{◌≡◌, ◌||◌, ◌≤◌, ◌+◌, ◌++◌,
 use Rattle.std.proofs.lemmas.List.{take_all, take_more}
 use Rattle.kx_resolve.specs.MappedKeys.{is_brought}
 use Rattle.kx_resolve.proofs.Brought.{brought_none, brought_push}
-use Rattle.kx_resolve.proofs.NameBits.{has_with, or_false, or_inner}
+use Rattle.kx_resolve.proofs.NameBits.{has_with, or_false}
 use Rattle.kx_virtual_mods.specs.Sets.{has}
 use Rattle.kx_mods.specs.Mods.{mask}
 use Rattle.kx_resolve.proofs.virtual_modifiers.standing.Goals as goal
+use Rattle.kx_virtual_mods.proofs.Bits.{or-inner}
 
 pub mapped_keys-init : goal.mapped_keys-init
 mapped_keys-init c = λ real. or_false (has (mask c.args.declared) real) (is_brought [] c.args.number real) (brought_none c.args.number real)
@@ -19,7 +20,7 @@ mapped_keys-preserved c = λ real.
     ap (λ m. has m real) c.with-mods.ensures
     ∙ has_with (mask c.mapped_keys.mods) (mask c.brought_by.result) real
     ∙ (λ i. c.mapped_keys.invariant real i || c.brought_by.ensures real i)
-    ∙ or_inner (has (mask c.args.declared) real) (is_brought (take index mapped_keys) c.args.number real) _
+    ∙ or-inner (has (mask c.args.declared) real) (is_brought (take index mapped_keys) c.args.number real) _
     ∙ ap (λ b. has (mask c.args.declared) real || b) (sym (brought_push (take index mapped_keys) item c.args.number real) ∙ ap (λ bs. is_brought bs c.args.number real) (sym more))
 
 pub returns : goal.returns

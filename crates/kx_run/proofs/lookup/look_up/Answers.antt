@@ -1,6 +1,6 @@
 use Rattle.std.proofs.Common.{arith}
-use Rattle.kx_run.proofs.TableReads.{few_groups}
 use Rattle.kx_run.proofs.lookup.look_up.Goals as goal
+use Rattle.kx_tables.proofs.Bounds.{few_groups}
 
 pub overflow_add-key : goal.overflow_add-key
 overflow_add-key g c =

@@ -1,7 +1,7 @@
 use Rattle.std.proofs.Common.{◌≡◌, ◌+◌, ◌<◌, inl, inr, Some, slice_get, arith, rules}
 use Rattle.std.proofs.lemmas.Bool.{cases_lt}
-use Rattle.kx_tables.proofs.Bounds.{cells_within, groups_within}
-use Rattle.kx_show.proofs.FoundSpots.{few_groups, gives_level, level_gives}
+use Rattle.kx_tables.proofs.Bounds.{cells_within, groups_within, few_groups}
+use Rattle.kx_show.proofs.FoundSpots.{gives_level, level_gives}
 use Rattle.kx_show.proofs.finding.add_groups.Goals as goal
 
 pub group_row-at-requires : goal.group_row-at-requires

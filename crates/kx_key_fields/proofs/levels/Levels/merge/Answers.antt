@@ -1,7 +1,8 @@
 use Rattle.std.proofs.Common.{◌∙◌, length, slice_set, ap, arith}
 use Rattle.std.proofs.lemmas.List.{length-set}
-use Rattle.kx_key_fields.proofs.LaterLists.{levels_go, levels_end, taken_at, kept_at}
+use Rattle.kx_key_fields.proofs.LaterLists.{levels_go, levels_end}
 use Rattle.kx_key_fields.proofs.levels.Levels.merge.Goals as goal
+use Rattle.kx_key_fields.proofs.Moving.{taken_at, kept_at}
 
 pub levels-preserved : goal.levels-preserved
 levels-preserved t c =

@@ -1,6 +1,7 @@
 use Rattle.std.proofs.Common.{◌∙◌, ap, length, refl, arith, get_or}
-use Rattle.kx_key_fields.proofs.LaterLists.{levels_go, levels_end, taken_at}
+use Rattle.kx_key_fields.proofs.LaterLists.{levels_go, levels_end}
 use Rattle.kx_key_fields.proofs.levels.Levels.merge_copied.Goals as goal
+use Rattle.kx_key_fields.proofs.Moving.{taken_at}
 
 pub levels-preserved : goal.levels-preserved
 levels-preserved t c =

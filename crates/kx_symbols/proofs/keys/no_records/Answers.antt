@@ -1,5 +1,0 @@
-use Rattle.kx_symbols.proofs.Given.{nothing_offered}
-use Rattle.kx_symbols.proofs.keys.no_records.Goals as goal
-
-pub returns : goal.returns
-returns c = λ mode. nothing_offered mode c.new.result.items c.new.ensures.items
