@@ -1,0 +1,10 @@
+pub mod Cutting
+pub mod Expanding
+pub mod Including
+pub mod Items
+pub mod Keyed
+pub mod Lists
+pub mod Running
+pub mod Scanning
+pub mod Telling
+pub mod Writing

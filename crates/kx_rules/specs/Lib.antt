@@ -1,0 +1,9 @@
+pub mod Expansions
+pub mod Lines
+pub mod Mappings
+pub mod Matches
+pub mod Names
+pub mod Pieces
+pub mod Rules
+pub mod Sources
+pub mod Steps

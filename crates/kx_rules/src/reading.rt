@@ -1,0 +1,162 @@
+//! Whole texts.
+ghost use Rattle.std.specs.Prelude.{◌≡◌, ◌≤◌, ◌⊎◌, IfOk, IfErr, Ok, Err, length};
+ghost use Rattle.kx_rules.specs.Rules.{at_first, included, line_number, lines_of, meaning, run};
+ghost use Rattle.kx_rules.specs.declared.fault.Fault.TheVariants.{Memory};
+ghost use Rattle.kx_rules.specs.declared.limits.TheConstants.{MOST_DEPTH, MOST_READ_BYTES};
+
+use crate::components::Components;
+use crate::fault::Fault;
+use crate::limits::{MOST_DEPTH, MOST_READ_BYTES};
+use crate::lines::next_line;
+use crate::names::Names;
+use crate::passed::{Passed, Uses};
+use crate::state::{State, Taken};
+use crate::texts::Texts;
+use std::alloc::{AllocError, Global};
+
+/// A place in a text and the number of its line, counted from 1.
+#[derive(Clone, Copy)]
+struct Place {
+    line: usize,
+    at: usize,
+}
+
+impl Place {
+    fn new() -> Place {
+        Place { line: 1, at: 0 }
+    }
+
+    /// The place further on where so many bytes are left.
+    fn at(self, text: &[u8], left: usize) -> Place {
+        let at = text.len().saturating_sub(left);
+        let passed = text.get(self.at..at).unwrap_or(&[]);
+        let ends = passed.iter().filter(|byte| **byte == b'\n').count();
+        Place {
+            line: self.line.saturating_add(ends),
+            at,
+        }
+    }
+}
+
+/// Reads a text, in which includes may be nested so deep; answers how many bytes are left where something unexpected
+/// begins.
+fn read(
+    alloc: Global,
+    state: &mut State,
+    names: &Names,
+    texts: &Texts,
+    depth: usize,
+    text: &[u8],
+) -> Result<Option<usize>, AllocError>
+    ensures { IfOk result (λ left. (state.new, left)
+        ≡ run names.now (included depth names.now texts.now) state.old (lines_of text.now)) }
+{
+    let mut rest = text;
+    let mut place = Place::new();
+    'lines: loop {
+        match next_line(alloc, rest)? {
+            None => return Ok(None),
+            Some(cut) => {
+                place = place.at(text, cut.left());
+                state.go_to(place.line);
+                match state.take(alloc, names, texts, depth, cut.line.as_slice())? {
+                    Taken::Next => {}
+                    Taken::Unexpected(left) => return Ok(Some(left)),
+                    Taken::Inner(inner) => {
+                        let outer = state.text();
+                        state.name_text(alloc, cut.line.as_slice())?;
+                        let _ = read(alloc, state, names, texts, depth - 1, inner)?;
+                        state.leave_to(outer);
+                        state.begin();
+                    }
+                }
+                rest = cut.rest;
+            }
+        }
+    }
+}
+
+/// The line in which so many bytes are left, counted from 1.
+fn line_number(text: &[u8], left: usize) -> usize
+    ensures { result ≡ line_number text.now left }
+{
+    let seen = text.len().saturating_sub(left);
+    1 + text[..seen].iter().filter(|byte| **byte == b'\n').count()
+}
+
+/// Reads the text itself; answers where something unexpected begins too.
+fn read_first(
+    alloc: Global,
+    text: &[u8],
+    texts: &Texts,
+    names: &Names,
+) -> Result<(State, Option<usize>), AllocError>
+    requires { length text.now ≤ MOST_READ_BYTES }
+    ensures { IfOk result (λ found. (found.0, found.1)
+        ≡ run names.now (included MOST_DEPTH names.now texts.now)
+        (at_first (length text.now)) (lines_of text.now)) }
+{
+    let mut state = State::new(alloc, names, text.len())?;
+    let left = read(alloc, &mut state, names, texts, MOST_DEPTH, text)?;
+    Ok((state, left))
+}
+
+/// The components, and what was passed over for them.
+#[derive(Debug, Drop)]
+pub struct Answer {
+    pub components: Components,
+    pub passed: Passed,
+}
+
+/// The components that a rules text gives for names, and what was taken and passed over for them.
+#[tactic(auto, unfolding(crate::specs::Rules::meaning))]
+fn parts_of(
+    alloc: Global,
+    text: &[u8],
+    texts: &Texts,
+    names: &Names,
+) -> Result<(Components, Uses), Fault>
+    ensures value { IfOk result (λ parts.
+        meaning text.now texts.now names.now ≡ Ok parts.0) }
+    ensures fault { IfErr result (λ e.
+        (e ≡ Memory) ⊎ (meaning text.now texts.now names.now ≡ Err e)) }
+{
+    if !names.are_short() {
+        return Err(Fault::LongName);
+    }
+    if text.len() > MOST_READ_BYTES {
+        return Err(Fault::TooMuch);
+    }
+    let (state, cut) = read_first(alloc, text, texts, names)?;
+    if let Some(left) = cut {
+        return Err(Fault::Unexpected(line_number(text, left)));
+    }
+    if state.is_full() {
+        return Err(Fault::TooMuch);
+    }
+    let (components, uses) = state.into_parts();
+    if components.is_some_empty() {
+        return Err(Fault::NoComponents);
+    }
+    Ok((components, uses))
+}
+
+/// The components that a rules text gives for names, with the texts that its includes find.
+///
+/// # Errors
+/// `LongName`, `TooMuch`, `Unexpected`, `NoComponents`; `Memory`.
+pub fn components_of(
+    alloc: Global,
+    text: &[u8],
+    texts: &Texts,
+    names: &Names,
+) -> Result<Answer, Fault>
+    ensures value { IfOk result (λ answer.
+        meaning text.now texts.now names.now ≡ Ok answer.components) }
+    ensures fault { IfErr result (λ e.
+        (e ≡ Memory) ⊎ (meaning text.now texts.now names.now ≡ Err e)) }
+{
+    let (components, uses) = parts_of(alloc, text, texts, names)?;
+    let passed = uses.passed(alloc, names)?;
+    Ok(Answer { components, passed })
+}
