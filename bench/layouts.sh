@@ -13,21 +13,18 @@ if ! command -v xkbcli > /dev/null || ! pkg-config --exists xkbcommon || [ ! -d 
 fi
 cc -O2 -o "$work/player" "$top/bench/layouts/player.c" $(pkg-config --cflags --libs xkbcommon)
 
-# The names that the built-in table lacks.
-"$program" names "$(pkg-config --variable=includedir xkbcommon)/xkbcommon/xkbcommon-keysyms.h" > "$work/names"
-
 # compare LABEL KEYMAP [-I DIR]...
 compare() {
     label=$1 keymap=$2
     shift 2
-    if ! "$program" compile --quiet --names "$work/names" "$@" "$keymap" "$work/image" > "$work/line" 2> "$work/why"; then
+    if ! "$program" compile --quiet "$@" "$keymap" "$work/image" > "$work/line" 2> "$work/why"; then
         echo "$label: refused: $(cat "$work/line") $(head -1 "$work/why")"
         return
     fi
     : > "$work/differences"
     for round in $(seq "$rounds"); do
         "$work/player" "$keymap" events "$round" > "$work/events"
-        "$program" replay --names "$work/names" "$work/image" < "$work/events" > "$work/answers"
+        "$program" replay "$work/image" < "$work/events" > "$work/answers"
         "$work/player" "$keymap" check "$work/answers" >> "$work/differences"
     done
     echo "$label: $(cat "$work/line"), $rounds rounds: $(awk '{ count[$1]++ } END { for (it in count) printf "%s %d, ", it, count[it]; if (!NR) printf "no difference  " }' "$work/differences" | sed 's/..$//')"

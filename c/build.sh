@@ -1,8 +1,8 @@
 #!/bin/sh
-# Proves and builds the library for C: c/build.sh FOLDER leaves there libxkc.a, libxkc.so.0 with the name libxkc.so, and, where
-# libxkbcommon's header is installed, libxkc-xkbcommon.so. A second word names a repository in which `rt ci` has passed: then
-# its libraries are taken as they stand there, and else `rt lib` proves and builds what isn't. CC names the compiler, cc where
-# it isn't set.
+# Proves and builds the library for C: c/build.sh FOLDER leaves there libxkc.a, libxkc.so.0 and, where libxkbcommon's header
+# is installed, libxkc-xkbcommon.so. It makes no link libxkc.so, since `rt ci` takes none in a checkout; install.sh does. A
+# second word names a repository in which `rt ci` has passed: then its libraries are taken as they stand there, and else
+# `rt lib` proves and builds what isn't. CC names the compiler, cc where it isn't set.
 set -eu
 top=$(cd "$(dirname "$0")/.." && pwd)
 mkdir -p "$1"
@@ -67,18 +67,11 @@ rm -f "$out/libxkc.a"
 ar rcs "$out/libxkc.a" ./*.o
 echo '{ global: xkc_*; local: *; };' > exports
 "$compiler" -shared -Wl,-soname,libxkc.so.0 -Wl,--version-script=exports -Wl,--no-undefined -o "$out/libxkc.so.0" ./*.o
-ln -sf libxkc.so.0 "$out/libxkc.so"
 
 if ! flags=$(pkg-config --cflags xkbcommon 2> /dev/null); then
     echo 'c/build.sh: xkbcommon.h is not installed, so libxkc-xkbcommon.so is not built'
     exit 0
 fi
-# Each name of the header with its keysym is a line; digits begin no name here, and U forms name characters.
-header=$(pkg-config --variable=includedir xkbcommon)/xkbcommon/xkbcommon-keysyms.h
-awk '$1 == "#define" && $2 ~ /^XKB_KEY_/ && length($3) > 3 {
-    name = substr($2, 9)
-    if (name !~ /^[0-9]/ && name !~ /^U[0-9A-Fa-f]+$/ && name != "NoSymbol") printf "\"%s %s\\n\"\n", name, $3
-}' "$header" > xkbcommon-names.inc
 # shellcheck disable=SC2086
-"$compiler" -std=c11 -O2 -Wall -Wextra -Werror -fPIC -shared -I"$top/include" -I. $flags -o "$out/libxkc-xkbcommon.so" \
+"$compiler" -std=c11 -O2 -Wall -Wextra -Werror -fPIC -shared -I"$top/include" $flags -o "$out/libxkc-xkbcommon.so" \
     "$top/c/xkbcommon.c" "$out/libxkc.a" -Wl,--exclude-libs,ALL -ldl

@@ -15,6 +15,7 @@ int main(int count, char **words)
     xkc_names names = {0};
     xkc_keymap keymap = {0};
     xkc_follower follower = {0};
+    xkc_names_x11(&names);
     if (xkc_keymap_open(&keymap, bytes, size) || xkc_follower_start(&follower, &keymap)) return 1;
     unsigned code, base, latched, locked, latched_group, locked_group;
     char name[64];
@@ -31,6 +32,6 @@ int main(int count, char **words)
         }
         printf(": %u\n", (base | latched | locked) & ~look.consumed & 0xffu);
     }
-    xkc_follower_end(&follower), xkc_keymap_end(&keymap);
+    xkc_follower_end(&follower), xkc_keymap_end(&keymap), xkc_names_end(&names);
     return 0;
 }

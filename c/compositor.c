@@ -16,6 +16,7 @@ int main(int count, char **words)
     xkc_keyboard keyboard = {0};
     const xkc_file no_file = {0};
     xkc_fault fault;
+    xkc_names_x11(&names);
     uint32_t status = xkc_keymap_compile(&keymap, bytes, size, &no_file, 0, &names, &fault);
     if (status == XKC_SOURCE) {
         xkc_position place;
@@ -35,6 +36,6 @@ int main(int count, char **words)
         const xkc_state *s = &reply.state;
         printf(": %u %u %u %d %u %u\n", s->base, s->latched, s->locked, (int)s->base_group, s->latched_group, s->locked_group);
     }
-    xkc_keyboard_end(&keyboard), xkc_keymap_end(&keymap);
+    xkc_keyboard_end(&keyboard), xkc_keymap_end(&keymap), xkc_names_end(&names);
     return fclose(in) || fclose(out);
 }

@@ -17,11 +17,6 @@
 
 enum { KEYCODES = 4096, MODIFIERS = 8, MOST_FILES = 256, NOT_FOUND = 9 };
 
-/* Lines of the names of keysyms, made of xkbcommon-keysyms.h. */
-static const char NAME_LINES[] =
-#include "xkbcommon-names.inc"
-    ;
-
 static const char *const MODIFIER_NAMES[MODIFIERS] = {"Shift", "Lock", "Control", "Mod1", "Mod2", "Mod3", "Mod4", "Mod5"};
 
 struct xkb_keymap {
@@ -59,19 +54,10 @@ struct xkb_state {
 static xkc_names names;
 static pthread_mutex_t compiling = PTHREAD_MUTEX_INITIALIZER;
 
-/* Reads the lines, without those that name a keysym otherwise than xkc's own table. */
+/* An empty handle, where memory is refused, has the built-in names alone. */
 static void read_names(void)
 {
-    if (names.at) return;
-    char *lines = strdup(NAME_LINES);
-    if (!lines) return;
-    xkc_names_fault fault;
-    while (xkc_names_read(&names, (const uint8_t *)lines, strlen(lines), &fault) == XKC_NAMES) {
-        char *line = lines;
-        for (size_t number = 1; number < fault.line; number++) line = strchr(line, '\n') + 1;
-        *line = '#';
-    }
-    free(lines);
+    if (!names.at) xkc_names_x11(&names);
 }
 
 /* ---- Files that a text includes */

@@ -198,6 +198,10 @@ void xkc_locate(const uint8_t *text, size_t text_size, size_t place, xkc_positio
 
 /* ---- Names of keysyms. An empty handle has the built-in ones alone. */
 
+/* Takes all names of X11 and XFree86, and the letters of Unicode's case mapping, as the program does. Answers XKC_OK, or
+ * XKC_MEMORY. Takes memory: one block of a few bytes. */
+uint32_t xkc_names_x11(xkc_names *names);
+
 /* Reads lines of a name, blanks and a number, so that a source, print and the two calls below know them beside the
  * built-in ones. Answers XKC_OK; XKC_MEMORY; or XKC_NAMES and writes `fault`, else that isn't written. Takes memory. */
 uint32_t xkc_names_read(xkc_names *names, const uint8_t *lines, size_t lines_size, xkc_names_fault *fault);

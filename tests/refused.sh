@@ -142,6 +142,18 @@ printf 'down 50\ndown 38\nup 38\nup 50\n' > events
 { cat "$keymap"; echo %%; cat events; } > session
 cp "$keymap" keymap
 task 'F1 N1' compile --names names keymap out
+mkdir -p kit/rules kit/keycodes kit/types kit/compat kit/symbols
+printf '! include %%S/more\n! model = keycodes types compat\n * = one one one\n! layout = symbols\n * = %%l\n' > kit/rules/evdev
+printf '! option = symbols\n one = +one\n' > kit/rules/more
+printf '! layout\n  one  The first\n' > kit/rules/evdev.lst
+echo 'xkb_keycodes { <A>=38; };' > kit/keycodes/one
+echo 'xkb_types { };' > kit/types/one
+echo 'xkb_compat { };' > kit/compat/one
+echo 'xkb_symbols { key <A> {[a]}; };' > kit/symbols/one
+XKB_CONFIG_ROOT=$PWD/kit
+export XKB_CONFIG_ROOT
+task F1 compile -I kit --layout one --options one,none out
+task F1 list -I kit
 task F1 upgrade image out
 task F1 print image
 input=events

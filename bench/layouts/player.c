@@ -1,4 +1,5 @@
-/* Plays random events on libxkbcommon, and compares what a keyboard of xkc answered to the same ones.
+/* Plays random events on libxkbcommon, and compares what a keyboard of xkc answered to the same ones. Events are of keys that
+ * the keymap has: what a code without a key does to a latch is a difference that docs/meaning.md tells.
  *
  *   player KEYMAP events SEED       prints event lines
  *   player KEYMAP check ANSWERS     prints each field in which the answers first differ from libxkbcommon's state
@@ -27,7 +28,7 @@ static xkb_keycode_t any_key(struct xkb_keymap *keymap)
     int wants_modifier = rand() % 2;
     for (int turn = 0; turn < 2000; turn++) {
         xkb_keycode_t code = least + rand() % (most - least + 1);
-        if (!wants_modifier || is_modifier_key(keymap, code))
+        if (xkb_keymap_key_get_name(keymap, code) && (!wants_modifier || is_modifier_key(keymap, code)))
             return code;
     }
     return least;

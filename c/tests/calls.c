@@ -41,6 +41,12 @@ static void names(void)
     holds(xkc_names_keysym(&no_names, TEXT("U20AC"), &keysym) == XKC_OK && keysym == 0x010020ac, "a character");
     holds(xkc_names_name(&mine, 0x1234567, name, sizeof name, &size) == XKC_OK && is(name, size, "Mine"), "the name of a keysym");
     holds(xkc_names_name(&no_names, 0x1234567, name, sizeof name, &size) == XKC_OK && is(name, size, "0x1234567"), "the number of one without a name");
+    xkc_names x11 = {0};
+    holds(xkc_names_x11(&x11) == XKC_OK && xkc_names_keysym(&x11, TEXT("Cyrillic_ya"), &keysym) == XKC_OK && keysym == 0x6d1, "a name of X11");
+    holds(xkc_names_keysym(&no_names, TEXT("Cyrillic_ya"), &keysym) == XKC_MISSING, "is none of the built-in names");
+    holds(xkc_names_keysym(&x11, TEXT("XF86_AudioMute"), &keysym) == XKC_OK && keysym == 0x1008ff12, "and with a mark after XF86");
+    holds(xkc_names_name(&x11, 0x1008ff12, name, sizeof name, &size) == XKC_OK && is(name, size, "XF86AudioMute"), "which is not the first");
+    xkc_names_end(&x11);
     name[0] = 'x';
     holds(xkc_names_name(&no_names, 0xff0d, name, 5, &size) == XKC_ROOM && size == 6 && name[0] == 'x', "no room for a name of six bytes");
 }

@@ -43,6 +43,11 @@ static uint32_t read_names(void)
     return xkc_names_read(&names, TEXT(MINE), &fault);
 }
 
+static uint32_t x11_names(void)
+{
+    return xkc_names_x11(&names);
+}
+
 static uint32_t compile(void)
 {
     xkc_file none = {0};
@@ -128,6 +133,7 @@ static void without_memory(void)
 
 int main(void)
 {
+    refused_in_turn("names of X11", x11_names, &names.at);
     refused_in_turn("names", read_names, &names.at);
     refused_in_turn("compile", compile, &keymap.at);
     refused_in_turn("compile with files", compile_files, &keymap.at);

@@ -1,7 +1,36 @@
 # Completions of xkc for bash.
+
+# Names of a kind that are listed: those that the last of the names before the cursor, which commas part, begins.
+_xkc_listed() {
+    local kind=$1 word=$2 before=
+    case $word in *,*) before=${word%,*}, ;; esac
+    COMPREPLY=($(compgen -P "$before" -W "$(xkc list "$kind" 2> /dev/null | cut -d ' ' -f 1)" -- "${word##*,}"))
+    compopt +o filenames -o nospace
+    # A colon parts words, so that what stands before the last one is written already.
+    case $COMP_WORDBREAKS in *:*)
+        case $word in *:*)
+            local place written=${word%"${word##*:}"}
+            for place in "${!COMPREPLY[@]}"; do COMPREPLY[place]=${COMPREPLY[place]#"$written"}; done
+            ;;
+        esac
+        ;;
+    esac
+}
+
+# Sets `word` to the word before the cursor, and `before` to the one before it, with the colons that part words put back.
+_xkc_words() {
+    local line=${COMP_LINE:0:COMP_POINT}
+    word=${line##*[[:space:]]}
+    line=${line%"$word"}
+    line=${line%"${line##*[![:space:]]}"}
+    before=${line##*[[:space:]]}
+}
+
 _xkc() {
-    local word=${COMP_WORDS[COMP_CWORD]} before=${COMP_WORDS[COMP_CWORD - 1]} options=--help
-    local commands='try compile replay print show find names dump upgrade'
+    local word before options=--help
+    local commands='try compile replay print show find list rules names dump upgrade'
+    local named='--rules --model --layout --variant --options'
+    _xkc_words
     if [ "$COMP_CWORD" -eq 1 ]; then
         COMPREPLY=($(compgen -W "$commands help --names --include --help --version" -- "$word"))
         return
@@ -11,16 +40,29 @@ _xkc() {
             COMPREPLY=($(compgen -W "$commands" -- "$word"))
             return
             ;;
-        try) options='--names --include --help' ;;
-        compile) options='--names --include --quiet --help' ;;
-        replay | find) options='--names --help' ;;
-        show) options='--names --group --svg --help' ;;
+        try) options="--names --include --quiet --warn $named --help" ;;
+        compile) options="--names --include --quiet --warn $named --help" ;;
+        replay) options='--names --help' ;;
+        print | find) options="--names --include $named --help" ;;
+        show) options="--names --include --group --svg $named --help" ;;
+        rules) options="--include $named --help" ;;
+        list) options='layouts variants options models --rules --include --help' ;;
     esac
     case $before in
         --names) COMPREPLY=($(compgen -f -- "$word")) ;;
         --include | -I) COMPREPLY=($(compgen -d -- "$word")) ;;
-        --group) COMPREPLY=() ;;
-        *) COMPREPLY=($(compgen -f -W "$options" -- "$word")) ;;
+        --group | --rules) COMPREPLY=() ;;
+        --warn) COMPREPLY=($(compgen -W all -- "$word")) ;;
+        --model) _xkc_listed models "$word" ;;
+        --layout) _xkc_listed layouts "$word" ;;
+        --variant) _xkc_listed variants "$word" ;;
+        --options) _xkc_listed options "$word" ;;
+        *)
+            case ${COMP_WORDS[1]} in
+                list | rules) COMPREPLY=($(compgen -W "$options" -- "$word")) ;;
+                *) COMPREPLY=($(compgen -f -W "$options" -- "$word")) ;;
+            esac
+            ;;
     esac
 }
 complete -o filenames -F _xkc xkc

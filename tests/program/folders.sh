@@ -85,7 +85,7 @@ says 'noted:3:5: warning: no keycode is named <C>'
 says "noted:2:5: warning: group 1 of <A> has the type ONE_LEVEL, since no type 'T' is declared"
 says "noted:2:5: warning: group 1 of <A> has 2 levels, and its type 'ONE_LEVEL' has 1: the others are lost"
 says "noted:4:11: warning: the action 'MovePtr' has no effect (4 places)"
-holds 'as many lines as places' [ "$(wc -l < ../err)" -eq 12 ]
+holds 'as many lines as places, and four of a key that is written again' [ "$(wc -l < ../err)" -eq 16 ]
 gives 0 'notes keysyms=5 keys=3 types=2 levels=1 actions=4' compile --quiet noted out
 holds 'nothing is said where it is to be quiet' [ ! -s ../err ]
 {
@@ -98,5 +98,54 @@ holds 'nothing is said where it is to be quiet' [ ! -s ../err ]
     echo '}] }; }; };'
 } > many
 gives 0 'notes keysyms=24 keys=0 types=1 levels=0 actions=0' compile many out
-says 'and 4 more'
+says 'many: and 4 more keysyms have no name here; --warn all shows them'
 holds 'twenty lines of a kind' [ "$(grep -c 'no keysym is named' ../err)" -eq 20 ]
+gives 0 'notes keysyms=24 keys=0 types=1 levels=0 actions=0' compile --warn all many out
+holds 'each place where all are asked for' [ "$(grep -c 'no keysym is named' ../err)" -eq 24 ]
+gives 0 'notes keysyms=24 keys=0 types=1 levels=0 actions=0' compile --warn all --quiet many out
+holds 'nothing is said of all where it is to be quiet' [ ! -s ../err ]
+
+# What a session passes over is said before its answers, whether it has words or not.
+{
+    echo 'xkb_keymap { xkb_keycodes { <A>=38; };'
+    echo 'xkb_symbols { key <A> { [EuroSing, a] }; }; };'
+    echo %%
+    echo down 38
+} > slip
+answer='38 down - consumed=none base=none latched=none locked=none group=1'
+for words in '' try 'try -I lib'; do
+    # shellcheck disable=SC2086
+    gives 0 "$answer" $words < slip
+    says "<stdin>:2:26: warning: no keysym is named 'EuroSing'; 'EuroSign' is one"
+done
+for words in 'try --quiet' 'try --quiet -I lib'; do
+    # shellcheck disable=SC2086
+    gives 0 "$answer" $words < slip
+    holds "$words says nothing" [ ! -s ../err ]
+done
+{ echo 'xkb_keymap { xkb_symbols { key <A> { [foo] }; bar=1; }; };'; } > slip
+gives 1 'F14 UnknownField at 0:46-49' try < slip
+holds 'a source that is refused shows its fault alone' [ "$(grep -c warning ../err)" -eq 0 ]
+
+# Files of the author's folders come before those that are installed, in which places are counted.
+data=/usr/share/X11/xkb
+if [ -f "$data/symbols/us" ] && [ -f "$data/compat/complete" ]; then
+    mkdir -p own/symbols
+    {
+        echo 'xkb_keymap { xkb_keycodes { include "evdev" }; xkb_types { include "complete" };'
+        echo 'xkb_compat { include "complete" };'
+        echo 'xkb_symbols { include "pc+us+inet(evdev)+mine" key <AE01> { [frobnicate] }; }; };'
+    } > desk
+    echo 'xkb_symbols { key <AE02> { [frobnicated] }; };' > own/symbols/mine
+    "$program" compile --names /dev/null -I "$data" -I own desk out > ../out 2> ../err
+    says "desk:3:62: warning: no keysym is named 'frobnicate'"
+    says "symbols/mine:1:29: warning: no keysym is named 'frobnicated'"
+    holds 'the source first, then the files of the folder' [ "$(head -n 2 ../err | cut -d: -f1 | tr '\n' ' ')" = 'desk symbols/mine ' ]
+    holds 'then a line for each installed file' [ "$(tail -n +3 ../err | grep -cvE '^[a-z]+/[a-z0-9_]+: [1-9][0-9,]* [a-z]+ .*; --warn all shows them$')" -eq 0 ]
+    holds 'no installed file twice' [ -z "$(tail -n +3 ../err | cut -d: -f1 | sort | uniq -d)" ]
+    holds 'of symbols/inet too' grep -qE '^symbols/inet: [0-9,]+ keysyms have no name here; --warn all shows them$' ../err
+    inet=$(sed -n 's/^symbols\/inet: \([0-9,]*\) keysyms.*/\1/p' ../err | tr -d ,)
+    "$program" compile --names /dev/null --warn all -I "$data" -I own desk out > ../out 2> ../err
+    holds 'all of its places' [ "$(grep -cE '^symbols/inet:[0-9]+:[0-9]+: warning: no keysym is named ' ../err)" -eq "$inet" ]
+    holds 'the source first where all are shown' [ "$(head -n 1 ../err | cut -d: -f1)" = desk ]
+fi

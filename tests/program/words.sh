@@ -25,7 +25,9 @@ wrong "'33'" show --group 33 two
 wrong "'x'" show --group x two
 wrong KEYSYM find two
 wrong HEADER names
-wrong --quiet try --quiet
+wrong --quiet print --quiet two
+wrong "'some'" try --warn some
+wrong "'some'" compile --warn some --quiet source kept
 wrong kept dump two kept
 wrong --names print --names names two
 wrong "'a\\377'" compile source "$(printf 'a\377')"
@@ -39,6 +41,8 @@ gives 3 'cannot use nothing' try --names nothing a=b
 gives 3 'cannot use nothing' try -I nothing
 gives 3 'cannot use nothing' compile nothing out a==b
 gives 3 'cannot use nothing' compile -I . --include=. --quiet nothing out
+gives 3 'cannot use nothing' compile --warn=all nothing out
+gives 3 'cannot use nothing' try --quiet --warn all -I nothing
 gives 3 'cannot use nothing' show --group 32 --svg nothing
 gives 3 'cannot use nothing' find nothing a
 gives 3 'cannot use nothing' names nothing nothing
@@ -46,7 +50,7 @@ gives 3 'cannot use nothing' print nothing
 gives 3 'cannot use nothing' upgrade nothing out
 "$program" --help > ../out 2> ../err
 holds 'xkc --help: status 0' [ $? -eq 0 ]
-for word in try compile replay print show find names dump upgrade; do
+for word in try compile replay print show find list rules names dump upgrade; do
     holds "xkc --help names $word" grep -q "^  $word " ../out
     "$program" "$word" --help > ../help 2> ../err
     holds "xkc $word --help: status 0" [ $? -eq 0 ]

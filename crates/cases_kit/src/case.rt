@@ -79,6 +79,7 @@ impl Case {
                 self.put_file(alloc, name, text.as_str())?;
             }
             "no-files" => self.files = Box::new(alloc, Files::new(alloc))?,
+            "x11" => self.names = Box::new(alloc, NameTable::x11())?,
             "names" => self.put_names(alloc, unescaped(alloc, text)?.as_slice())?,
             "source" => self.put_source(alloc, text.as_bytes())?,
             "escaped" => self.put_source(alloc, unescaped(alloc, text)?.as_slice())?,

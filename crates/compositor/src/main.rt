@@ -55,7 +55,7 @@ fn print_keysyms(rt: &impl Print, names: &NameTable, keysyms: &[u32]) -> io::Res
 
 /// Presses and releases the key of a code, prints what the press gives, and answers the state after it.
 fn tap(rt: &(impl Print + AllocGlobal), image: &[u8], code: u16) -> Result<Components, Trouble> {
-    let names = NameTable::builtin();
+    let names = NameTable::x11();
     let mut player = Player::start(rt.alloc(), View::open(image).map_err(Trouble::Image)?)?;
     let reply = player.event(code, Direction::Down);
     print_keysyms(rt, &names, reply.syms.as_slice())?;
@@ -68,13 +68,13 @@ fn client(rt: &impl Print, image: &[u8], state: Components, code: u16) -> Result
     let mut follower = Follower::start(View::open(image).map_err(Trouble::Image)?);
     follower.set(state);
     let look = follower.look(code);
-    print_keysyms(rt, &NameTable::builtin(), look.syms.as_slice())?;
+    print_keysyms(rt, &NameTable::x11(), look.syms.as_slice())?;
     Ok(())
 }
 
 fn main(rt: HostRuntime) -> Result<(), Trouble> {
     let files = Files::new(rt.alloc());
-    let (image, notes) = compile(rt.alloc(), LAYOUT, &files, &NameTable::builtin()).map_err(
+    let (image, notes) = compile(rt.alloc(), LAYOUT, &files, &NameTable::x11()).map_err(
         Trouble::Layout,
     )?;
     println!(rt; "unknown keysyms: {}", notes.keysyms)?;

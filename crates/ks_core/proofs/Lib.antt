@@ -11,4 +11,6 @@ pub mod NumberLemmas
 pub mod BuiltInLemmas
 pub mod EndsLemmas
 pub mod NamedLemmas
+pub mod RisingLemmas
+pub mod X11Lemmas
 pub mod TextLemmas

@@ -10,6 +10,7 @@ use Rattle.std.specs.Str.Parse.{digits_value}
 use Rattle.ks_core.specs.BuiltIn.{built_in}
 use Rattle.ks_core.specs.Entry.{Entry, keysym_in, name_in}
 use Rattle.ks_core.specs.Lines.{is_sound, is_given_name}
+use Rattle.ks_core.specs.Table.{KeysymTable}
 use Rattle.ks_core.specs.Name.{is_word, is_word_start, is_word_byte, is_hex, is_u_form, is_hex_form, is_decimal, is_between, keysym_of_character, u_keysym, hex_keysym}
 use Rattle.kx_basics.specs.Keysyms.{is_keysym}
 use Rattle.ks_core.specs.Names.{keysym_named, hex_digits, four_digits, name_of_number, is_word_or_number, is_written_back}
@@ -127,11 +128,11 @@ module _ (k : ℕ) (some : 0 < k) (small : k < 2 ^ 32) where
       ∙ ap (λ n. cond (is_keysym n) (Some n) None) (value-hex_digits false k) ∙ ap (λ b. cond b (Some k) None) nameable
 
 -- neither built in nor given
-named-free : (given : List Entry) (name : List ℕ) → list_all is_sound given ≡ true → (is_u_form name || is_hex_form name) ≡ true → keysym_named given name ≡ option_or (u_keysym name) (hex_keysym name)
+named-free : (given : KeysymTable) (name : List ℕ) → list_all is_sound given.names ≡ true → (is_u_form name || is_hex_form name) ≡ true → keysym_named given name ≡ option_or (u_keysym name) (hex_keysym name)
 unfolding keysym_named
 named-free given name sound form =
-    ap (λ o. option_or o (option_or (keysym_in given name) (option_or (u_keysym name) (hex_keysym name)))) (built_in-free name form)
-    ∙ ap (λ o. option_or o (option_or (u_keysym name) (hex_keysym name))) (given-free given name sound form)
+    ap (λ o. option_or o (option_or (keysym_in given.names name) (option_or (u_keysym name) (hex_keysym name)))) (built_in-free name form)
+    ∙ ap (λ o. option_or o (option_or (u_keysym name) (hex_keysym name))) (given-free given.names name sound form)
 
 some-digits : (k : ℕ) → name_in built_in k ≡ None → 0 < k
 some-digits zero none = absurd (true≢false (sym built_in-zero ∙ ap is_some none))
@@ -142,7 +143,7 @@ or_false true b h free = cc
 or_false false b h free = h
 
 -- a keysym without a built-in name has the name of its number
-pub name_of_number-named : (given : List Entry) (k : ℕ) → list_all is_sound given ≡ true → name_in built_in k ≡ None → k < 2 ^ 32 → is_written_back k ≡ true → keysym_named given (name_of_number k) ≡ Some k
+pub name_of_number-named : (given : KeysymTable) (k : ℕ) → list_all is_sound given.names ≡ true → name_in built_in k ≡ None → k < 2 ^ 32 → is_written_back k ≡ true → keysym_named given (name_of_number k) ≡ Some k
 unfolding name_of_number u_name x_name
 name_of_number-named given k sound none small back = by (is_between 0x1000100 0x110ffff k) refl
   where
@@ -199,14 +200,14 @@ name_of_number-lexical k some small = by (is_between 0x1000100 0x110ffff k)
     by false =
         let name = 48 ∷ 120 ∷ hex_digits false k in hex_or (is_word name) (is_decimal name) (is_hex_form name) (x_name-is_hex_form k some small)
 
-pub keysym_named-built_in : (given : List Entry) (name : List ℕ) (keysym : ℕ) → keysym_in built_in name ≡ Some keysym → keysym_named given name ≡ Some keysym
+pub keysym_named-built_in : (given : KeysymTable) (name : List ℕ) (keysym : ℕ) → keysym_in built_in name ≡ Some keysym → keysym_named given name ≡ Some keysym
 unfolding keysym_named
-keysym_named-built_in given name keysym h = ap (λ o. option_or o (option_or (keysym_in given name) (option_or (u_keysym name) (hex_keysym name)))) h
+keysym_named-built_in given name keysym h = ap (λ o. option_or o (option_or (keysym_in given.names name) (option_or (u_keysym name) (hex_keysym name)))) h
 
-pub keysym_named-given : (given : List Entry) (name : List ℕ) (keysym : ℕ) → keysym_in built_in name ≡ None → keysym_in given name ≡ Some keysym → keysym_named given name ≡ Some keysym
+pub keysym_named-given : (given : KeysymTable) (name : List ℕ) (keysym : ℕ) → keysym_in built_in name ≡ None → keysym_in given.names name ≡ Some keysym → keysym_named given name ≡ Some keysym
 unfolding keysym_named
 keysym_named-given given name keysym none h =
-    ap (λ o. option_or o (option_or (keysym_in given name) (option_or (u_keysym name) (hex_keysym name)))) none ∙ ap (λ o. option_or o (option_or (u_keysym name) (hex_keysym name))) h
+    ap (λ o. option_or o (option_or (keysym_in given.names name) (option_or (u_keysym name) (hex_keysym name)))) none ∙ ap (λ o. option_or o (option_or (u_keysym name) (hex_keysym name))) h
 
 pub IfSome-map : {X : Type 0} (o : Option X) (P Q : X → Type 0) → ((x : X) → P x → Q x) → IfSome o P → IfSome o Q
 IfSome-map None P Q f p = tt

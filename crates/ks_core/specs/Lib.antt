@@ -3,9 +3,14 @@ pub mod Memory
 pub mod BufferedOut
 pub mod PrintedName
 pub mod Notes
+pub mod MoreLetters
+pub mod Rising
 pub mod Keysym
 pub mod Entry
 pub mod BuiltIn
+pub mod X11
+pub mod X11Index
+pub mod Table
 pub mod Index
 pub mod HashIndex
 pub mod Name

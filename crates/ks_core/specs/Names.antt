@@ -4,13 +4,14 @@ use Rattle.std.specs.Fmt.{digit_glyph}
 use Rattle.std.specs.Int.Digits.{digits_of}
 use Rattle.std.specs.Option.{option_or}
 use Rattle.ks_core.specs.BuiltIn.{built_in}
-use Rattle.ks_core.specs.Entry.{Entry, keysym_in, name_in}
+use Rattle.ks_core.specs.Entry.{keysym_in, name_in}
 use Rattle.ks_core.specs.Name.{is_word, is_decimal, is_hex_form, is_between, u_keysym, hex_keysym}
+use Rattle.ks_core.specs.Table.{KeysymTable}
 use Rattle.kx_basics.specs.Keysyms.{is_keysym}
 
--- the keysym of a name: of the built-in one, else of the one that a line gave, else of the U form, else of the 0x form
-unfoldable pub keysym_named : List Entry → List ℕ → Option ℕ
-keysym_named given name = option_or (keysym_in built_in name) (option_or (keysym_in given name) (option_or (u_keysym name) (hex_keysym name)))
+-- the keysym of a name: of the built-in one, else of another one of the table, else of the U form, else of the 0x form
+unfoldable pub keysym_named : KeysymTable → List ℕ → Option ℕ
+keysym_named table name = option_or (keysym_in built_in name) (option_or (keysym_in table.names name) (option_or (u_keysym name) (hex_keysym name)))
 
 -- the hexadecimal digits of a number, without leading zeros
 abbrev pub hex_digits : Bool → ℕ → List ℕ
@@ -26,9 +27,9 @@ name_of_number keysym =
     if is_between 0x1000100 0x110ffff keysym then 85 ∷ four_digits (hex_digits true (keysym - 0x1000000))
     else 48 ∷ 120 ∷ hex_digits false keysym
 
--- the name of a keysym: its first one, a built-in one before those that lines gave, else that of its number
-unfoldable pub name_of_keysym : List Entry → ℕ → List ℕ
-name_of_keysym given keysym = unwrap_or (option_or (name_in built_in keysym) (name_in given keysym)) (name_of_number keysym)
+-- the name of a keysym: its first one, a built-in one before the others of the table, else that of its number
+unfoldable pub name_of_keysym : KeysymTable → ℕ → List ℕ
+name_of_keysym table keysym = unwrap_or (option_or (name_in built_in keysym) (name_in table.names keysym)) (name_of_number keysym)
 
 -- an identifier or a number in a keymap's text
 abbrev pub is_word_or_number : List ℕ → Bool

@@ -1,5 +1,5 @@
 //! The built-in names.
-ghost use Rattle.std.specs.Prelude.{◌≡◌, ◌+◌, ◌<◌, ◌≤◌, true, length, IfSome};
+ghost use Rattle.std.specs.Prelude.{◌≡◌, ◌+◌, ◌<◌, ◌≤◌, true, length, map, slice_get, IfSome};
 ghost use Rattle.std.specs.Option.{option_map};
 ghost use Rattle.std.specs.Str.{IsAscii, bytes_eq};
 ghost use Rattle.ks_core.specs.Entry.{keysym_in, name_in};
@@ -31,6 +31,13 @@ fn by_hash() -> HashIndex
 
 fn by_keysym() -> &'static [Entry]
     ensures { IsKeysymIndex result.now }
+{
+    &BY_KEYSYM
+}
+
+/// The built-in names as they are defined, one after another.
+fn in_order() -> &'static [Entry]
+    ensures { map (λ row. (row.0.now, row.1)) result.now ≡ built_in }
 {
     &BY_KEYSYM
 }
@@ -127,5 +134,16 @@ pub(crate) fn name_of(keysym: u32) -> Option<&'static str>
     match entries.binary_search_by(|entry| entry.1.cmp(&keysym)) {
         Ok(index) => Some(entries[index].0),
         Err(_) => None,
+    }
+}
+
+/// The name at a place, where there is one.
+pub(crate) fn name_at(place: usize) -> Option<&'static str>
+    ensures { option_map (λ name. name.now) result
+        ≡ option_map (λ e. e.0) (slice_get built_in place) }
+{
+    match in_order().get(place) {
+        Some((name, _)) => Some(*name),
+        None => None,
     }
 }

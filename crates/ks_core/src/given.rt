@@ -66,6 +66,17 @@ impl Given {
         }
     }
 
+    /// The name at a place.
+    pub(crate) fn name_at(&self, place: usize) -> Option<&str>
+        ensures { option_map (λ name. name.now) result
+            ≡ option_map (λ e. e.0) (slice_get self.now place) }
+    {
+        match pair_at(&self.keysyms, place) {
+            Some((name, _)) => Some(name.as_str()),
+            None => None,
+        }
+    }
+
     /// Reads the line with that number.
     pub(crate) fn read(
         &mut self,

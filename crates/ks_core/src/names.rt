@@ -1,5 +1,5 @@
 //! The names of keysyms.
-ghost use Rattle.std.specs.Prelude.{◌≡◌, ◌<◌, ◌≤◌, ◌⊎◌, true, false, Some, [], ◌∷◌, length, IfOk, IfErr, IfSome, OnOk};
+ghost use Rattle.std.specs.Prelude.{◌≡◌, ◌<◌, ◌≤◌, ◌⊎◌, true, false, Some, [], ◌∷◌, length, IfOk, IfErr, IfSome, OnOk, slice_get};
 ghost use Rattle.std.specs.List.{list_all};
 ghost use Rattle.std.specs.Option.{option_map, option_or};
 ghost use Rattle.std.specs.Str.{IsAscii};
@@ -7,44 +7,59 @@ ghost use Rattle.ks_core.specs.BuiltIn.{built_in};
 ghost use Rattle.ks_core.specs.Entry.{keysym_in, name_in};
 ghost use Rattle.ks_core.specs.Lines.{lines_of, given_by, is_sound, AreFaultless, IsFirstFault};
 ghost use Rattle.ks_core.specs.Name.{u_keysym, hex_keysym};
+ghost use Rattle.ks_core.specs.Table.{with_names, x11_table};
 ghost use Rattle.ks_core.specs.Names.{four_digits, hex_digits, keysym_named, name_of_keysym, name_of_number, is_word_or_number, is_written_back};
 
 use crate::builtin;
 use crate::digits::{hex_number, push_hex};
 use crate::fault::NameFault;
+use crate::further::Further;
 use crate::given::Given;
 use crate::keysym::Keysym;
+use crate::letters::Letters;
 use crate::line::{first_line, hex_digits, u_digits};
 use arrayvec::ArrayString;
 use kx_basics::is_keysym;
 use std::alloc::Global;
 use std::marker::Model;
 
-/// The built-in names of keysyms, and those that lines gave.
+/// The names of keysyms: the built-in ones, and those of X11 or those that lines gave. With them go its letters.
 #[derive(Drop)]
 pub struct NameTable {
-    given: Option<Given>,
+    further: Further,
 }
 
 impl Model for NameTable {
-    ghost use Rattle.std.specs.Prelude.{◌≡◌, true, List, [], unwrap_or};
+    ghost use Rattle.std.specs.Prelude.{◌≡◌, true};
     ghost use Rattle.std.specs.List.{list_all};
-    ghost use Rattle.ks_core.specs.Entry.{Entry};
     ghost use Rattle.ks_core.specs.Lines.{is_sound};
+    ghost use Rattle.ks_core.specs.Table.{KeysymTable, table_of};
 
-    ghost Value = { List Entry };
+    ghost Value = { KeysymTable };
 
-    ghost view = { λ t. unwrap_or t.given [] };
+    ghost view = { λ t. table_of t.further };
 
-    ghost invariant = { λ t. list_all is_sound (unwrap_or t.given []) ≡ true };
+    ghost invariant = { λ t. list_all is_sound (table_of t.further).names ≡ true };
 }
 
 impl NameTable {
     /// The built-in names alone.
     pub fn builtin() -> NameTable
-        ensures { result ≡ [] }
+        ensures { result ≡ with_names [] }
     {
-        NameTable { given: None }
+        NameTable {
+            further: Further::None,
+        }
+    }
+
+    /// The built-in names and all others of X11 and XFree86, with the letters of Unicode's simple case mapping. Of a name that
+    /// begins with `XF86` that with `XF86_` is another. Names that begin with a digit aren't there, since no text can have them.
+    pub fn x11() -> NameTable
+        ensures { result ≡ x11_table }
+    {
+        NameTable {
+            further: Further::X11,
+        }
     }
 
     /// The built-in names, and those of the lines.
@@ -53,12 +68,21 @@ impl NameTable {
     /// that begin with `#` are skipped.
     pub fn with_lines(alloc: Global, lines: &[u8]) -> Result<NameTable, NameFault>
         ensures faultless { OnOk result (AreFaultless (lines_of lines.now)) }
-        ensures names { IfOk result (λ table. table ≡ given_by (lines_of lines.now)) }
+        ensures names { IfOk result (λ table. table ≡ with_names (given_by (lines_of lines.now))) }
         ensures fault { IfErr result (λ fault. (fault ≡ NameFault.Memory)
             ⊎ IsFirstFault (lines_of lines.now) fault) }
     {
         let given = read_lines(alloc, lines)?;
-        Ok(NameTable { given: Some(given) })
+        Ok(NameTable {
+            further: Further::Lines(given),
+        })
+    }
+
+    /// Which keysyms are letters.
+    pub fn letters(&self) -> Letters
+        ensures { result ≡ self.now.letters }
+    {
+        self.further.letters()
     }
 
     /// The keysym with that built-in name, given as bytes. Bytes that are one are ASCII.
@@ -73,7 +97,23 @@ impl NameTable {
         }
     }
 
-    /// The keysym with that name: a built-in name, a name that a line gave, `U` and the number of a
+    /// The built-in name at a place, counted from 0, where there is one: the names by keysym.
+    pub fn built_in_at(place: usize) -> Option<&'static str>
+        ensures { option_map (λ name. name.now) result
+            ≡ option_map (λ e. e.0) (slice_get built_in place) }
+    {
+        builtin::name_at(place)
+    }
+
+    /// The further name at a place, counted from 0, where there is one: those of X11 or of lines in their order.
+    pub fn further_at(&self, place: usize) -> Option<&str>
+        ensures { option_map (λ name. name.now) result
+            ≡ option_map (λ e. e.0) (slice_get self.now.names place) }
+    {
+        self.further.name_at(place)
+    }
+
+    /// The keysym with that name: a built-in name, another name of the table, `U` and the number of a
     /// character, or `0x` and the number of a keysym.
     #[tactic(auto, unfolding(crate::specs::Names::keysym_named))]
     pub fn by_name(&self, name: &str) -> Option<Keysym>
@@ -83,7 +123,7 @@ impl NameTable {
         if let Some(keysym) = builtin::keysym_of(name.as_bytes()) {
             return Some(Keysym(keysym));
         }
-        if let Some(keysym) = self.given_keysym(name) {
+        if let Some(keysym) = self.further_keysym(name) {
             return Some(Keysym(keysym));
         }
         if let Some(keysym) = u_form(name.as_bytes()) {
@@ -103,7 +143,7 @@ impl NameTable {
         ensures read_back { is_written_back keysym.0 ≡ true
             → keysym_named self.now text.new.bytes ≡ Some keysym.0 }
         ensures lexical { is_word_or_number text.new.bytes ≡ true }
-        ensures sound { list_all is_sound self.now ≡ true }
+        ensures sound { list_all is_sound self.now.names ≡ true }
     {
         let number = keysym.0;
         text.clear();
@@ -113,42 +153,36 @@ impl NameTable {
         }
     }
 
-    /// The first name of the keysym, a built-in one before those that lines gave.
+    /// The first name of the keysym, a built-in one before the others.
     fn first_name(&self, keysym: u32) -> Option<&str>
-        ensures sound { list_all is_sound self.now ≡ true }
+        ensures sound { list_all is_sound self.now.names ≡ true }
         ensures first { option_map (λ name. name.now) result
-            ≡ option_or (name_in built_in keysym) (name_in self.now keysym) }
+            ≡ option_or (name_in built_in keysym) (name_in self.now.names keysym) }
         ensures short { IfSome result (λ name. length name.now ≤ 64) }
         ensures back { IfSome result (λ name. keysym_named self.now name.now ≡ Some keysym) }
         ensures lexical { IfSome result (λ name. is_word_or_number name.now ≡ true) }
     {
-        // No effect: the proof reads the invariant of the names that lines gave.
-        let _ = &self.given;
+        // No effect: the proof reads the invariant of the further names.
+        let _ = &self.further;
         match builtin::name_of(keysym) {
             Some(name) => Some(name),
-            None => self.given_name(keysym),
+            None => self.further_name(keysym),
         }
     }
 
-    fn given_keysym(&self, name: &str) -> Option<u32>
-        ensures value { result ≡ keysym_in self.now name.now }
+    fn further_keysym(&self, name: &str) -> Option<u32>
+        ensures value { result ≡ keysym_in self.now.names name.now }
         ensures within { IfSome result (λ keysym. is_written_back keysym ≡ true) }
     {
-        match &self.given {
-            Some(given) => given.keysym_of(name),
-            None => None,
-        }
+        self.further.keysym_of(name)
     }
 
-    fn given_name(&self, keysym: u32) -> Option<&str>
-        ensures first { option_map (λ name. name.now) result ≡ name_in self.now keysym }
-        ensures back { IfSome result (λ name. keysym_in self.now name.now ≡ Some keysym) }
+    fn further_name(&self, keysym: u32) -> Option<&str>
+        ensures first { option_map (λ name. name.now) result ≡ name_in self.now.names keysym }
+        ensures back { IfSome result (λ name. keysym_in self.now.names name.now ≡ Some keysym) }
         ensures sound { IfSome result (λ name. is_sound (name.now, keysym) ≡ true) }
     {
-        match &self.given {
-            Some(given) => given.name_of(keysym),
-            None => None,
-        }
+        self.further.name_of(keysym)
     }
 }
 

@@ -4,7 +4,7 @@ use Rattle.std.specs.Map.{keys_of}
 use Rattle.std.specs.Option.{option_and_then, option_map}
 use Rattle.std.proofs.Math.Path.{fun_ext}
 use Rattle.indexmap.specs.IndexMap.{IndexMap, get, keys}
-use Rattle.ks_core.specs.Entry.{Entry}
+use Rattle.ks_core.specs.Table.{KeysymTable}
 use Rattle.kx_actions.specs.declared.action.KeyAction.{KeyAction}
 use Rattle.kx_include.specs.Expansion.{Body}
 use Rattle.kx_merge.specs.Bodies.{offers_of}
@@ -47,7 +47,7 @@ levels_shown (Some v) = one v.first_level_only
     one None = refl
     one (Some x) = refl
 
-module _ {S : Type 0} (records : IndexMap InterpretationMatch FieldValues S) (table : List Entry) (names : List (List ℕ)) (body : Body) where
+module _ {S : Type 0} (records : IndexMap InterpretationMatch FieldValues S) (table : KeysymTable) (names : List (List ℕ)) (body : Body) where
   as-said : Shows {K = InterpretationMatch} {C = Cell} {V = FieldValue} {R = FieldValues} values_cell values_width ghosts.eq (keys records) (get ghosts.eq records) (offers_of ghosts.eq (compat_rules table names) compat_moves body)
       → Shows {K = InterpretationMatch} {C = Cell} {V = FieldValue} {R = FieldValues} values_cell values_width same_match (keys records) (get same_match records) (interpretation_offers table names body)
   as-said shows = subst (λ eq. Shows {K = InterpretationMatch} {C = Cell} {V = FieldValue} {R = FieldValues} values_cell values_width eq (keys records) (get eq records) (offers_of eq (compat_rules table names) compat_moves body)) told_as_said shows

@@ -1,7 +1,7 @@
 -- A statement offers an interpretation once.
 use Rattle.std.proofs.Common.{ℕ, List, Option, None, Some, map}
 use Rattle.std.specs.List.{IsDistinct}
-use Rattle.ks_core.specs.Entry.{Entry}
+use Rattle.ks_core.specs.Table.{KeysymTable}
 use Rattle.kx_virtual_mods.specs.Once.{OffersOnce}
 use Rattle.kx_parse.specs.declared.tree.Item.TheVariants.{Include, Statement}
 use Rattle.kx_parse.specs.declared.tree.Mode.{Mode}
@@ -23,7 +23,7 @@ unfolding IsDistinct
 one_match mode values None = tt
 one_match mode values (Some interpretation_match) = (tt, tt)
 
-module _ (table : List Entry) (names : List (List ℕ)) where
+module _ (table : KeysymTable) (names : List (List ℕ)) where
   one_said : (d : CompatDefaults) (mode : Mode) (o : Option Interpreted) → AreApart (said_offers table names d mode o)
   unfolding IsDistinct
   one_said d mode None = tt

@@ -3,7 +3,7 @@
 use Rattle.std.specs.Prelude.{ℕ, Bool, false, List, [], ◌∷◌, Option, None, Some, if◌then◌else◌, codes}
 use Rattle.std.specs.Option.{option_and_then, option_map, option_map_or}
 use Rattle.std.specs.Str.{str_eq_ignore_ascii_case}
-use Rattle.ks_core.specs.Entry.{Entry}
+use Rattle.ks_core.specs.Table.{KeysymTable}
 use Rattle.kx_merge.specs.Words.{among, lone_word}
 use Rattle.kx_include.specs.IncludeFaults.{at}
 use Rattle.kx_lex.specs.declared.fault.Fault.{Fault}
@@ -29,7 +29,7 @@ abbrev pub is_any : Symbol → Bool
 is_any (Word word) = is_no_symbol word.bytes
 is_any (Number number) = false
 
-abbrev pub wanted_keysym : List Entry → Symbol → Option WantedKeysym
+abbrev pub wanted_keysym : KeysymTable → Symbol → Option WantedKeysym
 wanted_keysym table symbol = option_map_or (λ k. Some (Named k)) (symbol_keysym table symbol) (if is_any symbol then Some Any else None)
 
 -- ---- The condition, and the modifiers as a mask of real ones
@@ -70,7 +70,7 @@ abbrev pub match_with : Option WantedKeysym → Option Wanted → Option Interpr
 match_with (Some keysym) (Some wanted) = Some (record { keysym = keysym; condition = wanted.0; mask = wanted.1 })
 match_with _ _ = None
 
-abbrev pub match_of : List Entry → Symbol → Option Predicate → Option InterpretationMatch
+abbrev pub match_of : KeysymTable → Symbol → Option Predicate → Option InterpretationMatch
 match_of table symbol predicate = match_with (wanted_keysym table symbol) (predicate_wants predicate)
 
 -- ---- Under names, for clauses and proofs

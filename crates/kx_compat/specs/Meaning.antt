@@ -1,7 +1,7 @@
 -- The interpretations that the statements of a compat body declare.
 use Rattle.std.specs.Prelude.{ℕ, false, List, [], map, Option, unwrap_or}
 use Rattle.std.specs.Option.{option_and_then, option_map_or}
-use Rattle.ks_core.specs.Entry.{Entry}
+use Rattle.ks_core.specs.Table.{KeysymTable}
 use Rattle.kx_include.specs.Expansion.{Body}
 use Rattle.kx_lex.specs.declared.fault.Fault.{Fault}
 use Rattle.kx_merge.specs.Bodies.{Moves, Rules, faults_of, offers_of, no_moves}
@@ -24,7 +24,7 @@ abbrev pub InterpretationOffer : Type 0
 InterpretationOffer = Offer InterpretationMatch Cell FieldValue
 
 -- `table` are the names of keysyms, `names` the virtual modifiers by number
-module _ (table : List Entry) (names : List (List ℕ)) where
+module _ (table : KeysymTable) (names : List (List ℕ)) where
   -- an interpretation of an unknown keysym offers nothing
   abbrev pub said_offers : CompatDefaults → Mode → Option Interpreted → List InterpretationOffer
   said_offers d mode i = option_map_or (λ i. offers_to values_cell mode (values_of names d i.2) (match_of table i.0 i.1)) i []
@@ -45,7 +45,7 @@ interpretation_by os interpretation_match = record {
   first_level_only = unwrap_or (option_and_then (λ v. (only v).first_level_only) (value_of same_match os interpretation_match cells.Levels)) false;
 }
 
-module _ (table : List Entry) (names : List (List ℕ)) (body : Body) where
+module _ (table : KeysymTable) (names : List (List ℕ)) (body : Body) where
   abbrev pub interpretation_offers : List InterpretationOffer
   interpretation_offers = offers_of same_match (compat_rules table names) no_moves body
 

@@ -1,9 +1,9 @@
 //! What is wrong with includes.
 use crate::quotes::quoted;
-use kx_include::{Part, include_parts};
+use kx_include::{Part, Place, include_parts};
 use kx_lex::At;
 use kx_parse::{Item, Kind, Section};
-use kx_reach::{Reached, Trees, is_in, kind_name, place_named, reached_from};
+use kx_reach::{Reached, Trees, holds, is_in, kind_name, place_named, reached_from};
 use std::alloc::{AllocError, Global};
 
 /// So many names of maps are listed of a kind.
@@ -168,6 +168,30 @@ fn leads_back(
     Ok(onward.iter().any(|map| is_in(trees, map, at)))
 }
 
+/// The text of the include by which the map in which a place stands leads back to itself.
+fn text_leading_back(alloc: Global, trees: &Trees, at: At) -> Result<Option<&[u8]>, AllocError> {
+    let sections = trees.sections_in(at.file);
+    let Some(section) = sections.iter().position(|section| holds(section, at.span)) else {
+        return Ok(None);
+    };
+    let file = at.file;
+    let place = Place { file, section };
+    let start = Reached {
+        place,
+        origin: None,
+    };
+    let onward = reached_from(alloc, trees, &[start])?;
+    for map in onward.iter() {
+        if let Some(origin) = map.origin
+            && map.place == place
+            && let Some((_, text)) = include_at(trees, origin.text)
+        {
+            return Ok(Some(text));
+        }
+    }
+    Ok(None)
+}
+
 /// Says which file is included too deep.
 pub(crate) fn write_too_deep(
     out: &mut String,
@@ -187,5 +211,15 @@ pub(crate) fn write_too_deep(
             "{name} leads back to this include, so that includes go more than 16 deep"
         );
     }
-    write!(out, "{name} is included more than 16 deep")
+    write!(out, "{name} is included more than 16 deep")?;
+    match text_leading_back(alloc, trees, at)? {
+        Some(text) => {
+            let text = quoted(text);
+            write!(
+                out,
+                ", since {text} leads back to the map in which it stands"
+            )
+        }
+        None => Ok(()),
+    }
 }

@@ -24,5 +24,6 @@ mod wanted;
 
 pub use explaining::{Explanation, explain};
 pub use kx_reach::{Text, Texts};
+pub use near::Nearest;
 pub use plain::{place_of, plain_message};
 pub use quotes::{Quotation, quoted, write_shown};

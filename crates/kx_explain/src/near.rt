@@ -57,3 +57,39 @@ pub(crate) fn letters_apart(word: &[u8], other: &[u8]) -> Option<u8>
         None
     }
 }
+
+/// The nearest of the names that are offered to a word, if one is near: the first of those that are equally near.
+#[derive(Clone, Copy, Debug)]
+pub struct Nearest<'a> {
+    word: &'a [u8],
+    found: Option<(u8, &'a [u8])>,
+}
+
+impl<'a> Nearest<'a> {
+    /// None yet.
+    pub fn to(word: &'a [u8]) -> Nearest<'a> {
+        Nearest { word, found: None }
+    }
+
+    /// Offers a name.
+    pub fn offer(&mut self, name: &'a [u8]) {
+        if self.word.len().abs_diff(name.len()) > 2 {
+            return;
+        }
+        let Some(apart) = letters_apart(self.word, name) else {
+            return;
+        };
+        match self.found {
+            Some((nearest, _)) if nearest <= apart => {}
+            _ => self.found = Some((apart, name)),
+        }
+    }
+
+    /// The nearest name.
+    pub fn name(self) -> Option<&'a [u8]> {
+        match self.found {
+            Some((_, name)) => Some(name),
+            None => None,
+        }
+    }
+}

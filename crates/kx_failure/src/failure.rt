@@ -8,6 +8,7 @@ ghost use Rattle.kx_failure.specs.Status.{failure_of, status_of};
 use ks_core::NameFault;
 use kx_image::ImageFault;
 use kx_lex::Fault;
+use kx_names::RulesFault;
 use kx_tool::{ReplayFault, SessionFault};
 use std::alloc::AllocError;
 use std::{fmt, io};
@@ -29,6 +30,8 @@ pub enum Failure<'a> {
     Keysym(&'a str),
     Names(NameFault),
     Image(ImageFault),
+    /// Rules give no source for names.
+    Rules(RulesFault),
     Source(Fault),
     Replay(ReplayFault),
 }
@@ -85,6 +88,7 @@ impl fmt::Display for Failure<'_> {
             Failure::Keysym(word) => write!(f, "no keysym is named {word}"),
             Failure::Names(fault) => write!(f, "{fault}"),
             Failure::Image(fault) => write!(f, "{fault}"),
+            Failure::Rules(fault) => write!(f, "{fault}"),
             Failure::Source(fault) => write!(f, "{fault}"),
             Failure::Replay(fault) => write!(f, "{fault}"),
         }

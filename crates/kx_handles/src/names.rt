@@ -1,6 +1,6 @@
 //! The handle of names of keysyms.
 ghost use Rattle.std.specs.Prelude.{◌≡◌, List, MatchOption, None, Option, Some};
-ghost use Rattle.ks_core.specs.Entry.{Entry};
+ghost use Rattle.ks_core.specs.Table.{KeysymTable};
 ghost use Rattle.ks_core.specs.contracts.names.NameTable.{the_row};
 ghost use Rattle.kx_handles.specs.Slot.{slot};
 
@@ -16,7 +16,7 @@ use std::ptr::null_mut;
 pub struct NamesHandle {
     at: *mut u8,
     alloc: Global,
-    pub ghost value: { Option (List Entry) },
+    pub ghost value: { Option KeysymTable },
 }
 
 impl Model for NamesHandle {

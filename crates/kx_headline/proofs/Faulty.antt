@@ -1,7 +1,7 @@
 -- A source with a fault means no tables and no answers.
 use Rattle.std.proofs.Common.{ℕ, [], ◌≡◌, inl, inr, ◌<◌, ◌≤◌, List, length, Contains, slice_get, Some, ap, subst, arith}
 use Rattle.std.proofs.lemmas.Option.{slice_get_within}
-use Rattle.ks_core.specs.Entry.{Entry}
+use Rattle.ks_core.specs.Table.{KeysymTable}
 use Rattle.kx_headline.proofs.Texts.{Laws, library-one, read-has_tree}
 use Rattle.kx_headline.specs.Played.{AnswersAs}
 use Rattle.kx_include.specs.IncludeFaults.{IsWhole, HasIncludeFault}
@@ -22,7 +22,7 @@ none_in {xs} {e} none has =
 none_past : {X : Type 0} (xs : List X) (n : ℕ) (x : X) → length xs ≤ n → slice_get xs n ≡ Some x → ⊥
 none_past xs n x past is = let within = slice_get_within xs n x is in omega arith
 
-module _ (names : List Entry) where
+module _ (names : KeysymTable) where
   whole-no_fault : (library : Library) (e : Fault) → IsWhole library → HasIncludeFault library e → ⊥
   whole-no_fault library e whole (inl has) = none_in whole.0 has
   whole-no_fault library e whole (inr found) = none_past _ _ found.0 whole.1 found.1

@@ -1,6 +1,6 @@
 -- A source means one content of tables at most.
 use Rattle.std.proofs.Common.{ℕ, ◌≡◌, List, sym, ◌∙◌, ap, subst}
-use Rattle.ks_core.specs.Entry.{Entry}
+use Rattle.ks_core.specs.Table.{KeysymTable}
 use Rattle.kx_builder.specs.IndicatorMaps.{with_indicator_maps}
 use Rattle.kx_builder.specs.Placed.{content_of_resolved}
 use Rattle.kx_headline.proofs.Names.{names-one}
@@ -13,7 +13,7 @@ use Rattle.kx_source.specs.Meaning.{indicators_in, resolved_in}
 use Rattle.kx_source.specs.Source.{HoldsAll, Means}
 use Rattle.kx_tables.specs.Content.{Content}
 
-module _ (names : List Entry) where
+module _ (names : KeysymTable) where
   holds-one : (library : Library) (one other : Content) → HoldsAll names library one → HoldsAll names library other → one ≡ other
   holds-one library one other a b =
       let same : a.groups ≡ b.groups = names-one (body_of library Symbols) a.groups b.groups a.groups_are b.groups_are in

@@ -1,6 +1,6 @@
 -- What a source's keyboard answers is one thing.
 use Rattle.std.proofs.Common.{ℕ, ◌≡◌, List, sym, ◌∙◌, ap}
-use Rattle.ks_core.specs.Entry.{Entry}
+use Rattle.ks_core.specs.Table.{KeysymTable}
 use Rattle.kx_headline.specs.Played.{AnswersAs}
 use Rattle.kx_headline.proofs.Texts.{Laws, library-one}
 use Rattle.kx_include.specs.Source.{Handed}
@@ -9,7 +9,7 @@ use Rattle.kx_run.specs.World.{opening}
 use Rattle.kx_run.specs.declared.direction.Event.{Event}
 use Rattle.kx_source.specs.Meaning.{keymap_in}
 
-module _ (names : List Entry) where
+module _ (names : KeysymTable) where
   pub answers-one : Laws → (source : List ℕ) (files : Handed) (events : List Event) (one other : List Answer) → AnswersAs source files names events one → AnswersAs source files names events other → one ≡ other
   answers-one laws source files events one other a b =
       let same : a.compiled.library ≡ b.compiled.library = library-one laws source files a.compiled.library b.compiled.library a.compiled.read b.compiled.read in

@@ -1,6 +1,6 @@
 //! What a source means is one thing at most.
 ghost use Rattle.std.specs.Prelude.{◌≡◌, List, ℕ};
-ghost use Rattle.ks_core.specs.Entry.{Entry};
+ghost use Rattle.ks_core.specs.Table.{KeysymTable};
 ghost use Rattle.kx_headline.specs.Played.{AnswersAs};
 ghost use Rattle.kx_include.specs.Source.{Handed};
 ghost use Rattle.kx_lex.specs.declared.fault.Fault.{Fault};
@@ -14,9 +14,9 @@ use kx_parse::{one_stop, one_tree};
 
 /// A source means one content of tables at most, and its keyboard one list of answers to each list of events.
 pub fn one_meaning()
-    ensures content { (source : List ℕ) (files : Handed) (names : List Entry) (one other : Content)
+    ensures content { (source : List ℕ) (files : Handed) (names : KeysymTable) (one other : Content)
         → Means source files names one → Means source files names other → one ≡ other }
-    ensures answers { (source : List ℕ) (files : Handed) (names : List Entry) (events : List Event)
+    ensures answers { (source : List ℕ) (files : Handed) (names : KeysymTable) (events : List Event)
         (one other : List Answer) → AnswersAs source files names events one
         → AnswersAs source files names events other → one ≡ other }
 {
@@ -27,10 +27,10 @@ pub fn one_meaning()
 
 /// A source with a fault means no tables, and no answers.
 pub fn faults_mean_nothing()
-    ensures tables { (source : List ℕ) (files : Handed) (names : List Entry) (fault : Fault)
+    ensures tables { (source : List ℕ) (files : Handed) (names : KeysymTable) (fault : Fault)
         (content : Content) → HasFault source files names fault → Means source files names content
         → ⊥ }
-    ensures answers { (source : List ℕ) (files : Handed) (names : List Entry) (fault : Fault)
+    ensures answers { (source : List ℕ) (files : Handed) (names : KeysymTable) (fault : Fault)
         (events : List Event) (answers : List Answer) → HasFault source files names fault
         → AnswersAs source files names events answers → ⊥ }
 {

@@ -8,7 +8,7 @@ use Rattle.std.proofs.Math.Path.{fun_ext}
 use Rattle.std.proofs.lemmas.Nat.Bits.{bit_at_above}
 use Rattle.std.proofs.lemmas.List.{append_assoc}
 use Rattle.indexmap.specs.IndexMap.{IndexMap, get, keys}
-use Rattle.ks_core.specs.Entry.{Entry as Named}
+use Rattle.ks_core.specs.Table.{KeysymTable}
 use Rattle.kx_codes.specs.Codes.{Codes}
 use Rattle.kx_include.specs.Expansion.{Body}
 use Rattle.kx_merge.proofs.Going.{drop_next, read_again}
@@ -37,7 +37,7 @@ key-cell : (o : Option Assigned) (modifier : ℕ) → present (option_map_or (λ
 key-cell None modifier = nothing-present modifier
 key-cell (Some a) modifier = refl
 
-module _ {S : Type 0} (records : IndexMap Target Assigned S) (codes : Codes) (names : List Named) (modifiers : List (List ℕ)) (body : Body) where
+module _ {S : Type 0} (records : IndexMap Target Assigned S) (codes : Codes) (names : KeysymTable) (modifiers : List (List ℕ)) (body : Body) where
   abbrev offers : List (Offer Target Cell ℕ)
   offers = map_offers_of codes names modifiers body
 

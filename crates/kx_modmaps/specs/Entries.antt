@@ -3,7 +3,7 @@ use Rattle.std.specs.Prelude.{ℕ, ◌||◌, Bool, List, [], ◌∷◌, ◌++◌
 use Rattle.std.specs.List.{flat_map}
 use Rattle.std.specs.Option.{option_map, option_map_or}
 use Rattle.std.specs.Str.{str_eq_ignore_ascii_case}
-use Rattle.ks_core.specs.Entry.{Entry as Named}
+use Rattle.ks_core.specs.Table.{KeysymTable}
 use Rattle.kx_merge.specs.Faults.{name_faults}
 use Rattle.kx_codes.specs.Codes.{Codes, code_of}
 use Rattle.kx_include.specs.IncludeFaults.{at}
@@ -42,7 +42,7 @@ abbrev pub word_mask : List ℕ → Option ℕ
 word_mask word = if is_all word then None else real_mask word
 
 -- an unknown name of a key and an unknown keysym name no target, and `Any` and `NoSymbol` name none
-module _ (codes : Codes) (names : List Named) where
+module _ (codes : Codes) (names : KeysymTable) where
   abbrev pub entry_target : Entry → Option Target
   entry_target (KeyName name) = option_map (λ code. Key code) (code_of codes name.bytes)
   entry_target (Symbol symbol) = option_map (λ keysym. Keysym keysym) (symbol_keysym names symbol)

@@ -3,7 +3,7 @@ use Rattle.std.specs.Prelude.{◌≡◌, ℕ, ◌^◌, List, [], ◌∷◌, map,
 use Rattle.std.specs.List.{flat_map}
 use Rattle.std.specs.Map.{lookup}
 use Rattle.std.specs.Option.{option_map, option_map_or}
-use Rattle.ks_core.specs.Entry.{Entry as Named}
+use Rattle.ks_core.specs.Table.{KeysymTable}
 use Rattle.kx_codes.specs.Codes.{Codes}
 use Rattle.kx_include.specs.Expansion.{Body}
 use Rattle.kx_lex.specs.declared.fault.Fault.{Fault}
@@ -40,18 +40,18 @@ abbrev pub offers_to : Mode → Option ℕ → List Target → List (Offer Targe
 offers_to mode None targets = []
 offers_to mode (Some mask) targets = map (λ target. plain_offer mode target (given target mask)) targets
 
-abbrev pub map_offers : Codes → List Named → Mode → Option (Name × List Entry) → List (Offer Target Cell ℕ)
+abbrev pub map_offers : Codes → KeysymTable → Mode → Option (Name × List Entry) → List (Offer Target Cell ℕ)
 map_offers codes names mode map = option_map_or (λ m. offers_to mode (word_mask m.0.bytes) (targets_of codes names m.1)) map []
 
-abbrev pub item_offers : Codes → List Named → Item → List (Offer Target Cell ℕ)
+abbrev pub item_offers : Codes → KeysymTable → Item → List (Offer Target Cell ℕ)
 item_offers codes names (Statement mode statement first whole) = map_offers codes names mode (map_in statement)
 item_offers codes names (Include mode text span) = []
 
 -- `modifiers` are the names of virtual modifiers
-abbrev pub map_rules : Codes → List Named → List (List ℕ) → Rules Target Cell ℕ (Unit {0})
+abbrev pub map_rules : Codes → KeysymTable → List (List ℕ) → Rules Target Cell ℕ (Unit {0})
 map_rules codes names modifiers = record { start = tt; next = λ d item. tt; offers = λ d place item. item_offers codes names item; faults = λ d place item. item_faults place.file modifiers item }
 
-abbrev pub map_offers_of : Codes → List Named → List (List ℕ) → Body → List (Offer Target Cell ℕ)
+abbrev pub map_offers_of : Codes → KeysymTable → List (List ℕ) → Body → List (Offer Target Cell ℕ)
 map_offers_of codes names modifiers body = offers_of same_target (map_rules codes names modifiers) no_moves body
 
 -- what a record of a target holds
@@ -85,7 +85,7 @@ module _ (os : List (Offer Target Cell ℕ)) where
   keysyms_given = flat_map keysym_given (names_of same_target os)
 
 -- that keys and keysyms have the modifiers that a symbols body gives them by precedence
-pub record AreModifierMaps (maps : Maps) (codes : Codes) (names : List Named) (modifiers : List (List ℕ)) (body : Body) : Type 0 where
+pub record AreModifierMaps (maps : Maps) (codes : Codes) (names : KeysymTable) (modifiers : List (List ℕ)) (body : Body) : Type 0 where
   pub keys_are : (code modifier : ℕ) → present (key_mask maps code) modifier ≡ value_of same_target (map_offers_of codes names modifiers body) (Key code) (Present modifier)
   pub keysyms_are : map shown_entry maps.by_keysym ≡ keysyms_given (map_offers_of codes names modifiers body)
 
@@ -97,7 +97,7 @@ map_moves = no_moves
 abbrev pub map_offer : Mode → ℕ → Target → Offer Target Cell ℕ
 map_offer mode mask target = plain_offer mode target (given target mask)
 
-abbrev pub map_faults_of : Codes → List Named → List (List ℕ) → Body → List Fault
+abbrev pub map_faults_of : Codes → KeysymTable → List (List ℕ) → Body → List Fault
 map_faults_of codes names modifiers body = faults_of same_target (map_rules codes names modifiers) map_moves body
 
 -- records of targets are offers in order

@@ -1,4 +1,6 @@
 //! What is passed over in statements.
+use crate::kind::WarningKind;
+use crate::names::{near_key, near_keysym};
 use crate::warning::Warnings;
 use ks_core::Notes;
 use kx_actions::is_action_word;
@@ -13,42 +15,98 @@ use kx_source::ReadSource;
 use kx_symbols::symbol_keysym;
 use std::alloc::{AllocError, Global};
 
+/// For so many warnings of a kind a near name is looked for.
+const MOST_SOUGHT: usize = 20;
+
+/// What was met of a key.
+#[derive(Clone, Copy)]
+struct Met {
+    /// Where it was last given something.
+    at: At,
+    /// The number of the map in which that stands.
+    map: usize,
+}
+
 /// What was read of a source, what is said of it, and where each key was last given something.
 #[derive(Drop)]
-pub(crate) struct Reader<'a, 'l> {
-    pub alloc: Global,
+pub(crate) struct Reader<'a, 'l, 'f> {
     pub read: ReadSource<'a, 'l>,
     pub warnings: Box<Warnings>,
+    installed: &'f [bool],
     /// By keycode.
-    pub places: Vec<Option<At>>,
+    met: Box<Vec<Option<Met>>>,
+    /// How many maps were gone through.
+    maps: usize,
+    /// For how many unknown names of keysyms, of keys and of types near ones are still looked for.
+    keysyms_left: usize,
+    keys_left: usize,
+    types_left: usize,
 }
 
-/// A place for each keycode below a number.
-fn empty_places(alloc: Global, count: u16) -> Result<Vec<Option<At>>, AllocError> {
-    let mut places = Vec::new(alloc);
+/// Nothing met of each keycode below a number.
+fn nothing_met(alloc: Global, count: u16) -> Result<Vec<Option<Met>>, AllocError> {
+    let mut met = Vec::new(alloc);
     for _ in 0..count {
-        places.push(None)?;
+        met.push(None)?;
     }
-    Ok(places)
+    Ok(met)
 }
 
-impl<'a, 'l> Reader<'a, 'l> {
+/// Whether one more near name is looked for.
+fn takes_one(left: &mut usize) -> bool {
+    match (*left).checked_sub(1) {
+        Some(rest) => {
+            *left = rest;
+            true
+        }
+        None => false,
+    }
+}
+
+impl<'a, 'l, 'f> Reader<'a, 'l, 'f> {
     pub(crate) fn new(
         alloc: Global,
         read: ReadSource<'a, 'l>,
-    ) -> Result<Reader<'a, 'l>, AllocError> {
-        let warnings = Box::new(alloc, Warnings::new(alloc))?;
-        let places = empty_places(alloc, read.codes.end())?;
+        is_whole: bool,
+        installed: &'f [bool],
+    ) -> Result<Reader<'a, 'l, 'f>, AllocError> {
+        let warnings = Box::new(alloc, Warnings::new(alloc, is_whole, installed)?)?;
+        let met = Box::new(alloc, nothing_met(alloc, read.codes.end())?)?;
         Ok(Reader {
-            alloc,
             read,
             warnings,
-            places,
+            installed,
+            met,
+            maps: 0,
+            keysyms_left: MOST_SOUGHT,
+            keys_left: MOST_SOUGHT,
+            types_left: MOST_SOUGHT,
         })
+    }
+
+    /// Whether a file is installed.
+    pub(crate) fn is_installed(&self, file: u32) -> bool {
+        match (file as usize).checked_sub(1) {
+            Some(place) => self.installed.get(place).copied().unwrap_or(false),
+            None => false,
+        }
+    }
+
+    /// Where a key was last given something: in the source, else in a file of the author's, else in one that is installed.
+    pub(crate) fn place_of(&self, code: u16) -> Option<At> {
+        match self.met.get(usize::from(code)) {
+            Some(Some(met)) => Some(met.at),
+            _ => None,
+        }
+    }
+
+    /// Whether a near name is looked for, for a further warning of unknown names of types in a text.
+    pub(crate) fn seeks_type(&mut self, file: u32) -> bool {
+        self.warnings.has_room(WarningKind::Types, file) && takes_one(&mut self.types_left)
     }
 }
 
-impl Reader<'_, '_> {
+impl Reader<'_, '_, '_> {
     fn note_symbol(&mut self, file: u32, symbol: &Symbol) -> Result<(), AllocError> {
         let Symbol::Word(word) = symbol else {
             return Ok(());
@@ -62,14 +120,34 @@ impl Reader<'_, '_> {
             return Ok(());
         }
         let span = word.span;
-        let name = quoted(word.bytes.as_slice());
-        let message = format_args!("no keysym is named {name}");
-        self.warnings
-            .keysyms
-            .add(self.alloc, At { file, span }, message)
+        self.note_unknown_keysym(At { file, span }, word.bytes.as_slice())
+    }
+
+    /// Notes a name that no keysym has.
+    fn note_unknown_keysym(&mut self, at: At, word: &[u8]) -> Result<(), AllocError> {
+        let kind = WarningKind::Keysyms;
+        let is_sought = self.warnings.has_room(kind, at.file) && takes_one(&mut self.keysyms_left);
+        let near = if is_sought {
+            near_keysym(self.read.names, word)
+        } else {
+            None
+        };
+        let name = quoted(word);
+        match near.map(quoted) {
+            Some(near) => {
+                let message = format_args!("no keysym is named {name}; {near} is one");
+                self.warnings.add(kind, at, message)
+            }
+            None => self
+                .warnings
+                .add(kind, at, format_args!("no keysym is named {name}")),
+        }
     }
 
     fn note_call(&mut self, file: u32, call: &Call) -> Result<(), AllocError> {
+        if self.read.notes.actions == 0 {
+            return Ok(());
+        }
         let word = call.word.bytes.as_slice();
         if is_action_word(word) {
             return Ok(());
@@ -113,20 +191,70 @@ impl Reader<'_, '_> {
         }
     }
 
-    /// Notes a key's name without a code; of another the place is kept. A place in the source stays.
-    fn note_key(&mut self, file: u32, name: &KeyName) -> Result<(), AllocError> {
+    /// Notes a key's name without a code.
+    fn note_unknown_key(&mut self, at: At, word: &[u8]) -> Result<(), AllocError> {
+        let kind = WarningKind::Keys;
+        let is_sought = self.warnings.has_room(kind, at.file) && takes_one(&mut self.keys_left);
+        let near = if is_sought {
+            near_key(self.read.codes, word)
+        } else {
+            None
+        };
+        let name = str::from_utf8(word).unwrap_or("");
+        match near.and_then(|near| str::from_utf8(near).ok()) {
+            Some(near) => {
+                let message = format_args!("no keycode is named <{name}>; <{near}> is one");
+                self.warnings.add(kind, at, message)
+            }
+            None => self
+                .warnings
+                .add(kind, at, format_args!("no keycode is named <{name}>")),
+        }
+    }
+
+    /// Notes a key that is written again in its map.
+    fn note_again(&mut self, at: At, name: &KeyName) -> Result<(), AllocError> {
+        let name = str::from_utf8(name.as_slice()).unwrap_or("");
+        let message = format_args!(
+            "the key <{name}> is written again in this map; if that is meant, write 'override key'"
+        );
+        self.warnings.add(WarningKind::Again, at, message)
+    }
+
+    /// Whether a place stays that of a key where another comes after it: one in the source, and one in a file of the author's
+    /// before an installed one.
+    fn stays(&self, met: At, at: At) -> bool {
+        met.file == 0 && at.file > 0 || self.is_installed(at.file) && !self.is_installed(met.file)
+    }
+
+    /// Keeps where a key is given something, as far as no place before it is nearer to the author; answers whether the map gave
+    /// it something before.
+    fn meet(&mut self, code: u16, at: At) -> bool {
+        let map = self.maps;
+        let Some(Some(met)) = self.met.get(usize::from(code)).copied() else {
+            self.keep(code, Met { at, map });
+            return false;
+        };
+        let at = if self.stays(met.at, at) { met.at } else { at };
+        self.keep(code, Met { at, map });
+        met.map == map
+    }
+
+    fn keep(&mut self, code: u16, met: Met) {
+        if let Some(place) = self.met.get_mut(usize::from(code)) {
+            *place = Some(met);
+        }
+    }
+
+    /// Notes a key's name without a code, and one that is written again without a word before `key`.
+    fn note_key(&mut self, file: u32, name: &KeyName, is_meant: bool) -> Result<(), AllocError> {
         let span = name.span();
         let at = At { file, span };
         let Some(code) = self.read.codes.code_of(name.as_slice()) else {
-            let name = str::from_utf8(name.as_slice()).unwrap_or("");
-            let message = format_args!("no keycode is named <{name}>");
-            return self.warnings.keys.add(self.alloc, at, message);
+            return self.note_unknown_key(at, name.as_slice());
         };
-        if let Some(place) = self.places.get_mut(usize::from(code)) {
-            *place = match *place {
-                Some(kept) if kept.file == 0 && file > 0 => Some(kept),
-                _ => Some(at),
-            };
+        if self.meet(code, at) && !is_meant {
+            self.note_again(at, name)?;
         }
         Ok(())
     }
@@ -142,16 +270,23 @@ impl Reader<'_, '_> {
         match entry {
             Entry::Symbol(symbol) => self.note_symbol(file, symbol),
             Entry::KeyName(name) if self.read.codes.code_of(name.as_slice()).is_none() => {
-                self.note_key(file, name)
+                let span = name.span();
+                self.note_unknown_key(At { file, span }, name.as_slice())
             }
             Entry::KeyName(_) => Ok(()),
         }
     }
 
-    fn note_statement(&mut self, file: u32, statement: &Statement) -> Result<(), AllocError> {
+    /// Notes what is passed over in a statement; `is_meant` where a word says how it joins others.
+    fn note_statement(
+        &mut self,
+        file: u32,
+        statement: &Statement,
+        is_meant: bool,
+    ) -> Result<(), AllocError> {
         match statement {
             Statement::Key { name, fields } => {
-                self.note_key(file, name)?;
+                self.note_key(file, name, is_meant)?;
                 for field in fields.as_slice() {
                     self.note_key_field(file, field)?;
                 }
@@ -174,21 +309,42 @@ impl Reader<'_, '_> {
     }
 
     fn note_map(&mut self, map: &Map) -> Result<(), AllocError> {
+        self.maps = self.maps.saturating_add(1);
         for entry in map.entries.as_slice() {
-            if let MapEntry::Own(Item::Statement { statement, .. }) = entry {
-                self.note_statement(map.place.file, statement)?;
+            if let MapEntry::Own(
+                Item::Statement {
+                    statement,
+                    first,
+                    span,
+                    ..
+                },
+            ) = entry
+            {
+                let is_meant = span.start < first.start;
+                self.note_statement(map.place.file, statement, is_meant)?;
             }
         }
         Ok(())
     }
 
-    /// Notes what is passed over in the statements of a kind: in the source's own first, then in each map once.
-    pub(crate) fn note_expansion(&mut self, expansion: &Expansion) -> Result<(), AllocError> {
+    /// Notes what is passed over in the source's own statements of a kind.
+    pub(crate) fn note_own(&mut self, expansion: &Expansion) -> Result<(), AllocError> {
         for section in expansion.sections.as_slice() {
             self.note_map(section)?;
         }
+        Ok(())
+    }
+
+    /// Notes what is passed over in the statements of a kind of the files that are installed, or of the others: each map once.
+    pub(crate) fn note_files(
+        &mut self,
+        expansion: &Expansion,
+        is_installed: bool,
+    ) -> Result<(), AllocError> {
         for map in expansion.maps.as_slice() {
-            self.note_map(map)?;
+            if self.is_installed(map.place.file) == is_installed {
+                self.note_map(map)?;
+            }
         }
         Ok(())
     }

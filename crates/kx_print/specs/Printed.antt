@@ -3,6 +3,7 @@ use Rattle.std.specs.Prelude.{ℕ, ◌+◌, ◌==◌, List, [], ◌∷◌, ◌++
 use Rattle.std.specs.List.{flat_map}
 use Rattle.std.specs.Option.{option_map_or}
 use Rattle.ks_core.specs.Names.{name_of_keysym}
+use Rattle.ks_core.specs.Table.{with_names}
 use Rattle.kx_mods.specs.Mods.{mask, mod_names}
 use Rattle.kx_tables.specs.Content.{Content, group_name, indicator_name, key_name, levels_of, part, type_name}
 use Rattle.kx_tables.specs.declared.rows.CellRow.{CellRow}
@@ -74,7 +75,7 @@ group_name_line c n g = name_line n (group_name c g)
 
 -- a keysym by its name among the built-in names
 abbrev pub keysym_text : ℕ → List ℕ
-keysym_text keysym = name_of_keysym [] keysym
+keysym_text keysym = name_of_keysym (with_names []) keysym
 
 -- the keysyms of a level: none, one, or several in braces
 abbrev pub symbols_text : List ℕ → List ℕ

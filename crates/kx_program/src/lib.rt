@@ -3,6 +3,8 @@
 
 mod keeping;
 mod looking;
+mod named;
+mod naming;
 mod showing;
 mod sources;
 mod tasks;
@@ -14,5 +16,5 @@ pub use kx_failure::Failure;
 pub use showing::{Shown, Warned};
 pub use tasks::{run, run_words};
 pub use usage::{out_of_memory, word_that_is_not_text};
-pub use words::{Included, Includes, Task, task_in};
+pub use words::{Included, Includes, Keymap, Source, Task, task_in};
 pub use writing::write_whole;

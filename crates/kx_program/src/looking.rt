@@ -1,5 +1,7 @@
 //! What only looks at images and headers.
+use crate::named::read_keymap;
 use crate::sources::{read, read_names};
+use crate::words::Keymap;
 use ks_core::{Keysym, NameTable};
 use kx_failure::Failure;
 use kx_image::View;
@@ -9,7 +11,10 @@ use std::alloc::AllocError;
 use std::rt::Files as FileSystem;
 
 /// Prints a text that was made.
-fn print_text<'a>(rt: &impl Print, text: Result<String, AllocError>) -> Result<(), Failure<'a>> {
+pub(crate) fn print_text<'a>(
+    rt: &impl Print,
+    text: Result<String, AllocError>,
+) -> Result<(), Failure<'a>> {
     let text = text?;
     match rt.print(text.as_str()) {
         Ok(()) => Ok(()),
@@ -25,15 +30,15 @@ fn view_of<'a>(bytes: &[u8]) -> Result<View<'_>, Failure<'a>> {
     }
 }
 
-pub(crate) fn show_image<'a>(
-    rt: &(impl FileSystem + Print + AllocGlobal),
+pub(crate) fn show_keymap<'a>(
+    rt: &(impl FileSystem + Print + Eprint + AllocGlobal),
     names: Option<&'a str>,
-    image: &'a str,
+    keymap: &Keymap<'a>,
     group: u8,
     is_drawn: bool,
 ) -> Result<(), Failure<'a>> {
     let names = read_names(rt, names)?;
-    let bytes = read(rt, image)?;
+    let bytes = read_keymap(rt, &names, keymap)?;
     let view = view_of(bytes.as_slice())?;
     let text = if is_drawn {
         draw(rt.alloc(), &view, &names, group)
@@ -59,14 +64,14 @@ fn keysym_of(names: &NameTable, word: &str) -> Option<Keysym> {
     }
 }
 
-pub(crate) fn find_in_image<'a>(
-    rt: &(impl FileSystem + Print + AllocGlobal),
+pub(crate) fn find_in_keymap<'a>(
+    rt: &(impl FileSystem + Print + Eprint + AllocGlobal),
     names: Option<&'a str>,
-    image: &'a str,
+    keymap: &Keymap<'a>,
     word: &'a str,
 ) -> Result<(), Failure<'a>> {
     let names = read_names(rt, names)?;
-    let bytes = read(rt, image)?;
+    let bytes = read_keymap(rt, &names, keymap)?;
     let view = view_of(bytes.as_slice())?;
     let Some(keysym) = keysym_of(&names, word) else {
         return Err(Failure::Keysym(word));

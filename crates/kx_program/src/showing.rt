@@ -1,8 +1,9 @@
 //! What a layout author sees of a fault on standard error: where it stands, what is wrong, the line of the text with a
 //! mark, and the includes that led there.
+use crate::words::Includes;
 use kx_explain::{Explanation, Text, Texts, explain, place_of, plain_message, write_shown};
 use kx_lex::{At, Fault};
-use kx_noted::Listed;
+use kx_noted::{KINDS, TextWarnings, Warnings};
 use kx_tool::{Position, locate};
 use std::alloc::Global;
 use std::fmt;
@@ -111,10 +112,10 @@ struct Known {
 }
 
 impl Known {
-    /// The start of the source.
-    fn new() -> Known {
+    /// The start of a text.
+    fn of(file: u32) -> Known {
         Known {
-            file: 0,
+            file,
             place: 0,
             position: Position { line: 1, column: 1 },
         }
@@ -124,10 +125,7 @@ impl Known {
     fn find(&mut self, text: &[u8], at: At) -> Position {
         let place = at.span.start as usize;
         if at.file != self.file || place < self.place {
-            *self = Known {
-                file: at.file,
-                ..Known::new()
-            };
+            *self = Known::of(at.file);
         }
         let passed = text.get(self.place..place).unwrap_or(&[]);
         let further = locate(passed, passed.len());
@@ -175,27 +173,87 @@ impl fmt::Display for Shown<'_> {
     }
 }
 
-/// What was passed over, by kind, and the texts in which it stands.
+/// What was passed over in texts: in those of the author first, and of installed ones a line each.
 #[derive(Drop)]
 pub struct Warned<'a> {
-    pub listed: &'a Listed,
+    pub warnings: &'a Warnings,
     pub texts: Texts<'a>,
+}
+
+/// The warnings of a text that are shown at their places.
+fn show_places<W: Write>(
+    f: &mut Formatter<W>,
+    text: Text,
+    number: u32,
+    warnings: &TextWarnings,
+) -> fmt::Result {
+    let mut known = Known::of(number);
+    for warning in warnings.listed() {
+        if warnings.shows(warning) {
+            show_position(f, text, known.find(text.bytes, warning.at))?;
+            let message = warning.message.as_str();
+            writeln!(f, ": warning: {message}")?;
+        }
+    }
+    Ok(())
+}
+
+/// How many others there are in a text, on one line.
+fn show_rest<W: Write>(f: &mut Formatter<W>, text: Text, warnings: &TextWarnings) -> fmt::Result {
+    if !warnings.has_rest() {
+        return Ok(());
+    }
+    let path = text.path;
+    let front = if warnings.is_counted() { "" } else { "and " };
+    write!(f, "{path}: {front}")?;
+    let mut between = "";
+    for kind in &KINDS {
+        if let Some(rest) = warnings.rest(*kind) {
+            write!(f, "{between}{rest}")?;
+            between = ", ";
+        }
+    }
+    f.write_str("; --warn all shows them\n")
+}
+
+/// Shows what was passed over in installed texts, or in the others.
+fn show_warnings<W: Write>(
+    f: &mut Formatter<W>,
+    warned: &Warned,
+    is_installed: bool,
+) -> fmt::Result {
+    for (place, warnings) in warned.warnings.texts().iter().enumerate() {
+        let number = u32::try_from(place).unwrap_or(u32::MAX);
+        if warnings.is_installed() != is_installed {
+            continue;
+        }
+        if let Some(text) = warned.texts.text_of(number) {
+            show_places(f, text, number, warnings)?;
+            show_rest(f, text, warnings)?;
+        }
+    }
+    Ok(())
 }
 
 impl fmt::Display for Warned<'_> {
     fn fmt<W: Write>(&self, f: &mut Formatter<W>) -> fmt::Result {
-        let mut known = Known::new();
-        for warning in self.listed.shown.as_slice() {
-            if let Some(text) = self.texts.text_of(warning.at.file) {
-                show_position(f, text, known.find(text.bytes, warning.at))?;
-                let message = warning.message.as_str();
-                writeln!(f, ": warning: {message}")?;
-            }
+        show_warnings(f, self, false)?;
+        show_warnings(f, self, true)
+    }
+}
+
+/// Shows a fault on standard error, in the text in which it stands; of a file that isn't there also the folders in which it
+/// was looked for.
+pub(crate) fn show_fault(
+    rt: &(impl Eprint + AllocGlobal),
+    fault: Fault,
+    texts: Texts,
+    includes: &Includes,
+) {
+    let _ = rt.eprint(Shown::of(rt.alloc(), fault, texts));
+    if matches!(fault, Fault::FileMissing(_)) {
+        for folder in includes.folders.as_slice() {
+            let _ = rt.eprintln(format_args!("looked for in {folder}"));
         }
-        let more = self.listed.more;
-        if more > 0 {
-            writeln!(f, "and {more} more")?;
-        }
-        Ok(())
     }
 }

@@ -1,5 +1,6 @@
 //! The files that a task reads.
-use crate::words::{Included, Includes};
+use crate::named::source_named;
+use crate::words::{Included, Includes, Source};
 use ks_core::NameTable;
 use kx_explain::{Text, Texts};
 use kx_failure::Failure;
@@ -20,13 +21,13 @@ pub(crate) fn read<'a>(
     }
 }
 
-/// The names of keysyms, with those of a file where one is given.
+/// The names of keysyms: those of X11, or the built-in ones with those of a file where one is given.
 pub(crate) fn read_names<'a>(
     rt: &(impl FileSystem + AllocGlobal),
     path: Option<&'a str>,
 ) -> Result<NameTable, Failure<'a>> {
     let Some(path) = path else {
-        return Ok(NameTable::builtin());
+        return Ok(NameTable::x11());
     };
     let lines = read(rt, path)?;
     match NameTable::with_lines(rt.alloc(), lines.as_slice()) {
@@ -104,8 +105,45 @@ pub(crate) fn texts_of<'t, 'a: 't>(
     Ok(texts)
 }
 
+/// Of each file that a source may include, whether it is installed: of those that are handed in none is, since a word names
+/// them.
+fn installed_among(
+    alloc: Global,
+    included: &[Included],
+    found: &[Found],
+) -> Result<Vec<bool>, AllocError> {
+    let mut installed = Vec::new(alloc);
+    for _ in included {
+        installed.push(false)?;
+    }
+    for file in found {
+        installed.push(file.is_installed)?;
+    }
+    Ok(installed)
+}
+
+/// The files that a source may include.
+#[derive(Drop)]
+pub(crate) struct Handed<'t> {
+    pub texts: Vec<Text<'t>>,
+    /// Of each text whether it is installed.
+    pub installed: Vec<bool>,
+}
+
+/// The same files as [`texts_of`], and which of them are installed.
+pub(crate) fn all_handed<'t, 'a: 't>(
+    alloc: Global,
+    included: &[Included<'a>],
+    found: &'t [Found],
+    files: &'t Files,
+) -> Result<Box<Handed<'t>>, AllocError> {
+    let texts = texts_of(alloc, included, found, files)?;
+    let installed = installed_among(alloc, included, found)?;
+    Ok(Box::new(alloc, Handed { texts, installed })?)
+}
+
 /// The folders in which files are looked for.
-fn open_folders<'a>(
+pub(crate) fn open_folders<'a>(
     rt: &(impl FileSystem + AllocGlobal),
     paths: &[&'a str],
 ) -> Result<Vec<Folder>, Failure<'a>> {
@@ -147,4 +185,56 @@ pub(crate) fn find<'a>(
         Err(FindFault::File(path)) => Err(Failure::Found(path)),
         Err(FindFault::Memory) => Err(Failure::from(AllocError)),
     }
+}
+
+/// A source with the files that it may include: those that are handed in, and after them those that were found.
+#[derive(Drop)]
+pub(crate) struct Gathered {
+    pub(crate) bytes: Vec<u8>,
+    pub(crate) files: Files,
+    found: Vec<Found>,
+}
+
+impl Gathered {
+    /// The files as texts, and which of them are installed.
+    pub(crate) fn handed<'t, 'a: 't>(
+        &'t self,
+        alloc: Global,
+        includes: &Includes<'a>,
+    ) -> Result<Box<Handed<'t>>, AllocError> {
+        let included = includes.files.as_slice();
+        all_handed(alloc, included, self.found.as_slice(), &self.files)
+    }
+}
+
+/// Reads a source, or makes it of names.
+fn read_source<'a>(
+    rt: &(impl FileSystem + Eprint + AllocGlobal),
+    source: Source<'a>,
+    includes: &Includes<'a>,
+    is_quiet: bool,
+) -> Result<Vec<u8>, Failure<'a>> {
+    match source {
+        Source::File(path) => read(rt, path),
+        Source::Names(asked) => source_named(rt, &asked, includes.folders.as_slice(), is_quiet),
+    }
+}
+
+/// Reads a source, and the files that it may include.
+pub(crate) fn gather<'a>(
+    rt: &(impl FileSystem + Eprint + AllocGlobal),
+    source: Source<'a>,
+    includes: &Includes<'a>,
+    is_quiet: bool,
+) -> Result<Gathered, Failure<'a>> {
+    let bytes = read_source(rt, source, includes, is_quiet)?;
+    let included = includes.files.as_slice();
+    let mut files = handed_in(rt.alloc(), included, read_included(rt, included)?)?;
+    let mut found = find(rt, includes, &files, bytes.as_slice())?;
+    add_found(&mut files, found.as_mut_slice())?;
+    Ok(Gathered {
+        bytes,
+        files,
+        found,
+    })
 }

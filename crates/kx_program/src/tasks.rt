@@ -1,50 +1,34 @@
 //! What the program does.
 use crate::keeping::Kept;
-use crate::looking::{find_in_image, print_names, show_image};
-use crate::showing::{Shown, Warned};
-use crate::sources::{add_found, find, handed_in, read, read_included, read_names, texts_of};
-use crate::usage::explain;
-use crate::words::{Includes, Task, task_in};
+use crate::looking::{find_in_keymap, print_names, show_keymap};
+use crate::named::{compile_named, print_list, print_source, read_keymap, show_asked};
+use crate::naming::ask_environment;
+use crate::showing::{Warned, show_fault};
+use crate::sources::{
+    add_found, all_handed, find, gather, handed_in, read, read_included, read_names, texts_of,
+};
+use crate::usage::{explain, out_of_memory};
+use crate::words::{Includes, Keymap, Source, Task, task_in};
 use crate::writing::write_whole;
 use ks_core::{Feed, Lent, NameTable, Notes};
 use kx_explain::{Text, Texts};
 use kx_failure::Failure;
 use kx_image::{UpgradeFault, View, upgrade};
 use kx_lex::Fault;
-use kx_noted::{Listed, Noted, Warnings};
+use kx_names::{Asked, Environment, read_environment};
+use kx_noted::{Noted, Telling};
 use kx_print::print;
 use kx_reach::Ahead;
 use kx_tool::{Files, ReplayFault, SessionFault, compile_once, dump, replay, session};
 use std::alloc::{AllocError, Global};
+use std::env::Env;
 use std::io;
 use std::rt::Files as FileSystem;
 
-/// Shows a fault on standard error, in the text in which it stands; of a file that isn't there also the folders in which it
-/// was looked for.
-fn show_fault(rt: &(impl Eprint + AllocGlobal), fault: Fault, texts: Texts, includes: &Includes) {
-    let _ = rt.eprint(Shown::of(rt.alloc(), fault, texts));
-    if matches!(fault, Fault::FileMissing(_)) {
-        for folder in includes.folders.as_slice() {
-            let _ = rt.eprintln(format_args!("looked for in {folder}"));
-        }
-    }
-}
-
-/// Shows warnings of a kind on standard error, where some were counted.
-fn show_warnings(rt: &(impl Eprint + AllocGlobal), count: u32, listed: &Listed, texts: Texts) {
-    if count > 0 {
-        let _ = rt.eprint(Warned { listed, texts });
-    }
-}
-
-/// Shows on standard error where what was noted stands.
-fn show_notes(rt: &(impl Eprint + AllocGlobal), warnings: &Warnings, notes: Notes, texts: Texts) {
-    show_warnings(rt, notes.keysyms, &warnings.keysyms, texts);
-    show_warnings(rt, notes.keys, &warnings.keys, texts);
-    show_warnings(rt, notes.types, &warnings.types, texts);
-    show_warnings(rt, notes.levels, &warnings.levels, texts);
-    if let Ok(actions) = warnings.actions() {
-        show_warnings(rt, notes.actions, &actions, texts);
+/// Shows on standard error what was passed over, and where it stands.
+fn show_noted(rt: &impl Eprint, noted: &Noted, texts: Texts) {
+    if let Some(warnings) = &noted.warnings {
+        let _ = rt.eprint(Warned { warnings, texts });
     }
 }
 
@@ -77,28 +61,30 @@ fn keep_on_heap(alloc: Global) {
 fn compile_to<'a>(
     rt: &(impl FileSystem + Print + Eprint + AllocGlobal),
     names: Option<&'a str>,
-    path: &'a str,
+    source: Source<'a>,
     image: &'a str,
     includes: &Includes<'a>,
-    is_quiet: bool,
+    telling: Telling,
 ) -> Result<(), Failure<'a>> {
     keep_on_heap(rt.alloc());
     let names = read_names(rt, names)?;
-    let bytes = read(rt, path)?;
-    let included = includes.files.as_slice();
-    let mut files = handed_in(rt.alloc(), included, read_included(rt, included)?)?;
-    let mut found = find(rt, includes, &files, bytes.as_slice())?;
-    add_found(&mut files, found.as_mut_slice())?;
-    let texts = texts_of(rt.alloc(), included, found.as_slice(), &files)?;
+    let gathered = gather(rt, source, includes, telling == Telling::Nothing)?;
+    let handed = gathered.handed(rt.alloc(), includes)?;
     let texts = Texts {
         source: Text {
             name: "",
-            path,
-            bytes: bytes.as_slice(),
+            path: source.path(),
+            bytes: gathered.bytes.as_slice(),
         },
-        files: texts.as_slice(),
+        files: handed.texts.as_slice(),
     };
-    compile_texts(rt, &names, texts, &files, includes, image, is_quiet)
+    let noted = Noted::new(telling, handed.installed.as_slice());
+    let files = &gathered.files;
+    let outcome = compile_texts(rt, &names, texts, files, includes, image, noted);
+    if let Err(Failure::Source(fault)) = &outcome {
+        show_asked(rt, *fault, source, includes);
+    }
+    outcome
 }
 
 /// Compiles a source with the files that it may include.
@@ -109,15 +95,12 @@ fn compile_texts<'a>(
     files: &Files,
     includes: &Includes,
     image: &'a str,
-    is_quiet: bool,
+    mut noted: Noted,
 ) -> Result<(), Failure<'a>> {
-    let mut noted = Noted::new(!is_quiet);
     match compile_once(rt.alloc(), texts.source.bytes, files, names, &mut noted) {
         Ok((bytes, notes)) => {
             put_file(rt, image, bytes.as_slice())?;
-            if let Some(warnings) = &noted.warnings {
-                show_notes(rt, warnings, notes, texts);
-            }
+            show_noted(rt, &noted, texts);
             print_notes(rt, notes)
         }
         Err(fault) => {
@@ -167,12 +150,25 @@ fn answer_feed<'a, F: Feed + Drop>(
     }
 }
 
-/// Answers a source and the events after it, with the files that it includes from folders. The source is read first.
-fn answer_found<'a>(
+/// Shows on standard error what is passed over in a source that was read ahead.
+fn show_ahead(rt: &impl Eprint, noted: &Noted, source: &[u8], texts: &[Text]) {
+    let source = Text {
+        name: "",
+        path: "<stdin>",
+        bytes: source,
+    };
+    let files = texts;
+    show_noted(rt, noted, Texts { source, files });
+}
+
+/// Answers a source, which is read first, and the events after it, with the files that it includes from folders. What is passed
+/// over is shown before.
+fn answer_ahead<'a>(
     rt: &(impl FileSystem + Input + Print + Eprint + AllocGlobal),
     names: &NameTable,
     includes: &Includes<'a>,
     mut files: Files,
+    telling: Telling,
 ) -> Result<(), Failure<'a>> {
     let feed = match Ahead::read(rt.alloc(), Lent::new(rt.reader())) {
         Ok(feed) => feed,
@@ -183,29 +179,50 @@ fn answer_found<'a>(
     };
     let mut found = find(rt, includes, &files, feed.source())?;
     add_found(&mut files, found.as_mut_slice())?;
-    let texts = texts_of(
+    let handed = all_handed(
         rt.alloc(),
         includes.files.as_slice(),
         found.as_slice(),
         &files,
     )?;
-    answer_feed(rt, feed, names, texts.as_slice(), &files, includes)
+    let texts = handed.texts.as_slice();
+    if telling != Telling::Nothing {
+        let mut noted = Noted::new(telling, handed.installed.as_slice());
+        noted.look(rt.alloc(), feed.source(), &files, names);
+        show_ahead(rt, &noted, feed.source(), texts);
+    }
+    answer_feed(rt, feed, names, texts, &files, includes)
 }
 
 fn answer_source<'a>(
     rt: &(impl FileSystem + Input + Print + Eprint + AllocGlobal),
     names: Option<&'a str>,
     includes: &Includes<'a>,
+    telling: Telling,
 ) -> Result<(), Failure<'a>> {
     let names = read_names(rt, names)?;
     let included = includes.files.as_slice();
     let files = handed_in(rt.alloc(), included, read_included(rt, included)?)?;
-    if !includes.folders.is_empty() {
-        return answer_found(rt, &names, includes, files);
+    if telling != Telling::Nothing || !includes.folders.is_empty() {
+        return answer_ahead(rt, &names, includes, files, telling);
     }
     let texts = texts_of(rt.alloc(), included, &[], &files)?;
     let feed = Lent::new(rt.reader());
     answer_feed(rt, feed, &names, texts.as_slice(), &files, includes)
+}
+
+/// Answers events by an image.
+fn answer_events<'a>(
+    rt: &(impl Input + Print + AllocGlobal),
+    names: &NameTable,
+    image: &[u8],
+) -> Result<(), Failure<'a>> {
+    let mut feed = Lent::new(rt.reader());
+    let mut out = Lent::new(io::writer(rt));
+    match replay(rt.alloc(), &mut feed, image, names, &mut out) {
+        Ok(()) => Ok(()),
+        Err(fault) => Err(Failure::Replay(fault)),
+    }
 }
 
 fn answer_image<'a>(
@@ -215,19 +232,28 @@ fn answer_image<'a>(
 ) -> Result<(), Failure<'a>> {
     let names = read_names(rt, names)?;
     let bytes = read(rt, image)?;
-    let mut feed = Lent::new(rt.reader());
-    let mut out = Lent::new(io::writer(rt));
-    match replay(rt.alloc(), &mut feed, bytes.as_slice(), &names, &mut out) {
-        Ok(()) => Ok(()),
-        Err(fault) => Err(Failure::Replay(fault)),
-    }
+    answer_events(rt, &names, bytes.as_slice())
 }
 
-fn print_image<'a>(
-    rt: &(impl FileSystem + Print + AllocGlobal),
-    image: &'a str,
+/// Answers events by the keymap that names mean.
+fn answer_named<'a>(
+    rt: &(impl FileSystem + Input + Print + Eprint + AllocGlobal),
+    names: Option<&'a str>,
+    asked: Asked<'a>,
+    includes: &Includes<'a>,
 ) -> Result<(), Failure<'a>> {
-    let bytes = read(rt, image)?;
+    let names = read_names(rt, names)?;
+    let bytes = compile_named(rt, &names, asked, includes)?;
+    answer_events(rt, &names, bytes.as_slice())
+}
+
+fn print_keymap<'a>(
+    rt: &(impl FileSystem + Print + Eprint + AllocGlobal),
+    names: Option<&'a str>,
+    keymap: &Keymap<'a>,
+) -> Result<(), Failure<'a>> {
+    let names = read_names(rt, names)?;
+    let bytes = read_keymap(rt, &names, keymap)?;
     let view = match View::open(bytes.as_slice()) {
         Ok(view) => view,
         Err(fault) => return Err(Failure::Image(fault)),
@@ -279,30 +305,47 @@ pub fn run<'a>(
     task: Task<'a>,
 ) -> Result<(), Failure<'a>> {
     match task {
-        Task::Try { names, includes } => answer_source(rt, names, &includes),
+        Task::Try {
+            names,
+            asked: None,
+            includes,
+            telling,
+        } => answer_source(rt, names, &includes, telling),
+        Task::Try {
+            names,
+            asked: Some(asked),
+            includes,
+            ..
+        } => answer_named(rt, names, asked, &includes),
         Task::Compile {
             names,
             source,
             image,
             includes,
-            is_quiet,
-        } => compile_to(rt, names, source, image, &includes, is_quiet),
+            telling,
+        } => compile_to(rt, names, source, image, &includes, telling),
         Task::Replay { names, image } => answer_image(rt, names, image),
-        Task::Print { image } => print_image(rt, image),
+        Task::Print { names, keymap } => print_keymap(rt, names, &keymap),
         Task::Dump { image } => dump_image(rt, image),
         Task::Upgrade { image, newer } => upgrade_image(rt, image, newer),
         Task::Show {
             names,
-            image,
+            keymap,
             group,
             is_drawn,
-        } => show_image(rt, names, image, group, is_drawn),
+        } => show_keymap(rt, names, &keymap, group, is_drawn),
         Task::Find {
             names,
-            image,
+            keymap,
             keysym,
-        } => find_in_image(rt, names, image, keysym),
+        } => find_in_keymap(rt, names, &keymap, keysym),
         Task::Names { headers } => print_names(rt, headers.as_slice()),
+        Task::Rules { asked, folders } => print_source(rt, asked, folders.as_slice()),
+        Task::List {
+            rules,
+            folders,
+            wanted,
+        } => print_list(rt, rules, folders.as_slice(), wanted),
     }
 }
 
@@ -313,14 +356,29 @@ fn fail(rt: &impl Print, failure: Failure) -> u8 {
     status
 }
 
+/// What the environment has for names, where the words ask for it.
+fn environment_for(
+    rt: &(impl Env + FileSystem + AllocGlobal),
+    words: &[String],
+) -> Result<Environment, AllocError> {
+    match ask_environment(words) {
+        true => read_environment(rt),
+        false => Ok(Environment::none(rt.alloc())),
+    }
+}
+
 /// Does what the words ask for, and answers the status to end with: 0, 1 where something is refused, 2 where the words
 /// are wrong, 3 where a file, the input or the output can't be used. The first word is the program's own name.
 /// Memory is left as by [`run`].
 pub fn run_words(
-    rt: &(impl FileSystem + Input + Print + Eprint + AllocGlobal),
+    rt: &(impl Env + FileSystem + Input + Print + Eprint + AllocGlobal),
     words: &[String],
 ) -> u8 {
-    let task = match task_in(rt.alloc(), words) {
+    let environment = match environment_for(rt, words) {
+        Ok(environment) => environment,
+        Err(_) => return out_of_memory(rt),
+    };
+    let task = match task_in(rt.alloc(), words, &environment) {
         Ok(task) => task,
         Err(error) => return explain(rt, error),
     };

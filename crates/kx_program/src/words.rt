@@ -1,6 +1,11 @@
 //! The words that the program is called with.
+use crate::naming::{
+    are_by_names, asked_in, folders_in, lack_layouts, rules, rules_in, with_names,
+};
 use clap::error::ErrorKind;
 use clap::{Arg, ArgAction, ArgMatches, Command, Error};
+use kx_names::{Asked, Environment, Kind, Wanted};
+use kx_noted::Telling;
 use std::alloc::{AllocError, Global};
 
 const VERSION: &str = "0.1.0";
@@ -33,21 +38,51 @@ pub struct Includes<'a> {
     pub folders: Vec<&'a str>,
 }
 
+/// Where a source is taken from.
+#[derive(Clone, Copy, Debug, PartialEq, Eq)]
+pub enum Source<'a> {
+    /// The file at a path.
+    File(&'a str),
+    /// It is made of names.
+    Names(Asked<'a>),
+}
+
+impl<'a> Source<'a> {
+    /// How the source is called where a fault in it is shown.
+    pub fn path(self) -> &'a str {
+        match self {
+            Source::File(path) => path,
+            Source::Names(_) => "<names>",
+        }
+    }
+}
+
+/// A keymap that is looked at.
+#[derive(Debug, Drop, PartialEq)]
+pub enum Keymap<'a> {
+    /// The image at a path.
+    Image(&'a str),
+    /// What names mean, with the folders in which they are looked for; it is compiled in memory.
+    Names(Asked<'a>, Includes<'a>),
+}
+
 /// What the words ask for.
 #[derive(Debug, Drop, PartialEq)]
 pub enum Task<'a> {
-    /// Compile a source from standard input, and answer the events after it.
+    /// Compile a source from standard input, and answer the events after it; or compile what names mean, and answer events.
     Try {
         names: Option<&'a str>,
+        asked: Option<Asked<'a>>,
         includes: Includes<'a>,
+        telling: Telling,
     },
     /// Compile a source to an image.
     Compile {
         names: Option<&'a str>,
-        source: &'a str,
+        source: Source<'a>,
         image: &'a str,
         includes: Includes<'a>,
-        is_quiet: bool,
+        telling: Telling,
     },
     /// Answer events from standard input by an image.
     Replay {
@@ -56,7 +91,8 @@ pub enum Task<'a> {
     },
     /// Print the keymap text that tells all of an image.
     Print {
-        image: &'a str,
+        names: Option<&'a str>,
+        keymap: Keymap<'a>,
     },
     /// Print an image's bytes.
     Dump {
@@ -65,14 +101,14 @@ pub enum Task<'a> {
     /// Print a picture of the keyboard that an image tells, in an effective group from 0.
     Show {
         names: Option<&'a str>,
-        image: &'a str,
+        keymap: Keymap<'a>,
         group: u8,
         is_drawn: bool,
     },
     /// Print the keys of an image that give a keysym.
     Find {
         names: Option<&'a str>,
-        image: &'a str,
+        keymap: Keymap<'a>,
         keysym: &'a str,
     },
     /// Print the names of keysyms that C headers define.
@@ -84,6 +120,27 @@ pub enum Task<'a> {
         image: &'a str,
         newer: &'a str,
     },
+    /// Print the source that is made of names.
+    Rules {
+        asked: Asked<'a>,
+        folders: Vec<&'a str>,
+    },
+    /// Print the names that are listed for rules.
+    List {
+        rules: &'a str,
+        folders: Vec<&'a str>,
+        wanted: Wanted<'a>,
+    },
+}
+
+/// How the words of a command are read.
+#[derive(Clone, Copy)]
+struct Reading<'a> {
+    alloc: Global,
+    command: &'a str,
+    /// Whether names stand in the place of a file.
+    is_by_names: bool,
+    environment: &'a Environment,
 }
 
 fn path<'a>(alloc: Global, id: &'a str, help: &'a str) -> Arg<'a> {
@@ -116,27 +173,72 @@ fn folders<'a>(alloc: Global) -> Arg<'a> {
         .action(ArgAction::Append)
 }
 
-fn try_command<'a>(alloc: Global) -> Result<Command<'a>, AllocError> {
-    Command::new(alloc, "try")
-        .about("Answers events from a source on standard input (as without words)")
-        .arg(names(alloc))?
-        .arg(folders(alloc))?
-        .arg(files(alloc))
+fn quiet<'a>(alloc: Global) -> Arg<'a> {
+    Arg::new(alloc, "quiet")
+        .long("quiet")
+        .help("Say nothing of what is passed over on standard error")
+        .action(ArgAction::SetTrue)
 }
 
-fn compile_command<'a>(alloc: Global) -> Result<Command<'a>, AllocError> {
-    let quiet = Arg::new(alloc, "quiet")
-        .long("quiet")
-        .help("Say nothing of what is passed over but its counts")
-        .action(ArgAction::SetTrue);
-    Command::new(alloc, "compile")
-        .about("Compiles a source to an image")
+fn warn<'a>(alloc: Global) -> Arg<'a> {
+    Arg::new(alloc, "warn")
+        .long("warn")
+        .value_name("all")
+        .help("Say each place of what is passed over, those in installed files too")
+        .action(ArgAction::Set)
+}
+
+/// The word for a file, where no names stand in its place.
+fn with_file<'a>(
+    command: Command<'a>,
+    file: Arg<'a>,
+    is_by_names: bool,
+) -> Result<Command<'a>, AllocError> {
+    match is_by_names {
+        true => Ok(command),
+        false => command.arg(file),
+    }
+}
+
+fn try_command<'a>(alloc: Global) -> Result<Command<'a>, AllocError> {
+    let command = Command::new(alloc, "try")
+        .about("Answers events from a source on standard input (as without words), or by names")
         .arg(names(alloc))?
         .arg(folders(alloc))?
-        .arg(quiet)?
-        .arg(path(alloc, "SOURCE", "The keymap's source"))?
-        .arg(path(alloc, "OUT", "The image that is written"))?
-        .arg(files(alloc))
+        .arg(quiet(alloc))?
+        .arg(warn(alloc))?;
+    with_names(alloc, command)?.arg(files(alloc))
+}
+
+fn compile_command<'a>(alloc: Global, is_by_names: bool) -> Result<Command<'a>, AllocError> {
+    let command = Command::new(alloc, "compile")
+        .about("Compiles a source, or a layout by its names, to an image")
+        .arg(names(alloc))?
+        .arg(folders(alloc))?
+        .arg(quiet(alloc))?
+        .arg(warn(alloc))?;
+    let command = with_names(alloc, command)?;
+    with_file(
+        command,
+        path(alloc, "SOURCE", "The keymap's source"),
+        is_by_names,
+    )?
+    .arg(path(alloc, "OUT", "The image that is written"))?
+    .arg(files(alloc))
+}
+
+/// Adds the word for an image, or the words for names in its place.
+fn with_keymap<'a>(
+    alloc: Global,
+    command: Command<'a>,
+    is_by_names: bool,
+) -> Result<Command<'a>, AllocError> {
+    let command = with_names(alloc, command.arg(names(alloc))?.arg(folders(alloc))?)?;
+    with_file(
+        command,
+        path(alloc, "IMAGE", "The keymap's image"),
+        is_by_names,
+    )
 }
 
 fn replay_command<'a>(alloc: Global) -> Result<Command<'a>, AllocError> {
@@ -146,10 +248,11 @@ fn replay_command<'a>(alloc: Global) -> Result<Command<'a>, AllocError> {
         .arg(path(alloc, "IMAGE", "The keymap's image"))
 }
 
-fn print_command<'a>(alloc: Global) -> Result<Command<'a>, AllocError> {
-    Command::new(alloc, "print")
-        .about("Prints all that an image tells as the source of a keymap")
-        .arg(path(alloc, "IMAGE", "The keymap's image"))
+fn print_command<'a>(alloc: Global, is_by_names: bool) -> Result<Command<'a>, AllocError> {
+    let command = Command::new(alloc, "print").about(
+        "Prints all that an image tells as the source of a keymap",
+    );
+    with_keymap(alloc, command, is_by_names)
 }
 
 fn dump_command<'a>(alloc: Global) -> Result<Command<'a>, AllocError> {
@@ -158,7 +261,7 @@ fn dump_command<'a>(alloc: Global) -> Result<Command<'a>, AllocError> {
         .arg(path(alloc, "IMAGE", "The image"))
 }
 
-fn show_command<'a>(alloc: Global) -> Result<Command<'a>, AllocError> {
+fn show_command<'a>(alloc: Global, is_by_names: bool) -> Result<Command<'a>, AllocError> {
     let group = Arg::new(alloc, "group")
         .long("group")
         .value_name("N")
@@ -168,20 +271,44 @@ fn show_command<'a>(alloc: Global) -> Result<Command<'a>, AllocError> {
         .long("svg")
         .help("Print a drawing that a browser opens")
         .action(ArgAction::SetTrue);
-    Command::new(alloc, "show")
+    let command = Command::new(alloc, "show")
         .about("Prints a picture of the keyboard that an image tells")
-        .arg(names(alloc))?
         .arg(group)?
-        .arg(svg)?
-        .arg(path(alloc, "IMAGE", "The keymap's image"))
+        .arg(svg)?;
+    with_keymap(alloc, command, is_by_names)
 }
 
-fn find_command<'a>(alloc: Global) -> Result<Command<'a>, AllocError> {
-    Command::new(alloc, "find")
-        .about("Prints each key, group and level that gives a keysym, and the modifiers to hold")
-        .arg(names(alloc))?
-        .arg(path(alloc, "IMAGE", "The keymap's image"))?
-        .arg(path(alloc, "KEYSYM", "The keysym's name, or a character"))
+fn find_command<'a>(alloc: Global, is_by_names: bool) -> Result<Command<'a>, AllocError> {
+    let command = Command::new(alloc, "find").about(
+        "Prints each key, group and level that gives a keysym, and the modifiers to hold",
+    );
+    with_keymap(alloc, command, is_by_names)?.arg(path(
+        alloc,
+        "KEYSYM",
+        "The keysym's name, or a character",
+    ))
+}
+
+fn rules_command<'a>(alloc: Global) -> Result<Command<'a>, AllocError> {
+    let command = Command::new(alloc, "rules")
+        .about("Prints the source that is made of names")
+        .arg(folders(alloc))?;
+    with_names(alloc, command)
+}
+
+fn list_command<'a>(alloc: Global) -> Result<Command<'a>, AllocError> {
+    let kind = Arg::new(alloc, "KIND")
+        .help("layouts, variants, options or models; without it all, with their kinds")
+        .action(ArgAction::Set);
+    let word = Arg::new(alloc, "WORD")
+        .help("A word that the name or the description has")
+        .action(ArgAction::Set);
+    Command::new(alloc, "list")
+        .about("Prints the names of layouts, variants, options and models")
+        .arg(rules(alloc))?
+        .arg(folders(alloc))?
+        .arg(kind)?
+        .arg(word)
 }
 
 fn names_command<'a>(alloc: Global) -> Result<Command<'a>, AllocError> {
@@ -206,19 +333,26 @@ fn program<'a>(alloc: Global) -> Command<'a> {
 }
 
 /// The words that name commands, in the order in which the help has them.
-const COMMANDS: [&str; 9] = [
-    "try", "compile", "replay", "print", "show", "find", "names", "dump", "upgrade",
+const COMMANDS: [&str; 11] = [
+    "try", "compile", "replay", "print", "show", "find", "list", "rules", "names", "dump",
+    "upgrade",
 ];
 
 /// The command that a word names.
-fn command_named<'a>(alloc: Global, word: &str) -> Result<Option<Command<'a>>, AllocError> {
+fn command_named<'a>(
+    alloc: Global,
+    word: &str,
+    is_by_names: bool,
+) -> Result<Option<Command<'a>>, AllocError> {
     let command = match word {
         "try" => try_command(alloc)?,
-        "compile" => compile_command(alloc)?,
+        "compile" => compile_command(alloc, is_by_names)?,
         "replay" => replay_command(alloc)?,
-        "print" => print_command(alloc)?,
-        "show" => show_command(alloc)?,
-        "find" => find_command(alloc)?,
+        "print" => print_command(alloc, is_by_names)?,
+        "show" => show_command(alloc, is_by_names)?,
+        "find" => find_command(alloc, is_by_names)?,
+        "list" => list_command(alloc)?,
+        "rules" => rules_command(alloc)?,
         "names" => names_command(alloc)?,
         "dump" => dump_command(alloc)?,
         "upgrade" => upgrade_command(alloc)?,
@@ -231,7 +365,7 @@ fn command_named<'a>(alloc: Global, word: &str) -> Result<Option<Command<'a>>, A
 fn whole_command<'a>(alloc: Global) -> Result<Command<'a>, AllocError> {
     let mut whole = program(alloc);
     for word in COMMANDS {
-        if let Some(command) = command_named(alloc, word)? {
+        if let Some(command) = command_named(alloc, word, false)? {
             whole = whole.subcommand(command)?;
         }
     }
@@ -240,22 +374,32 @@ fn whole_command<'a>(alloc: Global) -> Result<Command<'a>, AllocError> {
 
 /// The program's words, as far as the first one asks for them: where it names a command, the others aren't made, and for the
 /// version none is.
-fn command_for<'a>(alloc: Global, first: &str) -> Result<Command<'a>, AllocError> {
+fn command_for<'a>(
+    alloc: Global,
+    first: &str,
+    is_by_names: bool,
+) -> Result<Command<'a>, AllocError> {
     if first == "--version" || first == "-V" {
         return Ok(program(alloc));
     }
-    match command_named(alloc, first)? {
+    match command_named(alloc, first, is_by_names)? {
         Some(command) => program(alloc).subcommand(command),
         None => whole_command(alloc),
     }
 }
 
 /// A word that a command can't take, with the command's own usage.
-fn refused(alloc: Global, command: &str, message: &str) -> Result<Error, AllocError> {
-    let used = match command {
-        "compile" => compile_command(alloc)?.bin_name("xkc compile")?,
+fn refused(reading: Reading, message: &str) -> Result<Error, AllocError> {
+    let alloc = reading.alloc;
+    let is_by_names = reading.is_by_names;
+    let used = match reading.command {
+        "compile" => compile_command(alloc, is_by_names)?.bin_name("xkc compile")?,
         "upgrade" => upgrade_command(alloc)?.bin_name("xkc upgrade")?,
-        "show" => show_command(alloc)?.bin_name("xkc show")?,
+        "show" => show_command(alloc, is_by_names)?.bin_name("xkc show")?,
+        "find" => find_command(alloc, is_by_names)?.bin_name("xkc find")?,
+        "print" => print_command(alloc, is_by_names)?.bin_name("xkc print")?,
+        "rules" => rules_command(alloc)?.bin_name("xkc rules")?,
+        "list" => list_command(alloc)?.bin_name("xkc list")?,
         _ => try_command(alloc)?.bin_name("xkc try")?,
     };
     let mut used = used;
@@ -271,11 +415,8 @@ pub fn not_text(alloc: Global, printed: &str) -> Result<Error, AllocError> {
 }
 
 /// The files that the words name; each word has a `=`, and no name stands twice.
-fn files_of<'a>(
-    alloc: Global,
-    command: &str,
-    matches: &ArgMatches<'a>,
-) -> Result<Vec<Included<'a>>, Error> {
+fn files_of<'a>(reading: Reading, matches: &ArgMatches<'a>) -> Result<Vec<Included<'a>>, Error> {
+    let alloc = reading.alloc;
     let mut found: Vec<Included> = Vec::new(alloc);
     let Some(words) = matches.get_strs("NAME=PATH") else {
         return Ok(found);
@@ -283,29 +424,68 @@ fn files_of<'a>(
     for word in words {
         let Some((name, path)) = word.split_once('=') else {
             let message = format!(in alloc; "the word '{word}' is not NAME=PATH")?;
-            return Err(refused(alloc, command, message.as_str())?);
+            return Err(refused(reading, message.as_str())?);
         };
         if found.iter().any(|other| other.name == name) {
             let message = format!(in alloc; "the name of '{word}' is given twice")?;
-            return Err(refused(alloc, command, message.as_str())?);
+            return Err(refused(reading, message.as_str())?);
         }
         found.push(Included { name, path })?;
     }
     Ok(found)
 }
 
-/// What the words of a command name for includes, in their order.
-fn includes_of<'a>(
-    alloc: Global,
-    command: &str,
+/// The folders that the words name; those of the environment where names stand in the place of a file and none is named.
+fn folders_of<'a>(
+    reading: Reading<'a>,
     matches: &ArgMatches<'a>,
-) -> Result<Includes<'a>, Error> {
-    let files = files_of(alloc, command, matches)?;
-    let folders = match matches.get_strs("include") {
-        Some(folders) => Vec::from_slice(alloc, folders)?,
-        None => Vec::new(alloc),
-    };
+) -> Result<Vec<&'a str>, AllocError> {
+    if reading.is_by_names {
+        return folders_in(reading.alloc, matches, reading.environment);
+    }
+    match matches.get_strs("include") {
+        Some(folders) => Vec::from_slice(reading.alloc, folders),
+        None => Ok(Vec::new(reading.alloc)),
+    }
+}
+
+/// What the words of a command name for includes, in their order.
+fn includes_of<'a>(reading: Reading<'a>, matches: &ArgMatches<'a>) -> Result<Includes<'a>, Error> {
+    let files = files_of(reading, matches)?;
+    let folders = folders_of(reading, matches)?;
     Ok(Includes { files, folders })
+}
+
+/// Which warnings the words of a command ask for.
+fn telling_of(reading: Reading, matches: &ArgMatches) -> Result<Telling, Error> {
+    let telling = match matches.get_str("warn") {
+        None => Telling::Own,
+        Some("all") => Telling::All,
+        Some(word) => {
+            let message = format!(in reading.alloc;
+                "'{word}' is not what --warn takes, which is all"
+            )?;
+            return Err(refused(reading, message.as_str())?);
+        }
+    };
+    if matches.get_flag("quiet") {
+        return Ok(Telling::Nothing);
+    }
+    Ok(telling)
+}
+
+/// The names that the words ask for; none where a file stands in their place.
+fn asked_of<'a>(
+    reading: Reading<'a>,
+    matches: &ArgMatches<'a>,
+) -> Result<Option<Asked<'a>>, Error> {
+    if !reading.is_by_names {
+        return Ok(None);
+    }
+    if lack_layouts(matches) {
+        return Err(refused(reading, "--variant is for layouts, which --layout names")?);
+    }
+    Ok(Some(asked_in(matches, reading.environment)))
 }
 
 /// The value of a required word.
@@ -314,73 +494,107 @@ fn required<'a>(matches: &ArgMatches<'a>, id: &str) -> &'a str {
 }
 
 /// That the file which is written is none of those that are read.
-fn check_out(alloc: Global, command: &str, out: &str, is_read: bool) -> Result<(), Error> {
+fn check_out(reading: Reading, out: &str, is_read: bool) -> Result<(), Error> {
     if is_read {
-        let message = format!(in alloc; "the file '{out}' is read, and can't be OUT too")?;
-        return Err(refused(alloc, command, message.as_str())?);
+        let message = format!(in reading.alloc; "the file '{out}' is read, and can't be OUT too")?;
+        return Err(refused(reading, message.as_str())?);
     }
     Ok(())
 }
 
-fn compile_of<'a>(alloc: Global, matches: &ArgMatches<'a>) -> Result<Task<'a>, Error> {
+fn source_of<'a>(reading: Reading<'a>, matches: &ArgMatches<'a>) -> Result<Source<'a>, Error> {
+    match asked_of(reading, matches)? {
+        Some(asked) => Ok(Source::Names(asked)),
+        None => Ok(Source::File(required(matches, "SOURCE"))),
+    }
+}
+
+fn compile_of<'a>(reading: Reading<'a>, matches: &ArgMatches<'a>) -> Result<Task<'a>, Error> {
     let names = matches.get_str("names");
-    let source = required(matches, "SOURCE");
+    let source = source_of(reading, matches)?;
     let image = required(matches, "OUT");
-    let includes = includes_of(alloc, "compile", matches)?;
-    let is_read = source == image
+    let includes = includes_of(reading, matches)?;
+    let is_read = source == Source::File(image)
         || names == Some(image)
         || includes.files.iter().any(|file| file.path == image);
-    check_out(alloc, "compile", image, is_read)?;
+    check_out(reading, image, is_read)?;
     Ok(Task::Compile {
         names,
         source,
         image,
         includes,
-        is_quiet: matches.get_flag("quiet"),
+        telling: telling_of(reading, matches)?,
     })
 }
 
-fn upgrade_of<'a>(alloc: Global, matches: &ArgMatches<'a>) -> Result<Task<'a>, Error> {
+fn try_of<'a>(reading: Reading<'a>, matches: &ArgMatches<'a>) -> Result<Task<'a>, Error> {
+    Ok(Task::Try {
+        names: matches.get_str("names"),
+        asked: asked_of(reading, matches)?,
+        includes: includes_of(reading, matches)?,
+        telling: telling_of(reading, matches)?,
+    })
+}
+
+fn upgrade_of<'a>(reading: Reading, matches: &ArgMatches<'a>) -> Result<Task<'a>, Error> {
     let image = required(matches, "IMAGE");
     let newer = required(matches, "OUT");
-    check_out(alloc, "upgrade", newer, image == newer)?;
+    check_out(reading, newer, image == newer)?;
     Ok(Task::Upgrade { image, newer })
 }
 
 /// The number of a group, from 0, where a word names it from 1; without one the first.
-fn group_of(alloc: Global, matches: &ArgMatches) -> Result<u8, Error> {
+fn group_of(reading: Reading, matches: &ArgMatches) -> Result<u8, Error> {
     let Some(word) = matches.get_str("group") else {
         return Ok(0);
     };
     match word.parse::<u8>() {
         Ok(number @ 1..=32) => Ok(number - 1),
         _ => {
-            let message = format!(in alloc; "'{word}' is no group from 1 to 32")?;
-            Err(refused(alloc, "show", message.as_str())?)
+            let message = format!(in reading.alloc; "'{word}' is no group from 1 to 32")?;
+            Err(refused(reading, message.as_str())?)
         }
     }
 }
 
-/// What the words of a command that only looks at files ask for.
-fn look_of<'a>(alloc: Global, word: &str, matches: &ArgMatches<'a>) -> Result<Task<'a>, Error> {
-    let image = required(matches, "IMAGE");
-    match word {
-        "print" => Ok(Task::Print { image }),
-        "dump" => Ok(Task::Dump { image }),
+/// The keymap that is looked at. Folders are for names alone.
+fn keymap_of<'a>(reading: Reading<'a>, matches: &ArgMatches<'a>) -> Result<Keymap<'a>, Error> {
+    if let Some(asked) = asked_of(reading, matches)? {
+        let folders = folders_of(reading, matches)?;
+        let files = Vec::new(reading.alloc);
+        return Ok(Keymap::Names(asked, Includes { files, folders }));
+    }
+    if reading.command == "print" && matches.get_str("names").is_some() {
+        return Err(refused(
+            reading,
+            "--names is for a keymap by its names, as --layout has them",
+        )?);
+    }
+    if matches.get_strs("include").is_some() {
+        return Err(refused(
+            reading,
+            "-I is for a keymap by its names, as --layout has them",
+        )?);
+    }
+    Ok(Keymap::Image(required(matches, "IMAGE")))
+}
+
+/// What the words of a command that only looks at a keymap ask for.
+fn look_of<'a>(reading: Reading<'a>, matches: &ArgMatches<'a>) -> Result<Task<'a>, Error> {
+    let names = matches.get_str("names");
+    let keymap = keymap_of(reading, matches)?;
+    match reading.command {
+        "print" => Ok(Task::Print { names, keymap }),
         "show" => Ok(Task::Show {
-            names: matches.get_str("names"),
-            image,
-            group: group_of(alloc, matches)?,
+            names,
+            keymap,
+            group: group_of(reading, matches)?,
             is_drawn: matches.get_flag("svg"),
         }),
-        "find" => Ok(Task::Find {
-            names: matches.get_str("names"),
-            image,
+        _ => Ok(Task::Find {
+            names,
+            keymap,
             keysym: required(matches, "KEYSYM"),
-        }),
-        _ => Ok(Task::Replay {
-            names: matches.get_str("names"),
-            image,
         }),
     }
 }
@@ -393,16 +607,66 @@ fn names_of<'a>(alloc: Global, matches: &ArgMatches<'a>) -> Result<Task<'a>, Err
     Ok(Task::Names { headers })
 }
 
-fn task_of<'a>(alloc: Global, word: &str, matches: &ArgMatches<'a>) -> Result<Task<'a>, Error> {
-    match word {
-        "compile" => compile_of(alloc, matches),
-        "replay" | "print" | "dump" | "show" | "find" => look_of(alloc, word, matches),
-        "names" => names_of(alloc, matches),
-        "upgrade" => upgrade_of(alloc, matches),
-        _ => Ok(Task::Try {
-            names: matches.get_str("names"),
-            includes: includes_of(alloc, "try", matches)?,
+/// What is wanted of a list: the first word is its kind, or where it is alone the word that a name has.
+fn wanted_of<'a>(reading: Reading, matches: &ArgMatches<'a>) -> Result<Wanted<'a>, Error> {
+    let Some(first) = matches.get_str("KIND") else {
+        return Ok(Wanted {
+            kind: None,
+            word: None,
+        });
+    };
+    let kind = Kind::of_several(first);
+    let word = matches.get_str("WORD");
+    match (kind, word) {
+        (None, Some(_)) => {
+            let message = format!(in reading.alloc;
+                "'{first}' is none of layouts, variants, options and models"
+            )?;
+            Err(refused(reading, message.as_str())?)
+        }
+        (None, None) => Ok(Wanted {
+            kind: None,
+            word: Some(first),
         }),
+        _ => Ok(Wanted { kind, word }),
+    }
+}
+
+fn list_of<'a>(reading: Reading<'a>, matches: &ArgMatches<'a>) -> Result<Task<'a>, Error> {
+    let wanted = wanted_of(reading, matches)?;
+    Ok(Task::List {
+        rules: rules_in(matches, reading.environment),
+        folders: folders_in(reading.alloc, matches, reading.environment)?,
+        wanted,
+    })
+}
+
+fn rules_of<'a>(reading: Reading<'a>, matches: &ArgMatches<'a>) -> Result<Task<'a>, Error> {
+    if lack_layouts(matches) {
+        return Err(refused(reading, "--variant is for layouts, which --layout names")?);
+    }
+    Ok(Task::Rules {
+        asked: asked_in(matches, reading.environment),
+        folders: folders_in(reading.alloc, matches, reading.environment)?,
+    })
+}
+
+fn task_of<'a>(reading: Reading<'a>, matches: &ArgMatches<'a>) -> Result<Task<'a>, Error> {
+    match reading.command {
+        "compile" => compile_of(reading, matches),
+        "print" | "show" | "find" => look_of(reading, matches),
+        "replay" => Ok(Task::Replay {
+            names: matches.get_str("names"),
+            image: required(matches, "IMAGE"),
+        }),
+        "dump" => Ok(Task::Dump {
+            image: required(matches, "IMAGE"),
+        }),
+        "names" => names_of(reading.alloc, matches),
+        "list" => list_of(reading, matches),
+        "rules" => rules_of(reading, matches),
+        "upgrade" => upgrade_of(reading, matches),
+        _ => try_of(reading, matches),
     }
 }
 
@@ -410,21 +674,37 @@ fn task_of<'a>(alloc: Global, word: &str, matches: &ArgMatches<'a>) -> Result<Ta
 fn bare_task<'a>(alloc: Global) -> Task<'a> {
     Task::Try {
         names: None,
+        asked: None,
         includes: Includes {
             files: Vec::new(alloc),
             folders: Vec::new(alloc),
         },
+        telling: Telling::Own,
     }
 }
 
-/// What the words ask for; the first is the program's own name.
-pub fn task_in<'a>(alloc: Global, words: &'a [String]) -> Result<Task<'a>, Error> {
+/// What the words ask for, with what the environment has for names; the first is the program's own name.
+pub fn task_in<'a>(
+    alloc: Global,
+    words: &'a [String],
+    environment: &'a Environment,
+) -> Result<Task<'a>, Error> {
     let Some(first) = words.get(1) else {
         return Ok(bare_task(alloc));
     };
-    let matches = command_for(alloc, first.as_str())?.try_get_matches_from(words)?;
+    let is_by_names = are_by_names(words);
+    let command = command_for(alloc, first.as_str(), is_by_names)?;
+    let matches = command.try_get_matches_from(words)?;
     match matches.subcommand() {
-        Some((word, inner)) => task_of(alloc, word, inner),
+        Some((command, inner)) => {
+            let reading = Reading {
+                alloc,
+                command,
+                is_by_names,
+                environment,
+            };
+            task_of(reading, inner)
+        }
         None => Ok(bare_task(alloc)),
     }
 }

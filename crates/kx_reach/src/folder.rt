@@ -49,6 +49,9 @@ fn lies_in(path: &str, folder: &str) -> bool {
     }
 }
 
+/// Folders below this one hold what is installed; what stands elsewhere is the author's own.
+const INSTALLED: &str = "/usr/";
+
 /// Room for the bytes of a file and one more, by where it ends; for one where it has no end to go to, as a pipe.
 fn room_for(file: &mut impl Seek) -> io::Result<u64> {
     match file.seek(SeekFrom::End(0)) {
@@ -87,6 +90,11 @@ impl Folder {
         Ok(Folder {
             path: String::from_str(rt.alloc(), path)?,
         })
+    }
+
+    /// Whether the folder holds what is installed, and not what an author writes: it lies below `/usr`.
+    pub fn is_installed(&self) -> bool {
+        self.path.as_str().starts_with(INSTALLED)
     }
 
     /// The path of a name below the folder.

@@ -19,6 +19,8 @@ pub struct Found {
     pub name: String,
     /// Its path below the folder in which it was found.
     pub path: String,
+    /// Whether that folder holds what is installed, and not what an author writes.
+    pub is_installed: bool,
     pub bytes: Vec<u8>,
 }
 
@@ -211,6 +213,7 @@ fn find(
                 return Ok(Some(Found {
                     name: String::from_str(rt.alloc(), full)?,
                     path: String::from_str(rt.alloc(), path)?,
+                    is_installed: folder.is_installed(),
                     bytes,
                 }));
             }

@@ -26,6 +26,7 @@ use Rattle.kx_resolve.specs.Shown.{groups_if, keymap_meant, most_groups_below, n
 use Rattle.kx_tables.specs.Keymap.{level_of, nothing_shown}
 use Rattle.kx_tables.specs.Range.{in_range}
 use Rattle.kx_types.specs.KeyTypes.{Definition}
+use Rattle.kx_resolve.specs.Typing.{Typing}
 use Rattle.kx_resolve.proofs.RowsShown.{find_holds}
 
 -- ---- A type
@@ -59,15 +60,15 @@ module _ (t : ResolvedType) (valid : TypeIsValid t) where
   pub chosen_same : (w : ℕ) → entry_chosen t w ≡ entry_chosen t (real_part w)
   chosen_same w = ap (λ n. find (λ (e : ResolvedEntry). mask e.mods == n) t.entries) (cut_mods w (mask t.mods) valid.mods)
 
-module _ (real : ℕ → RealSet) (declared : List ℕ → Option Definition) where
-  module _ (name : List ℕ) (holds : TypeHolds real declared name) (level_actions : LevelActions) (key : KeyGiven) (content : ℕ) where
+module _ (real : ℕ → RealSet) (typing : Typing) where
+  module _ (name : List ℕ) (holds : TypeHolds real typing name) (level_actions : LevelActions) (key : KeyGiven) (content : ℕ) where
     abbrev type : ResolvedType
-    type = type_of real declared name
+    type = type_of real typing name
 
     abbrev definition : Definition
-    definition = type_definition declared name
+    definition = type_definition typing name
 
-    cell_shown : (w : ℕ) → shown_of_cell (consumed_mods type (entry_chosen type w)) (slice_get (cells_of level_actions key content type.levels) (level_of (entry_chosen type w))) ≡ shown_by real declared definition level_actions key content (has (real_part w))
+    cell_shown : (w : ℕ) → shown_of_cell (consumed_mods type (entry_chosen type w)) (slice_get (cells_of level_actions key content type.levels) (level_of (entry_chosen type w))) ≡ shown_by real typing definition level_actions key content (has (real_part w))
     cell_shown w =
         let entry = entry_chosen type (real_part w) in
         let low = small_part w in
@@ -81,7 +82,7 @@ module _ (real : ℕ → RealSet) (declared : List ℕ → Option Definition) wh
 
 -- ---- Keys by code
 
-module _ (declared : List ℕ → Option Definition) (used : List (List ℕ)) (keyed : Keyed) where
+module _ (typing : Typing) (used : List (List ℕ)) (keyed : Keyed) where
   abbrev name : ℕ → Option (List ℕ)
   name = keyed.name
 
@@ -90,21 +91,21 @@ module _ (declared : List ℕ → Option Definition) (used : List (List ℕ)) (k
 
   abbrev pub key_seen : Option (List ℕ) → ℕ → Option ResolvedKey
   key_seen None code = None
-  key_seen (Some n) code = Some (key_of declared used (keyed.level_actions code) (key code) code n (keyed.modmap code))
+  key_seen (Some n) code = Some (key_of typing used (keyed.level_actions code) (key code) code n (keyed.modmap code))
 
-  find_one : (n code : ℕ) (o : Option (List ℕ)) → find (λ (k : ResolvedKey). k.code == code) (key_if_named declared used (keyed.level_actions n) (key n) n o (keyed.modmap n)) ≡ (if n == code then key_seen o n else None)
+  find_one : (n code : ℕ) (o : Option (List ℕ)) → find (λ (k : ResolvedKey). k.code == code) (key_if_named typing used (keyed.level_actions n) (key n) n o (keyed.modmap n)) ≡ (if n == code then key_seen o n else None)
   find_one n code None = elim (n == code) as (λ b. ◌≡◌ {A = Option ResolvedKey} None (if b then None else None)) [ true ↦ refl | false ↦ refl ]
-  find_one n code (Some of_key) = elim (n == code) as (λ b. cond b (Some (key_of declared used (keyed.level_actions n) (key n) n of_key (keyed.modmap n))) None ≡ (if b then Some (key_of declared used (keyed.level_actions n) (key n) n of_key (keyed.modmap n)) else None)) [ true ↦ refl | false ↦ refl ]
+  find_one n code (Some of_key) = elim (n == code) as (λ b. cond b (Some (key_of typing used (keyed.level_actions n) (key n) n of_key (keyed.modmap n))) None ≡ (if b then Some (key_of typing used (keyed.level_actions n) (key n) n of_key (keyed.modmap n)) else None)) [ true ↦ refl | false ↦ refl ]
 
   or_none : {X : Type 0} (o : Option X) → option_or o None ≡ o
   or_none None = refl
   or_none (Some x) = refl
 
-  pub key_found : (n code : ℕ) → find (λ (k : ResolvedKey). k.code == code) (keys_below declared used keyed n) ≡ (if nat_lt code n then key_seen (name code) code else None)
+  pub key_found : (n code : ℕ) → find (λ (k : ResolvedKey). k.code == code) (keys_below typing used keyed n) ≡ (if nat_lt code n then key_seen (name code) code else None)
   unfolding keys_below
   key_found zero code = sym (ap (λ b. if b then key_seen (name code) code else None) (le-ltb code 0 (omega arith)))
   key_found (suc n) code =
-      find-append (λ (k : ResolvedKey). k.code == code) (keys_below declared used keyed n) (key_if_named declared used (keyed.level_actions n) (key n) n (name n) (keyed.modmap n))
+      find-append (λ (k : ResolvedKey). k.code == code) (keys_below typing used keyed n) (key_if_named typing used (keyed.level_actions n) (key n) n (name n) (keyed.modmap n))
       ∙ (λ i. option_or (key_found n code i) (find_one n code (name n) i))
       ∙ by (cases_lt code n) (n == code) refl
     where
@@ -129,65 +130,65 @@ module _ (declared : List ℕ → Option Definition) (used : List (List ℕ)) (k
   most_append [] ys = omega arith
   most_append (x ∷ xs) ys = let rest = most_append xs ys in omega (arith, rest)
 
-  most_one : (n : ℕ) (o : Option (List ℕ)) → most_groups (key_if_named declared used (keyed.level_actions n) (key n) n o (keyed.modmap n)) ≡ groups_if name key o n
+  most_one : (n : ℕ) (o : Option (List ℕ)) → most_groups (key_if_named typing used (keyed.level_actions n) (key n) n o (keyed.modmap n)) ≡ groups_if name key o n
   most_one n None = refl
-  most_one n (Some of_key) = omega (arith, groups_length declared used (keyed.level_actions n) (key n) (group_count (key n)))
+  most_one n (Some of_key) = omega (arith, groups_length typing used (keyed.level_actions n) (key n) (group_count (key n)))
 
-  pub most_is : (n : ℕ) → most_groups (keys_below declared used keyed n) ≡ most_groups_below name key n
+  pub most_is : (n : ℕ) → most_groups (keys_below typing used keyed n) ≡ most_groups_below name key n
   unfolding keys_below most_groups_below
   most_is zero = refl
-  most_is (suc n) = most_append (keys_below declared used keyed n) (key_if_named declared used (keyed.level_actions n) (key n) n (name n) (keyed.modmap n)) ∙ (λ i. max (most_is n i) (most_one n (name n) i))
+  most_is (suc n) = most_append (keys_below typing used keyed n) (key_if_named typing used (keyed.level_actions n) (key n) n (name n) (keyed.modmap n)) ∙ (λ i. max (most_is n i) (most_one n (name n) i))
 
 -- ---- The keymap
 
-module _ (real : ℕ → RealSet) (declared : List ℕ → Option Definition) (keyed : Keyed) (each : (of_name : List ℕ) → list_any (bytes_eq of_name) (types_used declared keyed.name keyed.key) ≡ true → TypeHolds real declared of_name) where
+module _ (real : ℕ → RealSet) (typing : Typing) (keyed : Keyed) (each : (of_name : List ℕ) → list_any (bytes_eq of_name) (types_used typing keyed.name keyed.key) ≡ true → TypeHolds real typing of_name) where
   abbrev used : List (List ℕ)
-  used = types_used declared (keyed.name) (keyed.key)
+  used = types_used typing (keyed.name) (keyed.key)
 
   abbrev tree : Resolved
-  tree = record { types = map (type_of real declared) used; keys = keys_below declared used keyed 4096 }
+  tree = record { types = map (type_of real typing) used; keys = keys_below typing used keyed 4096 }
 
-  group_shown : (code group mods : ℕ) (of_key : List ℕ) → code < 4096 → keyed.name code ≡ Some of_key → group < group_count (keyed.key code) → shown_of_group tree mods (Some (resolved_group declared used (keyed.level_actions code) (keyed.key code) group)) ≡ shown_in real declared (keyed.level_actions code) (keyed.key code) group mods
+  group_shown : (code group mods : ℕ) (of_key : List ℕ) → code < 4096 → keyed.name code ≡ Some of_key → group < group_count (keyed.key code) → shown_of_group tree mods (Some (resolved_group typing used (keyed.level_actions code) (keyed.key code) group)) ≡ shown_in real typing (keyed.level_actions code) (keyed.key code) group mods
   group_shown code group mods of_key less is within =
-      let of_group = group_type_name declared (keyed.key code) group in
-      ap (shown_of_type (resolved_group declared used (keyed.level_actions code) (keyed.key code) group) mods) (type_at real declared keyed code group of_key less is within)
-      ∙ cell_shown real declared of_group (each of_group (type_used real declared keyed code group of_key less is within)) (keyed.level_actions code) (keyed.key code) (content_group (keyed.key code) group) mods
+      let of_group = group_type_name typing (keyed.key code) group in
+      ap (shown_of_type (resolved_group typing used (keyed.level_actions code) (keyed.key code) group) mods) (type_at real typing keyed code group of_key less is within)
+      ∙ cell_shown real typing of_group (each of_group (type_used real typing keyed code group of_key less is within)) (keyed.level_actions code) (keyed.key code) (content_group (keyed.key code) group) mods
 
-  key_shown : (code group mods : ℕ) (of_key : List ℕ) → code < 4096 → keyed.name code ≡ Some of_key → shown_of_key tree group mods (Some (key_of declared used (keyed.level_actions code) (keyed.key code) code of_key (keyed.modmap code))) ≡ shown_for real declared (keyed.level_actions code) (keyed.key code) group mods
+  key_shown : (code group mods : ℕ) (of_key : List ℕ) → code < 4096 → keyed.name code ≡ Some of_key → shown_of_key tree group mods (Some (key_of typing used (keyed.level_actions code) (keyed.key code) code of_key (keyed.modmap code))) ≡ shown_for real typing (keyed.level_actions code) (keyed.key code) group mods
   key_shown code group mods of_key less is =
-      (λ i. cond (groups_length declared used (keyed.level_actions code) (keyed.key code) (group_count (keyed.key code)) i == 0) nothing_shown (shown_of_group tree mods (slice_get (groups_of declared used (keyed.level_actions code) (keyed.key code) (group_count (keyed.key code))) (in_range (pos group) (groups_length declared used (keyed.level_actions code) (keyed.key code) (group_count (keyed.key code)) i) (keyed.key code).range))))
+      (λ i. cond (groups_length typing used (keyed.level_actions code) (keyed.key code) (group_count (keyed.key code)) i == 0) nothing_shown (shown_of_group tree mods (slice_get (groups_of typing used (keyed.level_actions code) (keyed.key code) (group_count (keyed.key code))) (in_range (pos group) (groups_length typing used (keyed.level_actions code) (keyed.key code) (group_count (keyed.key code)) i) (keyed.key code).range))))
       ∙ by (group_count (keyed.key code) == 0) refl
     where
-      by : (b : Bool) → (group_count (keyed.key code) == 0) ≡ b → cond b nothing_shown (shown_of_group tree mods (slice_get (groups_of declared used (keyed.level_actions code) (keyed.key code) (group_count (keyed.key code))) (in_range (pos group) (group_count (keyed.key code)) (keyed.key code).range))) ≡ (if b then nothing_shown else shown_in real declared (keyed.level_actions code) (keyed.key code) (in_range (pos group) (group_count (keyed.key code)) (keyed.key code).range) mods)
+      by : (b : Bool) → (group_count (keyed.key code) == 0) ≡ b → cond b nothing_shown (shown_of_group tree mods (slice_get (groups_of typing used (keyed.level_actions code) (keyed.key code) (group_count (keyed.key code))) (in_range (pos group) (group_count (keyed.key code)) (keyed.key code).range))) ≡ (if b then nothing_shown else shown_in real typing (keyed.level_actions code) (keyed.key code) (in_range (pos group) (group_count (keyed.key code)) (keyed.key code).range) mods)
       by true none = refl
       by false some =
           let count : 0 < group_count (keyed.key code) = let other = eqb-false (group_count (keyed.key code)) 0 some in omega (arith, other) in
           let within = group_below group (group_count (keyed.key code)) (keyed.key code).range count in
-          ap (shown_of_group tree mods) (group_at declared used (keyed.level_actions code) (keyed.key code) (group_count (keyed.key code)) (in_range (pos group) (group_count (keyed.key code)) (keyed.key code).range) within)
+          ap (shown_of_group tree mods) (group_at typing used (keyed.level_actions code) (keyed.key code) (group_count (keyed.key code)) (in_range (pos group) (group_count (keyed.key code)) (keyed.key code).range) within)
           ∙ group_shown code (in_range (pos group) (group_count (keyed.key code)) (keyed.key code).range) mods of_key less is within
 
-  seen_shown : (code group mods : ℕ) (o : Option (List ℕ)) → keyed.name code ≡ o → code < 4096 → shown_of_key tree group mods (key_seen declared used keyed o code) ≡ shown_if real declared keyed o code group mods
+  seen_shown : (code group mods : ℕ) (o : Option (List ℕ)) → keyed.name code ≡ o → code < 4096 → shown_of_key tree group mods (key_seen typing used keyed o code) ≡ shown_if real typing keyed o code group mods
   seen_shown code group mods None is less = refl
   seen_shown code group mods (Some of_key) is less = key_shown code group mods of_key less is
 
-  code_shown : (code group mods : ℕ) → shown_of_key tree group mods (key_coded tree code) ≡ shown_if real declared keyed (name_within keyed.name code) code group mods
-  code_shown code group mods = ap (shown_of_key tree group mods) (key_found declared used keyed 4096 code) ∙ by (cases_lt code 4096)
+  code_shown : (code group mods : ℕ) → shown_of_key tree group mods (key_coded tree code) ≡ shown_if real typing keyed (name_within keyed.name code) code group mods
+  code_shown code group mods = ap (shown_of_key tree group mods) (key_found typing used keyed 4096 code) ∙ by (cases_lt code 4096)
     where
-      by : (code < 4096) ⊎ (4096 ≤ code) → shown_of_key tree group mods (if nat_lt code 4096 then key_seen declared used keyed (keyed.name code) code else None) ≡ shown_if real declared keyed (if nat_lt code 4096 then keyed.name code else None) code group mods
-      by (inl less) = subst (λ b. shown_of_key tree group mods (if b then key_seen declared used keyed (keyed.name code) code else None) ≡ shown_if real declared keyed (if b then keyed.name code else None) code group mods) (sym (lt-ltb code 4096 less)) (seen_shown code group mods (keyed.name code) refl less)
-      by (inr past) = subst (λ b. shown_of_key tree group mods (if b then key_seen declared used keyed (keyed.name code) code else None) ≡ shown_if real declared keyed (if b then keyed.name code else None) code group mods) (sym (le-ltb code 4096 past)) refl
+      by : (code < 4096) ⊎ (4096 ≤ code) → shown_of_key tree group mods (if nat_lt code 4096 then key_seen typing used keyed (keyed.name code) code else None) ≡ shown_if real typing keyed (if nat_lt code 4096 then keyed.name code else None) code group mods
+      by (inl less) = subst (λ b. shown_of_key tree group mods (if b then key_seen typing used keyed (keyed.name code) code else None) ≡ shown_if real typing keyed (if b then keyed.name code else None) code group mods) (sym (lt-ltb code 4096 less)) (seen_shown code group mods (keyed.name code) refl less)
+      by (inr past) = subst (λ b. shown_of_key tree group mods (if b then key_seen typing used keyed (keyed.name code) code else None) ≡ shown_if real typing keyed (if b then keyed.name code else None) code group mods) (sym (le-ltb code 4096 past)) refl
 
   code_known : (code : ℕ) → is_some (key_coded tree code) ≡ is_some (name_within keyed.name code)
-  code_known code = ap is_some (key_found declared used keyed 4096 code) ∙ elim (nat_lt code 4096) as (λ b. is_some (if b then key_seen declared used keyed (keyed.name code) code else None) ≡ is_some (if b then keyed.name code else None)) [ true ↦ seen (keyed.name code) | false ↦ refl ]
+  code_known code = ap is_some (key_found typing used keyed 4096 code) ∙ elim (nat_lt code 4096) as (λ b. is_some (if b then key_seen typing used keyed (keyed.name code) code else None) ≡ is_some (if b then keyed.name code else None)) [ true ↦ seen (keyed.name code) | false ↦ refl ]
     where
-      seen : (o : Option (List ℕ)) → is_some (key_seen declared used keyed o code) ≡ is_some o
+      seen : (o : Option (List ℕ)) → is_some (key_seen typing used keyed o code) ≡ is_some o
       seen None = refl
       seen (Some n) = refl
 
-  pub keymaps_agree : ShowsSame (keymap_of_resolved (resolved_of real declared keyed)) (keymap_meant real declared keyed)
+  pub keymaps_agree : ShowsSame (keymap_of_resolved (resolved_of real typing keyed)) (keymap_meant real typing keyed)
   unfolding resolved_of
   keymaps_agree = record {
-    groups = ap (max 1) (most_is declared used keyed 4096);
+    groups = ap (max 1) (most_is typing used keyed 4096);
     known = code_known;
     shown = code_shown;
     indicator_maps = refl;

@@ -14,23 +14,23 @@ use Rattle.kx_resolve.specs.Bounds.{BoundsBelow, OneCode, TypeHolds}
 use Rattle.kx_resolve.specs.Keys.{Keyed, resolved_of, types_used}
 use Rattle.kx_resolve.specs.Shown.{keymap_meant}
 use Rattle.kx_tables.specs.Keymap.{Keymap}
-use Rattle.kx_types.specs.KeyTypes.{Definition}
+use Rattle.kx_resolve.specs.Typing.{Typing}
 
-module _ (real : ℕ → RealSet) (declared : List ℕ → Option Definition) (keyed : Keyed) (used : List (List ℕ)) (same : used ≡ types_used declared keyed.name keyed.key) (few : length used ≤ 4097) (hold : All (TypeHolds real declared) used) (bounds : BoundsBelow declared keyed 4096) (built : Resolved) (is : built ≡ resolved_of real declared keyed) where
-  all_few : length (types_used declared keyed.name keyed.key) ≤ 4097
+module _ (real : ℕ → RealSet) (typing : Typing) (keyed : Keyed) (used : List (List ℕ)) (same : used ≡ types_used typing keyed.name keyed.key) (few : length used ≤ 4097) (hold : All (TypeHolds real typing) used) (bounds : BoundsBelow typing keyed 4096) (built : Resolved) (is : built ≡ resolved_of real typing keyed) where
+  all_few : length (types_used typing keyed.name keyed.key) ≤ 4097
   all_few = subst (λ (u : List (List ℕ)). length u ≤ 4097) same few
 
-  all_hold : All (TypeHolds real declared) (types_used declared keyed.name keyed.key)
-  all_hold = subst (All (TypeHolds real declared)) same hold
+  all_hold : All (TypeHolds real typing) (types_used typing keyed.name keyed.key)
+  all_hold = subst (All (TypeHolds real typing)) same hold
 
   pub built_whole : IsWhole built
-  built_whole = subst IsWhole (sym is) (resolved_whole real declared keyed all_few all_hold bounds)
+  built_whole = subst IsWhole (sym is) (resolved_whole real typing keyed all_few all_hold bounds)
 
   pub built_valid : OneCode keyed.name → IsValid built
-  built_valid one = subst IsValid (sym is) (resolved_valid real declared keyed all_few all_hold bounds one)
+  built_valid one = subst IsValid (sym is) (resolved_valid real typing keyed all_few all_hold bounds one)
 
-  pub built_agrees : (made : Keymap) (ds : List ResolvedIndicator) → ShowsSame made (keymap_with (keymap_of_resolved built) ds) → ShowsSame made (keymap_with (keymap_meant real declared keyed) ds)
+  pub built_agrees : (made : Keymap) (ds : List ResolvedIndicator) → ShowsSame made (keymap_with (keymap_of_resolved built) ds) → ShowsSame made (keymap_with (keymap_meant real typing keyed) ds)
   built_agrees made ds shows =
-      same_trans made (keymap_with (keymap_of_resolved (resolved_of real declared keyed)) ds) (keymap_with (keymap_meant real declared keyed) ds)
+      same_trans made (keymap_with (keymap_of_resolved (resolved_of real typing keyed)) ds) (keymap_with (keymap_meant real typing keyed) ds)
       (subst (λ r. ShowsSame made (keymap_with (keymap_of_resolved r) ds)) is shows)
-      (same_with (keymap_of_resolved (resolved_of real declared keyed)) (keymap_meant real declared keyed) ds (keymaps_agree real declared keyed (each_holds real declared used keyed same hold)))
+      (same_with (keymap_of_resolved (resolved_of real typing keyed)) (keymap_meant real typing keyed) ds (keymaps_agree real typing keyed (each_holds real typing used keyed same hold)))

@@ -15,25 +15,25 @@ use Rattle.kx_mods.specs.declared.mods.Mods.{Mods}
 use Rattle.kx_symbols.specs.Keys.{KeyContent}
 use Rattle.kx_tables.specs.Sound.{RangeHolds}
 use Rattle.kx_tables.specs.declared.rows.Range.TheVariants.{Wrap}
-use Rattle.kx_types.specs.KeyTypes.{Definition}
 use Rattle.kx_resolve.specs.Given.{given_in}
+use Rattle.kx_resolve.specs.Typing.{Typing}
 use Rattle.kx_resolve.specs.GroupTypes.{group_count}
 
-module _ (declared : List ℕ → Option Definition) (real : ℕ → RealSet) (interpretations : List Interpretation) (modmap : Mods) (fits : mask modmap < 2 ^ 8) where
+module _ (typing : Typing) (real : ℕ → RealSet) (interpretations : List Interpretation) (modmap : Mods) (fits : mask modmap < 2 ^ 8) where
   abbrev Keeps : List ℕ → Option KeyContent → Type 0
-  Keeps name key = KeepsBounds declared name modmap (level_actions_of real interpretations modmap (given_in key)) (given_in key)
+  Keeps name key = KeepsBounds typing name modmap (level_actions_of real interpretations modmap (given_in key)) (given_in key)
 
-  pub bounds_of : (of_code : Option (List ℕ)) (key found : Option KeyContent) (of_key : List ℕ) → Some of_key ≡ of_code → found ≡ key → IsKeyName of_key → RangeHolds (given_in found).range → GroupsAreValid declared (level_actions_of real interpretations modmap (given_in found)) (given_in found) (group_count (given_in found)) → (name : List ℕ) → of_code ≡ Some name → KeepsBounds declared name modmap (level_actions_of real interpretations modmap (given_in key)) (given_in key)
+  pub bounds_of : (of_code : Option (List ℕ)) (key found : Option KeyContent) (of_key : List ℕ) → Some of_key ≡ of_code → found ≡ key → IsKeyName of_key → RangeHolds (given_in found).range → GroupsAreValid typing (level_actions_of real interpretations modmap (given_in found)) (given_in found) (group_count (given_in found)) → (name : List ℕ) → of_code ≡ Some name → KeepsBounds typing name modmap (level_actions_of real interpretations modmap (given_in key)) (given_in key)
   bounds_of of_code key found of_key named at is range cells name also =
       subst (λ n. Keeps n key) (same_Some of_key name (named ∙ also))
       (subst (Keeps of_key) at (record { short = is.short; bytes = is.visible; mapped = fits; range = range; cells = cells }))
 
-module _ (declared : List ℕ → Option Definition) (used : List (List ℕ)) (real : ℕ → RealSet) (interpretations : List Interpretation) where
-  pub pushed_of : (old new : Resolved) (code : ℕ) (of_code : Option (List ℕ)) (key found : Option KeyContent) (of_key : List ℕ) (modmap mapped : Mods) → Some of_key ≡ of_code → found ≡ key → mapped ≡ modmap → new ≡ with_key old (key_of declared used (level_actions_of real interpretations mapped (given_in found)) (given_in found) code of_key mapped) → new ≡ record old { keys = old.keys ++ key_if_named declared used (level_actions_of real interpretations modmap (given_in key)) (given_in key) code of_code modmap }
+module _ (typing : Typing) (used : List (List ℕ)) (real : ℕ → RealSet) (interpretations : List Interpretation) where
+  pub pushed_of : (old new : Resolved) (code : ℕ) (of_code : Option (List ℕ)) (key found : Option KeyContent) (of_key : List ℕ) (modmap mapped : Mods) → Some of_key ≡ of_code → found ≡ key → mapped ≡ modmap → new ≡ with_key old (key_of typing used (level_actions_of real interpretations mapped (given_in found)) (given_in found) code of_key mapped) → new ≡ record old { keys = old.keys ++ key_if_named typing used (level_actions_of real interpretations modmap (given_in key)) (given_in key) code of_code modmap }
   pushed_of old new code of_code key found of_key modmap mapped named at same pushed =
-      pushed ∙ (λ i. record old { keys = old.keys ++ key_if_named declared used (level_actions_of real interpretations (same i) (given_in (at i))) (given_in (at i)) code (named i) (same i) })
+      pushed ∙ (λ i. record old { keys = old.keys ++ key_if_named typing used (level_actions_of real interpretations (same i) (given_in (at i))) (given_in (at i)) code (named i) (same i) })
 
-  pub bare_of : (old new : Resolved) (code : ℕ) (of_code : Option (List ℕ)) (key : Option KeyContent) (of_key : List ℕ) (modmap mapped : Mods) → Some of_key ≡ of_code → None ≡ key → mapped ≡ modmap → new ≡ with_key old (record { code = code; name = of_key; modmap = mapped; range = Wrap; groups = [] }) → new ≡ record old { keys = old.keys ++ key_if_named declared used (level_actions_of real interpretations modmap (given_in key)) (given_in key) code of_code modmap }
+  pub bare_of : (old new : Resolved) (code : ℕ) (of_code : Option (List ℕ)) (key : Option KeyContent) (of_key : List ℕ) (modmap mapped : Mods) → Some of_key ≡ of_code → None ≡ key → mapped ≡ modmap → new ≡ with_key old (record { code = code; name = of_key; modmap = mapped; range = Wrap; groups = [] }) → new ≡ record old { keys = old.keys ++ key_if_named typing used (level_actions_of real interpretations modmap (given_in key)) (given_in key) code of_code modmap }
   bare_of old new code of_code key of_key modmap mapped named at same pushed =
       pushed_of old new code of_code key None of_key modmap mapped named at same
-      (pushed ∙ (λ i. with_key old (record { code = code; name = of_key; modmap = mapped; range = Wrap; groups = sym (none_groups declared used (level_actions_of real interpretations mapped (given_in None))) i })))
+      (pushed ∙ (λ i. with_key old (record { code = code; name = of_key; modmap = mapped; range = Wrap; groups = sym (none_groups typing used (level_actions_of real interpretations mapped (given_in None))) i })))

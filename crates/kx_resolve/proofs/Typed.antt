@@ -21,57 +21,59 @@ use Rattle.kx_resolve.specs.Given.{KeyGiven}
 use Rattle.kx_resolve.specs.GroupTypes.{content_group, group_count, group_type_name, one_level_name, type_name, wanted_type}
 use Rattle.kx_resolve.specs.Keys.{type_names, type_names_below, type_names_if, type_of, types_used}
 use Rattle.kx_types.specs.KeyTypes.{Definition}
+use Rattle.ks_core.specs.declared.letters.Letters.{Letters}
+use Rattle.kx_resolve.specs.Typing.{Typing, typing_by}
 use Rattle.kx_types.specs.Types.{NamedTypes, names_in, type_named}
 
 -- ---- What holds of each name that is used
 
 -- it is ONE_LEVEL, or a type's
-pub record IsUsable (declared : List ℕ → Option Definition) (name : List ℕ) : Type 0 where
+pub record IsUsable (typing : Typing) (name : List ℕ) : Type 0 where
   pub short : length name ≤ 255
-  pub known : (is_some (declared name) || bytes_eq name one_level_name) ≡ true
+  pub known : (is_some (typing.declared name) || bytes_eq name one_level_name) ≡ true
 
-module _ (declared : List ℕ → Option Definition) where
-  one_level_usable : IsUsable declared one_level_name
-  one_level_usable = record { short = omega arith; known = ap (λ b. is_some (declared one_level_name) || b) ((bytes_decides one_level_name one_level_name).1 refl) ∙ or-true (is_some (declared one_level_name)) }
+module _ (typing : Typing) where
+  one_level_usable : IsUsable typing one_level_name
+  one_level_usable = record { short = omega arith; known = ap (λ b. is_some (typing.declared one_level_name) || b) ((bytes_decides one_level_name one_level_name).1 refl) ∙ or-true (is_some (typing.declared one_level_name)) }
 
-  name_usable : (wanted : Option (List ℕ)) → IsUsable declared (type_name declared wanted)
+  name_usable : (wanted : Option (List ℕ)) → IsUsable typing (type_name typing wanted)
   name_usable None = one_level_usable
-  name_usable (Some name) = by (nat_le (length name) 255) refl (is_some (declared name)) refl
+  name_usable (Some name) = by (nat_le (length name) 255) refl (is_some (typing.declared name)) refl
     where
-      by : (a : Bool) → nat_le (length name) 255 ≡ a → (b : Bool) → is_some (declared name) ≡ b → IsUsable declared (if a && b then name else one_level_name)
+      by : (a : Bool) → nat_le (length name) 255 ≡ a → (b : Bool) → is_some (typing.declared name) ≡ b → IsUsable typing (if a && b then name else one_level_name)
       by true short true known = record { short = leb-true (length name) 255 short; known = ap (λ c. c || bytes_eq name one_level_name) known }
       by true short false known = one_level_usable
       by false short b known = one_level_usable
 
-  key_usable : (key : KeyGiven) (n : ℕ) → All (IsUsable declared) (type_names declared key n)
+  key_usable : (key : KeyGiven) (n : ℕ) → All (IsUsable typing) (type_names typing key n)
   unfolding type_names
-  key_usable key zero = All-nil (IsUsable declared)
-  key_usable key (suc n) = All-push (IsUsable declared) (type_names declared key n) (group_type_name declared key n) (key_usable key n) (name_usable (wanted_type key (content_group key n)))
+  key_usable key zero = All-nil (IsUsable typing)
+  key_usable key (suc n) = All-push (IsUsable typing) (type_names typing key n) (group_type_name typing key n) (key_usable key n) (name_usable (wanted_type typing.letters key (content_group key n)))
 
-  if_usable : (name : Option (List ℕ)) (key : KeyGiven) → All (IsUsable declared) (type_names_if declared name key)
-  if_usable None key = All-nil (IsUsable declared)
+  if_usable : (name : Option (List ℕ)) (key : KeyGiven) → All (IsUsable typing) (type_names_if typing name key)
+  if_usable None key = All-nil (IsUsable typing)
   if_usable (Some name) key = key_usable key (group_count key)
 
-  below_usable : (name : ℕ → Option (List ℕ)) (key : ℕ → KeyGiven) (n : ℕ) → All (IsUsable declared) (type_names_below declared name key n)
+  below_usable : (name : ℕ → Option (List ℕ)) (key : ℕ → KeyGiven) (n : ℕ) → All (IsUsable typing) (type_names_below typing name key n)
   unfolding type_names_below
-  below_usable name key zero = All-nil (IsUsable declared)
-  below_usable name key (suc n) = All-append (IsUsable declared) (type_names_below declared name key n) (type_names_if declared (name n) (key n)) (below_usable name key n) (if_usable (name n) (key n))
+  below_usable name key zero = All-nil (IsUsable typing)
+  below_usable name key (suc n) = All-append (IsUsable typing) (type_names_below typing name key n) (type_names_if typing (name n) (key n)) (below_usable name key n) (if_usable (name n) (key n))
 
-  with_usable : (ks xs : List (List ℕ)) → All (IsUsable declared) ks → All (IsUsable declared) xs → All (IsUsable declared) (with_names ks xs)
+  with_usable : (ks xs : List (List ℕ)) → All (IsUsable typing) ks → All (IsUsable typing) xs → All (IsUsable typing) (with_names ks xs)
   with_usable ks [] these those = these
-  with_usable ks (x ∷ xs) these those = with_usable (with_name bytes_eq ks x) xs (by (list_any (bytes_eq x) ks)) (All-tail (IsUsable declared) x xs those)
+  with_usable ks (x ∷ xs) these those = with_usable (with_name bytes_eq ks x) xs (by (list_any (bytes_eq x) ks)) (All-tail (IsUsable typing) x xs those)
     where
-      by : (b : Bool) → All (IsUsable declared) (if b then ks else ks ++ x ∷ [])
+      by : (b : Bool) → All (IsUsable typing) (if b then ks else ks ++ x ∷ [])
       by true = these
-      by false = All-push (IsUsable declared) ks x these (All-head (IsUsable declared) x xs those)
+      by false = All-push (IsUsable typing) ks x these (All-head (IsUsable typing) x xs those)
 
-  pub used_usable : (name : ℕ → Option (List ℕ)) (key : ℕ → KeyGiven) → All (IsUsable declared) (types_used declared name key)
+  pub used_usable : (name : ℕ → Option (List ℕ)) (key : ℕ → KeyGiven) → All (IsUsable typing) (types_used typing name key)
   unfolding types_used
-  used_usable name key = with_usable [] (type_names_below declared name key 4096) (All-nil (IsUsable declared)) (below_usable name key 4096)
+  used_usable name key = with_usable [] (type_names_below typing name key 4096) (All-nil (IsUsable typing)) (below_usable name key 4096)
 
-pub used_distinct : (declared : List ℕ → Option Definition) (name : ℕ → Option (List ℕ)) (key : ℕ → KeyGiven) → IsDistinct bytes_eq (types_used declared name key)
+pub used_distinct : (typing : Typing) (name : ℕ → Option (List ℕ)) (key : ℕ → KeyGiven) → IsDistinct bytes_eq (types_used typing name key)
 unfolding types_used
-used_distinct declared name key = all_distinct (type_names_below declared name key 4096)
+used_distinct typing name key = all_distinct (type_names_below typing name key 4096)
 
 -- ---- There are at most as many as are declared, and one
 
@@ -83,8 +85,8 @@ named_is_among (t ∷ types) name is = by (bytes_eq name t.0) refl (named_is_amo
     by true h rec = ap (λ c. c || list_any (bytes_eq name) (names_in types)) h
     by false h rec = ap (λ c. c || list_any (bytes_eq name) (names_in types)) h ∙ rec (sym (ap (λ c. is_some (option_and_then (λ d. d) (cond c (Some t.1) (lookup (bytes_eq name) types)))) h) ∙ is)
 
-usable_is_among : (types : NamedTypes) (name : List ℕ) → IsUsable (type_named types) name → list_any (bytes_eq name) (one_level_name ∷ names_in types) ≡ true
-usable_is_among types name usable = by (is_some (type_named types name)) refl
+usable_is_among : (types : NamedTypes) (letters : Letters) (name : List ℕ) → IsUsable (typing_by types letters) name → list_any (bytes_eq name) (one_level_name ∷ names_in types) ≡ true
+usable_is_among types letters name usable = by (is_some (type_named types name)) refl
   where
     by : (b : Bool) → is_some (type_named types name) ≡ b → (bytes_eq name one_level_name || list_any (bytes_eq name) (names_in types)) ≡ true
     by true h = ap (λ c. bytes_eq name one_level_name || c) (named_is_among types name h) ∙ or-true (bytes_eq name one_level_name)
@@ -99,27 +101,27 @@ found_holds P (x ∷ xs) q all there = by (bytes_eq q x) refl (found_holds P xs 
     by true h rec = subst P (sym ((bytes_decides q x).0 h)) (All-head P x xs all)
     by false h rec = rec (sym (ap (λ c. c || list_any (bytes_eq q) xs) h) ∙ there)
 
-pub used_few : (types : NamedTypes) (name : ℕ → Option (List ℕ)) (key : ℕ → KeyGiven) → length (types_used (type_named types) name key) ≤ length types + 1
-used_few types name key =
-    let used = types_used (type_named types) name key in
-    let fewer = length-le_from_is_member nat_list_eq_equiv used (one_level_name ∷ names_in types) (used_distinct (type_named types) name key) (λ q there. usable_is_among types q (found_holds (IsUsable (type_named types)) used q (used_usable (type_named types) name key) there)) in
+pub used_few : (types : NamedTypes) (letters : Letters) (name : ℕ → Option (List ℕ)) (key : ℕ → KeyGiven) → length (types_used (typing_by types letters) name key) ≤ length types + 1
+used_few types letters name key =
+    let used = types_used (typing_by types letters) name key in
+    let fewer = length-le_from_is_member nat_list_eq_equiv used (one_level_name ∷ names_in types) (used_distinct (typing_by types letters) name key) (λ q there. usable_is_among types letters q (found_holds (IsUsable (typing_by types letters)) used q (used_usable (typing_by types letters) name key) there)) in
     omega (arith, fewer, length-map types (λ (t : List ℕ × Option Definition). t.0))
 
 -- ---- Types that hold are small
 
-module _ (real : ℕ → RealSet) (declared : List ℕ → Option Definition) where
-  type_small : (name : List ℕ) → TypeHolds real declared name → TypeIsWithinLimits (type_of real declared name)
+module _ (real : ℕ → RealSet) (typing : Typing) where
+  type_small : (name : List ℕ) → TypeHolds real typing name → TypeIsWithinLimits (type_of real typing name)
   type_small name holds = record { few_entries = holds.valid.entries_fit; short_name = holds.valid.name_fits }
 
-  types_small : (names : List (List ℕ)) → All (TypeHolds real declared) names → All TypeIsWithinLimits (map (type_of real declared) names)
+  types_small : (names : List (List ℕ)) → All (TypeHolds real typing) names → All TypeIsWithinLimits (map (type_of real typing) names)
   types_small [] all = All-nil TypeIsWithinLimits
-  types_small (name ∷ names) all = All-cons TypeIsWithinLimits (type_of real declared name) (map (type_of real declared) names) (type_small name (All-head (TypeHolds real declared) name names all)) (types_small names (All-tail (TypeHolds real declared) name names all))
+  types_small (name ∷ names) all = All-cons TypeIsWithinLimits (type_of real typing name) (map (type_of real typing) names) (type_small name (All-head (TypeHolds real typing) name names all)) (types_small names (All-tail (TypeHolds real typing) name names all))
 
-  pub tree_small : (names : List (List ℕ)) → length names ≤ 4097 → All (TypeHolds real declared) names → IsWithinLimits (record { types = map (type_of real declared) names; keys = [] })
-  tree_small names few all = record { few_types = omega (arith, few, length-map names (type_of real declared)); small_types = types_small names all; few_keys = omega arith; small_keys = All-nil KeyIsWithinLimits }
+  pub tree_small : (names : List (List ℕ)) → length names ≤ 4097 → All (TypeHolds real typing) names → IsWithinLimits (record { types = map (type_of real typing) names; keys = [] })
+  tree_small names few all = record { few_types = omega (arith, few, length-map names (type_of real typing)); small_types = types_small names all; few_keys = omega arith; small_keys = All-nil KeyIsWithinLimits }
 
-  pub types_valid : (names : List (List ℕ)) → All (TypeHolds real declared) names → All TypeIsValid (map (type_of real declared) names)
+  pub types_valid : (names : List (List ℕ)) → All (TypeHolds real typing) names → All TypeIsValid (map (type_of real typing) names)
   types_valid [] all = All-nil TypeIsValid
   types_valid (name ∷ names) all =
-      let one = All-head (TypeHolds real declared) name names all in
-      All-cons TypeIsValid (type_of real declared name) (map (type_of real declared) names) one.valid (types_valid names (All-tail (TypeHolds real declared) name names all))
+      let one = All-head (TypeHolds real typing) name names all in
+      All-cons TypeIsValid (type_of real typing name) (map (type_of real typing) names) one.valid (types_valid names (All-tail (TypeHolds real typing) name names all))

@@ -17,7 +17,7 @@ use Rattle.kx_resolve.specs.GroupTypes.{content_group, group_count, group_type_n
 use Rattle.kx_resolve.specs.Keys.{groups_of, type_names, type_names_below, type_names_if, type_place}
 use Rattle.kx_resolve.specs.LevelActions.{LevelActions}
 use Rattle.kx_resolve.specs.TypesInUse.{AreUsed, TypedAreValid, TypeInUse, no_type, typed_group, typed_groups, type_in_use, type_at}
-use Rattle.kx_types.specs.KeyTypes.{Definition}
+use Rattle.kx_resolve.specs.Typing.{Typing}
 
 -- ---- One type more
 
@@ -58,22 +58,22 @@ module _ (level_actions : LevelActions) (key : KeyGiven) where
 
 -- ---- What is made out
 
-module _ (declared : List ℕ → Option Definition) where
+module _ (typing : Typing) where
   abbrev type_in : List (List ℕ) → List ℕ → TypeInUse
-  type_in used name = type_at declared (type_place used name % 2 ^ 16) name
+  type_in used name = type_at typing (type_place used name % 2 ^ 16) name
 
   types_stay : (used : List (List ℕ)) (x : List ℕ) (names : List (List ℕ)) → All (IsIn used) names → map (type_in used) names ≡ map (type_in (with_name bytes_eq used x)) names
   types_stay used x [] all = refl
   types_stay used x (name ∷ names) all = λ i.
-      type_at declared (sym (same_place used x name (All-head (IsIn used) name names all)) i % 2 ^ 16) name
+      type_at typing (sym (same_place used x name (All-head (IsIn used) name names all)) i % 2 ^ 16) name
       ∷ types_stay used x names (All-tail (IsIn used) name names all) i
 
-  pub one_used : (names used more : List (List ℕ)) (group_types new : List TypeInUse) (x : List ℕ) (place : ℕ) → more ≡ with_name bytes_eq used x → position (bytes_eq x) more ≡ Some place → new ≡ group_types ++ type_at declared (place % 2 ^ 16) x ∷ [] → AreUsed declared names used group_types → AreUsed declared (names ++ x ∷ []) more new
+  pub one_used : (names used more : List (List ℕ)) (group_types new : List TypeInUse) (x : List ℕ) (place : ℕ) → more ≡ with_name bytes_eq used x → position (bytes_eq x) more ≡ Some place → new ≡ group_types ++ type_at typing (place % 2 ^ 16) x ∷ [] → AreUsed typing names used group_types → AreUsed typing (names ++ x ∷ []) more new
   one_used names used more group_types new x place is at pushed before = record {
     used_are = is ∙ ap (λ ks. with_name bytes_eq ks x) before.used_are ∙ sym (with_next [] names x);
     types_are =
         pushed
-        ∙ (λ i. (before.types_are ∙ types_stay used x names before.there ∙ ap (λ ks. map (type_in ks) names) (sym is)) i ++ type_at declared (found i % 2 ^ 16) x ∷ [])
+        ∙ (λ i. (before.types_are ∙ types_stay used x names before.there ∙ ap (λ ks. map (type_in ks) names) (sym is)) i ++ type_at typing (found i % 2 ^ 16) x ∷ [])
         ∙ sym (map-append (type_in more) names (x ∷ []));
     there = subst (λ ks. All (IsIn ks) (names ++ x ∷ [])) (sym is) (All-push (IsIn (with_name bytes_eq used x)) names x (All-weaker (IsIn used) (IsIn (with_name bytes_eq used x)) (there_with used x) names before.there) (there_now used x));
   }
@@ -81,7 +81,7 @@ module _ (declared : List ℕ → Option Definition) where
       found : place ≡ type_place more x
       found = sym (ap (λ o. unwrap_or o 0) at)
 
-  pub none_used : AreUsed declared [] [] []
+  pub none_used : AreUsed typing [] [] []
   none_used = record { used_are = refl; types_are = refl; there = All-nil (IsIn []) }
 
   -- ---- Places are small
@@ -93,8 +93,8 @@ module _ (declared : List ℕ → Option Definition) where
       by None is = omega arith
       by (Some i) is = let at = position-Some (bytes_eq name) used i [] is in omega (arith, at.0)
 
-  pub places_whole : (used names : List (List ℕ)) → length used < 2 ^ 16 → map (type_in used) names ≡ map (type_in_use declared used) names
-  places_whole used names few = λ i. map (λ name. type_at declared (small name i) name) names
+  pub places_whole : (used names : List (List ℕ)) → length used < 2 ^ 16 → map (type_in used) names ≡ map (type_in_use typing used) names
+  places_whole used names few = λ i. map (λ name. type_at typing (small name i) name) names
     where
       small : (name : List ℕ) → type_place used name % 2 ^ 16 ≡ type_place used name
       small name = let upto = place_upto used name in omega (arith, upto, few)
@@ -102,103 +102,103 @@ module _ (declared : List ℕ → Option Definition) where
   -- ---- The types of a key's groups
 
   module _ (key : KeyGiven) where
-    pub names_count : (n : ℕ) → length (type_names declared key n) ≡ n
-    names_count zero = ap length (names_none key declared)
+    pub names_count : (n : ℕ) → length (type_names typing key n) ≡ n
+    names_count zero = ap length (names_none key typing)
     names_count (suc n) =
         let one : suc n ≡ n + 1 = omega arith in
-        let more : length (type_names declared key (n + 1)) ≡ length (type_names declared key n) + 1 = ap length (names_next key declared n) ∙ length-append (type_names declared key n) (group_type_name declared key n ∷ []) in
+        let more : length (type_names typing key (n + 1)) ≡ length (type_names typing key n) + 1 = ap length (names_next key typing n) ∙ length-append (type_names typing key n) (group_type_name typing key n ∷ []) in
         let before = names_count n in
-        ap (λ m. length (type_names declared key m)) one ∙ omega (arith, more, before)
+        ap (λ m. length (type_names typing key m)) one ∙ omega (arith, more, before)
 
     module _ (used : List (List ℕ)) where
       abbrev types_of : ℕ → List TypeInUse
-      types_of n = map (type_in_use declared used) (type_names declared key n)
+      types_of n = map (type_in_use typing used) (type_names typing key n)
 
       types_count : (n : ℕ) → length (types_of n) ≡ n
-      types_count n = length-map (type_names declared key n) (type_in_use declared used) ∙ names_count n
+      types_count n = length-map (type_names typing key n) (type_in_use typing used) ∙ names_count n
 
-      types_next : (n : ℕ) → types_of (suc n) ≡ types_of n ++ type_in_use declared used (group_type_name declared key n) ∷ []
+      types_next : (n : ℕ) → types_of (suc n) ≡ types_of n ++ type_in_use typing used (group_type_name typing key n) ∷ []
       types_next n =
           let one : suc n ≡ n + 1 = omega arith in
-          ap types_of one ∙ ap (map (type_in_use declared used)) (names_next key declared n) ∙ map-append (type_in_use declared used) (type_names declared key n) (group_type_name declared key n ∷ [])
+          ap types_of one ∙ ap (map (type_in_use typing used)) (names_next key typing n) ∙ map-append (type_in_use typing used) (type_names typing key n) (group_type_name typing key n ∷ [])
 
-      pub type_of_group : (n group : ℕ) → group < n → get_or (types_of n) group no_type ≡ type_in_use declared used (group_type_name declared key group)
+      pub type_of_group : (n group : ℕ) → group < n → get_or (types_of n) group no_type ≡ type_in_use typing used (group_type_name typing key group)
       type_of_group zero group less = absurd (omega (arith, less))
       type_of_group (suc n) group less =
           ap (λ ts. get_or ts group no_type) (types_next n)
           ∙ elim (eq-or-lt_of_le upto) [
-            | inl same ↦ ap (λ g. get_or (types_of n ++ type_in_use declared used (group_type_name declared key n) ∷ []) g no_type) (same ∙ sym (types_count n)) ∙ get_or-append_seam (types_of n) (type_in_use declared used (group_type_name declared key n)) [] no_type ∙ ap (λ g. type_in_use declared used (group_type_name declared key g)) (sym same)
-            | inr earlier ↦ get_or_append_left (types_of n) (type_in_use declared used (group_type_name declared key n) ∷ []) no_type group (omega (arith, earlier, types_count n)) ∙ type_of_group n group earlier
+            | inl same ↦ ap (λ g. get_or (types_of n ++ type_in_use typing used (group_type_name typing key n) ∷ []) g no_type) (same ∙ sym (types_count n)) ∙ get_or-append_seam (types_of n) (type_in_use typing used (group_type_name typing key n)) [] no_type ∙ ap (λ g. type_in_use typing used (group_type_name typing key g)) (sym same)
+            | inr earlier ↦ get_or_append_left (types_of n) (type_in_use typing used (group_type_name typing key n) ∷ []) no_type group (omega (arith, earlier, types_count n)) ∙ type_of_group n group earlier
           ]
         where
           upto : group ≤ n
           upto = omega (arith, less)
 
       module _ (level_actions : LevelActions) where
-        pub groups_typed : (group_types : List TypeInUse) (n : ℕ) → ((group : ℕ) → group < n → get_or group_types group no_type ≡ type_in_use declared used (group_type_name declared key group)) → typed_groups level_actions key group_types n ≡ groups_of declared used level_actions key n
-        groups_typed group_types zero each = typed_none level_actions key group_types ∙ sym (groups_none key declared used level_actions)
+        pub groups_typed : (group_types : List TypeInUse) (n : ℕ) → ((group : ℕ) → group < n → get_or group_types group no_type ≡ type_in_use typing used (group_type_name typing key group)) → typed_groups level_actions key group_types n ≡ groups_of typing used level_actions key n
+        groups_typed group_types zero each = typed_none level_actions key group_types ∙ sym (groups_none key typing used level_actions)
         groups_typed group_types (suc n) each =
             let one : suc n ≡ n + 1 = omega arith in
             ap (typed_groups level_actions key group_types) one ∙ typed_next level_actions key group_types n
             ∙ (λ i. groups_typed group_types n (λ group less. each group (omega (arith, less))) i ++ typed_group level_actions key n (each n (omega arith) i) ∷ [])
-            ∙ sym (groups_next key declared used level_actions n) ∙ ap (groups_of declared used level_actions key) (sym one)
+            ∙ sym (groups_next key typing used level_actions n) ∙ ap (groups_of typing used level_actions key) (sym one)
 
-        pub valid_typed : (group_types : List TypeInUse) (n : ℕ) → ((group : ℕ) → group < n → get_or group_types group no_type ≡ type_in_use declared used (group_type_name declared key group)) → TypedAreValid level_actions key group_types n → GroupsAreValid declared level_actions key n
+        pub valid_typed : (group_types : List TypeInUse) (n : ℕ) → ((group : ℕ) → group < n → get_or group_types group no_type ≡ type_in_use typing used (group_type_name typing key group)) → TypedAreValid level_actions key group_types n → GroupsAreValid typing level_actions key n
         valid_typed group_types n each valid = λ group less. subst (λ (t : TypeInUse). CellsAreValid level_actions key (content_group key group) t.levels) (each group less) (valid group less)
 
         -- the types of a key's groups, ahead of others
-        module _ (group_types own : List TypeInUse) (ns : List (List ℕ)) (count : ℕ) (is : count ≡ group_count key) (ahead : group_types ≡ map (type_in_use declared used) (type_names declared key (group_count key) ++ ns)) where
+        module _ (group_types own : List TypeInUse) (ns : List (List ℕ)) (count : ℕ) (is : count ≡ group_count key) (ahead : group_types ≡ map (type_in_use typing used) (type_names typing key (group_count key) ++ ns)) where
           abbrev n : ℕ
           n = group_count key
 
-          split : group_types ≡ types_of n ++ map (type_in_use declared used) ns
-          split = ahead ∙ map-append (type_in_use declared used) (type_names declared key n) ns
+          split : group_types ≡ types_of n ++ map (type_in_use typing used) ns
+          split = ahead ∙ map-append (type_in_use typing used) (type_names typing key n) ns
 
           own_types : own ≡ take count group_types → own ≡ types_of n
           own_types first =
               first ∙ (λ i. take (is i) (split i))
-              ∙ subst (λ m. take m (types_of n ++ map (type_in_use declared used) ns) ≡ types_of n) (types_count n) (take-append_seam (types_of n) (map (type_in_use declared used) ns))
+              ∙ subst (λ m. take m (types_of n ++ map (type_in_use typing used) ns) ≡ types_of n) (types_count n) (take-append_seam (types_of n) (map (type_in_use typing used) ns))
 
-          pub types_after : own ≡ drop count group_types → own ≡ map (type_in_use declared used) ns
+          pub types_after : own ≡ drop count group_types → own ≡ map (type_in_use typing used) ns
           types_after last =
               last ∙ (λ i. drop (is i) (split i))
-              ∙ subst (λ m. drop m (types_of n ++ map (type_in_use declared used) ns) ≡ map (type_in_use declared used) ns) (types_count n) (drop-append_seam (types_of n) (map (type_in_use declared used) ns))
+              ∙ subst (λ m. drop m (types_of n ++ map (type_in_use typing used) ns) ≡ map (type_in_use typing used) ns) (types_count n) (drop-append_seam (types_of n) (map (type_in_use typing used) ns))
 
-          pub groups_ahead : own ≡ take count group_types → typed_groups level_actions key own (length own) ≡ groups_of declared used level_actions key n
+          pub groups_ahead : own ≡ take count group_types → typed_groups level_actions key own (length own) ≡ groups_of typing used level_actions key n
           groups_ahead first =
               (λ i. typed_groups level_actions key (own_types first i) (length (own_types first i)))
               ∙ ap (typed_groups level_actions key (types_of n)) (types_count n)
               ∙ groups_typed (types_of n) n (type_of_group n)
 
-          pub valid_ahead : own ≡ take count group_types → TypedAreValid level_actions key own (length own) → GroupsAreValid declared level_actions key n
+          pub valid_ahead : own ≡ take count group_types → TypedAreValid level_actions key own (length own) → GroupsAreValid typing level_actions key n
           valid_ahead first valid =
               valid_typed (types_of n) n (type_of_group n)
               (subst (TypedAreValid level_actions key (types_of n)) (types_count n) (subst (λ ts. TypedAreValid level_actions key ts (length ts)) (own_types first) valid))
 
 -- ---- The names of the types of codes
 
-module _ (declared : List ℕ → Option Definition) (name : ℕ → Option (List ℕ)) (key : ℕ → KeyGiven) where
+module _ (typing : Typing) (name : ℕ → Option (List ℕ)) (key : ℕ → KeyGiven) where
   abbrev below : ℕ → List (List ℕ)
-  below = type_names_below declared name key
+  below = type_names_below typing name key
 
   rest_after : (n more : ℕ) → (tail : List (List ℕ)) × (below (n + more) ≡ below n ++ tail)
   rest_after n zero = let none : n + 0 ≡ n = omega arith in ([], ap below none ∙ sym (append-nil (below n)))
   rest_after n (suc more) =
       let one : n + suc more ≡ n + more + 1 = omega arith in
       let before = rest_after n more in
-      let next = type_names_if declared (name (n + more)) (key (n + more)) in (
+      let next = type_names_if typing (name (n + more)) (key (n + more)) in (
         before.0 ++ next,
-        ap below one ∙ used_next declared name key (n + more) ∙ ap (λ ns. ns ++ next) before.1 ∙ append_assoc (below n) before.0 next,
+        ap below one ∙ used_next typing name key (n + more) ∙ ap (λ ns. ns ++ next) before.1 ∙ append_assoc (below n) before.0 next,
       )
 
   -- those of a code, ahead of those after it
-  pub next_ahead : (code : ℕ) → code < CODES → (ns : List (List ℕ)) → below code ++ ns ≡ below CODES → (rest : List (List ℕ)) × (ns ≡ type_names_if declared (name code) (key code) ++ rest) × (below (code + 1) ++ rest ≡ below CODES)
+  pub next_ahead : (code : ℕ) → code < CODES → (ns : List (List ℕ)) → below code ++ ns ≡ below CODES → (rest : List (List ℕ)) × (ns ≡ type_names_if typing (name code) (key code) ++ rest) × (below (code + 1) ++ rest ≡ below CODES)
   next_ahead code less ns whole =
       let upto : code + 1 + (CODES - (code + 1)) ≡ CODES = omega (arith, less) in
       let after = rest_after (code + 1) (CODES - (code + 1)) in
-      let next = type_names_if declared (name code) (key code) in
+      let next = type_names_if typing (name code) (key code) in
       let all : below CODES ≡ below (code + 1) ++ after.0 = ap below (sym upto) ∙ after.1 in (
         after.0,
-        append_cancel_left (below code) ns (next ++ after.0) (whole ∙ all ∙ ap (λ xs. xs ++ after.0) (used_next declared name key code) ∙ append_assoc (below code) next after.0),
+        append_cancel_left (below code) ns (next ++ after.0) (whole ∙ all ∙ ap (λ xs. xs ++ after.0) (used_next typing name key code) ∙ append_assoc (below code) next after.0),
         sym all,
       )

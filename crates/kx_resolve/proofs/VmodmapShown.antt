@@ -7,22 +7,22 @@ use Rattle.kx_compat.specs.Interpretations.{Interpretation}
 use Rattle.kx_virtual_mods.specs.Sets.{any_below, has, has_virtual}
 use Rattle.kx_mods.specs.Mods.{mask}
 use Rattle.kx_mods.specs.declared.mods.Mods.{Mods}
-use Rattle.kx_types.specs.KeyTypes.{Definition}
 use Rattle.kx_resolve.proofs.Acting.{any_next, any_none}
 use Rattle.kx_resolve.specs.Given.{KeyGiven, given_in}
 use Rattle.kx_resolve.specs.GroupTypes.{content_group, group_levels}
+use Rattle.kx_resolve.specs.Typing.{Typing}
 use Rattle.kx_resolve.proofs.Counting.{none_count}
 
 module _ (interpretations : List Interpretation) (modmap : Mods) where
-  pub is_in_vmodmap_is : (key : KeyGiven) (declared : List ℕ → Option Definition) (number : ℕ) → option_map_or (λ set. has_virtual set number) key.virtual_mods (is_given interpretations modmap key declared number) ≡ is_in_vmodmap interpretations modmap key declared number
+  pub is_in_vmodmap_is : (key : KeyGiven) (typing : Typing) (number : ℕ) → option_map_or (λ set. has_virtual set number) key.virtual_mods (is_given interpretations modmap key typing number) ≡ is_in_vmodmap interpretations modmap key typing number
   unfolding is_in_vmodmap
-  is_in_vmodmap_is key declared number = refl
+  is_in_vmodmap_is key typing number = refl
 
   -- a key that no statement names bears none
-  pub none_in_vmodmap : (declared : List ℕ → Option Definition) (number : ℕ) → is_in_vmodmap interpretations modmap (given_in None) declared number ≡ false
+  pub none_in_vmodmap : (typing : Typing) (number : ℕ) → is_in_vmodmap interpretations modmap (given_in None) typing number ≡ false
   unfolding is_in_vmodmap
-  none_in_vmodmap declared number =
-      let test : ℕ → Bool = λ group. any_below (group_levels declared (given_in None) group) (λ level. gives number group level (interpretation_at interpretations modmap (given_in None) (content_group (given_in None) group) level)) in
+  none_in_vmodmap typing number =
+      let test : ℕ → Bool = λ group. any_below (group_levels typing (given_in None) group) (λ level. gives number group level (interpretation_at interpretations modmap (given_in None) (content_group (given_in None) group) level)) in
       ap (λ n. any_below n test) none_count ∙ any_none test
 
 and_false : (b : Bool) → (b && false) ≡ false
@@ -31,13 +31,13 @@ and_false false = refl
 
 pub absent_brings : (r : ReadKeymap) (number real code : ℕ) → r.key code ≡ given_in None → brings r number real code ≡ false
 absent_brings r number real code absent =
-    ap (λ key. is_some (r.name code) && (is_in_vmodmap r.interpretations (r.modmap code) key r.declared number && has (mask (r.modmap code)) real)) absent
-    ∙ ap (λ b. is_some (r.name code) && (b && has (mask (r.modmap code)) real)) (none_in_vmodmap r.interpretations (r.modmap code) r.declared number)
+    ap (λ key. is_some (r.name code) && (is_in_vmodmap r.interpretations (r.modmap code) key r.typing number && has (mask (r.modmap code)) real)) absent
+    ∙ ap (λ b. is_some (r.name code) && (b && has (mask (r.modmap code)) real)) (none_in_vmodmap r.interpretations (r.modmap code) r.typing number)
     ∙ and_false (is_some (r.name code))
 
 -- a code without a name brings nothing
 pub unnamed_brings : (r : ReadKeymap) (number real code : ℕ) → r.name code ≡ None → any_below (code + 1) (brings r number real) ≡ any_below code (brings r number real)
 unnamed_brings r number real code none =
     any_next (brings r number real) code
-    ∙ ap (λ o. any_below code (brings r number real) || (is_some o && (is_in_vmodmap r.interpretations (r.modmap code) (r.key code) r.declared number && has (mask (r.modmap code)) real))) none
+    ∙ ap (λ o. any_below code (brings r number real) || (is_some o && (is_in_vmodmap r.interpretations (r.modmap code) (r.key code) r.typing number && has (mask (r.modmap code)) real))) none
     ∙ or-false (any_below code (brings r number real))

@@ -2,7 +2,6 @@
 use Rattle.std.proofs.Common.{ℕ, ◌+◌, ◌≡◌, ◌++◌, ◌∷◌, Bool, true, false, List, [], Option, None, Some, fold, nat_eq, refl, sym, subst, ap, ◌∙◌, if◌then◌else◌}
 use Rattle.std.specs.Option.{IfSome, option_map}
 use Rattle.std.specs.Set.{is_member}
-use Rattle.kx_types.specs.KeyTypes.{Definition}
 use Rattle.kx_resolve.specs.Given.{KeyGiven}
 use Rattle.kx_resolve.specs.GroupTypes.{content_group, group_levels, level_keysyms}
 use Rattle.kx_resolve.proofs.Visiting.{visits_alike, visits_both}
@@ -10,6 +9,7 @@ use Rattle.kx_resolve.proofs.PlaceOrder.{first_is_first}
 use Rattle.kx_resolve.proofs.PlaceSteps.{below_next, first_is, groups_next, levels_next}
 use Rattle.kx_resolve.specs.Finding.{Firsts, IsFirstOrNone, Visits}
 use Rattle.kx_resolve.specs.Mapping.{Mapping, earlier, first_place, group_places, key_places, level_places, place_at, places_below}
+use Rattle.kx_resolve.specs.Typing.{Typing}
 use Rattle.kx_resolve.specs.declared.places.LevelPlace.{LevelPlace}
 
 module _ (old now new : Firsts) where
@@ -27,23 +27,23 @@ module _ (old now new : Firsts) where
         (visits_both old (λ k. level_places k key code group level) (λ k. place_at k key code group level) now new before here)
         (λ k. sym (levels_next k key code group level))
 
-    pub visits_group : (declared : List ℕ → Option Definition) (levels : ℕ) → levels ≡ group_levels declared key group
-        → Visits (λ k. group_places k declared key code group) old now
+    pub visits_group : (typing : Typing) (levels : ℕ) → levels ≡ group_levels typing key group
+        → Visits (λ k. group_places k typing key code group) old now
         → Visits (λ k. level_places k key code group levels) now new
-        → Visits (λ k. group_places k declared key code (group + 1)) old new
-    visits_group declared levels are before visited =
-        let here : Visits (λ k. level_places k key code group (group_levels declared key group)) now new = subst (λ n. Visits (λ k. level_places k key code group n) now new) are visited in
-        visits_alike old (λ k. group_places k declared key code group ++ level_places k key code group (group_levels declared key group)) (λ k. group_places k declared key code (group + 1)) new
-        (visits_both old (λ k. group_places k declared key code group) (λ k. level_places k key code group (group_levels declared key group)) now new before here)
-        (λ k. sym (groups_next k key code declared group))
+        → Visits (λ k. group_places k typing key code (group + 1)) old new
+    visits_group typing levels are before visited =
+        let here : Visits (λ k. level_places k key code group (group_levels typing key group)) now new = subst (λ n. Visits (λ k. level_places k key code group n) now new) are visited in
+        visits_alike old (λ k. group_places k typing key code group ++ level_places k key code group (group_levels typing key group)) (λ k. group_places k typing key code (group + 1)) new
+        (visits_both old (λ k. group_places k typing key code group) (λ k. level_places k key code group (group_levels typing key group)) now new before here)
+        (λ k. sym (groups_next k key code typing group))
 
   pub visits_code : (m : Mapping) (code : ℕ)
       → Visits (λ k. places_below k m code) old now
-      → Visits (λ k. key_places k m.declared code (m.name code) (m.key code)) now new
+      → Visits (λ k. key_places k m.typing code (m.name code) (m.key code)) now new
       → Visits (λ k. places_below k m (code + 1)) old new
   visits_code m code before visited =
-      visits_alike old (λ k. places_below k m code ++ key_places k m.declared code (m.name code) (m.key code)) (λ k. places_below k m (code + 1)) new
-      (visits_both old (λ k. places_below k m code) (λ k. key_places k m.declared code (m.name code) (m.key code)) now new before visited)
+      visits_alike old (λ k. places_below k m code ++ key_places k m.typing code (m.name code) (m.key code)) (λ k. places_below k m (code + 1)) new
+      (visits_both old (λ k. places_below k m code) (λ k. key_places k m.typing code (m.name code) (m.key code)) now new before visited)
       (λ k. sym (below_next k m code))
 
 -- ---- All keys

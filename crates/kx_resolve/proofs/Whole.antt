@@ -11,7 +11,7 @@ use Rattle.kx_resolve.proofs.Typed.{found_holds}
 use Rattle.kx_resolve.specs.Bounds.{BoundsBelow, KeepsBounds, TypeHolds}
 use Rattle.kx_resolve.specs.Keys.{Keyed, key_if_named, keys_below, resolved_of, type_of, types_used}
 use Rattle.kx_tables.specs.Keymap.{Keymap}
-use Rattle.kx_types.specs.KeyTypes.{Definition}
+use Rattle.kx_resolve.specs.Typing.{Typing}
 
 pub same_trans : (a b c : Keymap) → ShowsSame a b → ShowsSame b c → ShowsSame a c
 same_trans a b c one two = record {
@@ -21,32 +21,32 @@ same_trans a b c one two = record {
   indicator_maps = one.indicator_maps ∙ two.indicator_maps;
 }
 
-module _ (declared : List ℕ → Option Definition) (used : List (List ℕ)) (keyed : Keyed) where
-  one_at_most : (n : ℕ) (o : Option (List ℕ)) → length (key_if_named declared used (keyed.level_actions n) (keyed.key n) n o (keyed.modmap n)) ≤ 1
+module _ (typing : Typing) (used : List (List ℕ)) (keyed : Keyed) where
+  one_at_most : (n : ℕ) (o : Option (List ℕ)) → length (key_if_named typing used (keyed.level_actions n) (keyed.key n) n o (keyed.modmap n)) ≤ 1
   one_at_most n None = omega arith
   one_at_most n (Some of_key) = omega arith
 
-  pub below_few : (n : ℕ) → length (keys_below declared used keyed n) ≤ n
+  pub below_few : (n : ℕ) → length (keys_below typing used keyed n) ≤ n
   unfolding keys_below
   below_few zero = omega arith
-  below_few (suc n) = omega (arith, below_few n, one_at_most n (keyed.name n), length-append (keys_below declared used keyed n) (key_if_named declared used (keyed.level_actions n) (keyed.key n) n (keyed.name n) (keyed.modmap n)))
+  below_few (suc n) = omega (arith, below_few n, one_at_most n (keyed.name n), length-append (keys_below typing used keyed n) (key_if_named typing used (keyed.level_actions n) (keyed.key n) n (keyed.name n) (keyed.modmap n)))
 
-module _ (declared : List ℕ → Option Definition) (keyed : Keyed) where
-  pub bounds_next : (n : ℕ) → BoundsBelow declared keyed n → ((of_key : List ℕ) → keyed.name n ≡ Some of_key → KeepsBounds declared of_key (keyed.modmap n) (keyed.level_actions n) (keyed.key n)) → BoundsBelow declared keyed (n + 1)
+module _ (typing : Typing) (keyed : Keyed) where
+  pub bounds_next : (n : ℕ) → BoundsBelow typing keyed n → ((of_key : List ℕ) → keyed.name n ≡ Some of_key → KeepsBounds typing of_key (keyed.modmap n) (keyed.level_actions n) (keyed.key n)) → BoundsBelow typing keyed (n + 1)
   bounds_next n below keeps = λ code less of_key is.
       let upto : code ≤ n = omega (arith, less) in
       elim (eq-or-lt_of_le upto) [
-        | inl same ↦ subst (λ c. KeepsBounds declared of_key (keyed.modmap c) (keyed.level_actions c) (keyed.key c)) (sym same) (keeps of_key (ap keyed.name (sym same) ∙ is))
+        | inl same ↦ subst (λ c. KeepsBounds typing of_key (keyed.modmap c) (keyed.level_actions c) (keyed.key c)) (sym same) (keeps of_key (ap keyed.name (sym same) ∙ is))
         | inr before ↦ below code before of_key is
       ]
 
-module _ (real : ℕ → RealSet) (declared : List ℕ → Option Definition) (used : List (List ℕ)) (keyed : Keyed) (same : used ≡ types_used declared keyed.name keyed.key) where
-  pub tree_whole : (old r : Resolved) → old ≡ record { types = map (type_of real declared) used; keys = [] } → r ≡ record old { keys = keys_below declared used keyed 4096 } → r ≡ resolved_of real declared keyed
+module _ (real : ℕ → RealSet) (typing : Typing) (used : List (List ℕ)) (keyed : Keyed) (same : used ≡ types_used typing keyed.name keyed.key) where
+  pub tree_whole : (old r : Resolved) → old ≡ record { types = map (type_of real typing) used; keys = [] } → r ≡ record old { keys = keys_below typing used keyed 4096 } → r ≡ resolved_of real typing keyed
   tree_whole old r is more =
       more
-      ∙ (λ i. record { types = (is i).types; keys = keys_below declared used keyed 4096 })
-      ∙ (λ i. record { types = map (type_of real declared) (same i); keys = keys_below declared (same i) keyed 4096 })
-      ∙ resolved_is real declared keyed
+      ∙ (λ i. record { types = (is i).types; keys = keys_below typing used keyed 4096 })
+      ∙ (λ i. record { types = map (type_of real typing) (same i); keys = keys_below typing (same i) keyed 4096 })
+      ∙ resolved_is real typing keyed
 
-  pub each_holds : All (TypeHolds real declared) used → (of_name : List ℕ) → list_any (bytes_eq of_name) (types_used declared keyed.name keyed.key) ≡ true → TypeHolds real declared of_name
-  each_holds hold of_name there = found_holds (TypeHolds real declared) (types_used declared keyed.name keyed.key) of_name (subst (All (TypeHolds real declared)) same hold) there
+  pub each_holds : All (TypeHolds real typing) used → (of_name : List ℕ) → list_any (bytes_eq of_name) (types_used typing keyed.name keyed.key) ≡ true → TypeHolds real typing of_name
+  each_holds hold of_name there = found_holds (TypeHolds real typing) (types_used typing keyed.name keyed.key) of_name (subst (All (TypeHolds real typing)) same hold) there

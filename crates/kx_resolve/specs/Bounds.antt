@@ -13,16 +13,16 @@ use Rattle.kx_builder.specs.Resolved.{ResolvedCell, ResolvedGroup, ResolvedKey}
 use Rattle.kx_resolve.specs.Rows.{RowsShow}
 use Rattle.kx_resolve.specs.Selecting.{RealSet}
 use Rattle.kx_basics.specs.KeyNames.{IsKeyByte}
-use Rattle.kx_types.specs.KeyTypes.{Definition}
+use Rattle.kx_resolve.specs.Typing.{Typing}
 use Rattle.kx_basics.specs.declared.limits.TheConstants.{MOST_NAME_BYTES}
 
 -- the cells of a group's levels below a number
 abbrev pub CellsAreValid : LevelActions → KeyGiven → ℕ → ℕ → Type 0
 CellsAreValid level_actions key group n = (level : ℕ) → level < n → CellIsValid (cell_of level_actions key group level)
 
-module _ (declared : List ℕ → Option Definition) where
+module _ (typing : Typing) where
   abbrev pub levels_of_group : KeyGiven → ℕ → ℕ
-  levels_of_group key group = (type_definition declared (group_type_name declared key group)).levels
+  levels_of_group key group = (type_definition typing (group_type_name typing key group)).levels
 
   -- those of the groups below a number
   abbrev pub GroupsAreValid : LevelActions → KeyGiven → ℕ → Type 0
@@ -45,11 +45,11 @@ OneCode name = (code other : ℕ) (of_key : List ℕ) → name code ≡ Some of_
 
 -- ---- What holds of a type that is used
 
-module _ (real : ℕ → RealSet) (declared : List ℕ → Option Definition) where
+module _ (real : ℕ → RealSet) (typing : Typing) where
   -- its rows show what it gives, and keep the rules of tables
   pub record TypeHolds (name : List ℕ) : Type 0 where
-    pub shows : RowsShow real (type_definition declared name) (type_of real declared name).mods (type_of real declared name).entries
-    pub valid : TypeIsValid (type_of real declared name)
+    pub shows : RowsShow real (type_definition typing name) (type_of real typing name).mods (type_of real typing name).entries
+    pub valid : TypeIsValid (type_of real typing name)
 
 -- ---- The levels that were pushed last
 

@@ -4,9 +4,11 @@ use Rattle.std.specs.Prelude.{ℕ, zero, suc, ◌+◌, ◌==◌, nat_le, nat_lt,
 use Rattle.std.specs.Option.{option_or}
 use Rattle.std.specs.Str.{bytes_eq}
 use Rattle.ks_core.specs.Keysym.{is_keypad, is_lower, is_upper}
+use Rattle.ks_core.specs.declared.letters.Letters.{Letters}
 use Rattle.kx_basics.specs.declared.limits.TheConstants.{MOST_GROUPS, MOST_NAME_BYTES}
 use Rattle.kx_virtual_mods.specs.Sets.{any_below}
 use Rattle.kx_resolve.specs.Given.{KeyGiven}
+use Rattle.kx_resolve.specs.Typing.{Typing}
 use Rattle.kx_types.specs.KeyTypes.{Definition}
 
 -- ---- Groups
@@ -38,22 +40,23 @@ has_action key = any_below (group_count key) (λ group. any_below (key.width gro
 abbrev pub one_level_name : List ℕ
 one_level_name = codes "ONE_LEVEL"
 
--- `first` is the first keysym of a level
-module _ (first : ℕ → ℕ) where
+-- one of the first two levels is of the keypad
+abbrev pub has_keypad : (ℕ → ℕ) → Bool
+has_keypad first = is_keypad (first 0) || is_keypad (first 1)
+
+-- `letters` are those of the table of names, `first` is the first keysym of a level
+module _ (letters : Letters) (first : ℕ → ℕ) where
   -- a letter in lower case and after it one in upper case
   abbrev pub has_letters : ℕ → Bool
-  has_letters level = is_lower (first level) && is_upper (first (level + 1))
-
-  abbrev pub has_keypad : Bool
-  has_keypad = is_keypad (first 0) || is_keypad (first 1)
+  has_letters level = is_lower letters (first level) && is_upper letters (first (level + 1))
 
   abbrev pub two_levels : List ℕ
-  two_levels = if has_letters 0 then codes "ALPHABETIC" else (if has_keypad then codes "KEYPAD" else codes "TWO_LEVEL")
+  two_levels = if has_letters 0 then codes "ALPHABETIC" else (if has_keypad first then codes "KEYPAD" else codes "TWO_LEVEL")
 
   abbrev pub four_levels : List ℕ
   four_levels =
       if has_letters 0 then (if has_letters 2 then codes "FOUR_LEVEL_ALPHABETIC" else codes "FOUR_LEVEL_SEMIALPHABETIC")
-      else (if has_keypad then codes "FOUR_LEVEL_KEYPAD" else codes "FOUR_LEVEL")
+      else (if has_keypad first then codes "FOUR_LEVEL_KEYPAD" else codes "FOUR_LEVEL")
 
   -- the automatic type of so many levels; there is none for more than four
   abbrev pub automatic : ℕ → Option (List ℕ)
@@ -64,14 +67,14 @@ module _ (first : ℕ → ℕ) where
       else None))
 
 -- the type that is written for the group, else that for the key, else the automatic one
-abbrev pub wanted_type : KeyGiven → ℕ → Option (List ℕ)
-wanted_type key group = option_or (key.group_type group) (option_or key.key_type (automatic (λ level. slice_index (level_keysyms key group level) 0) (key.width group)))
+abbrev pub wanted_type : Letters → KeyGiven → ℕ → Option (List ℕ)
+wanted_type letters key group = option_or (key.group_type group) (option_or key.key_type (automatic letters (λ level. slice_index (level_keysyms key group level) 0) (key.width group)))
 
--- `declared` are the types by name
-module _ (declared : List ℕ → Option Definition) where
+-- `typing` are the declared types and the letters
+module _ (typing : Typing) where
   -- a longer text names no type
   abbrev pub is_type : List ℕ → Bool
-  is_type name = nat_le (length name) MOST_NAME_BYTES && is_some (declared name)
+  is_type name = nat_le (length name) MOST_NAME_BYTES && is_some (typing.declared name)
 
   -- ONE_LEVEL in place of a type that isn't declared, and where none is wanted
   abbrev pub type_name : Option (List ℕ) → List ℕ
@@ -80,10 +83,10 @@ module _ (declared : List ℕ → Option Definition) where
 
   -- ONE_LEVEL is built in where it isn't declared
   abbrev pub type_definition : List ℕ → Definition
-  type_definition name = unwrap_or (declared name) (record { modifiers = 0; levels = 1; entries = [] })
+  type_definition name = unwrap_or (typing.declared name) (record { modifiers = 0; levels = 1; entries = [] })
 
   abbrev pub group_type_name : KeyGiven → ℕ → List ℕ
-  group_type_name key group = type_name (wanted_type key (content_group key group))
+  group_type_name key group = type_name (wanted_type typing.letters key (content_group key group))
 
   -- how many levels a group has: what is after them is lost
   abbrev pub group_levels : KeyGiven → ℕ → ℕ
@@ -95,7 +98,7 @@ module _ (declared : List ℕ → Option Definition) where
   is_fallback (Some name) = not (is_type name) && not (bytes_eq name one_level_name)
 
   abbrev pub falls_back : KeyGiven → ℕ → Bool
-  falls_back key group = is_fallback (wanted_type key group)
+  falls_back key group = is_fallback (wanted_type typing.letters key group)
 
 -- ---- Under names, for clauses and proofs
 

@@ -13,22 +13,23 @@ use Rattle.kx_codes.specs.Codes.{Codes, name_of}
 use Rattle.kx_resolve.specs.Given.{KeyGiven, given_in}
 use Rattle.kx_resolve.specs.GroupTypes.{content_group, group_count, group_type_name, type_definition}
 use Rattle.kx_types.specs.KeyTypes.{Definition}
+use Rattle.kx_resolve.specs.Typing.{Typing}
 use Rattle.kx_basics.specs.declared.limits.TheConstants.{CODES}
 
--- ---- Types; `real` is what a set of modifiers stands for, `declared` are the types by name
+-- ---- Types; `real` is what a set of modifiers stands for, `typing` tells the types of groups
 
 module _ (real : ℕ → RealSet) where
   abbrev pub type_with : List ℕ → Definition → ResolvedType
   type_with name type = record { name = name; mods = mods_of (real type.modifiers); levels = type.levels; entries = entry_rows real type.entries }
 
-  abbrev pub type_of : (List ℕ → Option Definition) → List ℕ → ResolvedType
-  type_of declared name = type_with name (type_definition declared name)
+  abbrev pub type_of : Typing → List ℕ → ResolvedType
+  type_of typing name = type_with name (type_definition typing name)
 
-module _ (declared : List ℕ → Option Definition) where
+module _ (typing : Typing) where
   -- the types' names of a number of groups of a key, in order
   unfoldable pub type_names : KeyGiven → ℕ → List (List ℕ)
   type_names key zero = []
-  type_names key (suc n) = type_names key n ++ group_type_name declared key n ∷ []
+  type_names key (suc n) = type_names key n ++ group_type_name typing key n ∷ []
 
   -- a code without a name is no key
   abbrev pub type_names_if : Option (List ℕ) → KeyGiven → List (List ℕ)
@@ -61,11 +62,11 @@ module _ (level_actions : LevelActions) (key : KeyGiven) where
 abbrev pub type_place : List (List ℕ) → List ℕ → ℕ
 type_place used name = unwrap_or (position (bytes_eq name) used) 0
 
-module _ (declared : List ℕ → Option Definition) (used : List (List ℕ)) (level_actions : LevelActions) (key : KeyGiven) where
+module _ (typing : Typing) (used : List (List ℕ)) (level_actions : LevelActions) (key : KeyGiven) where
   abbrev pub resolved_group : ℕ → ResolvedGroup
   resolved_group group = record {
-    key_type = type_place used (group_type_name declared key group);
-    cells = cells_of level_actions key (content_group key group) (type_definition declared (group_type_name declared key group)).levels;
+    key_type = type_place used (group_type_name typing key group);
+    cells = cells_of level_actions key (content_group key group) (type_definition typing (group_type_name typing key group)).levels;
   }
 
   -- the groups of a number of them, in order
@@ -89,19 +90,19 @@ pub record Keyed : Type 0 where
   pub modmap : ℕ → Mods
   pub level_actions : ℕ → LevelActions
 
-module _ (declared : List ℕ → Option Definition) (used : List (List ℕ)) (keyed : Keyed) where
+module _ (typing : Typing) (used : List (List ℕ)) (keyed : Keyed) where
   -- the keys of the codes below a number, in order
   unfoldable pub keys_below : ℕ → List ResolvedKey
   keys_below zero = []
-  keys_below (suc code) = keys_below code ++ key_if_named declared used (keyed.level_actions code) (keyed.key code) code (keyed.name code) (keyed.modmap code)
+  keys_below (suc code) = keys_below code ++ key_if_named typing used (keyed.level_actions code) (keyed.key code) code (keyed.name code) (keyed.modmap code)
 
 -- ---- All together
 
-module _ (real : ℕ → RealSet) (declared : List ℕ → Option Definition) (keyed : Keyed) where
+module _ (real : ℕ → RealSet) (typing : Typing) (keyed : Keyed) where
   unfoldable pub resolved_of : Resolved
   resolved_of = record {
-    types = map (type_of real declared) (types_used declared keyed.name keyed.key);
-    keys = keys_below declared (types_used declared keyed.name keyed.key) keyed CODES;
+    types = map (type_of real typing) (types_used typing keyed.name keyed.key);
+    keys = keys_below typing (types_used typing keyed.name keyed.key) keyed CODES;
   }
 
 -- ---- What was read of codes and keys

@@ -2,6 +2,7 @@ pub mod Selecting
 pub mod Rows
 pub mod Going
 pub mod Given
+pub mod Typing
 pub mod GroupTypes
 pub mod Finding
 pub mod Mapping

@@ -8,17 +8,17 @@ use Rattle.kx_resolve.specs.Rows.{mods_of}
 use Rattle.kx_resolve.specs.Selecting.{RealSet}
 use Rattle.kx_virtual_mods.specs.Sets.{has}
 use Rattle.kx_mods.specs.declared.mods.Mods.{Mods}
-use Rattle.kx_types.specs.KeyTypes.{Definition}
 use Rattle.kx_resolve.specs.Given.{KeyGiven}
 use Rattle.kx_resolve.specs.GroupTypes.{content_group, group_count, group_levels, level_keysyms}
 use Rattle.kx_resolve.specs.declared.places.LevelPlace.{LevelPlace}
+use Rattle.kx_resolve.specs.Typing.{Typing}
 use Rattle.kx_basics.specs.declared.limits.TheConstants.{CODES}
 
--- what is read: names and keys of codes, types by name, and what modifier maps give the keys of codes and, each with a mask, keysyms
+-- what is read: names and keys of codes, what tells the types of groups, and what modifier maps give the keys of codes and, each with a mask, keysyms
 pub record Mapping : Type 0 where
   pub name : ℕ → Option (List ℕ)
   pub key : ℕ → KeyGiven
-  pub declared : List ℕ → Option Definition
+  pub typing : Typing
   pub key_maps : ℕ → RealSet
   pub keysym_maps : List (ℕ × ℕ)
 
@@ -48,11 +48,11 @@ module _ (keysym : ℕ) where
   level_places key code group zero = []
   level_places key code group (suc level) = level_places key code group level ++ place_at key code group level
 
-  module _ (declared : List ℕ → Option Definition) where
+  module _ (typing : Typing) where
     -- on the groups of a key below a number: keysyms after the levels of a group aren't kept
     unfoldable pub group_places : KeyGiven → ℕ → ℕ → List LevelPlace
     group_places key code zero = []
-    group_places key code (suc group) = group_places key code group ++ level_places key code group (group_levels declared key group)
+    group_places key code (suc group) = group_places key code group ++ level_places key code group (group_levels typing key group)
 
     abbrev pub key_places : ℕ → Option (List ℕ) → KeyGiven → List LevelPlace
     key_places code None key = []
@@ -62,7 +62,7 @@ module _ (keysym : ℕ) where
     -- on the keys of the codes below a number
     unfoldable pub places_below : ℕ → List LevelPlace
     places_below zero = []
-    places_below (suc code) = places_below code ++ key_places m.declared code (m.name code) (m.key code)
+    places_below (suc code) = places_below code ++ key_places m.typing code (m.name code) (m.key code)
 
     unfoldable pub first_place : Option LevelPlace
     first_place = first_of (places_below CODES)

@@ -4,15 +4,15 @@ use Rattle.kx_codes.specs.Codes.{Codes, name_of}
 use Rattle.kx_virtual_mods.specs.Sets.{has}
 use Rattle.kx_modmaps.specs.Maps.{Maps, key_mask, shown_entry}
 use Rattle.kx_symbols.specs.Keys.{KeyContent, key_at}
-use Rattle.kx_types.specs.Types.{NamedTypes, type_named}
 use Rattle.kx_resolve.specs.Given.{given_in}
+use Rattle.kx_resolve.specs.Typing.{Typing}
 use Rattle.kx_resolve.specs.Mapping.{Mapping}
 
-abbrev pub mapping_of : Codes → NamedTypes → List (ℕ × KeyContent) → Maps → Mapping
-mapping_of codes types keys maps = record {
+abbrev pub mapping_of : Codes → Typing → List (ℕ × KeyContent) → Maps → Mapping
+mapping_of codes typing keys maps = record {
   name = name_of codes;
   key = λ code. given_in (key_at keys code);
-  declared = type_named types;
+  typing = typing;
   key_maps = λ code. has (key_mask maps code);
   keysym_maps = map shown_entry maps.by_keysym;
 }

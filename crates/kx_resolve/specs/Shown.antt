@@ -12,10 +12,11 @@ use Rattle.kx_tables.specs.Range.{in_range}
 use Rattle.kx_resolve.specs.LevelActions.{LevelActions}
 use Rattle.kx_resolve.specs.Keys.{Keyed}
 use Rattle.kx_types.specs.KeyTypes.{Definition}
+use Rattle.kx_resolve.specs.Typing.{Typing}
 use Rattle.kx_basics.specs.declared.limits.TheConstants.{CODES}
 
--- `real` is what a set of modifiers stands for, `declared` are the types by name
-module _ (real : ℕ → RealSet) (declared : List ℕ → Option Definition) where
+-- `real` is what a set of modifiers stands for, `typing` tells the types of groups
+module _ (real : ℕ → RealSet) (typing : Typing) where
   -- what a key gives under a type: the keysyms of the level that the effective modifiers select
   abbrev pub shown_by : Definition → LevelActions → KeyGiven → ℕ → RealSet → Shown
   shown_by type level_actions key group effective = record {
@@ -25,7 +26,7 @@ module _ (real : ℕ → RealSet) (declared : List ℕ → Option Definition) wh
   }
 
   abbrev pub shown_in : LevelActions → KeyGiven → ℕ → ℕ → Shown
-  shown_in level_actions key group mods = shown_by (type_definition declared (group_type_name declared key group)) level_actions key (content_group key group) (has (real_part mods))
+  shown_in level_actions key group mods = shown_by (type_definition typing (group_type_name typing key group)) level_actions key (content_group key group) (has (real_part mods))
 
   -- a key without groups gives nothing
   abbrev pub shown_for : LevelActions → KeyGiven → ℕ → ℕ → Shown
@@ -43,17 +44,17 @@ module _ (name : ℕ → Option (List ℕ)) (key : ℕ → KeyGiven) where
 
 -- ---- Under names, for clauses and proofs
 
-module _ (real : ℕ → RealSet) (declared : List ℕ → Option Definition) (keyed : Keyed) where
+module _ (real : ℕ → RealSet) (typing : Typing) (keyed : Keyed) where
   abbrev pub keymap_meant : Keymap
   keymap_meant = record {
     groups = max 1 (most_groups_below keyed.name keyed.key CODES);
     known = λ code. is_some (name_within keyed.name code);
-    shown = λ code group mods. option_map_or (λ _. shown_for real declared (keyed.level_actions code) (keyed.key code) group mods) (name_within keyed.name code) nothing_shown;
+    shown = λ code group mods. option_map_or (λ _. shown_for real typing (keyed.level_actions code) (keyed.key code) group mods) (name_within keyed.name code) nothing_shown;
     indicator_maps = [];
   }
 
 abbrev pub groups_if : (ℕ → Option (List ℕ)) → (ℕ → KeyGiven) → Option (List ℕ) → ℕ → ℕ
 groups_if name key of_key code = option_map_or (λ _. group_count (key code)) of_key 0
 
-abbrev pub shown_if : (ℕ → RealSet) → (List ℕ → Option Definition) → Keyed → Option (List ℕ) → ℕ → ℕ → ℕ → Shown
-shown_if real declared keyed of_key code group mods = option_map_or (λ _. shown_for real declared (keyed.level_actions code) (keyed.key code) group mods) of_key nothing_shown
+abbrev pub shown_if : (ℕ → RealSet) → Typing → Keyed → Option (List ℕ) → ℕ → ℕ → ℕ → Shown
+shown_if real typing keyed of_key code group mods = option_map_or (λ _. shown_for real typing (keyed.level_actions code) (keyed.key code) group mods) of_key nothing_shown

@@ -8,18 +8,18 @@ use Rattle.kx_resolve.specs.Given.{KeyGiven}
 use Rattle.kx_resolve.specs.GroupTypes.{content_group, type_definition}
 use Rattle.kx_resolve.specs.Keys.{cells_of, type_place}
 use Rattle.kx_resolve.specs.LevelActions.{LevelActions}
-use Rattle.kx_types.specs.KeyTypes.{Definition}
+use Rattle.kx_resolve.specs.Typing.{Typing}
 use Rattle.kx_virtual_mods.specs.Counted.{with_names}
 
 pub record TypeInUse : Type 0 where
   pub place : ℕ
   pub levels : ℕ
 
--- `declared` are the types by name
-module _ (declared : List ℕ → Option Definition) where
+-- `typing` tells the types of groups
+module _ (typing : Typing) where
   -- a type of so many levels at a place
   abbrev pub type_at : ℕ → List ℕ → TypeInUse
-  type_at place name = record { place = place; levels = (type_definition declared name).levels }
+  type_at place name = record { place = place; levels = (type_definition typing name).levels }
 
   -- `used` are the types by their places
   abbrev pub type_in_use : List (List ℕ) → List ℕ → TypeInUse

@@ -9,9 +9,9 @@ use Rattle.kx_resolve.specs.Selecting.{RealSet}
 use Rattle.kx_virtual_mods.specs.Sets.{any_below, has, has_virtual}
 use Rattle.kx_mods.specs.Mods.{mask}
 use Rattle.kx_mods.specs.declared.mods.Mods.{Mods}
-use Rattle.kx_types.specs.KeyTypes.{Definition}
 use Rattle.kx_resolve.specs.Given.{KeyGiven}
 use Rattle.kx_resolve.specs.GroupTypes.{content_group, group_count, group_levels, has_action, level_keysyms}
+use Rattle.kx_resolve.specs.Typing.{Typing}
 use Rattle.kx_basics.specs.declared.limits.TheConstants.{CODES}
 
 -- ---- The interpretation of a level
@@ -37,26 +37,26 @@ module _ (interpretations : List Interpretation) (modmap : Mods) (key : KeyGiven
   level_action_at group level = if has_action key then key.action group level else option_and_then (λ (i : Interpretation). i.action) (interpretation_at group level)
 
   -- a level of a group gives it
-  abbrev pub is_given : (List ℕ → Option Definition) → ℕ → Bool
-  is_given declared number = any_below (group_count key) (λ group. any_below (group_levels declared key group) (λ level. gives number group level (interpretation_at (content_group key group) level)))
+  abbrev pub is_given : Typing → ℕ → Bool
+  is_given typing number = any_below (group_count key) (λ group. any_below (group_levels typing key group) (λ level. gives number group level (interpretation_at (content_group key group) level)))
 
   -- a key bears those that are written for it, else those that interpretations give it
-  unfoldable pub is_in_vmodmap : (List ℕ → Option Definition) → ℕ → Bool
-  is_in_vmodmap declared number = option_map_or (λ set. has_virtual set number) key.virtual_mods (is_given declared number)
+  unfoldable pub is_in_vmodmap : Typing → ℕ → Bool
+  is_in_vmodmap typing number = option_map_or (λ set. has_virtual set number) key.virtual_mods (is_given typing number)
 
--- what is read of a keymap: names and keys of codes, what keys are mapped to, types by name, interpretations in order, declared masks
+-- what is read of a keymap: names and keys of codes, what keys are mapped to, what tells the types of groups, interpretations in order, declared masks
 pub record ReadKeymap : Type 0 where
   pub name : ℕ → Option (List ℕ)
   pub key : ℕ → KeyGiven
   pub modmap : ℕ → Mods
-  pub declared : List ℕ → Option Definition
+  pub typing : Typing
   pub interpretations : List Interpretation
   pub masks : ℕ → RealSet
 
 module _ (r : ReadKeymap) where
   -- the key of a code bears it and is mapped to a real modifier
   abbrev pub brings : ℕ → ℕ → ℕ → Bool
-  brings number real code = is_some (r.name code) && (is_in_vmodmap r.interpretations (r.modmap code) (r.key code) r.declared number && has (mask (r.modmap code)) real)
+  brings number real code = is_some (r.name code) && (is_in_vmodmap r.interpretations (r.modmap code) (r.key code) r.typing number && has (mask (r.modmap code)) real)
 
   -- a virtual modifier stands for its declared mask and for what the keys are mapped to that bear it; codes are at most 4,095
   abbrev pub stands : ℕ → RealSet

@@ -8,7 +8,7 @@ ghost use Rattle.kx_codes.specs.Codes.{name_of};
 ghost use Rattle.kx_lex.specs.declared.fault.Fault.TheVariants.{Memory};
 ghost use Rattle.kx_modmaps.specs.Maps.{Maps, shown_entry};
 ghost use Rattle.kx_symbols.specs.Keys.{key_at};
-ghost use Rattle.kx_types.specs.Types.{type_named};
+ghost use Rattle.kx_resolve.specs.Typing.{typing_of};
 ghost use Rattle.kx_resolve.specs.Given.{given, given_in};
 ghost use Rattle.kx_resolve.specs.GroupTypes.{group_count};
 ghost use Rattle.kx_resolve.specs.Finding.{IsFirstOrNone, Visits};
@@ -18,12 +18,12 @@ ghost use Rattle.kx_resolve.specs.ReadMapping.{mapping_of};
 use crate::given::keysyms_at;
 use crate::group_types::{content_group, group_count, group_type};
 use crate::places::LevelPlace;
+use crate::typing::Typing;
 use kx_codes::Codes;
 use kx_lex::Fault;
 use kx_modmaps::ModifierMaps;
 use kx_ordered::Ordered;
 use kx_symbols::{KeyRecord, Keys};
-use kx_types::Types;
 use std::alloc::Global;
 
 /// The first places of the keysyms that are looked for, by the keysyms' numbers; none where none is found.
@@ -62,8 +62,8 @@ fn visit_group(firsts: &mut FirstPlaces, key: &KeyRecord, code: u16, group: usiz
 }
 
 /// Visits the groups of a key, each with the levels of its type.
-fn visit_key(firsts: &mut FirstPlaces, types: &Types, key: &KeyRecord, code: u16)
-    ensures { Visits (λ k. group_places k (type_named types.now) (given key.now) code
+fn visit_key(firsts: &mut FirstPlaces, typing: Typing, key: &KeyRecord, code: u16)
+    ensures { Visits (λ k. group_places k (typing_of typing.entry) (given key.now) code
         (group_count (given key.now))) (get nat_eq firsts.old) (get nat_eq firsts.new) }
 {
     'groups: for group in 0..group_count(key) {
@@ -72,27 +72,27 @@ fn visit_key(firsts: &mut FirstPlaces, types: &Types, key: &KeyRecord, code: u16
             key,
             code,
             group,
-            group_type(types, key, group).levels,
+            group_type(typing, key, group).levels,
         );
     }
 }
 
 /// Visits the key of a code, where the code has a name.
-fn visit_code(firsts: &mut FirstPlaces, codes: &Codes, types: &Types, keys: &Keys, code: u16)
-    ensures { Visits (λ k. key_places k (type_named types.now) code (name_of codes.now code)
+fn visit_code(firsts: &mut FirstPlaces, codes: &Codes, typing: Typing, keys: &Keys, code: u16)
+    ensures { Visits (λ k. key_places k (typing_of typing.entry) code (name_of codes.now code)
         (given_in (key_at keys.now code))) (get nat_eq firsts.old) (get nat_eq firsts.new) }
 {
     match (codes.name_of(code), keys.key(code)) {
-        (Some(_), Some(key)) => visit_key(firsts, types, key, code),
+        (Some(_), Some(key)) => visit_key(firsts, typing, key, code),
         (Some(_), None) => {}
         (None, _) => {}
     }
 }
 
 /// Visits the keys of all codes.
-fn visit_codes(firsts: &mut FirstPlaces, codes: &Codes, types: &Types, keys: &Keys)
+fn visit_codes(firsts: &mut FirstPlaces, codes: &Codes, typing: Typing, keys: &Keys)
     ensures { (maps : Maps) → Visits (λ k.
-        places_below k (mapping_of codes.now types.now keys.now maps) CODES) (get nat_eq firsts.old)
+        places_below k (mapping_of codes.now (typing_of typing.entry) keys.now maps) CODES) (get nat_eq firsts.old)
         (get nat_eq firsts.new) }
 {
     let count = firsts.len();
@@ -100,7 +100,7 @@ fn visit_codes(firsts: &mut FirstPlaces, codes: &Codes, types: &Types, keys: &Ke
         return;
     }
     'codes: for code in 0..codes.end() {
-        visit_code(firsts, codes, types, keys, code);
+        visit_code(firsts, codes, typing, keys, code);
     }
 }
 
@@ -122,20 +122,20 @@ fn unplaced_keysyms(alloc: Global, maps: &ModifierMaps) -> Result<FirstPlaces, F
 pub(crate) fn first_places(
     alloc: Global,
     codes: &Codes,
-    types: &Types,
+    typing: Typing,
     keys: &Keys,
     maps: &ModifierMaps,
 ) -> Result<FirstPlaces, Fault>
     ensures firsts { IfOk result (λ firsts.
-        let m = mapping_of codes.now types.now keys.now maps.now in (k : ℕ)
+        let m = mapping_of codes.now (typing_of typing.entry) keys.now maps.now in (k : ℕ)
         → get nat_eq firsts k ≡ (if list_any (λ (e : ℕ × ℕ). e.0 == k) m.keysym_maps
         then Some (first_place k m) else None)) }
     ensures least { IfOk result (λ firsts. (k : ℕ)
         → IfSome (get nat_eq firsts k)
-        (IsFirstOrNone (places_below k (mapping_of codes.now types.now keys.now maps.now) CODES))) }
+        (IsFirstOrNone (places_below k (mapping_of codes.now (typing_of typing.entry) keys.now maps.now) CODES))) }
     ensures err { IfErr result (λ e. e ≡ Memory) }
 {
     let mut firsts = unplaced_keysyms(alloc, maps)?;
-    visit_codes(&mut firsts, codes, types, keys);
+    visit_codes(&mut firsts, codes, typing, keys);
     Ok(firsts)
 }

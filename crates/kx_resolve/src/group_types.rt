@@ -5,13 +5,13 @@ ghost use Rattle.std.specs.Option.{option_map};
 ghost use Rattle.kx_basics.specs.declared.limits.TheConstants.{MOST_GROUPS, MOST_LEVELS};
 ghost use Rattle.kx_resolve.specs.Given.{given};
 ghost use Rattle.kx_resolve.specs.GroupTypes.{automatic, content_group, falls_back, first_keysym, four_levels, group_count, group_levels, group_type_name, groups_within, has_action, has_keypad, has_letters, is_fallback, is_type, one_level_name, type_definition, type_name, two_levels, wanted_type};
-ghost use Rattle.kx_types.specs.Types.{type_named};
+ghost use Rattle.kx_resolve.specs.Typing.{typing_of};
 
 use crate::given::{action_at, key_type, keysyms_at, written_type};
-use ks_core::Keysym;
+use crate::typing::Typing;
+use ks_core::{Keysym, Letters};
 use kx_basics::MOST_NAME_BYTES;
 use kx_symbols::KeyRecord;
-use kx_types::Types;
 
 /// The built-in type, which has no modifiers and one level.
 const ONE_LEVEL: &str = "ONE_LEVEL";
@@ -28,11 +28,12 @@ fn first_keysym(key: &KeyRecord, group: usize, level: usize) -> Keysym
 }
 
 #[inline(always)]
-fn has_letters(key: &KeyRecord, group: usize, level: usize) -> bool
+fn has_letters(letters: Letters, key: &KeyRecord, group: usize, level: usize) -> bool
     requires { level ≤ 2 }
-    ensures { result ≡ has_letters (first_keysym (given key.now) group) level }
+    ensures { result ≡ has_letters letters (first_keysym (given key.now) group) level }
 {
-    first_keysym(key, group, level).is_lower() && first_keysym(key, group, level + 1).is_upper()
+    letters.is_lower(first_keysym(key, group, level))
+        && letters.is_upper(first_keysym(key, group, level + 1))
 }
 
 fn has_keypad(key: &KeyRecord, group: usize) -> bool
@@ -42,10 +43,10 @@ fn has_keypad(key: &KeyRecord, group: usize) -> bool
 }
 
 #[inline(always)]
-fn two_levels(key: &KeyRecord, group: usize) -> &'static [u8]
-    ensures { result.now ≡ two_levels (first_keysym (given key.now) group) }
+fn two_levels(letters: Letters, key: &KeyRecord, group: usize) -> &'static [u8]
+    ensures { result.now ≡ two_levels letters (first_keysym (given key.now) group) }
 {
-    if has_letters(key, group, 0) {
+    if has_letters(letters, key, group, 0) {
         b"ALPHABETIC"
     } else if has_keypad(key, group) {
         b"KEYPAD"
@@ -55,11 +56,11 @@ fn two_levels(key: &KeyRecord, group: usize) -> &'static [u8]
 }
 
 #[inline(always)]
-fn four_levels(key: &KeyRecord, group: usize) -> &'static [u8]
-    ensures { result.now ≡ four_levels (first_keysym (given key.now) group) }
+fn four_levels(letters: Letters, key: &KeyRecord, group: usize) -> &'static [u8]
+    ensures { result.now ≡ four_levels letters (first_keysym (given key.now) group) }
 {
-    if has_letters(key, group, 0) {
-        if has_letters(key, group, 2) {
+    if has_letters(letters, key, group, 0) {
+        if has_letters(letters, key, group, 2) {
             b"FOUR_LEVEL_ALPHABETIC"
         } else {
             b"FOUR_LEVEL_SEMIALPHABETIC"
@@ -73,28 +74,28 @@ fn four_levels(key: &KeyRecord, group: usize) -> &'static [u8]
 
 /// The type that a group wants by how many levels it has, and by their first keysyms.
 #[inline(always)]
-fn automatic(key: &KeyRecord, group: usize) -> Option<&'static [u8]>
+fn automatic(letters: Letters, key: &KeyRecord, group: usize) -> Option<&'static [u8]>
     ensures { option_map (λ n. n.now) result
-        ≡ automatic (first_keysym (given key.now) group) ((given key.now).width group) }
+        ≡ automatic letters (first_keysym (given key.now) group) ((given key.now).width group) }
 {
     match key.width(group) {
         0 | 1 => Some(ONE_LEVEL.as_bytes()),
-        2 => Some(two_levels(key, group)),
-        3 | 4 => Some(four_levels(key, group)),
+        2 => Some(two_levels(letters, key, group)),
+        3 | 4 => Some(four_levels(letters, key, group)),
         _ => None,
     }
 }
 
 /// The type that a group wants: the one that is written for it, else the key's, else the automatic one.
 #[inline(always)]
-fn wanted_type(key: &KeyRecord, group: usize) -> Option<&[u8]>
-    ensures { option_map (λ n. n.now) result ≡ wanted_type (given key.now) group }
+fn wanted_type<'a>(letters: Letters, key: &'a KeyRecord, group: usize) -> Option<&'a [u8]>
+    ensures { option_map (λ n. n.now) result ≡ wanted_type letters (given key.now) group }
 {
     match written_type(key, group) {
         Some(name) => Some(name),
         None => match key_type(key) {
             Some(name) => Some(name),
-            None => automatic(key, group),
+            None => automatic(letters, key, group),
         },
     }
 }
@@ -164,33 +165,33 @@ pub struct GroupType<'a> {
 }
 
 /// The built-in type, or the one that is declared under its name.
-fn one_level(types: &Types, falls_back: bool) -> GroupType<'static>
+fn one_level(typing: Typing, falls_back: bool) -> GroupType<'static>
     ensures name { result.name.now ≡ one_level_name }
     ensures levels { result.levels
-        ≡ (type_definition (type_named types.now) one_level_name).levels }
+        ≡ (type_definition (typing_of typing.entry) one_level_name).levels }
     ensures few { result.levels ≤ MOST_LEVELS }
     ensures falls_back { result.falls_back ≡ falls_back }
 {
     let name = ONE_LEVEL.as_bytes();
     GroupType {
         name,
-        levels: levels_of(types, name),
+        levels: levels_of(typing, name),
         falls_back,
     }
 }
 
 /// The type of a name, where a type has it.
-fn declared_type<'a>(types: &Types, name: &'a [u8]) -> Option<GroupType<'a>>
-    ensures some { IfSome result (λ t. IsTrue (is_type (type_named types.now) name.now)
+fn declared_type<'a>(typing: Typing, name: &'a [u8]) -> Option<GroupType<'a>>
+    ensures some { IfSome result (λ t. IsTrue (is_type (typing_of typing.entry) name.now)
         × (t.name.now ≡ name.now) × (t.levels
-        ≡ (type_definition (type_named types.now) name.now).levels) × (t.levels ≤ MOST_LEVELS)
+        ≡ (type_definition (typing_of typing.entry) name.now).levels) × (t.levels ≤ MOST_LEVELS)
         × (t.falls_back ≡ false)) }
-    ensures none { IfNone result (is_type (type_named types.now) name.now ≡ false) }
+    ensures none { IfNone result (is_type (typing_of typing.entry) name.now ≡ false) }
 {
     if name.len() > MOST_NAME_BYTES {
         return None;
     }
-    let key_type = types.named(name)?;
+    let key_type = typing.types.named(name)?;
     Some(GroupType {
         name,
         levels: usize::from(key_type.levels()),
@@ -200,43 +201,48 @@ fn declared_type<'a>(types: &Types, name: &'a [u8]) -> Option<GroupType<'a>>
 
 /// The type that stands for one that is wanted.
 #[inline(always)]
-fn type_for<'a>(types: &Types, wanted: Option<&'a [u8]>) -> GroupType<'a>
+fn type_for<'a>(typing: Typing, wanted: Option<&'a [u8]>) -> GroupType<'a>
     ensures name { result.name.now
-        ≡ type_name (type_named types.now) (option_map (λ n. n.now) wanted.entry) }
+        ≡ type_name (typing_of typing.entry) (option_map (λ n. n.now) wanted.entry) }
     ensures levels { result.levels
-        ≡ (type_definition (type_named types.now)
-        (type_name (type_named types.now) (option_map (λ n. n.now) wanted.entry))).levels }
+        ≡ (type_definition (typing_of typing.entry)
+        (type_name (typing_of typing.entry) (option_map (λ n. n.now) wanted.entry))).levels }
     ensures few { result.levels ≤ MOST_LEVELS }
     ensures falls_back { result.falls_back
-        ≡ is_fallback (type_named types.now) (option_map (λ n. n.now) wanted.entry) }
+        ≡ is_fallback (typing_of typing.entry) (option_map (λ n. n.now) wanted.entry) }
 {
     match wanted {
-        None => one_level(types, true),
-        Some(name) => match declared_type(types, name) {
+        None => one_level(typing, true),
+        Some(name) => match declared_type(typing, name) {
             Some(group_type) => group_type,
-            None => one_level(types, name != ONE_LEVEL.as_bytes()),
+            None => one_level(typing, name != ONE_LEVEL.as_bytes()),
         },
     }
 }
 
 /// The type that a group has, or the first one where it has no level of its own.
 #[inline(always)]
-pub fn group_type<'a>(types: &Types, key: &'a KeyRecord, group: usize) -> GroupType<'a>
-    ensures name { result.name.now ≡ group_type_name (type_named types.now) (given key.now) group }
-    ensures levels { result.levels ≡ group_levels (type_named types.now) (given key.now) group }
+pub fn group_type<'a>(typing: Typing, key: &'a KeyRecord, group: usize) -> GroupType<'a>
+    ensures name { result.name.now
+        ≡ group_type_name (typing_of typing.entry) (given key.now) group }
+    ensures levels { result.levels ≡ group_levels (typing_of typing.entry) (given key.now) group }
     ensures few { result.levels ≤ MOST_LEVELS }
     ensures falls_back { result.falls_back
-        ≡ falls_back (type_named types.now) (given key.now) (content_group (given key.now) group) }
+        ≡ falls_back (typing_of typing.entry) (given key.now)
+        (content_group (given key.now) group) }
 {
-    type_for(types, wanted_type(key, content_group(key, group)))
+    type_for(
+        typing,
+        wanted_type(typing.letters, key, content_group(key, group)),
+    )
 }
 
 /// How many levels the type of a name has.
-fn levels_of(types: &Types, name: &[u8]) -> usize
-    ensures value { result ≡ (type_definition (type_named types.now) name.now).levels }
+fn levels_of(typing: Typing, name: &[u8]) -> usize
+    ensures value { result ≡ (type_definition (typing_of typing.entry) name.now).levels }
     ensures few { result ≤ MOST_LEVELS }
 {
-    match types.named(name) {
+    match typing.types.named(name) {
         None => 1,
         Some(key_type) => usize::from(key_type.levels()),
     }

@@ -8,15 +8,16 @@ ghost use Rattle.kx_virtual_mods.specs.Sets.{has};
 ghost use Rattle.kx_modmaps.specs.Maps.{shown_entry};
 ghost use Rattle.kx_mods.specs.Mods.{mask};
 ghost use Rattle.kx_resolve.specs.Mapping.{is_at};
+ghost use Rattle.kx_resolve.specs.Typing.{typing_of};
 
 use crate::finding::{FirstPlaces, first_places};
+use crate::typing::Typing;
 use indexmap::IndexMap;
 use kx_codes::Codes;
 use kx_lex::Fault;
 use kx_modmaps::ModifierMaps;
 use kx_mods::Mods;
 use kx_symbols::Keys;
-use kx_types::Types;
 use std::alloc::Global;
 use std::marker::Model;
 
@@ -59,15 +60,16 @@ impl KeyModmaps {
     pub fn of(
         alloc: Global,
         codes: &Codes,
-        types: &Types,
+        typing: Typing,
         keys: &Keys,
         maps: ModifierMaps,
     ) -> Result<KeyModmaps, Fault>
         ensures mapped { IfOk result (λ made. (code : ℕ)
-            → modmap_at made code ≡ modmap_of (mapping_of codes.now types.now keys.now maps) code) }
+            → modmap_at made code
+            ≡ modmap_of (mapping_of codes.now (typing_of typing.entry) keys.now maps) code) }
         ensures err { IfErr result (λ e. e ≡ Memory) }
     {
-        let firsts = first_places(alloc, codes, types, keys, &maps)?;
+        let firsts = first_places(alloc, codes, typing, keys, &maps)?;
         let by_keysym = mods_by_code(alloc, &firsts, &maps)?;
         Ok(KeyModmaps { maps, by_keysym })
     }

@@ -19,7 +19,7 @@ ghost use Rattle.kx_symbols.specs.Keys.{key_at};
 ghost use Rattle.kx_tables.specs.Sound.{ActionHolds, RangeHolds};
 ghost use Rattle.kx_resolve.specs.Given.{given, given_in};
 ghost use Rattle.kx_resolve.specs.GroupTypes.{content_group, has_action};
-ghost use Rattle.kx_types.specs.Types.{type_named};
+ghost use Rattle.kx_resolve.specs.Typing.{typing_of};
 
 use crate::given::{keysyms_at, range};
 use crate::group_types::{content_group, group_count, has_action};
@@ -284,12 +284,12 @@ fn push_code<'p>(
     requires small { IsWithinLimits builder.old }
     requires few { length builder.old.keys < CODES }
     ensures pushed { OnOk result ((used ns : List (List ℕ))
-        → group_types.now ≡ map (type_in_use (type_named read.entry.types.now) used)
-        (type_names_if (type_named read.entry.types.now) (name_of read.entry.codes.now code)
+        → group_types.now ≡ map (type_in_use (typing_of read.entry.typing) used)
+        (type_names_if (typing_of read.entry.typing) (name_of read.entry.codes.now code)
         (given_in (key_at read.entry.keys.now code)) ++ ns)
         → builder.new ≡ record builder.old {
           keys = builder.old.keys
-              ++ key_if_named (type_named read.entry.types.now) used
+              ++ key_if_named (typing_of read.entry.typing) used
               (level_actions_of (real_of (stands_for read.entry.stands.now))
               read.entry.interpretations.now (modmap_at read.entry.modmaps.now code)
               (given_in (key_at read.entry.keys.now code)))
@@ -297,20 +297,20 @@ fn push_code<'p>(
               code (name_of read.entry.codes.now code) (modmap_at read.entry.modmaps.now code);
         }) }
     ensures bounds { OnOk result ((used ns : List (List ℕ))
-        → group_types.now ≡ map (type_in_use (type_named read.entry.types.now) used)
-        (type_names_if (type_named read.entry.types.now) (name_of read.entry.codes.now code)
+        → group_types.now ≡ map (type_in_use (typing_of read.entry.typing) used)
+        (type_names_if (typing_of read.entry.typing) (name_of read.entry.codes.now code)
         (given_in (key_at read.entry.keys.now code)) ++ ns) → (name : List ℕ)
         → name_of read.entry.codes.now code ≡ Some name
-        → KeepsBounds (type_named read.entry.types.now) name (modmap_at read.entry.modmaps.now code)
+        → KeepsBounds (typing_of read.entry.typing) name (modmap_at read.entry.modmaps.now code)
         (level_actions_of (real_of (stands_for read.entry.stands.now))
         read.entry.interpretations.now (modmap_at read.entry.modmaps.now code)
         (given_in (key_at read.entry.keys.now code)))
         (given_in (key_at read.entry.keys.now code))) }
     ensures rest { IfOk result (λ rest. (used ns : List (List ℕ))
-        → group_types.now ≡ map (type_in_use (type_named read.entry.types.now) used)
-        (type_names_if (type_named read.entry.types.now) (name_of read.entry.codes.now code)
+        → group_types.now ≡ map (type_in_use (typing_of read.entry.typing) used)
+        (type_names_if (typing_of read.entry.typing) (name_of read.entry.codes.now code)
         (given_in (key_at read.entry.keys.now code)) ++ ns)
-        → rest.now ≡ map (type_in_use (type_named read.entry.types.now) used) ns) }
+        → rest.now ≡ map (type_in_use (typing_of read.entry.typing) used) ns) }
     ensures small { OnOk result (IsWithinLimits builder.new) }
     ensures err { IfErr result (λ e. e ≡ Memory) }
 {
@@ -346,17 +346,17 @@ pub(crate) fn push_keys(
     requires small { IsWithinLimits builder.old }
     requires keyless { builder.old.keys ≡ [] }
     requires group_types { used.now.group_types.items
-        ≡ map (type_in_use (type_named read.types.now) used.now.names)
-        (type_names_below (type_named read.types.now) (name_of read.codes.now) (λ c.
+        ≡ map (type_in_use (typing_of read.typing) used.now.names)
+        (type_names_below (typing_of read.typing) (name_of read.codes.now) (λ c.
         given_in (key_at read.keys.now c)) CODES) }
     ensures pushed { OnOk result (builder.new
         ≡ record builder.old {
-          keys = keys_below (type_named read.entry.types.now) used.now.names
+          keys = keys_below (typing_of read.entry.typing) used.now.names
               (keyed_of (real_of (stands_for read.entry.stands.now)) read.entry.codes.now
               read.entry.keys.now (modmap_at read.entry.modmaps.now) read.entry.interpretations.now)
               CODES;
         }) }
-    ensures bounds { OnOk result (BoundsBelow (type_named read.entry.types.now)
+    ensures bounds { OnOk result (BoundsBelow (typing_of read.entry.typing)
         (keyed_of (real_of (stands_for read.entry.stands.now)) read.entry.codes.now
         read.entry.keys.now (modmap_at read.entry.modmaps.now) read.entry.interpretations.now)
         CODES) }

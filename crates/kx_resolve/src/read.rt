@@ -1,12 +1,12 @@
 //! What is read of a keymap.
 use crate::key_modmaps::KeyModmaps;
+use crate::typing::Typing;
 use kx_codes::Codes;
 use kx_compat::Interpretations;
 use kx_group_names::GroupNames;
 use kx_indicators::Indicators;
 use kx_mods::Mods;
 use kx_symbols::Keys;
-use kx_types::Types;
 
 /// What is read of a keymap's sections.
 #[derive(Clone, Copy)]
@@ -15,8 +15,8 @@ pub struct Read<'a, 'l> {
     pub codes: &'a Codes<'l>,
     /// What each virtual modifier stands for, by its number.
     pub stands: &'a [Mods],
-    /// The key types by name.
-    pub types: &'a Types,
+    /// What tells the key types of groups.
+    pub typing: Typing<'a>,
     /// What statements give keys, by their codes.
     pub keys: &'a Keys,
     /// The real modifiers that keys are mapped to.

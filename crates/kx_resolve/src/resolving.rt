@@ -15,7 +15,7 @@ ghost use Rattle.kx_resolve.specs.Shown.{keymap_meant};
 ghost use Rattle.kx_tables.specs.Keymap.{keymap_of};
 ghost use Rattle.kx_tables.specs.RawTables.{content_of};
 ghost use Rattle.kx_tables.specs.Sound.{Sound};
-ghost use Rattle.kx_types.specs.Types.{type_named};
+ghost use Rattle.kx_resolve.specs.Typing.{typing_of};
 
 use crate::keys::push_keys;
 use crate::lighting::with_indicator_maps;
@@ -44,7 +44,7 @@ pub fn resolve(alloc: Global, read: Read) -> Result<(RawTables, Notes), Fault>
     ensures content { IfOk result (λ made.
         content_of made.0 ≡ with_indicator_maps
         (content_of_resolved (resolved_of (real_of (stands_for read.entry.stands.now))
-        (type_named read.entry.types.now)
+        (typing_of read.entry.typing)
         (keyed_of (real_of (stands_for read.entry.stands.now)) read.entry.codes.now
         read.entry.keys.now (modmap_at read.entry.modmaps.now) read.entry.interpretations.now)))
         (indicators_of (real_of (stands_for read.entry.stands.now)) read.entry.indicators.now)
@@ -53,15 +53,15 @@ pub fn resolve(alloc: Global, read: Read) -> Result<(RawTables, Notes), Fault>
     ensures agrees { IfOk result (λ made.
         ShowsSame (keymap_of (content_of made.0))
         (keymap_with (keymap_meant (real_of (stands_for read.entry.stands.now))
-        (type_named read.entry.types.now)
+        (typing_of read.entry.typing)
         (keyed_of (real_of (stands_for read.entry.stands.now)) read.entry.codes.now
         read.entry.keys.now (modmap_at read.entry.modmaps.now) read.entry.interpretations.now))
         (indicators_of (real_of (stands_for read.entry.stands.now)) read.entry.indicators.now))) }
     ensures err { IfErr result (λ e. e ≡ Memory) }
 {
     names_apart(read.codes);
-    let used = types_used(alloc, read.codes, read.types, read.keys)?;
-    let mut builder = with_types(alloc, read.types, read.stands, &used.names)?;
+    let used = types_used(alloc, read.codes, read.typing, read.keys)?;
+    let mut builder = with_types(alloc, read.typing, read.stands, &used.names)?;
     let mut notes = Notes::new();
     push_keys(&mut builder, read, &used, &mut notes)?;
     let parts = with_indicator_maps(

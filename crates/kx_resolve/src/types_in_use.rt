@@ -8,14 +8,14 @@ ghost use Rattle.kx_resolve.specs.Given.{given, given_in};
 ghost use Rattle.kx_resolve.specs.GroupTypes.{group_count, group_type_name};
 ghost use Rattle.kx_resolve.specs.Keys.{type_names, type_names_below, type_names_if, types_used};
 ghost use Rattle.kx_symbols.specs.Keys.{key_at};
-ghost use Rattle.kx_types.specs.Types.{type_named};
+ghost use Rattle.kx_resolve.specs.Typing.{typing_of};
 ghost use Rattle.kx_types.specs.declared.limits.TheConstants.{MOST_TYPES};
 
 use crate::group_types::{GroupType, group_count, group_type};
+use crate::typing::Typing;
 use kx_codes::Codes;
 use kx_lex::Fault;
 use kx_symbols::{KeyRecord, Keys};
-use kx_types::Types;
 use kx_virtual_mods::Names;
 use std::alloc::Global;
 use std::marker::Model;
@@ -84,35 +84,40 @@ pub(crate) struct UsedTypes {
 /// Adds the type of a group of a key.
 fn use_group(
     alloc: Global,
-    types: &Types,
+    typing: Typing,
     key: &KeyRecord,
     group: usize,
     used: &mut UsedTypes,
 ) -> Result<(), Fault>
     ensures used { OnOk result ((names : List (List ℕ))
-        → AreUsed (type_named types.now) names used.old.names used.old.group_types.items
-        → AreUsed (type_named types.now)
-        (names ++ group_type_name (type_named types.now) (given key.now) group ∷ []) used.new.names
+        → AreUsed (typing_of typing.entry) names used.old.names used.old.group_types.items
+        → AreUsed (typing_of typing.entry)
+        (names ++ group_type_name (typing_of typing.entry) (given key.now) group ∷ []) used.new.names
         used.new.group_types.items) }
     ensures err { IfErr result (λ e. e ≡ Memory) }
 {
-    let group_type = group_type(types, key, group);
+    let group_type = group_type(typing, key, group);
     let place = used.names.number(alloc, group_type.name)?;
     used.group_types.push(TypeInUse::of(place, group_type))?;
     Ok(())
 }
 
 /// Adds the types of a key's groups.
-fn use_key(alloc: Global, types: &Types, key: &KeyRecord, used: &mut UsedTypes) -> Result<(), Fault>
+fn use_key(
+    alloc: Global,
+    typing: Typing,
+    key: &KeyRecord,
+    used: &mut UsedTypes,
+) -> Result<(), Fault>
     ensures used { OnOk result ((names : List (List ℕ))
-        → AreUsed (type_named types.now) names used.old.names used.old.group_types.items
-        → AreUsed (type_named types.now)
-        (names ++ type_names (type_named types.now) (given key.now) (group_count (given key.now)))
+        → AreUsed (typing_of typing.entry) names used.old.names used.old.group_types.items
+        → AreUsed (typing_of typing.entry)
+        (names ++ type_names (typing_of typing.entry) (given key.now) (group_count (given key.now)))
         used.new.names used.new.group_types.items) }
     ensures err { IfErr result (λ e. e ≡ Memory) }
 {
     'groups: for group in 0..group_count(key) {
-        use_group(alloc, types, key, group, used)?;
+        use_group(alloc, typing, key, group, used)?;
     }
     Ok(())
 }
@@ -121,20 +126,20 @@ fn use_key(alloc: Global, types: &Types, key: &KeyRecord, used: &mut UsedTypes) 
 fn use_code(
     alloc: Global,
     codes: &Codes,
-    types: &Types,
+    typing: Typing,
     keys: &Keys,
     code: u16,
     used: &mut UsedTypes,
 ) -> Result<(), Fault>
     ensures used { OnOk result ((names : List (List ℕ))
-        → AreUsed (type_named types.now) names used.old.names used.old.group_types.items
-        → AreUsed (type_named types.now)
-        (names ++ type_names_if (type_named types.now) (name_of codes.now code)
+        → AreUsed (typing_of typing.entry) names used.old.names used.old.group_types.items
+        → AreUsed (typing_of typing.entry)
+        (names ++ type_names_if (typing_of typing.entry) (name_of codes.now code)
         (given_in (key_at keys.now code))) used.new.names used.new.group_types.items) }
     ensures err { IfErr result (λ e. e ≡ Memory) }
 {
     match (codes.name_of(code), keys.key(code)) {
-        (Some(_), Some(key)) => use_key(alloc, types, key, used),
+        (Some(_), Some(key)) => use_key(alloc, typing, key, used),
         (Some(_), None) => Ok(()),
         (None, _) => Ok(()),
     }
@@ -144,15 +149,15 @@ fn use_code(
 pub(crate) fn types_used(
     alloc: Global,
     codes: &Codes,
-    types: &Types,
+    typing: Typing,
     keys: &Keys,
 ) -> Result<UsedTypes, Fault>
     ensures used { IfOk result (λ used.
-        used.names ≡ types_used (type_named types.now) (name_of codes.now) (λ c.
+        used.names ≡ types_used (typing_of typing.entry) (name_of codes.now) (λ c.
         given_in (key_at keys.now c))) }
     ensures group_types { IfOk result (λ used.
-        used.group_types.items ≡ map (type_in_use (type_named types.now) used.names)
-        (type_names_below (type_named types.now) (name_of codes.now) (λ c.
+        used.group_types.items ≡ map (type_in_use (typing_of typing.entry) used.names)
+        (type_names_below (typing_of typing.entry) (name_of codes.now) (λ c.
         given_in (key_at keys.now c)) CODES)) }
     ensures few { IfOk result (λ used. length used.names ≤ MOST_TYPES + 1) }
     ensures err { IfErr result (λ e. e ≡ Memory) }
@@ -162,8 +167,8 @@ pub(crate) fn types_used(
         group_types: Vec::new(alloc),
     };
     'codes: for code in 0..codes.end() {
-        use_code(alloc, codes, types, keys, code, &mut used)?;
+        use_code(alloc, codes, typing, keys, code, &mut used)?;
     }
-    prove!(used.names.len() <= types.len() + 1);
+    prove!(used.names.len() <= typing.types.len() + 1);
     Ok(used)
 }

@@ -10,15 +10,16 @@ ghost use Rattle.kx_virtual_mods.specs.Sets.{real_of};
 ghost use Rattle.kx_virtual_mods.specs.Standing.{stands_for};
 ghost use Rattle.kx_resolve.specs.Bounds.{TypeHolds};
 ghost use Rattle.kx_resolve.specs.Keys.{type_of, type_with};
-ghost use Rattle.kx_types.specs.Types.{type_named};
+ghost use Rattle.kx_resolve.specs.Typing.{typing_of};
 ghost use Rattle.kx_types.specs.declared.limits.TheConstants.{MOST_TYPES};
 
 use crate::keys::refused;
 use crate::rows::TypeRows;
+use crate::typing::Typing;
 use kx_builder::Builder;
 use kx_lex::Fault;
 use kx_mods::Mods;
-use kx_types::{KeyType, Types};
+use kx_types::KeyType;
 use kx_virtual_mods::Names;
 use std::alloc::Global;
 
@@ -54,7 +55,7 @@ fn push_with(
 fn push_type(
     alloc: Global,
     builder: &mut Builder,
-    types: &Types,
+    typing: Typing,
     stands: &[Mods],
     name: &[u8],
 ) -> Result<(), Fault>
@@ -62,13 +63,14 @@ fn push_type(
     requires keyless { builder.old.keys ≡ [] }
     requires short { length name.now ≤ MOST_NAME_BYTES }
     ensures pushed { OnOk result (builder.new
-        ≡ with_type builder.old (type_of (real_of (stands_for stands.now)) (type_named types.now)
+        ≡ with_type builder.old (type_of (real_of (stands_for stands.now)) (typing_of typing.entry)
         name.now)) }
-    ensures holds { OnOk result (TypeHolds (real_of (stands_for stands.now)) (type_named types.now)
+    ensures holds { OnOk result
+        (TypeHolds (real_of (stands_for stands.now)) (typing_of typing.entry)
         name.now) }
     ensures err { IfErr result (λ e. e ≡ Memory) }
 {
-    match types.named(name) {
+    match typing.types.named(name) {
         None => push_with(alloc, builder, name, &KeyType::one_level(alloc), stands),
         Some(key_type) => push_with(alloc, builder, name, key_type, stands),
     }
@@ -78,7 +80,7 @@ fn push_type(
 fn push_numbered(
     alloc: Global,
     builder: &mut Builder,
-    types: &Types,
+    typing: Typing,
     stands: &[Mods],
     used: &Names,
     number: usize,
@@ -88,13 +90,13 @@ fn push_numbered(
     requires short { All (λ name. length name ≤ MOST_NAME_BYTES) used.now }
     ensures pushed { OnOk result ((name : List ℕ) → slice_get used.now number ≡ Some name
         → builder.new ≡ with_type builder.old
-        (type_of (real_of (stands_for stands.now)) (type_named types.now) name)) }
+        (type_of (real_of (stands_for stands.now)) (typing_of typing.entry) name)) }
     ensures holds { OnOk result ((name : List ℕ) → slice_get used.now number ≡ Some name
-        → TypeHolds (real_of (stands_for stands.now)) (type_named types.now) name) }
+        → TypeHolds (real_of (stands_for stands.now)) (typing_of typing.entry) name) }
     ensures err { IfErr result (λ e. e ≡ Memory) }
 {
     match used.name(number) {
-        Some(name) => push_type(alloc, builder, types, stands, name),
+        Some(name) => push_type(alloc, builder, typing, stands, name),
         None => Ok(()),
     }
 }
@@ -102,7 +104,7 @@ fn push_numbered(
 /// A builder with the types of these names.
 pub(crate) fn with_types(
     alloc: Global,
-    types: &Types,
+    typing: Typing,
     stands: &[Mods],
     used: &Names,
 ) -> Result<Builder, Fault>
@@ -111,17 +113,17 @@ pub(crate) fn with_types(
     ensures types { IfOk result (λ builder.
         builder ≡ record {
           types = map
-              (type_of (real_of (stands_for stands.now)) (type_named types.now)) used.now;
+              (type_of (real_of (stands_for stands.now)) (typing_of typing.entry)) used.now;
           keys = [];
         }) }
     ensures hold { OnOk result (All
-        (TypeHolds (real_of (stands_for stands.now)) (type_named types.now)) used.now) }
+        (TypeHolds (real_of (stands_for stands.now)) (typing_of typing.entry)) used.now) }
     ensures small { IfOk result (λ builder. IsWithinLimits builder) }
     ensures err { IfErr result (λ e. e ≡ Memory) }
 {
     let mut builder = Builder::new(alloc);
     'names: for number in 0..used.len() {
-        push_numbered(alloc, &mut builder, types, stands, used, number)?;
+        push_numbered(alloc, &mut builder, typing, stands, used, number)?;
     }
     Ok(builder)
 }

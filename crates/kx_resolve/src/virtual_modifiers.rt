@@ -11,18 +11,18 @@ ghost use Rattle.kx_virtual_mods.specs.Standing.{stands_for};
 ghost use Rattle.kx_mods.specs.Mods.{mask};
 ghost use Rattle.kx_resolve.specs.Given.{given};
 ghost use Rattle.kx_resolve.specs.GroupTypes.{has_action};
-ghost use Rattle.kx_types.specs.Types.{type_named};
+ghost use Rattle.kx_resolve.specs.Typing.{typing_of};
 ghost use Rattle.kx_basics.specs.declared.limits.TheConstants.{CODES};
 
 use crate::group_types::has_action;
 use crate::key_modmaps::KeyModmaps;
 use crate::level_actions::InterpretedKey;
+use crate::typing::Typing;
 use kx_codes::Codes;
 use kx_compat::Interpretations;
 use kx_lex::Fault;
 use kx_mods::Mods;
 use kx_symbols::{KeyRecord, Keys};
-use kx_types::Types;
 use kx_virtual_mods::{MOST_VIRTUAL_MODIFIERS, NameSet};
 use std::alloc::Global;
 
@@ -40,7 +40,7 @@ struct MappedKey {
 /// Adds a key.
 fn push_mapped_key(
     mapped_keys: &mut Vec<MappedKey>,
-    types: &Types,
+    typing: Typing,
     key: InterpretedKey,
 ) -> Result<(), Fault>
     requires { key.own ≡ has_action (given key.key.now) }
@@ -48,12 +48,12 @@ fn push_mapped_key(
         → is_brought mapped_keys.new.items number real
         ≡ (is_brought mapped_keys.old.items number real
         || (is_in_vmodmap key.entry.interpretations.now key.entry.modmap (given key.entry.key.now)
-        (type_named types.now) number && has (mask key.entry.modmap) real))) }
+        (typing_of typing.entry) number && has (mask key.entry.modmap) real))) }
     ensures err { IfErr result (λ e. e ≡ Memory) }
 {
     mapped_keys.push(MappedKey {
         mods: key.modmap,
-        vmodmap: key.vmodmap(types),
+        vmodmap: key.vmodmap(typing),
     })?;
     Ok(())
 }
@@ -61,7 +61,7 @@ fn push_mapped_key(
 /// Adds a key that is mapped to these modifiers, where there are any.
 fn add_key(
     mapped_keys: &mut Vec<MappedKey>,
-    types: &Types,
+    typing: Typing,
     interpretations: &Interpretations,
     key: &KeyRecord,
     modmap: Mods,
@@ -69,7 +69,7 @@ fn add_key(
     ensures added { OnOk result ((number real : ℕ)
         → is_brought mapped_keys.new.items number real
         ≡ (is_brought mapped_keys.old.items number real
-        || (is_in_vmodmap interpretations.now modmap (given key.now) (type_named types.now) number
+        || (is_in_vmodmap interpretations.now modmap (given key.now) (typing_of typing.entry) number
         && has (mask modmap) real))) }
     ensures err { IfErr result (λ e. e ≡ Memory) }
 {
@@ -82,7 +82,7 @@ fn add_key(
         own: has_action(key),
         modmap,
     };
-    push_mapped_key(mapped_keys, types, key)?;
+    push_mapped_key(mapped_keys, typing, key)?;
     Ok(())
 }
 
@@ -90,7 +90,7 @@ fn add_key(
 fn add_code(
     mapped_keys: &mut Vec<MappedKey>,
     codes: &Codes,
-    types: &Types,
+    typing: Typing,
     keys: &Keys,
     modmaps: &KeyModmaps,
     interpretations: &Interpretations,
@@ -99,13 +99,13 @@ fn add_code(
     ensures added { OnOk result ((number real : ℕ)
         → is_brought mapped_keys.new.items number real
         ≡ (is_brought mapped_keys.old.items number real
-        || brings (read_keymap_of codes.now types.now keys.now (modmap_at modmaps.now)
+        || brings (read_keymap_of codes.now (typing_of typing.entry) keys.now (modmap_at modmaps.now)
         interpretations.now []) number real code)) }
     ensures err { IfErr result (λ e. e ≡ Memory) }
 {
     match (codes.name_of(code), keys.key(code)) {
         (Some(_), Some(key)) => {
-            add_key(mapped_keys, types, interpretations, key, modmaps.key(code))?;
+            add_key(mapped_keys, typing, interpretations, key, modmaps.key(code))?;
             Ok(())
         }
         (Some(_), None) => Ok(()),
@@ -117,14 +117,14 @@ fn add_code(
 fn mapped_keys_of(
     alloc: Global,
     codes: &Codes,
-    types: &Types,
+    typing: Typing,
     keys: &Keys,
     modmaps: &KeyModmaps,
     interpretations: &Interpretations,
 ) -> Result<Vec<MappedKey>, Fault>
     ensures all { IfOk result (λ mapped_keys. (number real : ℕ)
         → is_brought mapped_keys.items number real
-        ≡ any_below CODES (brings (read_keymap_of codes.now types.now keys.now
+        ≡ any_below CODES (brings (read_keymap_of codes.now (typing_of typing.entry) keys.now
         (modmap_at modmaps.now) interpretations.now []) number real)) }
     ensures err { IfErr result (λ e. e ≡ Memory) }
 {
@@ -133,7 +133,7 @@ fn mapped_keys_of(
         add_code(
             &mut mapped_keys,
             codes,
-            types,
+            typing,
             keys,
             modmaps,
             interpretations,
@@ -207,7 +207,7 @@ fn stands_of(
 pub fn virtual_modifier_masks(
     alloc: Global,
     codes: &Codes,
-    types: &Types,
+    typing: Typing,
     keys: &Keys,
     modmaps: &KeyModmaps,
     interpretations: &Interpretations,
@@ -215,11 +215,11 @@ pub fn virtual_modifier_masks(
 ) -> Result<Vec<Mods>, Fault>
     ensures stands { IfOk result (λ made. (number real : ℕ) → number < MOST_VIRTUAL_MODIFIERS
         → stands_for made.items number real
-        ≡ stands (read_keymap_of codes.now types.now keys.now (modmap_at modmaps.now)
+        ≡ stands (read_keymap_of codes.now (typing_of typing.entry) keys.now (modmap_at modmaps.now)
         interpretations.now declared.now) number real) }
     ensures err { IfErr result (λ e. e ≡ Memory) }
 {
-    let mapped_keys = mapped_keys_of(alloc, codes, types, keys, modmaps, interpretations)?;
+    let mapped_keys = mapped_keys_of(alloc, codes, typing, keys, modmaps, interpretations)?;
     let stands = stands_of(alloc, mapped_keys.as_slice(), declared)?;
     Ok(stands)
 }

@@ -7,8 +7,8 @@ ghost use Rattle.kx_virtual_mods.specs.Sets.{has_virtual};
 use crate::given::virtual_mods;
 use crate::group_types::{content_group, group_count, group_type};
 use crate::level_actions::InterpretedKey;
+use crate::typing::Typing;
 use kx_compat::Interpretation;
-use kx_types::Types;
 use kx_virtual_mods::{MOST_VIRTUAL_MODIFIERS, NameSet};
 
 /// The set of a virtual modifier, where there is one.
@@ -52,7 +52,7 @@ impl InterpretedKey<'_> {
     ghost use Rattle.std.specs.Prelude.{◌≡◌, ℕ};
     ghost use Rattle.kx_resolve.specs.Vmodmap.{is_in_vmodmap, gives, interpretation_at, is_given};
     ghost use Rattle.kx_virtual_mods.specs.Sets.{any_below, has_virtual};
-    ghost use Rattle.kx_types.specs.Types.{type_named};
+    ghost use Rattle.kx_resolve.specs.Typing.{typing_of};
     ghost use Rattle.kx_resolve.specs.Given.{given};
     ghost use Rattle.kx_resolve.specs.GroupTypes.{content_group, group_levels, has_action};
 
@@ -73,30 +73,30 @@ impl InterpretedKey<'_> {
     }
 
     /// The virtual modifiers that interpretations give the key.
-    fn given(self, types: &Types) -> NameSet
+    fn given(self, typing: Typing) -> NameSet
         requires { self.own ≡ has_action (given self.key.now) }
         ensures { (number : ℕ) → has_virtual result number
             ≡ is_given self.entry.interpretations.now self.entry.modmap (given self.entry.key.now)
-            (type_named types.now) number }
+            (typing_of typing.entry) number }
     {
         let mut set = NameSet::none();
         'groups: for group in 0..group_count(self.key) {
-            let levels = group_type(types, self.key, group).levels;
+            let levels = group_type(typing, self.key, group).levels;
             set = set.with(self.given_levels(group, levels));
         }
         set
     }
 
     /// The virtual modifiers that the key bears.
-    pub(crate) fn vmodmap(self, types: &Types) -> NameSet
+    pub(crate) fn vmodmap(self, typing: Typing) -> NameSet
         requires { self.own ≡ has_action (given self.key.now) }
         ensures { (number : ℕ) → has_virtual result number
             ≡ is_in_vmodmap self.entry.interpretations.now self.entry.modmap
-            (given self.entry.key.now) (type_named types.now) number }
+            (given self.entry.key.now) (typing_of typing.entry) number }
     {
         match virtual_mods(self.key) {
             Some(set) => set,
-            None => self.given(types),
+            None => self.given(typing),
         }
     }
 }

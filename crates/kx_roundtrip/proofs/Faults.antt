@@ -2,7 +2,7 @@
 use Rattle.std.proofs.Common.{◌≡◌, ◌≤◌, true, List, [], ◌∷◌, ◌++◌, length, Some, ap, ap₂, ◌∙◌, arith}
 use Rattle.std.proofs.lemmas.List.{length-map}
 use Rattle.std.specs.List.{list_all}
-use Rattle.ks_core.specs.Entry.{Entry}
+use Rattle.ks_core.specs.Table.{KeysymTable}
 use Rattle.ks_core.specs.Lines.{is_sound}
 use Rattle.kx_builder.specs.IndicatorMaps.{ResolvedIndicator}
 use Rattle.kx_builder.specs.Seen.{type_seen}
@@ -37,7 +37,7 @@ use Rattle.roundtrip_meaning.proofs.NoModifiers.{modifiers_faultless}
 use Rattle.roundtrip_meaning.proofs.Types.{types_faultless}
 
 -- the faults of a library, by its parts
-abbrev faults_by : List Entry → Parts → List Fault
+abbrev faults_by : KeysymTable → Parts → List Fault
 faults_by names p =
     modifier_faults (p.types ∷ p.compat ∷ p.symbols ∷ [])
     ++ (keycodes_faults p.keycodes
@@ -47,7 +47,7 @@ faults_by names p =
     ++ (names_faults p.symbols
     ++ indicator_maps_faults p.modifiers p.compat)))))
 
-module _ (c : Content) (sound : Sound c) (names : List Entry) (table : list_all is_sound names ≡ true) (few_types : length c.types ≤ MOST_TYPES) where
+module _ (c : Content) (sound : Sound c) (names : KeysymTable) (table : list_all is_sound names.names ≡ true) (few_types : length c.types ≤ MOST_TYPES) where
   pub codes_again : EachOf (λ (k : PrintedKey). code_of (codes_of (keycodes c sound)) k.name ≡ Some k.code) (keys_printed c)
   codes_again = codes_printed (place_of 0) (keys_printed c) (shown c sound).keycodes (shown c sound).keycodes_are (keys_fit c sound) (keys_apart c sound) (codes_rise c sound)
 

@@ -1,7 +1,7 @@
 -- A printed text means the tables that were printed, and has no fault.
 use Rattle.std.proofs.Common.{◌≡◌, ℕ, ◌<◌, ◌≤◌, List, [], length, Contains, Some, slice_get, inl, inr, ap, subst, arith}
 use Rattle.std.proofs.lemmas.Option.{slice_get_within}
-use Rattle.ks_core.specs.Entry.{Entry}
+use Rattle.ks_core.specs.Table.{KeysymTable}
 use Rattle.kx_lex.specs.Reading.{IsReading, StopsWith}
 use Rattle.kx_lex.specs.declared.fault.Fault.{Fault}
 use Rattle.kx_lex.specs.declared.token.Token.{Token}
@@ -31,7 +31,7 @@ none_in {xs} {e} none has =
 none_past : {X : Type 0} (xs : List X) (n : ℕ) (x : X) → length xs ≤ n → slice_get xs n ≡ Some x → ⊥
 none_past xs n x past is = let within = slice_get_within xs n x is in omega arith
 
-module _ (laws : Laws) (c : Content) (names : List Entry) (can : CanBePrinted c) (table : AreNames names) where
+module _ (laws : Laws) (c : Content) (names : KeysymTable) (can : CanBePrinted c) (table : AreNames names) where
   pub means_again : (d : Content) → Means (printed c) [] names d → d ≡ c
   means_again d means =
       holds_again c can.sound names table can.few_types d

@@ -1,7 +1,7 @@
 -- A printed text means the tables that were printed.
 use Rattle.std.proofs.Common.{◌≡◌, ℕ, suc, ◌+◌, ◌<◌, ◌≤◌, ◌^◌, true, List, [], ◌∷◌, Some, is_some, length, map, slice_get, refl, sym, ap, ap₂, ◌∙◌, subst, arith}
 use Rattle.std.specs.List.{list_all, zip}
-use Rattle.ks_core.specs.Entry.{Entry}
+use Rattle.ks_core.specs.Table.{KeysymTable}
 use Rattle.ks_core.specs.Lines.{is_sound}
 use Rattle.kx_resolve.specs.Vmodmap.{stands}
 use Rattle.kx_resolve.specs.LevelActions.{level_actions_of}
@@ -28,7 +28,7 @@ use Rattle.kx_modmaps.specs.declared.record.Cell.TheVariants.{Present}
 use Rattle.kx_modmaps.specs.declared.target.Target.TheVariants.{Key as KeyTarget}
 use Rattle.kx_parse.specs.declared.tree.Item.{Item}
 use Rattle.kx_resolve.specs.Lit.{indicator_lit, indicators_of}
-use Rattle.kx_source.specs.Meaning.{codes_of, declared_in, indicators_by, indicators_in, interpretations_in, key_given, key_in, keyed_in, indicator_maps_from, mapping_by, modmap_in, read_keymap_in, real_in, resolved_in}
+use Rattle.kx_source.specs.Meaning.{codes_of, declared_in, indicators_by, indicators_in, interpretations_in, key_given, key_in, keyed_in, indicator_maps_from, mapping_by, modmap_in, read_keymap_in, real_in, resolved_in, typing_in}
 use Rattle.kx_source.specs.Source.{HoldsAll}
 use Rattle.kx_tables.specs.Content.{Content}
 use Rattle.kx_tables.specs.Sound.{Sound}
@@ -85,13 +85,13 @@ module _ (real : ℕ → RealSet) (real_is : (set r : ℕ) → set < 2 ^ 8 → r
 
 -- ---- Interpretations
 
-interpretations_none : (names : List Entry) (ds : List ResolvedIndicator) (is : List Item) → AreShown (λ d i. IsItem (IsIndicator d) i) ds is → interpretations_of names [] (indicators_body is) ≡ []
+interpretations_none : (names : KeysymTable) (ds : List ResolvedIndicator) (is : List Item) → AreShown (λ d i. IsItem (IsIndicator d) i) ds is → interpretations_of names [] (indicators_body is) ≡ []
 interpretations_none names ds [] are = none_without names
 interpretations_none names ds (i ∷ is) are = no_interpretations names (place_of 2) ds (i ∷ is) are
 
 -- ---- Types and keys
 
-module _ (c : Content) (sound : Sound c) (names : List Entry) (table : list_all is_sound names ≡ true) (few_types : length c.types ≤ MOST_TYPES) where
+module _ (c : Content) (sound : Sound c) (names : KeysymTable) (table : list_all is_sound names.names ≡ true) (few_types : length c.types ≤ MOST_TYPES) where
   abbrev read : Parts
   read = parts_of (library c sound)
 
@@ -125,7 +125,7 @@ module _ (c : Content) (sound : Sound c) (names : List Entry) (table : list_all 
       ∙ maps_keysymless (codes_of (keycodes c sound)) names place ks (shown c sound).names (shown c sound).keys (shown c sound).maps table (name_items c sound) (shown c sound).keys_are (shown c sound).maps_are (keys_fit c sound) (codes_rise c sound) (codes_again c sound names table few_types)
 
   abbrev mapping : Mapping
-  mapping = mapping_by (name_of (codes_of read.keycodes)) (key_in names (library c sound)) (declared_in (library c sound)) (map_offers_of (codes_of read.keycodes) names read.modifiers read.symbols)
+  mapping = mapping_by (name_of (codes_of read.keycodes)) (key_in names (library c sound)) (typing_in names (library c sound)) (map_offers_of (codes_of read.keycodes) names read.modifiers read.symbols)
 
   abbrev IsMapped : Parts → PrintedKey → Type 0
   IsMapped p k = (real : ℕ) → real < 8 → is_some (value_of same_target (map_offers_of (codes_of p.keycodes) names p.modifiers p.symbols) (KeyTarget k.code) (Present real)) ≡ has (mask k.modmap) real
@@ -148,11 +148,11 @@ module _ (c : Content) (sound : Sound c) (names : List Entry) (table : list_all 
       ∙ level_actions_again (real_in names (library c sound)) real_is k (each_at KeyFits ks (keys_fit c sound) i k at) (key_in names (library c sound) k.code)
       (each_at (λ (k : PrintedKey). IsGiven k (key_in names (library c sound) k.code)) ks given_are i k at) (modmap_in names (library c sound) k.code) group level d there)
 
-  read_again : ReadAgain c (real_in names (library c sound)) (declared_in (library c sound)) (keyed_in names (library c sound))
+  read_again : ReadAgain c (real_in names (library c sound)) (typing_in names (library c sound)) (keyed_in names (library c sound))
   read_again = record { real_is = real_is; declared_are = declared_are; names_are = names_are; given_are = given_are; mapped_are = mapped_are; level_actions_are = level_actions_are }
 
   resolved_is : resolved_in names (library c sound) ≡ seen c
-  resolved_is = resolved_again c sound (real_in names (library c sound)) (declared_in (library c sound)) (keyed_in names (library c sound)) read_again
+  resolved_is = resolved_again c sound (real_in names (library c sound)) (typing_in names (library c sound)) (keyed_in names (library c sound)) read_again
 
   indicators_is : indicators_in names (library c sound) ≡ indicators_printed c
   indicators_is =

@@ -1,7 +1,7 @@
 -- Which tables can be printed so that the text means them again.
 use Rattle.std.specs.Prelude.{◌≡◌, ◌≤◌, true, List, length}
 use Rattle.std.specs.List.{list_all}
-use Rattle.ks_core.specs.Entry.{Entry}
+use Rattle.ks_core.specs.Table.{KeysymTable}
 use Rattle.ks_core.specs.Lines.{is_sound}
 use Rattle.kx_lex.specs.declared.scan.TheConstants.{MOST_TEXT_BYTES}
 use Rattle.kx_print.specs.Printed.{printed}
@@ -16,5 +16,5 @@ pub record CanBePrinted (c : Content) : Type 0 where
   pub short : length (printed c) ≤ MOST_TEXT_BYTES
 
 -- the names of a table are those that lines may give
-abbrev pub AreNames : List Entry → Type 0
-AreNames names = list_all is_sound names ≡ true
+abbrev pub AreNames : KeysymTable → Type 0
+AreNames names = list_all is_sound names.names ≡ true

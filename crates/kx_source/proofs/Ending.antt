@@ -1,6 +1,6 @@
 -- Tables that are made of a source's bodies are those that the source means.
 use Rattle.std.proofs.Common.{ℕ, ◌≡◌, List, [], Result, Ok, Err, IfOk, OnOk, subst, ◌∙◌}
-use Rattle.ks_core.specs.Entry.{Entry}
+use Rattle.ks_core.specs.Table.{KeysymTable}
 use Rattle.kx_builder.specs.IndicatorMaps.{keymap_with, with_indicator_maps}
 use Rattle.kx_builder.specs.Placed.{content_of_resolved}
 use Rattle.kx_codes.specs.Codes.{Codes, CodesShow}
@@ -27,9 +27,10 @@ use Rattle.kx_source.specs.Meaning.{keymap_in}
 use Rattle.kx_source.specs.Source.{HoldsAll, Means, statement_faults}
 use Rattle.kx_tables.specs.Content.{Content}
 use Rattle.kx_tables.specs.Keymap.{keymap_of}
-use Rattle.kx_types.specs.Types.{NamedTypes, TypesShow, type_named}
+use Rattle.kx_types.specs.Types.{NamedTypes, TypesShow}
+use Rattle.kx_resolve.specs.Typing.{typing_by}
 
-module _ (library : Library) (bodies : Bodies) (are : AreBodies library bodies) (m : ModNames) (shows : AreModNames m (modifier_bodies bodies)) (types : NamedTypes) (types_show : TypesShow types m.names (expanded_body bodies.types)) (c : Codes) (codes_show : CodesShow c (body_of library Keycodes)) (names : List Entry) (content : Content) (made : IsMade names m (expanded_body bodies.compat) (expanded_body bodies.symbols) c types content) where
+module _ (library : Library) (bodies : Bodies) (are : AreBodies library bodies) (m : ModNames) (shows : AreModNames m (modifier_bodies bodies)) (types : NamedTypes) (types_show : TypesShow types m.names (expanded_body bodies.types)) (c : Codes) (codes_show : CodesShow c (body_of library Keycodes)) (names : KeysymTable) (content : Content) (made : IsMade names m (expanded_body bodies.compat) (expanded_body bodies.symbols) c types content) where
   pub made_holds : HoldsAll names library content
   made_holds =
       let i = made.interpreted in
@@ -49,11 +50,11 @@ module _ (library : Library) (bodies : Bodies) (are : AreBodies library bodies) 
   made_keymap =
       let i = made.interpreted in
       let lit = i.lit in
-      one_keymap (keymap_of content) (keymap_with (keymap_meant (real_of (stands_for i.found)) (type_named types) (keyed_of (real_of (stands_for i.found)) c made.keys made.modmaps i.interpretations)) (indicators_of (real_of (stands_for i.found)) lit.indicator_maps)) lit.agrees
+      one_keymap (keymap_of content) (keymap_with (keymap_meant (real_of (stands_for i.found)) (typing_by types names.letters) (keyed_of (real_of (stands_for i.found)) c made.keys made.modmaps i.interpretations)) (indicators_of (real_of (stands_for i.found)) lit.indicator_maps)) lit.agrees
       ∙ keymap_same library bodies are m shows types types_show c codes_show names made.keys made.keys_show made.modmaps made.mapped i.interpretations i.interpreted i.found i.stand lit.indicator_maps lit.indicator_maps_are
 
 -- what holds of tables that are answered is what their source means
-pub means_of : {N : Type 0} (source : List ℕ) (files : Handed) (names : List Entry) (library : Library) → IsRead source files library → (r : Result (Content × N) Fault)
+pub means_of : {N : Type 0} (source : List ℕ) (files : Handed) (names : KeysymTable) (library : Library) → IsRead source files library → (r : Result (Content × N) Fault)
     → OnOk r (IsWhole library) → OnOk r (statement_faults names library ≡ []) → IfOk r (λ made. HoldsAll names library made.0) → IfOk r (λ made. keymap_of made.0 ≡ keymap_in names library)
     → IfOk r (λ made. Means source files names made.0)
 means_of source files names library read (Ok made) whole faultless holds keymap = record { library = library; read = read; whole = whole; faultless = faultless; holds = holds; keymap = keymap }

@@ -5,7 +5,7 @@ use Rattle.kx_modmaps.specs.Entries.{same_target}
 use Rattle.std.proofs.Math.Path.{fun_ext}
 use Rattle.std.specs.List.{zip}
 use Rattle.std.specs.Option.{option_and_then, option_map, option_or}
-use Rattle.ks_core.specs.Entry.{Entry}
+use Rattle.ks_core.specs.Table.{KeysymTable}
 use Rattle.kx_resolve.specs.Vmodmap.{ReadKeymap, brings, stands}
 use Rattle.kx_resolve.specs.LevelActions.{level_actions_of}
 use Rattle.kx_resolve.specs.ReadVmodmap.{read_keymap_of}
@@ -44,7 +44,7 @@ use Rattle.kx_parse.specs.declared.tree.Mode.{Mode}
 use Rattle.kx_resolve.specs.Keys.{keyed_of, resolved_of}
 use Rattle.kx_resolve.specs.Lit.{indicator_lit, indicators_of}
 use Rattle.kx_resolve.specs.Shown.{keymap_meant}
-use Rattle.kx_source.specs.Meaning.{codes_in, codes_of, declared_in, declared_masks_of, indicators_by, indicators_in, interpretations_in, key_given, key_in, keyed_in, keymap_by, keymap_in, indicator_maps_from, lit_by, mapping_by, modifier_bodies_of, modifiers_of, modmap_in, read_keymap_in, real_in, resolved_in}
+use Rattle.kx_source.specs.Meaning.{codes_in, codes_of, declared_in, declared_masks_of, indicators_by, indicators_in, interpretations_in, key_given, key_in, keyed_in, keymap_by, keymap_in, indicator_maps_from, lit_by, mapping_by, modifier_bodies_of, modifiers_of, modmap_in, read_keymap_in, real_in, resolved_in, typing_in}
 use Rattle.kx_source.specs.Made.{parts_faults}
 use Rattle.kx_source.specs.Source.{keys_faults, maps_faults, names_faults}
 use Rattle.kx_symbols.specs.KeyFaults.{item_faults, key_in as key_said}
@@ -54,6 +54,7 @@ use Rattle.kx_symbols.specs.declared.cells.Cell.{Cell}
 use Rattle.kx_symbols.specs.declared.cells.CellValue.{CellValue}
 use Rattle.kx_types.specs.Types.{NamedTypes, TypesShow, declared_type, type_named}
 use Rattle.kx_resolve.specs.Given.{KeyGiven, given_by, given_in}
+use Rattle.kx_resolve.specs.Typing.{typing_by}
 
 any_same : (n : ℕ) (f g : ℕ → Bool) → ((k : ℕ) → k < n → f k ≡ g k) → any_below n f ≡ any_below n g
 unfolding any_below
@@ -70,7 +71,7 @@ module _ (c : Codes) (body : Body) (shows : CodesShow c body) where
   pub names_same : name_of c ≡ name_of (codes_of body)
   names_same = fun_ext shows.names_are
 
-  module _ (names : List Entry) (modifiers : List (List ℕ)) where
+  module _ (names : KeysymTable) (modifiers : List (List ℕ)) where
     said_same : (known : Known) (mode : Mode) (key : Option (Name × List KeyField)) → said_offers c known mode key ≡ said_offers (codes_of body) known mode key
     said_same known mode None = refl
     said_same known mode (Some key) = ap (offered known key.1 mode) (code_same key.0.bytes)
@@ -119,7 +120,7 @@ indicator_maps_lit real indicator_map n [] = refl
 indicator_maps_lit real indicator_map n (name ∷ names) = ap (λ ls. lit_by real (indicator_map n) ∷ ls) (indicator_maps_lit real indicator_map (suc n) names)
 
 -- what tables show is what is meant
-keymap_meant-in : (names : List Entry) (library : Library) → keymap_with (keymap_meant (real_in names library) (declared_in library) (keyed_in names library)) (indicators_in names library) ≡ keymap_in names library
+keymap_meant-in : (names : KeysymTable) (library : Library) → keymap_with (keymap_meant (real_in names library) (typing_in names library) (keyed_in names library)) (indicators_in names library) ≡ keymap_in names library
 keymap_meant-in names library = ap (keymap_by (real_in names library) (read_keymap_in names library)) (indicator_maps_lit (real_in names library) (indicator_map_of (modifiers_of library) (body_of library Compat)) 0 (indicator_names (body_of library Compat)))
 
 indicator_maps_by : (indicator_map : ℕ → IndicatorMap) (n : ℕ) (names : List (List ℕ)) (indicator_maps : List IndicatorMap) → length indicator_maps ≡ length names → ((k : ℕ) → k < length names → slice_get indicator_maps k ≡ Some (indicator_map (k + n))) → indicator_maps ≡ indicator_maps_from indicator_map n names
@@ -166,7 +167,10 @@ module _ (library : Library) (bodies : Bodies) (are : AreBodies library bodies) 
 
       -- ---- Keys, and all together
 
-      module _ (c : Codes) (codes_show : CodesShow c (body_of library Keycodes)) (names : List Entry) where
+      module _ (c : Codes) (codes_show : CodesShow c (body_of library Keycodes)) (names : KeysymTable) where
+        typing_same : typing_by types names.letters ≡ typing_in names library
+        typing_same = λ i. record { declared = declared_same i; letters = names.letters }
+
         keys_faults_same : keys_faults c names m.names (expanded_body bodies.symbols) ≡ keys_faults (codes_in library) names (modifiers_of library) (body_of library Symbols)
         keys_faults_same =
             (λ i. keys_faults c names (modifiers_same i) (are.symbols i))
@@ -198,9 +202,9 @@ module _ (library : Library) (bodies : Bodies) (are : AreBodies library bodies) 
           unfolding by_rules
           keys_same = given_same ∙ (λ i. key_given c names (modifiers_same i) (are.symbols i)) ∙ ap by_rules (rules_same c (body_of library Keycodes) codes_show names (modifiers_of library))
 
-          module _ (modmaps : ℕ → Mods) (mapped : (code : ℕ) → modmaps code ≡ modmap_of (mapping_by (name_of c) (λ k. given_in (key_at keys k)) (type_named types) (map_offers_of c names m.names (expanded_body bodies.symbols))) code) where
+          module _ (modmaps : ℕ → Mods) (mapped : (code : ℕ) → modmaps code ≡ modmap_of (mapping_by (name_of c) (λ k. given_in (key_at keys k)) (typing_by types names.letters) (map_offers_of c names m.names (expanded_body bodies.symbols))) code) where
             pub modmaps_same : modmaps ≡ modmap_in names library
-            modmaps_same = fun_ext mapped ∙ (λ i. modmap_of (mapping_by (names_same c (body_of library Keycodes) codes_show i) (keys_same i) (declared_same i) (maps_same i)))
+            modmaps_same = fun_ext mapped ∙ (λ i. modmap_of (mapping_by (names_same c (body_of library Keycodes) codes_show i) (keys_same i) (typing_same i) (maps_same i)))
 
             module _ (interpretations : List Interpretation) (interpreted : interpretations ≡ interpretations_of names m.names (expanded_body bodies.compat)) where
               interpretations_same : interpretations ≡ interpretations_in names library
@@ -212,7 +216,7 @@ module _ (library : Library) (bodies : Bodies) (are : AreBodies library bodies) 
                 name = name_of c;
                 key = λ code. given_in (key_at keys code);
                 modmap = modmaps;
-                declared = type_named types;
+                typing = typing_by types names.letters;
                 interpretations = interpretations;
                 masks = masks;
               }
@@ -222,12 +226,12 @@ module _ (library : Library) (bodies : Bodies) (are : AreBodies library bodies) 
                 name = names_same c (body_of library Keycodes) codes_show i;
                 key = keys_same i;
                 modmap = modmaps_same i;
-                declared = declared_same i;
+                typing = typing_same i;
                 interpretations = interpretations_same i;
                 masks = declared_masks_of library;
               }
 
-              module _ (found : List Mods) (stand : (n real : ℕ) → n < 24 → stands_for found n real ≡ stands (read_keymap_of c types keys modmaps interpretations m.masks) n real) where
+              module _ (found : List Mods) (stand : (n real : ℕ) → n < 24 → stands_for found n real ≡ stands (read_keymap_of c (typing_by types names.letters) keys modmaps interpretations m.masks) n real) where
                 stands_same : (n real : ℕ) → n < 24 → stands_for found n real ≡ stands (read_keymap_in names library) n real
                 stands_same n real less =
                     stand n real less
@@ -245,14 +249,14 @@ module _ (library : Library) (bodies : Bodies) (are : AreBodies library bodies) 
                   level_actions = λ code. level_actions_of (real_same i) (interpretations_same i) (modmaps_same i code) (keys_same i code);
                 }
 
-                pub resolved_same : resolved_of (real_of (stands_for found)) (type_named types) (keyed_of (real_of (stands_for found)) c keys modmaps interpretations) ≡ resolved_in names library
-                resolved_same = λ i. resolved_of (real_same i) (declared_same i) (keyed_same i)
+                pub resolved_same : resolved_of (real_of (stands_for found)) (typing_by types names.letters) (keyed_of (real_of (stands_for found)) c keys modmaps interpretations) ≡ resolved_in names library
+                resolved_same = λ i. resolved_of (real_same i) (typing_same i) (keyed_same i)
 
                 module _ (indicator_maps : Indicators) (indicator_maps_are : AreIndicators indicator_maps m.names (expanded_body bodies.compat)) where
                   pub lit_same : indicators_of (real_of (stands_for found)) indicator_maps ≡ indicators_in names library
                   lit_same = λ i. indicators_of (real_same i) (indicators_same indicator_maps indicator_maps_are i)
 
-                  pub keymap_same : keymap_with (keymap_meant (real_of (stands_for found)) (type_named types) (keyed_of (real_of (stands_for found)) c keys modmaps interpretations)) (indicators_of (real_of (stands_for found)) indicator_maps) ≡ keymap_in names library
+                  pub keymap_same : keymap_with (keymap_meant (real_of (stands_for found)) (typing_by types names.letters) (keyed_of (real_of (stands_for found)) c keys modmaps interpretations)) (indicators_of (real_of (stands_for found)) indicator_maps) ≡ keymap_in names library
                   keymap_same =
-                      let joined : keymap_with (keymap_meant (real_of (stands_for found)) (type_named types) (keyed_of (real_of (stands_for found)) c keys modmaps interpretations)) (indicators_of (real_of (stands_for found)) indicator_maps) ≡ keymap_with (keymap_meant (real_in names library) (declared_in library) (keyed_in names library)) (indicators_in names library) = λ i. keymap_with (keymap_meant (real_same i) (declared_same i) (keyed_same i)) (lit_same i) in
+                      let joined : keymap_with (keymap_meant (real_of (stands_for found)) (typing_by types names.letters) (keyed_of (real_of (stands_for found)) c keys modmaps interpretations)) (indicators_of (real_of (stands_for found)) indicator_maps) ≡ keymap_with (keymap_meant (real_in names library) (typing_in names library) (keyed_in names library)) (indicators_in names library) = λ i. keymap_with (keymap_meant (real_same i) (typing_same i) (keyed_same i)) (lit_same i) in
                       joined ∙ keymap_meant-in names library

@@ -2,7 +2,7 @@
 use Rattle.std.proofs.Common.{◌≡◌, ◌⊎◌, List, [], ◌∷◌, ◌++◌, Contains, Result, Ok, Err, IfErr, refl, sym, subst, inl, inr}
 use Rattle.std.proofs.lemmas.List.Elements.{All-cons, All-contains, All-nil, Contains-append_cases, Contains-append_left, Contains-append_right}
 use Rattle.std.specs.Result.{IsErrAnd}
-use Rattle.ks_core.specs.Entry.{Entry}
+use Rattle.ks_core.specs.Table.{KeysymTable}
 use Rattle.kx_codes.specs.CodeFaults.{faults_of as keycodes_faults}
 use Rattle.kx_include.specs.Expansion.{body_of}
 use Rattle.kx_include.specs.IncludeFaults.{IsWhole}
@@ -29,7 +29,7 @@ among fs e has =
       | inr fault ↦ inr fault
     ]
 
-module _ (names : List Entry) (library : Library) where
+module _ (names : KeysymTable) (library : Library) where
   abbrev pub of_modifiers : List Fault
   of_modifiers = modifier_faults (modifier_bodies_of library)
 

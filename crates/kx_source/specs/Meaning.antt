@@ -1,7 +1,7 @@
 -- The keymap that the statements of a keymap's text mean, with the files that it includes.
 use Rattle.std.specs.Prelude.{ℕ, max, suc, List, [], ◌∷◌, Option, is_some, nat_eq}
 use Rattle.std.specs.Option.{option_map_or}
-use Rattle.ks_core.specs.Entry.{Entry}
+use Rattle.ks_core.specs.Table.{KeysymTable}
 use Rattle.kx_basics.specs.declared.limits.TheConstants.{CODES}
 use Rattle.kx_resolve.specs.Vmodmap.{ReadKeymap, stands}
 use Rattle.kx_resolve.specs.LevelActions.{level_actions_of}
@@ -41,6 +41,7 @@ use Rattle.kx_tables.specs.Keymap.{Keymap, IndicatorMap as LitIndicatorMap, noth
 use Rattle.kx_types.specs.KeyTypes.{Definition}
 use Rattle.kx_types.specs.Types.{declared_type}
 use Rattle.kx_resolve.specs.Given.{KeyGiven, given_by}
+use Rattle.kx_resolve.specs.Typing.{Typing}
 
 -- ---- Modifiers
 
@@ -62,30 +63,33 @@ abbrev pub codes_in : Library → Codes
 codes_in library = record { by_name = pairs_of (body_of library Keycodes); by_code = pairs_of (body_of library Keycodes); aliases = aliases_of (body_of library Keycodes) }
 
 -- what the statements of a symbols body offer the keys that have these codes; `modifiers` are the virtual modifiers
-abbrev pub key_offers : Codes → List Entry → List (List ℕ) → Body → List (Offer ℕ Cell CellValue)
+abbrev pub key_offers : Codes → KeysymTable → List (List ℕ) → Body → List (Offer ℕ Cell CellValue)
 key_offers codes names modifiers body = offers_of nat_eq (key_rules codes names modifiers) key_moves body
 
 -- what a key is given is what its statements give it by precedence
-abbrev pub key_given : Codes → List Entry → List (List ℕ) → Body → ℕ → KeyGiven
+abbrev pub key_given : Codes → KeysymTable → List (List ℕ) → Body → ℕ → KeyGiven
 key_given codes names modifiers body code = given_by (value_of nat_eq (key_offers codes names modifiers body) code) (width_of nat_eq (key_offers codes names modifiers body) code)
 
--- what is read to find what keys are mapped to: keys, types, and what modifier maps offer, by precedence
-abbrev pub mapping_by : (ℕ → Option (List ℕ)) → (ℕ → KeyGiven) → (List ℕ → Option Definition) → List (Offer Target MapCell ℕ) → Mapping
-mapping_by name key declared offers = record {
+-- what is read to find what keys are mapped to: keys, what tells their types, and what modifier maps offer, by precedence
+abbrev pub mapping_by : (ℕ → Option (List ℕ)) → (ℕ → KeyGiven) → Typing → List (Offer Target MapCell ℕ) → Mapping
+mapping_by name key typing offers = record {
   name = name;
   key = key;
-  declared = declared;
+  typing = typing;
   key_maps = λ code real. is_some (value_of same_target offers (KeyTarget code) (Present real));
   keysym_maps = keysyms_given offers;
 }
 
--- `names` are the names of keysyms
-module _ (names : List Entry) (library : Library) where
+-- `names` are the names and the letters of keysyms
+module _ (names : KeysymTable) (library : Library) where
+  abbrev pub typing_in : Typing
+  typing_in = record { declared = declared_in library; letters = names.letters }
+
   abbrev pub key_in : ℕ → KeyGiven
   key_in = key_given (codes_in library) names (modifiers_of library) (body_of library Symbols)
 
   abbrev pub modmap_in : ℕ → Mods
-  modmap_in = modmap_of (mapping_by (name_of (codes_in library)) key_in (declared_in library) (map_offers_of (codes_in library) names (modifiers_of library) (body_of library Symbols)))
+  modmap_in = modmap_of (mapping_by (name_of (codes_in library)) key_in typing_in (map_offers_of (codes_in library) names (modifiers_of library) (body_of library Symbols)))
 
   abbrev pub interpretations_in : List Interpretation
   interpretations_in = interpretations_of names (modifiers_of library) (body_of library Compat)
@@ -95,7 +99,7 @@ module _ (names : List Entry) (library : Library) where
     name = name_of (codes_in library);
     key = key_in;
     modmap = modmap_in;
-    declared = declared_in library;
+    typing = typing_in;
     interpretations = interpretations_in;
     masks = λ number. has (declared_mask (modifiers_of library) (modifier_bodies_of library) number);
   }
@@ -120,16 +124,16 @@ abbrev pub keymap_by : (ℕ → RealSet) → ReadKeymap → List LitIndicatorMap
 keymap_by real r indicator_maps = record {
   groups = max 1 (most_groups_below r.name r.key CODES);
   known = λ code. is_some (name_within r.name code);
-  shown = λ code group mods. option_map_or (λ _. shown_for real r.declared (level_actions_of real r.interpretations (r.modmap code) (r.key code)) (r.key code) group mods) (name_within r.name code) nothing_shown;
+  shown = λ code group mods. option_map_or (λ _. shown_for real r.typing (level_actions_of real r.interpretations (r.modmap code) (r.key code)) (r.key code) group mods) (name_within r.name code) nothing_shown;
   indicator_maps = indicator_maps;
 }
 
-abbrev pub keymap_in : List Entry → Library → Keymap
+abbrev pub keymap_in : KeysymTable → Library → Keymap
 keymap_in names library = keymap_by (real_in names library) (read_keymap_in names library) (indicator_maps_from (λ number. lit_by (real_in names library) (indicator_map_of (modifiers_of library) (body_of library Compat) number)) 0 (indicator_names (body_of library Compat)))
 
 -- ---- What tables hold
 
-abbrev pub keyed_in : List Entry → Library → Keyed
+abbrev pub keyed_in : KeysymTable → Library → Keyed
 keyed_in names library = record {
   name = name_of (codes_in library);
   key = key_in names library;
@@ -140,12 +144,12 @@ keyed_in names library = record {
 abbrev pub indicators_by : List (List ℕ) → Body → Indicators
 indicators_by modifiers body = record { names = indicator_names body; indicator_maps = indicator_maps_from (indicator_map_of modifiers body) 0 (indicator_names body) }
 
-abbrev pub indicators_in : List Entry → Library → List ResolvedIndicator
+abbrev pub indicators_in : KeysymTable → Library → List ResolvedIndicator
 indicators_in names library = indicators_of (real_in names library) (indicators_by (modifiers_of library) (body_of library Compat))
 
 -- of types and keys
-abbrev pub resolved_in : List Entry → Library → Resolved
-resolved_in names library = resolved_of (real_in names library) (declared_in library) (keyed_in names library)
+abbrev pub resolved_in : KeysymTable → Library → Resolved
+resolved_in names library = resolved_of (real_in names library) (typing_in names library) (keyed_in names library)
 
 -- ---- Under names, for clauses and proofs
 

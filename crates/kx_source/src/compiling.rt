@@ -87,6 +87,24 @@ pub fn tables(
     tables_of::<GivenBack, Nobody>(alloc, &library, names, &mut Nobody)
 }
 
+/// The same as [`tables`], where an observer is shown what was read of the source before it is given back.
+///
+/// # Errors
+/// A fault of the source with its place, or `Memory`.
+pub fn tables_seen<O: Observer>(
+    alloc: Global,
+    source: &[u8],
+    files: &Files,
+    names: &NameTable,
+    observer: &mut O,
+) -> Result<(Owned, Notes), Fault>
+    ensures means { IfOk result (λ made. Means source.now files.now names.now made.0) }
+    ensures fault { IfErr result (λ e. (e ≡ Memory) ⊎ HasFault source.now files.now names.now e) }
+{
+    let library = Library::of_source(alloc, source, files)?;
+    tables_of::<GivenBack, O>(alloc, &library, names, observer)
+}
+
 /// The same as [`tables`], for a program that ends soon after: what was read of the source isn't given back, but left to the
 /// system, once the observer was shown it.
 ///

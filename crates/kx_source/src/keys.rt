@@ -9,15 +9,15 @@ ghost use Rattle.kx_modmaps.specs.Maps.{map_offers_of};
 ghost use Rattle.kx_source.specs.Meaning.{mapping_by};
 ghost use Rattle.kx_source.specs.Made.{mapped_faults};
 ghost use Rattle.kx_symbols.specs.Keys.{KeysShow, key_at};
-ghost use Rattle.kx_types.specs.Types.{type_named};
 ghost use Rattle.kx_resolve.specs.Given.{given_in};
+ghost use Rattle.kx_resolve.specs.Typing.{typing_by};
 
 use ks_core::{NameTable, Notes};
 use kx_codes::Codes;
 use kx_include::Expansion;
 use kx_lex::Fault;
 use kx_modmaps::modifier_maps;
-use kx_resolve::KeyModmaps;
+use kx_resolve::{KeyModmaps, Typing};
 use kx_symbols::{Keys, symbols};
 use kx_types::Types;
 use kx_virtual_mods::ModNames;
@@ -45,14 +45,18 @@ pub(crate) fn read_keys(
     ensures mapped { IfOk result (λ found. (code : ℕ)
         → modmap_at found.modmaps code
         ≡ modmap_of (mapping_by (name_of codes.now) (λ c. given_in (key_at found.keys c))
-        (type_named types.now) (map_offers_of codes.now names.now modifiers.now.names
+        (typing_by types.now names.now.letters) (map_offers_of codes.now names.now modifiers.now.names
         (expanded_body expansion.now))) code) }
     ensures faults { ReportsOrRunsOut result
         (mapped_faults codes.now names.now modifiers.now.names (expanded_body expansion.now)) }
 {
     let (keys, unknown) = symbols(alloc, expansion, codes, names, modifiers)?;
     let (maps, unmapped) = modifier_maps(alloc, expansion, codes, names, modifiers)?;
-    let modmaps = KeyModmaps::of(alloc, codes, types, &keys, maps)?;
+    let typing = Typing {
+        types,
+        letters: names.letters(),
+    };
+    let modmaps = KeyModmaps::of(alloc, codes, typing, &keys, maps)?;
     Ok(MappedKeys {
         keys,
         modmaps,

@@ -7,5 +7,5 @@ mod leaving;
 mod observer;
 mod parts;
 
-pub use compiling::{tables, tables_once};
+pub use compiling::{tables, tables_once, tables_seen};
 pub use observer::{Observer, ReadSource};

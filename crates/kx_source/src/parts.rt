@@ -1,6 +1,6 @@
 //! The tables of what is read of a source's bodies.
 ghost use Rattle.std.specs.Prelude.{◌≡◌, IfOk, List};
-ghost use Rattle.ks_core.specs.Entry.{Entry};
+ghost use Rattle.ks_core.specs.Table.{KeysymTable};
 ghost use Rattle.kx_compat.specs.Meaning.{interpretations_of};
 ghost use Rattle.kx_include.specs.Shared.{expanded_body};
 ghost use Rattle.kx_merge.specs.Reports.{ReportsOrRunsOut};
@@ -8,6 +8,7 @@ ghost use Rattle.kx_resolve.specs.Modmaps.{modmap_at};
 ghost use Rattle.kx_virtual_mods.specs.Sets.{real_of};
 ghost use Rattle.kx_virtual_mods.specs.Standing.{stands_for};
 ghost use Rattle.kx_resolve.specs.Keys.{keyed_of};
+ghost use Rattle.kx_resolve.specs.Typing.{typing_of};
 ghost use Rattle.kx_source.specs.Made.{IsInterpreted, IsLit, IsMade, interpreted_faults, lit_faults, parts_faults};
 ghost use Rattle.kx_tables.specs.RawTables.{content_of};
 ghost use Rattle.kx_tables.specs.Sound.{Sound};
@@ -23,7 +24,7 @@ use kx_include::Bodies;
 use kx_indicators::indicators;
 use kx_lex::Fault;
 use kx_mods::Mods;
-use kx_resolve::{Read, resolve, virtual_modifier_masks};
+use kx_resolve::{Read, Typing, resolve, virtual_modifier_masks};
 use kx_tables::RawTables;
 use kx_types::Types;
 use kx_virtual_mods::ModNames;
@@ -36,14 +37,14 @@ fn lit_parts<E: Ending>(
     bodies: &Bodies,
     modifiers: &ModNames,
     codes: &Codes,
-    types: &Types,
+    typing: Typing,
     mapped: &MappedKeys,
     interpretations: &Interpretations,
     stands: &[Mods],
 ) -> Result<(RawTables, Notes), Fault>
     ensures lit { IfOk result (λ made.
         IsLit modifiers.now.names (expanded_body bodies.now.compat)
-        (expanded_body bodies.now.symbols) (real_of (stands_for stands.now)) types.now
+        (expanded_body bodies.now.symbols) (real_of (stands_for stands.now)) (typing_of typing.entry)
         (keyed_of (real_of (stands_for stands.now)) codes.now mapped.now.keys
         (modmap_at mapped.now.modmaps) interpretations.now) (content_of made.0)) }
     ensures sound { IfOk result (λ made. Sound (content_of made.0)) }
@@ -56,7 +57,7 @@ fn lit_parts<E: Ending>(
     let read = Read {
         codes,
         stands,
-        types,
+        typing,
         keys: &mapped.keys,
         modmaps: &mapped.modmaps,
         interpretations,
@@ -76,16 +77,16 @@ fn standing_parts<E: Ending>(
     bodies: &Bodies,
     modifiers: &ModNames,
     codes: &Codes,
-    types: &Types,
+    typing: Typing,
     mapped: &MappedKeys,
     interpretations: &Interpretations,
     passed: Notes,
 ) -> Result<(RawTables, Notes), Fault>
-    ensures interpreted { (names : List Entry)
+    ensures interpreted { (names : KeysymTable)
         → interpretations.now ≡ interpretations_of names modifiers.now.names
-        (expanded_body bodies.now.compat)
+        (expanded_body bodies.now.compat) → typing.entry.letters ≡ names.letters
         → IfOk result (λ made. IsInterpreted names modifiers.now (expanded_body bodies.now.compat)
-        (expanded_body bodies.now.symbols) codes.now types.now mapped.now.keys
+        (expanded_body bodies.now.symbols) codes.now typing.entry.types.now mapped.now.keys
         (modmap_at mapped.now.modmaps) (content_of made.0)) }
     ensures sound { IfOk result (λ made. Sound (content_of made.0)) }
     ensures faults { ReportsOrRunsOut result
@@ -97,7 +98,7 @@ fn standing_parts<E: Ending>(
     let stands = virtual_modifier_masks(
         alloc,
         codes,
-        types,
+        typing,
         keys,
         modmaps,
         interpretations,
@@ -108,7 +109,7 @@ fn standing_parts<E: Ending>(
         bodies,
         modifiers,
         codes,
-        types,
+        typing,
         mapped,
         interpretations,
         stands.as_slice(),
@@ -137,12 +138,16 @@ fn interpreted_parts<E: Ending>(
         (expanded_body bodies.now.symbols)) }
 {
     let (interpretations, passed) = interpretations(alloc, &bodies.compat, modifiers, names)?;
+    let typing = Typing {
+        types,
+        letters: names.letters(),
+    };
     let made = standing_parts::<E>(
         alloc,
         bodies,
         modifiers,
         codes,
-        types,
+        typing,
         mapped,
         &interpretations,
         passed,

@@ -2,7 +2,7 @@
 use Rattle.std.specs.Prelude.{◌≡◌, ℕ, max, nat_eq, List, [], ◌∷◌, Option, None, Some}
 use Rattle.std.specs.Option.{option_map, option_map_or}
 use Rattle.std.specs.Map.{lookup}
-use Rattle.ks_core.specs.Entry.{Entry}
+use Rattle.ks_core.specs.Table.{KeysymTable}
 use Rattle.kx_actions.specs.Defaults.{next_defaults as next_action_defaults}
 use Rattle.kx_actions.specs.declared.action.KeyAction.{KeyAction}
 use Rattle.kx_codes.specs.Codes.{Codes, code_of}
@@ -82,7 +82,7 @@ module _ (modifiers : List (List ℕ)) where
   item_next d (Include mode text span) = d
 
 -- `modifiers` are the virtual modifiers by number
-module _ (codes : Codes) (names : List Entry) (modifiers : List (List ℕ)) where
+module _ (codes : Codes) (names : KeysymTable) (modifiers : List (List ℕ)) where
   abbrev pub known_under : Defaults → Known
   known_under d = record { names = names; modifiers = modifiers; defaults = d }
 
@@ -119,7 +119,7 @@ abbrev pub HasAction : KeyContent → Type 0
 HasAction key = (group : ℕ) × (level : ℕ) × (action : KeyAction) × (cell_in key (cells.Action group level) ≡ Some (values.Action action))
 
 -- keys by code show what a symbols body gives them: each cell has its value by precedence, each group its width
-pub record KeysShow (keys : List (ℕ × KeyContent)) (codes : Codes) (names : List Entry) (modifiers : List (List ℕ)) (body : Body) : Type 0 where
+pub record KeysShow (keys : List (ℕ × KeyContent)) (codes : Codes) (names : KeysymTable) (modifiers : List (List ℕ)) (body : Body) : Type 0 where
   pub cells_are : (code : ℕ) (c : Cell) → cell_in_any (key_at keys code) c ≡ value_of nat_eq (offers_of nat_eq (key_rules codes names modifiers) key_moves body) code c
   pub widths_are : (code group : ℕ) → width_in_any (key_at keys code) group ≡ width_of nat_eq (offers_of nat_eq (key_rules codes names modifiers) key_moves body) code group
 

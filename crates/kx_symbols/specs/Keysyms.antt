@@ -3,7 +3,7 @@ use Rattle.std.specs.Prelude.{ℕ, ◌+◌, ◌==◌, ◌||◌, nat_lt, Bool, Li
 use Rattle.std.specs.List.{flat_map}
 use Rattle.std.specs.Option.{option_and_then, option_to_list}
 use Rattle.std.specs.Str.{is_utf8, str_eq_ignore_ascii_case}
-use Rattle.ks_core.specs.Entry.{Entry}
+use Rattle.ks_core.specs.Table.{KeysymTable}
 use Rattle.ks_core.specs.Names.{keysym_named}
 use Rattle.kx_parse.specs.declared.tree.Element.{Element}
 use Rattle.kx_parse.specs.declared.tree.Element.TheVariants as elements
@@ -24,18 +24,18 @@ abbrev pub is_void_symbol : List ℕ → Bool
 is_void_symbol word = str_eq_ignore_ascii_case word (codes "none") || str_eq_ignore_ascii_case word (codes "voidsymbol")
 
 -- a name that no keysym has stands for none, and so does one of keysym 0; 16777215 is VoidSymbol
-abbrev pub named : List Entry → List ℕ → Option ℕ
+abbrev pub named : KeysymTable → List ℕ → Option ℕ
 named names word = option_and_then (λ keysym. if keysym == 0 then None else Some keysym) (if is_utf8 word then keysym_named names word else None)
 
-abbrev pub word_keysym : List Entry → List ℕ → Option ℕ
+abbrev pub word_keysym : KeysymTable → List ℕ → Option ℕ
 word_keysym names word = if is_no_symbol word then None else (if is_void_symbol word then Some 16777215 else named names word)
 
 -- a number of one digit is that digit's keysym, another is the keysym of that number
-abbrev pub symbol_keysym : List Entry → Symbol → Option ℕ
+abbrev pub symbol_keysym : KeysymTable → Symbol → Option ℕ
 symbol_keysym names (Word word) = word_keysym names word.bytes
 symbol_keysym names (Number number) = Some (if nat_lt number.value 10 then 48 + number.value else number.value)
 
-abbrev pub part_keysyms : List Entry → BracePart → List ℕ
+abbrev pub part_keysyms : KeysymTable → BracePart → List ℕ
 part_keysyms names (parts.Symbol symbol) = option_to_list (symbol_keysym names symbol)
 part_keysyms names (parts.Call call) = []
 
@@ -44,17 +44,17 @@ abbrev pub given : List ℕ → Level
 given [] = None
 given (keysym ∷ keysyms) = Some (keysym ∷ keysyms)
 
-abbrev pub element_level : List Entry → Element → Level
+abbrev pub element_level : KeysymTable → Element → Level
 element_level names (elements.Symbol symbol) = given (option_to_list (symbol_keysym names symbol))
 element_level names (elements.Call call) = None
 element_level names (elements.Braces braces) = given (flat_map (part_keysyms names) braces.parts)
 
-abbrev pub levels_of : List Entry → Listed → List Level
+abbrev pub levels_of : KeysymTable → Listed → List Level
 levels_of names list = map (element_level names) list.elements
 
 -- ---- Under names, for clauses and proofs
 
-abbrev pub keysym_of_text : List Entry → List ℕ → Option ℕ
+abbrev pub keysym_of_text : KeysymTable → List ℕ → Option ℕ
 keysym_of_text names word = if is_utf8 word then keysym_named names word else None
 
 abbrev pub number_keysym : ℕ → ℕ

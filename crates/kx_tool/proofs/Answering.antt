@@ -1,7 +1,7 @@
 -- The answers to lines of events, a line at a time.
 use Rattle.std.proofs.Common.{◌≡◌, ℕ, List, [], ◌∷◌, ◌++◌, refl, sym, ap, ◌∙◌, append_assoc}
 use Rattle.std.proofs.lemmas.List.Elements.{filter_map-append}
-use Rattle.ks_core.specs.Entry.{Entry}
+use Rattle.ks_core.specs.Table.{KeysymTable}
 use Rattle.kx_tables.specs.Content.{Content}
 use Rattle.kx_tables.specs.Keymap.{keymap_of}
 use Rattle.kx_run.specs.Replies.{answer, world_after}
@@ -10,7 +10,7 @@ use Rattle.kx_run.specs.declared.direction.Event.{Event}
 use Rattle.kx_tool.specs.Answer.{answer_line, answers_from}
 use Rattle.kx_tool.specs.EventLines.{event_of, events_in}
 
-pub answers_from-append : (content : Content) (names : List Entry) (world : World) (xs ys : List Event) → answers_from content names world (xs ++ ys)
+pub answers_from-append : (content : Content) (names : KeysymTable) (world : World) (xs ys : List Event) → answers_from content names world (xs ++ ys)
     ≡ answers_from content names world xs ++ answers_from content names (world_after (keymap_of content) world xs) ys
 answers_from-append content names world [] ys = refl
 answers_from-append content names world (event ∷ xs) ys =

@@ -3,7 +3,7 @@ use Rattle.std.proofs.Common.{◌≡◌, ◌≤◌, ◌==◌, ℕ, ◌+◌, true
 use Rattle.std.specs.Io.KnownBytes.{Appends, IsAtEnd}
 use Rattle.std.proofs.lemmas.List.{length-append}
 use Rattle.ks_core.specs.Device.{Begins}
-use Rattle.ks_core.specs.Entry.{Entry}
+use Rattle.ks_core.specs.Table.{KeysymTable}
 use Rattle.ks_core.specs.Lines.{lines_of}
 use Rattle.ks_core.specs.BufferedOut.{Finishes, Gathered, Writes, nothing_gathered}
 use Rattle.ks_core.proofs.DeviceLemmas.{Begins-longer}
@@ -26,7 +26,7 @@ use Rattle.kx_tool.proofs.Lines.{EachFree, EachIs, Free, joined, joined-more, ea
 use Rattle.kx_tool.proofs.Reading.{came_more, came_moved, came_nothing}
 
 -- the answers to lines that are all well formed
-abbrev pub answers_by : Content → List Entry → List (List ℕ) → List ℕ
+abbrev pub answers_by : Content → KeysymTable → List (List ℕ) → List ℕ
 answers_by content names lines = answers_from content names opening (events_in lines)
 
 abbrev pub world_by : Content → List (List ℕ) → World
@@ -34,7 +34,7 @@ world_by content lines = world_after (keymap_of content) opening (events_in line
 
 module _ {D : Type 0} (written : D → Option (List ℕ)) (failures : D → ℕ) where
   -- Whole lines were read and answered, and a part of the next one was read.
-  pub record AnsweredSoFar (content : Content) (names : List Entry) (old : Option (List ℕ)) (old_budget : ℕ) (new : Option (List ℕ)) (new_budget : ℕ) (d e : D) (buffered : Gathered) (kept : Kept) (played : Played) (number : ℕ) : Type 0 where
+  pub record AnsweredSoFar (content : Content) (names : KeysymTable) (old : Option (List ℕ)) (old_budget : ℕ) (new : Option (List ℕ)) (new_budget : ℕ) (d e : D) (buffered : Gathered) (kept : Kept) (played : Played) (number : ℕ) : Type 0 where
     pub done : List (List ℕ)
     pub part : List ℕ
     pub came : Came old old_budget new new_budget (joined done ++ part)
@@ -46,7 +46,7 @@ module _ {D : Type 0} (written : D → Option (List ℕ)) (failures : D → ℕ)
     pub played_is : played ≡ record { content = content; world = world_by content done }
     pub told : Writes written failures d nothing_gathered e buffered (answers_by content names done)
 
-  pub answered_nothing : (content : Content) (names : List Entry) (old : Option (List ℕ)) (old_budget : ℕ) (d : D) (buffered : Gathered) (kept : Kept) (played : Played)
+  pub answered_nothing : (content : Content) (names : KeysymTable) (old : Option (List ℕ)) (old_budget : ℕ) (d : D) (buffered : Gathered) (kept : Kept) (played : Played)
       → buffered ≡ nothing_gathered → KeepsLine kept [] → played ≡ record { content = content; world = opening } → AnsweredSoFar content names old old_budget old old_budget d d buffered kept played 1
   answered_nothing content names old old_budget d buffered kept played fresh keeps start =
       record {
@@ -75,7 +75,7 @@ module _ {D : Type 0} (written : D → Option (List ℕ)) (failures : D → ℕ)
       })
 
   -- a part of a line that waited
-  pub answered_part : (content : Content) (names : List Entry) (old left : Option (List ℕ)) (old_budget : ℕ) (w v : Waiting) (d e : D) (buffered : Gathered) (kept longer : Kept) (played : Played) (number : ℕ)
+  pub answered_part : (content : Content) (names : KeysymTable) (old left : Option (List ℕ)) (old_budget : ℕ) (w v : Waiting) (d e : D) (buffered : Gathered) (kept longer : Kept) (played : Played) (number : ℕ)
       → AnsweredSoFar content names old old_budget (coming w left) (budget w) d e buffered kept played number → MovesPart w v kept longer
       → AnsweredSoFar content names old old_budget (coming v left) (budget v) d e buffered longer played number
   answered_part content names old left old_budget w v d e buffered kept longer played number h moves =
@@ -94,7 +94,7 @@ module _ {D : Type 0} (written : D → Option (List ℕ)) (failures : D → ℕ)
       }
 
   -- one more byte of a line
-  pub answered_byte : (content : Content) (names : List Entry) (old mid new : Option (List ℕ)) (old_budget mid_budget new_budget : ℕ) (d e : D) (buffered : Gathered) (kept longer : Kept) (played : Played) (number byte : ℕ)
+  pub answered_byte : (content : Content) (names : KeysymTable) (old mid new : Option (List ℕ)) (old_budget mid_budget new_budget : ℕ) (d e : D) (buffered : Gathered) (kept longer : Kept) (played : Played) (number byte : ℕ)
       → AnsweredSoFar content names old old_budget mid mid_budget d e buffered kept played number → Came mid mid_budget new new_budget (byte ∷ []) → (byte == 10) ≡ false
       → ((line : List ℕ) → KeepsLine kept line → KeepsLine longer (line ++ byte ∷ [])) → AnsweredSoFar content names old old_budget new new_budget d e buffered longer played number
   answered_byte content names old mid new old_budget mid_budget new_budget d e buffered kept longer played number byte h came other keeps =
@@ -112,7 +112,7 @@ module _ {D : Type 0} (written : D → Option (List ℕ)) (failures : D → ℕ)
       }
 
   -- a line is answered
-  told_line : (content : Content) (names : List Entry) (done : List (List ℕ)) (line : List ℕ) (d e f : D) (p q : Gathered) (played : Played) → played ≡ record { content = content; world = world_by content done }
+  told_line : (content : Content) (names : KeysymTable) (done : List (List ℕ)) (line : List ℕ) (d e f : D) (p q : Gathered) (played : Played) → played ≡ record { content = content; world = world_by content done }
       → Writes written failures d nothing_gathered e p (answers_by content names done) → Writes written failures e p f q (answers_from played.content names played.world (events_in (line ∷ [])))
       → Writes written failures d nothing_gathered f q (answers_by content names (done ++ line ∷ []))
   told_line content names done line d e f p q played is h here =
@@ -130,7 +130,7 @@ module _ {D : Type 0} (written : D → Option (List ℕ)) (failures : D → ℕ)
       (sym (ap (world_after (keymap_of content) opening) (events_in-append done (line ∷ [])) ∙ world_after-append content opening (events_in done) (events_in (line ∷ []))))
 
   -- a whole line: its line feed came, it is well formed, and it is answered
-  pub answered_line : (content : Content) (names : List Entry) (old mid new : Option (List ℕ)) (old_budget mid_budget new_budget : ℕ) (d e f : D) (p q : Gathered) (kept empty : Kept) (played after : Played) (number : ℕ)
+  pub answered_line : (content : Content) (names : KeysymTable) (old mid new : Option (List ℕ)) (old_budget mid_budget new_budget : ℕ) (d e f : D) (p q : Gathered) (kept empty : Kept) (played after : Played) (number : ℕ)
       → AnsweredSoFar content names old old_budget mid mid_budget d e p kept played number → Came mid mid_budget new new_budget (10 ∷ [])
       → ((line : List ℕ) → KeepsLine kept line → true ≡ is_well_formed line)
       → ((line : List ℕ) → KeepsLine kept line → Writes written failures e p f q (answers_from played.content names played.world (events_in (line ∷ []))))
@@ -153,7 +153,7 @@ module _ {D : Type 0} (written : D → Option (List ℕ)) (failures : D → ℕ)
       }
 
   -- the number of the next line is small, since each line takes a byte
-  pub number_small : (content : Content) (names : List Entry) (old new : Option (List ℕ)) (old_budget new_budget : ℕ) (d e : D) (buffered : Gathered) (kept : Kept) (played : Played) (number : ℕ)
+  pub number_small : (content : Content) (names : KeysymTable) (old new : Option (List ℕ)) (old_budget new_budget : ℕ) (d e : D) (buffered : Gathered) (kept : Kept) (played : Played) (number : ℕ)
       → AnsweredSoFar content names old old_budget new new_budget d e buffered kept played number → number ≤ old_budget + 1
   number_small content names old new old_budget new_budget d e buffered kept played number h =
       omega (arith, h.numbered, h.came.spent, length-append (joined h.done) h.part, length-joined h.done)
@@ -161,7 +161,7 @@ module _ {D : Type 0} (written : D → Option (List ℕ)) (failures : D → ℕ)
   -- ---- The ends
 
   -- the answers so far are a beginning of all
-  pub begins_all : (content : Content) (names : List Entry) (a b : Option (List ℕ)) (done rest : List (List ℕ)) → EachIs is_well_formed true done → Begins a b (answers_by content names done)
+  pub begins_all : (content : Content) (names : KeysymTable) (a b : Option (List ℕ)) (done rest : List (List ℕ)) → EachIs is_well_formed true done → Begins a b (answers_by content names done)
       → Begins a b (answers_to content names (done ++ rest))
   begins_all content names a b done rest formed begun =
       subst (λ t. Begins a b t)
@@ -177,7 +177,7 @@ module _ {D : Type 0} (written : D → Option (List ℕ)) (failures : D → ℕ)
   known_by (Some text) (Some rest) m n bytes P came fact = subst (λ t. P (lines_of t)) (sym came.consumed) (fact rest refl)
 
   -- what waits may be put before the next byte comes
-  pub answered_put : (content : Content) (names : List Entry) (old new : Option (List ℕ)) (old_budget new_budget : ℕ) (d e f : D) (p q : Gathered) (kept : Kept) (played : Played) (number : ℕ)
+  pub answered_put : (content : Content) (names : KeysymTable) (old new : Option (List ℕ)) (old_budget new_budget : ℕ) (d e f : D) (p q : Gathered) (kept : Kept) (played : Played) (number : ℕ)
       → AnsweredSoFar content names old old_budget new new_budget d e p kept played number → PutsOrWaits written failures e p f q → AnsweredSoFar content names old old_budget new new_budget d f q kept played number
   answered_put content names old new old_budget new_budget d e f p q kept played number h put =
       record {
@@ -201,7 +201,7 @@ module _ {D : Type 0} (written : D → Option (List ℕ)) (failures : D → ℕ)
   lines_after : (done : List (List ℕ)) (part rest : List ℕ) → EachFree done → lines_of ((joined done ++ part) ++ rest) ≡ done ++ lines_of (part ++ rest)
   lines_after done part rest free = ap lines_of (append_assoc (joined done) part rest) ∙ lines_of-joined done (part ++ rest) free
 
-  begun_known : (content : Content) (names : List Entry) (old new : Option (List ℕ)) (old_budget new_budget : ℕ) (d e g : D) (buffered : Gathered) (kept : Kept) (played : Played) (number : ℕ)
+  begun_known : (content : Content) (names : KeysymTable) (old new : Option (List ℕ)) (old_budget new_budget : ℕ) (d e g : D) (buffered : Gathered) (kept : Kept) (played : Played) (number : ℕ)
       (h : AnsweredSoFar content names old old_budget new new_budget d e buffered kept played number) → Begins (written d) (written g) (answers_by content names h.done)
       → IfSome (known_lines old) (λ all. Begins (written d) (written g) (answers_to content names all))
   begun_known content names old new old_budget new_budget d e g buffered kept played number h begun =
@@ -213,7 +213,7 @@ module _ {D : Type 0} (written : D → Option (List ℕ)) (failures : D → ℕ)
   all_begun a b text put = record { part = text; rest = []; parted = sym (append-nil text); put = put }
 
   -- no next byte comes
-  pub replays_failed : (content : Content) (names : List Entry) (old new : Option (List ℕ)) (old_budget new_budget : ℕ) (d e g : D) (buffered : Gathered) (kept : Kept) (played : Played) (number : ℕ) (reading : Type 0) (fault : ReplayFault)
+  pub replays_failed : (content : Content) (names : KeysymTable) (old new : Option (List ℕ)) (old_budget new_budget : ℕ) (d e g : D) (buffered : Gathered) (kept : Kept) (played : Played) (number : ℕ) (reading : Type 0) (fault : ReplayFault)
       → AnsweredSoFar content names old old_budget new new_budget d e buffered kept played number → FailsAt written failures reading e buffered g fault
       → Replays written failures {A = Unit {0}} content names (known_lines old) d g (Err fault)
   replays_failed content names old new old_budget new_budget d e g buffered kept played number reading faults.Memory h failed = absurd failed
@@ -237,7 +237,7 @@ module _ {D : Type 0} (written : D → Option (List ℕ)) (failures : D → ℕ)
   pub record LineComes (old : Option (List ℕ)) (done : List (List ℕ)) (line : List ℕ) : Type 0 where
     pub known : IfSome (known_lines old) (λ all. (more : List (List ℕ)) × (all ≡ done ++ line ∷ more))
 
-  pub line_ends : (content : Content) (names : List Entry) (old new : Option (List ℕ)) (old_budget new_budget : ℕ) (d e : D) (buffered : Gathered) (kept : Kept) (played : Played) (number : ℕ)
+  pub line_ends : (content : Content) (names : KeysymTable) (old new : Option (List ℕ)) (old_budget new_budget : ℕ) (d e : D) (buffered : Gathered) (kept : Kept) (played : Played) (number : ℕ)
       (h : AnsweredSoFar content names old old_budget new new_budget d e buffered kept played number) → IsAtEnd new → IfSome (known_lines old) (λ all. all ≡ h.done ++ h.part ∷ [])
   line_ends content names old new old_budget new_budget d e buffered kept played number h end =
       known_by old new old_budget new_budget (joined h.done ++ h.part) (λ all. all ≡ h.done ++ h.part ∷ []) h.came
@@ -247,7 +247,7 @@ module _ {D : Type 0} (written : D → Option (List ℕ)) (failures : D → ℕ)
   line_comes_last None done line known = record { known = tt }
   line_comes_last (Some text) done line known = record { known = ([], known) }
 
-  pub line_comes : (content : Content) (names : List Entry) (old mid new : Option (List ℕ)) (old_budget mid_budget new_budget : ℕ) (d e : D) (buffered : Gathered) (kept : Kept) (played : Played) (number : ℕ)
+  pub line_comes : (content : Content) (names : KeysymTable) (old mid new : Option (List ℕ)) (old_budget mid_budget new_budget : ℕ) (d e : D) (buffered : Gathered) (kept : Kept) (played : Played) (number : ℕ)
       (h : AnsweredSoFar content names old old_budget mid mid_budget d e buffered kept played number) → Came mid mid_budget new new_budget (10 ∷ []) → LineComes old h.done h.part
   line_comes content names old mid new old_budget mid_budget new_budget d e buffered kept played number h came =
       record {
@@ -256,7 +256,7 @@ module _ {D : Type 0} (written : D → Option (List ℕ)) (failures : D → ℕ)
             (λ rest is. (lines_of rest, lines_of-cut h.done h.part rest h.done_free h.part_free));
       }
 
-  stopped_known : (content : Content) (names : List Entry) (old : Option (List ℕ)) (done : List (List ℕ)) (line : List ℕ) (number : ℕ) (d g : D) → LineComes old done line → EachIs is_well_formed true done → is_well_formed line ≡ false
+  stopped_known : (content : Content) (names : KeysymTable) (old : Option (List ℕ)) (done : List (List ℕ)) (line : List ℕ) (number : ℕ) (d g : D) → LineComes old done line → EachIs is_well_formed true done → is_well_formed line ≡ false
       → number ≡ length done + 1 → Appends (written d) (written g) (answers_by content names done)
       → IfSome (known_lines old) (λ all. (number ≡ length (well_formed_lines all) + 1) × (number ≤ length all) × Appends (written d) (written g) (answers_to content names all))
   stopped_known content names None done line number d g comes formed bad numbered put = tt
@@ -270,7 +270,7 @@ module _ {D : Type 0} (written : D → Option (List ℕ)) (failures : D → ℕ)
       )
 
   -- a line that is neither empty nor an event ends the answers, unless the writer failed
-  pub replays_stopped : (content : Content) (names : List Entry) (old new : Option (List ℕ)) (old_budget new_budget : ℕ) (d e g : D) (buffered : Gathered) (kept : Kept) (played : Played) (number : ℕ) (fault : ReplayFault)
+  pub replays_stopped : (content : Content) (names : KeysymTable) (old new : Option (List ℕ)) (old_budget new_budget : ℕ) (d e g : D) (buffered : Gathered) (kept : Kept) (played : Played) (number : ℕ) (fault : ReplayFault)
       (h : AnsweredSoFar content names old old_budget new new_budget d e buffered kept played number) → LineComes old h.done h.part → StopsAt written failures kept number e buffered g fault
       → Replays written failures {A = Unit {0}} content names (known_lines old) d g (Err fault)
   replays_stopped content names old new old_budget new_budget d e g buffered kept played number faults.Memory h comes stops = absurd stops
@@ -284,7 +284,7 @@ module _ {D : Type 0} (written : D → Option (List ℕ)) (failures : D → ℕ)
       (stopped_known content names old h.done h.part stop d g comes h.formed (stops.1 h.part h.keeps) (stops.0 ∙ h.numbered) put.all, put.counted)
 
   -- all lines are answered, and what waits is put
-  pub replays_ended : (content : Content) (names : List Entry) (old new : Option (List ℕ)) (old_budget new_budget : ℕ) (d e f g : D) (buffered last : Gathered) (kept : Kept) (played : Played) (number : ℕ) (r : Result (Unit {0}) ReplayFault)
+  pub replays_ended : (content : Content) (names : KeysymTable) (old new : Option (List ℕ)) (old_budget new_budget : ℕ) (d e f g : D) (buffered last : Gathered) (kept : Kept) (played : Played) (number : ℕ) (r : Result (Unit {0}) ReplayFault)
       (h : AnsweredSoFar content names old old_budget new new_budget d e buffered kept played number) → IsAtEnd new → true ≡ is_well_formed h.part
       → Writes written failures e buffered f last (answers_from played.content names played.world (events_in (h.part ∷ [])))
       → Finishes written failures f last g r → IfErr r (λ fault. fault ≡ faults.Write) → Replays written failures content names (known_lines old) d g r

@@ -2,7 +2,7 @@
 use Rattle.std.proofs.Common.{◌≡◌, ◌⊎◌, ℕ, Bool, true, false, List, [], Option, None, Some, Result, Ok, Err, IfSome, inl, inr, refl, sym, subst}
 use Rattle.std.proofs.lemmas.List.{append-nil}
 use Rattle.std.specs.Io.KnownBytes.{Appends}
-use Rattle.ks_core.specs.Entry.{Entry}
+use Rattle.ks_core.specs.Table.{KeysymTable}
 use Rattle.kx_include.specs.Source.{Handed}
 use Rattle.kx_source.specs.Source.{HasFault, Means}
 use Rattle.kx_lex.specs.declared.fault.Fault.{Fault}
@@ -35,7 +35,7 @@ within_all left input is few = by left (subst (λ (w : Waiting). IsWithin (comin
     by None few = tt
     by (Some text) few = few
 
-module _ {D : Type 0} (written : D → Option (List ℕ)) (failures : D → ℕ) (files : Handed) (names : List Entry) where
+module _ {D : Type 0} (written : D → Option (List ℕ)) (failures : D → ℕ) (files : Handed) (names : KeysymTable) where
   answers_known : (left later : Option (List ℕ)) (k m : ℕ) (source : List ℕ) (content : Content) (d e : D) (r : Result (Unit {0}) ReplayFault)
       → ReadsSource (coming nothing_read left) k later m source true → Means source files names content → Replays written failures content names (known_lines later) d e r
       → IfSome left (λ text. Answers written failures text files names d e r)

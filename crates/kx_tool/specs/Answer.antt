@@ -1,6 +1,6 @@
 -- The lines that answer events.
 use Rattle.std.specs.Prelude.{ℕ, ◌+◌, ◌==◌, List, [], ◌∷◌, ◌++◌, codes, decimal, length, map, if◌then◌else◌}
-use Rattle.ks_core.specs.Entry.{Entry}
+use Rattle.ks_core.specs.Table.{KeysymTable}
 use Rattle.ks_core.specs.Names.{name_of_keysym}
 use Rattle.ks_core.specs.PrintedName.{printed_name}
 use Rattle.kx_tables.specs.Content.{Content, indicator_name}
@@ -20,11 +20,11 @@ abbrev pub mods_text : List ℕ → ℕ → List ℕ
 mods_text label mask = label ++ set_text mod_names mask
 
 -- keysyms joined by commas, by the names that are written for them
-abbrev pub keysym_names : List Entry → List ℕ → List ℕ
+abbrev pub keysym_names : KeysymTable → List ℕ → List ℕ
 keysym_names names keysyms = joined (codes ",") (map (name_of_keysym names) keysyms)
 
 -- `?` for an unknown code, `-` for no keysym
-abbrev pub keysyms_text : List Entry → Glance → List ℕ
+abbrev pub keysyms_text : KeysymTable → Glance → List ℕ
 keysyms_text names look =
     if look.known then (if length look.syms == 0 then codes "-" else keysym_names names look.syms) else codes "?"
 
@@ -67,15 +67,15 @@ abbrev pub unlit_tail : ℕ → Status → List ℕ
 unlit_tail consumed state = all_mods_text consumed state ++ (group_text state ++ 10 ∷ [])
 
 -- the line that answers an event
-unfoldable pub answer_line : Content → List Entry → Event → Answer → List ℕ
+unfoldable pub answer_line : Content → KeysymTable → Event → Answer → List ℕ
 answer_line content names event answer = event_text event ++ (keysyms_text names answer.look ++ tail_text content answer)
 
 -- a line for each event with its reply
-abbrev pub lines_with : Content → List Entry → List Event → List Answer → List ℕ
+abbrev pub lines_with : Content → KeysymTable → List Event → List Answer → List ℕ
 lines_with content names (event ∷ events) (answer ∷ answers) =
     answer_line content names event answer ++ lines_with content names events answers
 lines_with content names _ _ = []
 
 -- the lines that answer events in a state of the keyboard: one for each reply of the run
-abbrev pub answers_from : Content → List Entry → World → List Event → List ℕ
+abbrev pub answers_from : Content → KeysymTable → World → List Event → List ℕ
 answers_from content names world events = lines_with content names events (run (keymap_of content) world events)

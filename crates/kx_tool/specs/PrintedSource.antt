@@ -1,6 +1,6 @@
 -- Sources that are the printed text of tables.
 use Rattle.std.specs.Prelude.{◌≡◌, ℕ, List, []}
-use Rattle.ks_core.specs.Entry.{Entry}
+use Rattle.ks_core.specs.Table.{KeysymTable}
 use Rattle.kx_image.specs.Image.{image}
 use Rattle.kx_image.specs.declared.header.ImageVersion.TheVariants.{Two}
 use Rattle.kx_include.specs.Source.{Handed}
@@ -26,8 +26,8 @@ pub record IsMemoryAlone (source : List ℕ) (files : Handed) (fault : Fault) : 
   pub memory_is : (c : Content) → IsPrintedSource c source files → fault ≡ Memory
 
 -- under these names a printed text means the tables that were printed, and no others; and it has no fault
-abbrev pub CompilesBack : List Entry → Type 0
+abbrev pub CompilesBack : KeysymTable → Type 0
 CompilesBack names = (c : Content) (d : Content) → CanBePrinted c → Means (printed c) [] names d → d ≡ c
 
-abbrev pub HasNoFault : List Entry → Type 0
+abbrev pub HasNoFault : KeysymTable → Type 0
 HasNoFault names = (c : Content) (e : Fault) → CanBePrinted c → HasFault (printed c) [] names e → ⊥

@@ -1,6 +1,6 @@
 -- What a session that ends with a fault left of its writer, and what the fault says of its source, whatever its reader gave.
 use Rattle.std.specs.Prelude.{◌≡◌, ◌≢◌, ◌≤◌, ◌⊎◌, ℕ, List, length}
-use Rattle.ks_core.specs.Entry.{Entry}
+use Rattle.ks_core.specs.Table.{KeysymTable}
 use Rattle.kx_include.specs.Source.{Handed}
 use Rattle.kx_lex.specs.declared.fault.Fault.TheVariants.{Memory}
 use Rattle.kx_source.specs.Source.{HasFault}
@@ -15,7 +15,7 @@ KeepsQuiet old new (Compile fault) = new ≡ old
 KeepsQuiet old new (Replay fault) = Unit {0}
 
 -- a source that is refused is one of no more bytes than a reader may give and has the fault, or memory was refused
-abbrev pub RefusesSource : Handed → List Entry → SessionFault → Type 0
+abbrev pub RefusesSource : Handed → KeysymTable → SessionFault → Type 0
 RefusesSource files names (Compile fault) = (fault ≡ Memory) ⊎ ((source : List ℕ) × (length source ≤ MOST_BYTES) × HasFault source files names fault)
 RefusesSource files names (Replay fault) = Unit {0}
 

@@ -3,7 +3,7 @@ use Rattle.std.specs.Prelude.{◌≡◌, ◌≢◌, ◌+◌, ◌≤◌, ◌⊎�
 use Rattle.std.specs.Option.{option_map}
 use Rattle.std.specs.Io.KnownBytes.{Appends}
 use Rattle.ks_core.specs.Device.{Begins}
-use Rattle.ks_core.specs.Entry.{Entry}
+use Rattle.ks_core.specs.Table.{KeysymTable}
 use Rattle.ks_core.specs.Lines.{lines_of}
 use Rattle.kx_image.specs.Image.{IsImage, HasImageFault}
 use Rattle.kx_image.specs.declared.fault.ImageFault.{ImageFault}
@@ -27,7 +27,7 @@ abbrev pub known_lines : Option (List ℕ) → Option (List (List ℕ))
 known_lines bytes = option_map lines_of bytes
 
 -- the answers to the lines before the first that is neither empty nor an event
-abbrev pub answers_to : Content → List Entry → List (List ℕ) → List ℕ
+abbrev pub answers_to : Content → KeysymTable → List (List ℕ) → List ℕ
 answers_to content names lines = answers_from content names opening (events_in (well_formed_lines lines))
 
 -- the bytes are no image, for this fault, and nothing is written
@@ -41,7 +41,7 @@ pub record RefusesImage {A D : Type 0} (bytes : List ℕ) (d e : D) (r : Result 
 module _ {D : Type 0} (written : D → Option (List ℕ)) (failures : D → ℕ) where
   -- Lines are answered from a keymap's tables by a writer d, which is left as e: each line, or those before the first that is neither
   -- empty nor an event, which is named by its number from 1; or a beginning of the answers, where a device failed.
-  abbrev pub Replays : {A : Type 0} → Content → List Entry → Option (List (List ℕ)) → D → D → Result A ReplayFault → Type 0
+  abbrev pub Replays : {A : Type 0} → Content → KeysymTable → Option (List (List ℕ)) → D → D → Result A ReplayFault → Type 0
   Replays content names lines d e (Ok x) =
       IfSome lines (λ all. (well_formed_lines all ≡ all) × Appends (written d) (written e) (answers_to content names all))
       × (failures e ≡ failures d)
@@ -56,20 +56,20 @@ module _ {D : Type 0} (written : D → Option (List ℕ)) (failures : D → ℕ)
       IfSome lines (λ all. Begins (written d) (written e) (answers_to content names all)) × (failures e ≢ failures d)
 
   -- the bytes are the image of tables, from which the lines are answered
-  pub record ReplaysImage {A : Type 0} (bytes : List ℕ) (names : List Entry) (lines : Option (List (List ℕ))) (d e : D) (r : Result A ReplayFault) : Type 0 where
+  pub record ReplaysImage {A : Type 0} (bytes : List ℕ) (names : KeysymTable) (lines : Option (List (List ℕ))) (d e : D) (r : Result A ReplayFault) : Type 0 where
     pub content : Content
     pub image : IsImage content bytes
     pub answers : Replays content names lines d e r
 
   -- the text's source is compiled to tables, from which the lines after it are answered
-  pub record Answers {A : Type 0} (text : List ℕ) (files : Handed) (names : List Entry) (d e : D) (r : Result A ReplayFault) : Type 0 where
+  pub record Answers {A : Type 0} (text : List ℕ) (files : Handed) (names : KeysymTable) (d e : D) (r : Result A ReplayFault) : Type 0 where
     pub content : Content
     pub compiled : IsCompiled (source_in text) files names (keymap_of content)
     pub means : Means (source_in text) files names content
     pub answers : Replays content names (Some (lines_in text)) d e r
 
   -- a session over a text: where its source is refused, and where it can't be read whole, nothing is written
-  abbrev pub AnswersSession : {A : Type 0} → List ℕ → Handed → List Entry → D → D → Result A SessionFault → Type 0
+  abbrev pub AnswersSession : {A : Type 0} → List ℕ → Handed → KeysymTable → D → D → Result A SessionFault → Type 0
   AnswersSession text files names d e (Ok x) = Answers text files names d e (Ok x)
   AnswersSession text files names d e (Err (Compile fault)) =
       (e ≡ d) × ((fault ≡ Memory) ⊎ HasFault (source_in text) files names fault)

@@ -1,5 +1,5 @@
 //! Keysyms by their numbers, and counts of notes.
-use ks_core::{Keysym, Note, Notes};
+use ks_core::{Keysym, Letters, Note, Notes};
 
 #[test]
 fn tells_cases_and_keypad(rt: HostRuntime) {
@@ -21,8 +21,43 @@ fn tells_cases_and_keypad(rt: HostRuntime) {
         (0x100_0410, false, true),
         (0x100_0450, false, false),
     ] {
-        assert!(rt; Keysym(keysym).is_lower() == is_lower, "at {keysym:#x}");
-        assert!(rt; Keysym(keysym).is_upper() == is_upper, "at {keysym:#x}");
+        let keysym = Keysym(keysym);
+        assert!(rt;
+            Letters::BuiltIn.is_lower(keysym) == is_lower,
+            "at {keysym:?}"
+        );
+        assert!(rt;
+            Letters::BuiltIn.is_upper(keysym) == is_upper,
+            "at {keysym:?}"
+        );
+    }
+    // Those of Unicode, with the same and with others: y with diaeresis, ghe with upturn, alpha, its accented form, an Armenian
+    // and a Georgian letter, the titled dz, which is neither, and signs.
+    for (keysym, is_lower, is_upper) in [
+        (0x61, true, false),
+        (0x100_0410, false, true),
+        (0xff, true, false),
+        (0x6ad, true, false),
+        (0x6bd, false, true),
+        (0x7e1, true, false),
+        (0x7c1, false, true),
+        (0x7b1, true, false),
+        (0x100_0561, true, false),
+        (0x100_0531, false, true),
+        (0x100_01c5, false, false),
+        (0x100_10d0, false, false),
+        (0x21, false, false),
+        (0x1fff_ffff, false, false),
+    ] {
+        let keysym = Keysym(keysym);
+        assert!(rt;
+            Letters::Unicode.is_lower(keysym) == is_lower,
+            "at {keysym:?}"
+        );
+        assert!(rt;
+            Letters::Unicode.is_upper(keysym) == is_upper,
+            "at {keysym:?}"
+        );
     }
     for (keysym, want) in [
         (0xff7f, false),

@@ -2,7 +2,7 @@
 use Rattle.std.proofs.Common.{◌≡◌, ℕ, pos, negsuc, neg_ℤ, suc, ◌+◌, ◌-◌, ◌&&◌, true, false, cond, List, [], ◌∷◌, ◌++◌, map, codes, Option, None, Some, refl, ap, ap₂, ◌∙◌, arith}
 use Rattle.std.proofs.lemmas.Bool.{lt-ltb, le-leb}
 use Rattle.std.specs.List.{flat_map}
-use Rattle.ks_core.specs.Entry.{Entry}
+use Rattle.ks_core.specs.Table.{KeysymTable}
 use Rattle.kx_actions.specs.Arguments.{action_of, action_faults}
 use Rattle.kx_actions.specs.Defaults.{no_defaults}
 use Rattle.kx_actions.specs.Groups.{Written, change_of, written}
@@ -256,10 +256,10 @@ module _ (names : List (List ℕ)) where
 
 -- ---- Levels
 
-abbrev pub known_by : List Entry → List (List ℕ) → Known
+abbrev pub known_by : KeysymTable → List (List ℕ) → Known
 known_by names modifiers = record { names = names; modifiers = modifiers; defaults = nothing_given }
 
-pub actions_back : (names : List Entry) (modifiers : List (List ℕ)) (cells : List ResolvedCell) → EachOf CellFits cells → (es : List Element) → AreShown IsActionOf (map call_of cells) es
+pub actions_back : (names : KeysymTable) (modifiers : List (List ℕ)) (cells : List ResolvedCell) → EachOf CellFits cells → (es : List Element) → AreShown IsActionOf (map call_of cells) es
     → map (element_action (known_by names modifiers)) es ≡ map (λ (d : ResolvedCell). defined (key_action d.action)) cells
 actions_back names modifiers [] all [] none = refl
 actions_back names modifiers [] all (e ∷ es) are = elim are [ ]

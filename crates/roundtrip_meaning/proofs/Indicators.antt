@@ -7,7 +7,7 @@ use Rattle.std.proofs.lemmas.List.Concat.{flat_map_single}
 use Rattle.std.specs.List.{flat_map, position, position_or_len, range_with_len}
 use Rattle.std.specs.Option.{option_and_then, option_map_or}
 use Rattle.std.specs.Str.{bytes_eq}
-use Rattle.ks_core.specs.Entry.{Entry}
+use Rattle.ks_core.specs.Table.{KeysymTable}
 use Rattle.kx_basics.specs.declared.limits.TheConstants.{MOST_NAME_BYTES}
 use Rattle.kx_builder.specs.IndicatorMaps.{ResolvedIndicator}
 use Rattle.kx_compat.specs.Meaning.{compat_faults}
@@ -282,7 +282,7 @@ module _ (place : Place) (ds : List ResolvedIndicator) (is : List Item) (shown :
       (few_names indicator_map_names (λ (d : ResolvedIndicator). d.name) IsIndicatorMapItem named place MOST_INDICATORS ds is all_shown few)
       (faults_shown nat_eq (indicator_map_rules (indicator_names compat) []) no_moves IsIndicatorMapItem no_values place (λ d i one. item_faultless place.file d i one) (λ d i one. stays d i one.1) ds is End all_shown)
 
-  pub interpretations_faultless : (table : List Entry) → compat_faults table [] compat ≡ []
+  pub interpretations_faultless : (table : KeysymTable) → compat_faults table [] compat ≡ []
   interpretations_faultless table = no_faults table place ds is shown
 
 -- ---- Without indicators there is no section

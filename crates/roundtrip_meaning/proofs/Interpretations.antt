@@ -1,7 +1,7 @@
 -- There are no interpretations in what is printed.
 use Rattle.std.proofs.Common.{◌≡◌, List, [], ◌∷◌, ◌++◌, map, refl, ap, ◌∙◌}
 use Rattle.std.specs.List.{flat_map}
-use Rattle.ks_core.specs.Entry.{Entry}
+use Rattle.ks_core.specs.Table.{KeysymTable}
 use Rattle.kx_builder.specs.IndicatorMaps.{ResolvedIndicator}
 use Rattle.kx_compat.specs.SameMatch.{same_match}
 use Rattle.kx_compat.specs.Meaning.{InterpretationOffer, compat_faults, compat_rules, interpretation_by, interpretation_offers, interpretations_of, item_offers, said_offers}
@@ -28,7 +28,7 @@ none_given : (ds : List ResolvedIndicator) → flat_map (λ (d : ResolvedIndicat
 none_given [] = refl
 none_given (d ∷ ds) = none_given ds
 
-module _ (table : List Entry) (place : Place) (ds : List ResolvedIndicator) (is : List Item) (shown : AreShown (λ d i. IsItem (IsIndicator d) i) ds is) where
+module _ (table : KeysymTable) (place : Place) (ds : List ResolvedIndicator) (is : List Item) (shown : AreShown (λ d i. IsItem (IsIndicator d) i) ds is) where
   abbrev compat : Body
   compat = Begin (own_body place is End)
 
@@ -47,8 +47,8 @@ module _ (table : List Entry) (place : Place) (ds : List ResolvedIndicator) (is 
       (λ d i one. ap (item_faults place.file []) one.item_is ∙ ap (λ said. item_faults place.file [] (Statement Override said one.first one.whole)) one.shows.is) stays ds is End shown
 
 -- without indicators there is no section
-pub none_without : (table : List Entry) → interpretations_of table [] End ≡ []
+pub none_without : (table : KeysymTable) → interpretations_of table [] End ≡ []
 none_without table = refl
 
-pub faultless_without : (table : List Entry) → compat_faults table [] End ≡ []
+pub faultless_without : (table : KeysymTable) → compat_faults table [] End ≡ []
 faultless_without table = refl

@@ -3,7 +3,7 @@ use Rattle.std.proofs.Common.{◌≡◌, ℕ, ◌+◌, ◌<◌, ◌≤◌, Bool,
 use Rattle.std.proofs.lemmas.Bool.{le-ltb}
 use Rattle.std.proofs.lemmas.List.{length-map}
 use Rattle.std.specs.List.{flat_map}
-use Rattle.ks_core.specs.Entry.{Entry}
+use Rattle.ks_core.specs.Table.{KeysymTable}
 use Rattle.ks_core.specs.Name.{is_word}
 use Rattle.kx_basics.specs.Keysyms.{IsKeysym}
 use Rattle.kx_basics.specs.declared.limits.TheConstants.{GREATEST_KEYSYM, MOST_KEYSYMS, MOST_NAME_BYTES}
@@ -104,7 +104,7 @@ place_faultless file lists n span whole index list small size =
 
 -- ---- Lists
 
-module _ (file : ℕ) (names : List Entry) (modifiers : List (List ℕ)) (whole : Span) where
+module _ (file : ℕ) (names : KeysymTable) (modifiers : List (List ℕ)) (whole : Span) where
   abbrev known : Known
   known = known_by names modifiers
 
@@ -192,7 +192,7 @@ module _ (file : ℕ) (modifiers : List (List ℕ)) where
 
 -- ---- A statement
 
-pub key_faultless : (file : ℕ) (names : List Entry) (modifiers : List (List ℕ)) (k : PrintedKey) (i : Item) → KeyFits k → IsItem (IsKey k) i → item_faults file (known_by names modifiers) i ≡ []
+pub key_faultless : (file : ℕ) (names : KeysymTable) (modifiers : List (List ℕ)) (k : PrintedKey) (i : Item) → KeyFits k → IsItem (IsKey k) i → item_faults file (known_by names modifiers) i ≡ []
 key_faultless file names modifiers k i fits is =
     let fs = is.shows.fields in
     let most = fits.few in

@@ -1,6 +1,6 @@
 -- From the fields that a printed key shows to the lists of its groups.
 use Rattle.std.proofs.Common.{◌≡◌, ℕ, ◌+◌, ◌<◌, ◌≤◌, true, List, [], ◌∷◌, ◌++◌, length, map, codes, is_some, ap, ◌∙◌, arith}
-use Rattle.ks_core.specs.Entry.{Entry}
+use Rattle.ks_core.specs.Table.{KeysymTable}
 use Rattle.ks_core.specs.Lines.{is_sound}
 use Rattle.std.specs.List.{list_all}
 use Rattle.kx_builder.specs.Resolved.{ResolvedCell}
@@ -31,7 +31,7 @@ use Rattle.roundtrip_meaning.proofs.Actions.{known_by, actions_back}
 abbrev pub level_lists : PrintedGroup → GroupLists
 level_lists g = record { symbols = map (λ (d : ResolvedCell). given d.syms) g.cells; actions = map (λ (d : ResolvedCell). defined (key_action d.action)) g.cells }
 
-module _ (names : List Entry) (modifiers : List (List ℕ)) (table : list_all is_sound names ≡ true) where
+module _ (names : KeysymTable) (modifiers : List (List ℕ)) (table : list_all is_sound names.names ≡ true) where
   abbrev known : Known
   known = known_by names modifiers
 

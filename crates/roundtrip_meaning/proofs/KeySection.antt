@@ -1,7 +1,7 @@
 -- What the statements of a printed symbols section give: keys and modifier maps together.
 use Rattle.std.proofs.Common.{◌≡◌, ℕ, ◌<◌, true, nat_eq, List, [], ◌++◌, Some, is_some}
 use Rattle.std.specs.List.{list_all, flat_map}
-use Rattle.ks_core.specs.Entry.{Entry}
+use Rattle.ks_core.specs.Table.{KeysymTable}
 use Rattle.ks_core.specs.Lines.{is_sound}
 use Rattle.kx_codes.specs.Codes.{Codes, code_of}
 use Rattle.kx_include.specs.Expansion.{Body, End, Begin}
@@ -32,8 +32,8 @@ use Rattle.roundtrip_meaning.specs.Given.{IsGiven}
 use Rattle.roundtrip_meaning.proofs.Keys.{keys_given as given_keys, keys_faultless as faultless_keys}
 use Rattle.roundtrip_meaning.proofs.ModifierMaps.{maps_given as given_maps, maps_keysymless as keysymless_maps, maps_faultless as faultless_maps}
 
-module _ (codes : Codes) (names : List Entry) (place : Place) (ks : List PrintedKey) (nis kis mis : List Item)
-    (table : list_all is_sound names ≡ true)
+module _ (codes : Codes) (names : KeysymTable) (place : Place) (ks : List PrintedKey) (nis kis mis : List Item)
+    (table : list_all is_sound names.names ≡ true)
     (named : EachOf IsNameItem nis)
     (keys : AreShown (λ (k : PrintedKey) i. IsItem (IsKey k) i) ks kis)
     (maps : AreShown (λ (l : MapLine) i. IsItem (IsModifierMap l.modifier l.name) i) (flat_map maps_of_key ks) mis)

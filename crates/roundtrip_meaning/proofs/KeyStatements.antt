@@ -1,6 +1,6 @@
 -- What the statements of a printed symbols section offer keys.
 use Rattle.std.proofs.Common.{◌≡◌, ℕ, List, [], ◌∷◌, ◌++◌, Option, Some, nat_eq, refl, ap, ap₂, ◌∙◌}
-use Rattle.ks_core.specs.Entry.{Entry}
+use Rattle.ks_core.specs.Table.{KeysymTable}
 use Rattle.kx_codes.specs.Codes.{Codes, code_of}
 use Rattle.kx_include.specs.Expansion.{Body, End, Begin}
 use Rattle.kx_include.specs.declared.place.Place.{Place}
@@ -27,7 +27,7 @@ use Rattle.roundtrip_tree.specs.Source.{IsNameItem, IsMapItem}
 use Rattle.roundtrip_meaning.proofs.Actions.{known_by}
 use Rattle.roundtrip_meaning.proofs.KeyFaults.{key_faultless}
 
-module _ (codes : Codes) (names : List Entry) (modifiers : List (List ℕ)) (place : Place) where
+module _ (codes : Codes) (names : KeysymTable) (modifiers : List (List ℕ)) (place : Place) where
   -- ---- Names of groups and modifier maps say nothing of keys
 
   name_silent : (i : Item) → IsNameItem i → IsSilent (key_rules codes names modifiers) place no_defaults i

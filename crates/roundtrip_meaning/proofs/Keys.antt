@@ -4,7 +4,7 @@ use Rattle.std.proofs.lemmas.List.{length-map}
 use Rattle.std.proofs.lemmas.Option.{slice_get-map}
 use Rattle.std.specs.List.{list_all}
 use Rattle.std.specs.Option.{option_and_then, option_map, option_map_or}
-use Rattle.ks_core.specs.Entry.{Entry}
+use Rattle.ks_core.specs.Table.{KeysymTable}
 use Rattle.ks_core.specs.Lines.{is_sound}
 use Rattle.kx_actions.specs.declared.action.KeyAction.{KeyAction}
 use Rattle.kx_builder.specs.Resolved.{ResolvedCell}
@@ -83,7 +83,7 @@ keysyms_at d = given d.syms
 abbrev action_at : ResolvedCell → Option KeyAction
 action_at d = defined (key_action d.action)
 
-module _ (names : List Entry) (modifiers : List (List ℕ)) (table : list_all is_sound names ≡ true) (k : PrintedKey) (fits : KeyFits k) (fs : List KeyField) (are : AreShown IsFieldOf (field_phrases (key_phrase k)) fs) where
+module _ (names : KeysymTable) (modifiers : List (List ℕ)) (table : list_all is_sound names.names ≡ true) (k : PrintedKey) (fits : KeyFits k) (fs : List KeyField) (are : AreShown IsFieldOf (field_phrases (key_phrase k)) fs) where
   abbrev known : Known
   known = known_by names modifiers
 
@@ -129,7 +129,7 @@ given_same k v u w x values_are widths_are is = record {
   range_is = ap (λ o. unwrap_or (range_of o) Wrap) (values_are (cells.Setting settings.Range)) ∙ is.range_is;
 }
 
-module _ (codes : Codes) (names : List Entry) (modifiers : List (List ℕ)) (place : Place) (table : list_all is_sound names ≡ true) where
+module _ (codes : Codes) (names : KeysymTable) (modifiers : List (List ℕ)) (place : Place) (table : list_all is_sound names.names ≡ true) where
   abbrev Gives : PrintedKey → Offer ℕ Cell CellValue → Type 0
   Gives k o = IsGiven k (given_by o.value o.width)
 

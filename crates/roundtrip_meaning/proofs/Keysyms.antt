@@ -10,6 +10,7 @@ use Rattle.std.specs.Option.{option_and_then, option_to_list}
 use Rattle.std.specs.Str.{is_utf8}
 use Rattle.ks_core.specs.BuiltIn.{built_in, built_in_runs, numbered, entries_of_run}
 use Rattle.ks_core.specs.Entry.{Entry, name_in}
+use Rattle.ks_core.specs.Table.{KeysymTable}
 use Rattle.ks_core.specs.Lines.{is_sound}
 use Rattle.ks_core.specs.Name.{is_word, is_word_start, is_word_byte, is_between}
 use Rattle.ks_core.specs.Names.{keysym_named, name_of_number, is_written_back, hex_digits, four_digits}
@@ -90,7 +91,7 @@ is_name keysym h = by_name (λ w. is_word w ≡ true → IsName keysym w) keysym
 
 -- ---- What they stand for
 
-module _ (names : List Entry) (table : list_all is_sound names ≡ true) where
+module _ (names : KeysymTable) (table : list_all is_sound names.names ≡ true) where
   named_back : (keysym : ℕ) → IsKeysym keysym → keysym_named names (keysym_text keysym) ≡ Some keysym
   named_back keysym h = by_name (λ w. keysym_named names w ≡ Some keysym) keysym (λ name found. keysym_named-built_in names name keysym (built_in-named name keysym found).0)
       (λ none. name_of_number-named names keysym table none (let most = h.most in omega (arith, most)) written)

@@ -7,7 +7,7 @@ use Rattle.std.proofs.lemmas.List.FromFn.{get_or-map-range_with_len}
 use mathlib.Core.Bool.{or-false}
 use Rattle.std.specs.List.{list_all, list_any, flat_map, range_with_len}
 use Rattle.std.specs.Option.{option_map, option_map_or, option_or, unwrap_or}
-use Rattle.ks_core.specs.Entry.{Entry as Named}
+use Rattle.ks_core.specs.Table.{KeysymTable}
 use Rattle.kx_basics.specs.declared.limits.TheConstants.{MOST_NAME_BYTES}
 use Rattle.kx_codes.specs.Codes.{Codes, code_of}
 use Rattle.kx_include.specs.Expansion.{Body, End, Begin}
@@ -154,7 +154,7 @@ key_offers k = map (map_offer k.code) (modifiers_of k)
 abbrev all_offers : List PrintedKey → List MapOffer
 all_offers ks = flat_map key_offers ks
 
-module _ (codes : Codes) (names : List Named) (modifiers : List (List ℕ)) (place : Place) where
+module _ (codes : Codes) (names : KeysymTable) (modifiers : List (List ℕ)) (place : Place) where
   abbrev rules : Rules Target Cell ℕ (Unit {0})
   rules = map_rules codes names modifiers
 
@@ -279,7 +279,7 @@ keysymless whole (k ∷ ks) = no_keysyms whole k.code (modifiers_of k) (all_offe
 
 -- ---- A symbols section
 
-module _ (codes : Codes) (names : List Named) (modifiers : List (List ℕ)) (place : Place) (ks : List PrintedKey) (nis kis mis : List Item) (named : EachOf IsNameItem nis) (keys : EachOf IsKeyItem kis)
+module _ (codes : Codes) (names : KeysymTable) (modifiers : List (List ℕ)) (place : Place) (ks : List PrintedKey) (nis kis mis : List Item) (named : EachOf IsNameItem nis) (keys : EachOf IsKeyItem kis)
     (maps : AreShown (λ (l : MapLine) i. IsItem (IsModifierMap l.modifier l.name) i) (flat_map maps_of_key ks) mis) where
   abbrev symbols : Body
   symbols = Begin (own_body place (nis ++ (kis ++ mis)) End)

@@ -15,7 +15,6 @@ use Rattle.kx_resolve.specs.Keys.{Keyed, key_if_named, keys_below, resolved_of, 
 use Rattle.kx_tables.specs.Content.{Content, key_name, part}
 use Rattle.kx_tables.specs.Sound.{Sound}
 use Rattle.kx_tables.specs.declared.rows.KeyRow.{KeyRow}
-use Rattle.kx_types.specs.KeyTypes.{Definition}
 use Rattle.roundtrip_meaning.proofs.Order.{Rising, all_below, at_code, below}
 use Rattle.roundtrip_meaning.specs.Given.{IsGiven}
 use Rattle.roundtrip_meaning.specs.Resolving.{ReadAgain, pair_of}
@@ -25,6 +24,7 @@ use Rattle.roundtrip_meaning.proofs.ResolvingTypes.{types_again}
 use Rattle.roundtrip_text.specs.Source.{EachOf, PrintedGroup, PrintedKey, cell_at, group_printed, key_printed, keys_printed, types_printed}
 use Rattle.roundtrip_text.proofs.Joined.{flat_map-map}
 use Rattle.roundtrip_text.proofs.TablesHold.{each_mapped, each_row, key_fits, part_get, types_fit}
+use Rattle.kx_resolve.specs.Typing.{Typing}
 use Rattle.roundtrip_text.proofs.TablesLists.{each_at}
 
 -- ---- Lists of things by code
@@ -39,7 +39,7 @@ module _ {X B : Type 0} (code : X → ℕ) (g : X → List B) where
   all_under n [] each = refl
   all_under n (x ∷ xs) each = ap₂ (λ t ys. cond t (g x) [] ++ ys) (lt-ltb (code x) n each.0) (all_under n xs each.1)
 
-module _ (c : Content) (sound : Sound c) (real : ℕ → RealSet) (declared : List ℕ → Option Definition) (keyed : Keyed) (again : ReadAgain c real declared keyed) where
+module _ (c : Content) (sound : Sound c) (real : ℕ → RealSet) (typing : Typing) (keyed : Keyed) (again : ReadAgain c real typing keyed) where
   abbrev name : KeyRow → List ℕ
   name k = key_name c k
 
@@ -70,36 +70,36 @@ module _ (c : Content) (sound : Sound c) (real : ℕ → RealSet) (declared : Li
   abbrev names_in : KeyRow → List (List ℕ)
   names_in k = map (λ (p : PrintedGroup). p.type_name) (key_printed c k).groups
 
-  names_below : (n : ℕ) → type_names_below declared keyed.name keyed.key n ≡ below code names_in (λ m. type_names_if declared (keyed.name m) (keyed.key m)) n
+  names_below : (n : ℕ) → type_names_below typing keyed.name keyed.key n ≡ below code names_in (λ m. type_names_if typing (keyed.name m) (keyed.key m)) n
   unfolding type_names_below
   names_below zero = refl
-  names_below (suc n) = ap (λ ns. ns ++ type_names_if declared (keyed.name n) (keyed.key n)) (names_below n)
+  names_below (suc n) = ap (λ ns. ns ++ type_names_if typing (keyed.name n) (keyed.key n)) (names_below n)
 
-  names_at : (n : ℕ) → type_names_if declared (keyed.name n) (keyed.key n) ≡ flat_map (at_code code names_in n) c.keys
+  names_at : (n : ℕ) → type_names_if typing (keyed.name n) (keyed.key n) ≡ flat_map (at_code code names_in n) c.keys
   names_at n =
-      ap (λ o. type_names_if declared o (keyed.key n)) (named n)
-      ∙ by_code code name names_in (λ o. type_names_if declared o (keyed.key n)) n 0 c.keys refl
-      (each_row (λ k. n ≡ code k → type_names_if declared (Some (name k)) (keyed.key n) ≡ names_in k) c.keys (λ i k is same. subst (λ m. type_names_if declared (Some (name k)) (keyed.key m) ≡ names_in k) (sym same) (here i k is)))
+      ap (λ o. type_names_if typing o (keyed.key n)) (named n)
+      ∙ by_code code name names_in (λ o. type_names_if typing o (keyed.key n)) n 0 c.keys refl
+      (each_row (λ k. n ≡ code k → type_names_if typing (Some (name k)) (keyed.key n) ≡ names_in k) c.keys (λ i k is same. subst (λ m. type_names_if typing (Some (name k)) (keyed.key m) ≡ names_in k) (sym same) (here i k is)))
       (rising names_in)
     where
-      here : (i : ℕ) (k : KeyRow) → slice_get c.keys i ≡ Some k → type_names_if declared (Some (name k)) (keyed.key (code k)) ≡ names_in k
+      here : (i : ℕ) (k : KeyRow) → slice_get c.keys i ≡ Some k → type_names_if typing (Some (name k)) (keyed.key (code k)) ≡ names_in k
       here i k is =
-          names_are (key_printed c k) (key_fits c sound i k is) (keyed.key k.code) (given_at i k is) declared
-          (each_mapped (λ (p : PrintedGroup). is_some (declared p.type_name) ≡ true) (group_printed c) (part c.groups k.first_group k.groups)
-          (λ j g at. group_declared c sound declared again.declared_are (k.first_group + j) g (part_get c.groups k.first_group k.groups j g at)))
+          names_are (key_printed c k) (key_fits c sound i k is) (keyed.key k.code) (given_at i k is) typing
+          (each_mapped (λ (p : PrintedGroup). is_some (typing.declared p.type_name) ≡ true) (group_printed c) (part c.groups k.first_group k.groups)
+          (λ j g at. group_declared c sound typing again.declared_are (k.first_group + j) g (part_get c.groups k.first_group k.groups j g at)))
 
-  types_used_are : types_used declared keyed.name keyed.key ≡ map (λ (t : ResolvedType). t.name) (types_printed c)
+  types_used_are : types_used typing keyed.name keyed.key ≡ map (λ (t : ResolvedType). t.name) (types_printed c)
   unfolding types_used
   types_used_are =
       ap (with_names [])
       (names_below CODES
-      ∙ all_below code names_in (λ m. type_names_if declared (keyed.name m) (keyed.key m)) c.keys CODES (rising names_in) names_at
+      ∙ all_below code names_in (λ m. type_names_if typing (keyed.name m) (keyed.key m)) c.keys CODES (rising names_in) names_at
       ∙ all_under code names_in CODES c.keys codes_within
       ∙ sym (flat_map-map (λ (k : PrintedKey). map (λ (p : PrintedGroup). p.type_name) k.groups) (key_printed c) c.keys))
       ∙ types_in_order c sound
 
-  types_are : map (type_of real declared) (types_used declared keyed.name keyed.key) ≡ types_printed c
-  types_are = ap (map (type_of real declared)) types_used_are ∙ types_again real again.real_is declared (types_printed c) (types_fit c sound) again.declared_are
+  types_are : map (type_of real typing) (types_used typing keyed.name keyed.key) ≡ types_printed c
+  types_are = ap (map (type_of real typing)) types_used_are ∙ types_again real again.real_is typing (types_printed c) (types_fit c sound) again.declared_are
 
   -- ---- Keys
 
@@ -110,9 +110,9 @@ module _ (c : Content) (sound : Sound c) (real : ℕ → RealSet) (declared : Li
   key_row k = key_seen c k ∷ []
 
   abbrev key_for : ℕ → Option (List ℕ) → List ResolvedKey
-  key_for n o = key_if_named declared used (keyed.level_actions n) (keyed.key n) n o (keyed.modmap n)
+  key_for n o = key_if_named typing used (keyed.level_actions n) (keyed.key n) n o (keyed.modmap n)
 
-  keys_pushed : (n : ℕ) → keys_below declared used keyed n ≡ below code key_row (λ m. key_for m (keyed.name m)) n
+  keys_pushed : (n : ℕ) → keys_below typing used keyed n ≡ below code key_row (λ m. key_for m (keyed.name m)) n
   unfolding keys_below
   keys_pushed zero = refl
   keys_pushed (suc n) = ap (λ ks. ks ++ key_for n (keyed.name n)) (keys_pushed n)
@@ -127,19 +127,19 @@ module _ (c : Content) (sound : Sound c) (real : ℕ → RealSet) (declared : Li
       here : (i : ℕ) (k : KeyRow) → slice_get c.keys i ≡ Some k → key_for (code k) (Some (name k)) ≡ key_row k
       here i k is =
           ap (λ (key : ResolvedKey). key ∷ [])
-          (key_again c sound declared again.declared_are k (key_fits c sound i k is) (keyed.key k.code) (given_at i k is) (keyed.level_actions k.code)
+          (key_again c sound typing again.declared_are k (key_fits c sound i k is) (keyed.key k.code) (given_at i k is) (keyed.level_actions k.code)
           (each_at (λ (k : PrintedKey). (group level : ℕ) (d : ResolvedCell) → cell_at k group level ≡ Some d → keyed.level_actions k.code group level ≡ d.action) (keys_printed c) again.level_actions_are i (key_printed c k) (printed_at i k is))
           (keyed.modmap k.code) (each_at (λ (k : PrintedKey). keyed.modmap k.code ≡ k.modmap) (keys_printed c) again.mapped_are i (key_printed c k) (printed_at i k is)))
 
-  keys_are : keys_below declared (types_used declared keyed.name keyed.key) keyed CODES ≡ map (key_seen c) c.keys
+  keys_are : keys_below typing (types_used typing keyed.name keyed.key) keyed CODES ≡ map (key_seen c) c.keys
   keys_are =
-      ap (λ us. keys_below declared us keyed CODES) types_used_are
+      ap (λ us. keys_below typing us keyed CODES) types_used_are
       ∙ keys_pushed CODES
       ∙ all_below code key_row (λ m. key_for m (keyed.name m)) c.keys CODES (rising key_row) key_at
       ∙ all_under code key_row CODES c.keys codes_within
       ∙ flat_map_single (key_seen c) c.keys
 
   -- types and keys are those that are seen in the tables
-  pub resolved_again : resolved_of real declared keyed ≡ seen c
+  pub resolved_again : resolved_of real typing keyed ≡ seen c
   unfolding resolved_of
   resolved_again = λ j. record { types = types_are j; keys = keys_are j }

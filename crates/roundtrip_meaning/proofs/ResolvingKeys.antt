@@ -27,6 +27,7 @@ use Rattle.roundtrip_text.specs.Tables.{group_seen}
 use Rattle.roundtrip_text.proofs.Tables.{group_cells_length, groups_by_row}
 use Rattle.roundtrip_text.proofs.TablesHold.{part_get, type_of as type_there, types_apart}
 use Rattle.roundtrip_text.proofs.TablesLists.{each_at, position_is, pushed, pushed_are}
+use Rattle.kx_resolve.specs.Typing.{Typing}
 use Rattle.roundtrip_meaning.specs.Types.{definition_seen}
 
 -- ---- Groups
@@ -65,34 +66,34 @@ module _ (k : PrintedKey) (fits : KeyFits k) (key : KeyGiven) (given : IsGiven k
   pub content_is : (group : ℕ) (p : PrintedGroup) → slice_get k.groups group ≡ Some p → content_group key group ≡ group
   content_is group p is = ap (λ t. cond t group 0) (group_has_level group p is)
 
-  module _ (declared : List ℕ → Option Definition) where
-    pub type_name_is : (group : ℕ) (p : PrintedGroup) → slice_get k.groups group ≡ Some p → is_some (declared p.type_name) ≡ true → group_type_name declared key group ≡ p.type_name
+  module _ (typing : Typing) where
+    pub type_name_is : (group : ℕ) (p : PrintedGroup) → slice_get k.groups group ≡ Some p → is_some (typing.declared p.type_name) ≡ true → group_type_name typing key group ≡ p.type_name
     type_name_is group p is declares =
-        ap (λ g. name_of_type declared (wanted_type key g)) (content_is group p is)
-        ∙ ap (λ o. name_of_type declared (option_or o (option_or key.key_type (automatic (λ level. slice_index (level_keysyms key group level) 0) (key.width group))))) (given.type_is group p is)
+        ap (λ g. name_of_type typing (wanted_type typing.letters key g)) (content_is group p is)
+        ∙ ap (λ o. name_of_type typing (option_or o (option_or key.key_type (automatic typing.letters (λ level. slice_index (level_keysyms key group level) 0) (key.width group))))) (given.type_is group p is)
         ∙ ap₂ (λ a b. cond (a && b) p.type_name one_level_name)
         (le-leb (length p.type_name) MOST_NAME_BYTES (each_at GroupFits k.groups fits.groups group p is).name_fits) declares
 
-    names_pushed : (n : ℕ) → type_names declared key n ≡ pushed (group_type_name declared key) n
+    names_pushed : (n : ℕ) → type_names typing key n ≡ pushed (group_type_name typing key) n
     unfolding type_names
     names_pushed zero = refl
-    names_pushed (suc n) = ap (λ ns. ns ++ group_type_name declared key n ∷ []) (names_pushed n)
+    names_pushed (suc n) = ap (λ ns. ns ++ group_type_name typing key n ∷ []) (names_pushed n)
 
-    pub names_are : EachOf (λ (p : PrintedGroup). is_some (declared p.type_name) ≡ true) k.groups → type_names declared key (group_count key) ≡ map (λ (p : PrintedGroup). p.type_name) k.groups
+    pub names_are : EachOf (λ (p : PrintedGroup). is_some (typing.declared p.type_name) ≡ true) k.groups → type_names typing key (group_count key) ≡ map (λ (p : PrintedGroup). p.type_name) k.groups
     names_are declares =
         names_pushed (group_count key)
-        ∙ pushed_are (group_type_name declared key) (map (λ (p : PrintedGroup). p.type_name) k.groups) (group_count key) (count_is ∙ sym (length-map k.groups (λ (p : PrintedGroup). p.type_name)))
+        ∙ pushed_are (group_type_name typing key) (map (λ (p : PrintedGroup). p.type_name) k.groups) (group_count key) (count_is ∙ sym (length-map k.groups (λ (p : PrintedGroup). p.type_name)))
         (λ i name is. at i name (slice_get k.groups i) refl (sym (slice_get-map (λ (p : PrintedGroup). p.type_name) k.groups i) ∙ is))
       where
-        at : (i : ℕ) (name : List ℕ) (o : Option PrintedGroup) → slice_get k.groups i ≡ o → option_map (λ (p : PrintedGroup). p.type_name) (slice_get k.groups i) ≡ Some name → group_type_name declared key i ≡ name
+        at : (i : ℕ) (name : List ℕ) (o : Option PrintedGroup) → slice_get k.groups i ≡ o → option_map (λ (p : PrintedGroup). p.type_name) (slice_get k.groups i) ≡ Some name → group_type_name typing key i ≡ name
         at i name None none is = let never : None ≡ Some name = ap (option_map (λ (p : PrintedGroup). p.type_name)) (sym none) ∙ is in cc
         at i name (Some p) there is =
             let same : p.type_name ≡ name = (let both : Some p.type_name ≡ Some name = ap (option_map (λ (p : PrintedGroup). p.type_name)) (sym there) ∙ is in cc) in
-            type_name_is i p there (each_at (λ (p : PrintedGroup). is_some (declared p.type_name) ≡ true) k.groups declares i p there) ∙ same
+            type_name_is i p there (each_at (λ (p : PrintedGroup). is_some (typing.declared p.type_name) ≡ true) k.groups declares i p there) ∙ same
 
 -- ---- A key
 
-module _ (c : Content) (sound : Sound c) (declared : List ℕ → Option Definition) (declared_are : EachOf (λ (t : ResolvedType). declared t.name ≡ Some (definition_seen t)) (types_printed c)) where
+module _ (c : Content) (sound : Sound c) (typing : Typing) (declared_are : EachOf (λ (t : ResolvedType). typing.declared t.name ≡ Some (definition_seen t)) (types_printed c)) where
   abbrev type_list : List (List ℕ)
   type_list = map (λ (t : ResolvedType). t.name) (types_printed c)
 
@@ -105,7 +106,7 @@ module _ (c : Content) (sound : Sound c) (declared : List ℕ → Option Definit
     pub at : slice_get c.types g.key_type ≡ Some row
     pub named : (group_printed c g).type_name ≡ type_name c row
     pub levels : levels_of c g ≡ row.levels
-    pub definition : declared (type_name c row) ≡ Some (definition_seen (type_seen c row))
+    pub definition : typing.declared (type_name c row) ≡ Some (definition_seen (type_seen c row))
 
   pub declares_of : (i : ℕ) (g : GroupRow) → slice_get c.groups i ≡ Some g → DeclaresOf g
   declares_of i g is =
@@ -115,11 +116,11 @@ module _ (c : Content) (sound : Sound c) (declared : List ℕ → Option Definit
         at = t.at;
         named = ap (λ o. option_map_or (type_name c) o []) t.at;
         levels = ap (λ o. option_map_or (λ (t : TypeRow). t.levels) o 0) t.at;
-        definition = each_at (λ (t : ResolvedType). declared t.name ≡ Some (definition_seen t)) (types_printed c) declared_are g.key_type (type_seen c t.row) (type_at g.key_type t.row t.at);
+        definition = each_at (λ (t : ResolvedType). typing.declared t.name ≡ Some (definition_seen t)) (types_printed c) declared_are g.key_type (type_seen c t.row) (type_at g.key_type t.row t.at);
       }
 
-  pub group_declared : (i : ℕ) (g : GroupRow) → slice_get c.groups i ≡ Some g → is_some (declared (group_printed c g).type_name) ≡ true
-  group_declared i g is = let d = declares_of i g is in ap is_some (ap declared d.named ∙ d.definition)
+  pub group_declared : (i : ℕ) (g : GroupRow) → slice_get c.groups i ≡ Some g → is_some (typing.declared (group_printed c g).type_name) ≡ true
+  group_declared i g is = let d = declares_of i g is in ap is_some (ap typing.declared d.named ∙ d.definition)
 
   place_is : (i : ℕ) (g : GroupRow) → slice_get c.groups i ≡ Some g → type_place type_list (group_printed c g).type_name ≡ g.key_type
   place_is i g is =
@@ -167,39 +168,39 @@ module _ (c : Content) (sound : Sound c) (declared : List ℕ → Option Definit
     printed_size : (i : ℕ) (g : GroupRow) → slice_get rows i ≡ Some g → levels_of c g ≡ length (group_printed c g).cells
     printed_size i g is = sym (group_cells_length c sound (row.first_group + i) g (part_get c.groups row.first_group row.groups i g is)) ∙ ap length (cells_by_row g)
 
-    group_again : (i : ℕ) (g : GroupRow) → slice_get rows i ≡ Some g → resolved_group declared type_list level_actions key i ≡ group_seen c g
+    group_again : (i : ℕ) (g : GroupRow) → slice_get rows i ≡ Some g → resolved_group typing type_list level_actions key i ≡ group_seen c g
     group_again i g is =
         let place = part_get c.groups row.first_group row.groups i g is in
         let d = declares_of (row.first_group + i) g place in
-        let named : group_type_name declared key i ≡ (group_printed c g).type_name = type_name_is k fits key given declared i (group_printed c g) (printed_at i g is) (group_declared (row.first_group + i) g place) in
-        let levels : (type_definition declared (group_type_name declared key i)).levels ≡ levels_of c g =
-        ap (λ n. (type_definition declared n).levels) (named ∙ d.named) ∙ ap (λ o. (unwrap_or o (let one : Definition = record { modifiers = 0; levels = 1; entries = [] } in one)).levels) d.definition ∙ sym d.levels in
-        let cells : cells_of level_actions key (content_group key i) (type_definition declared (group_type_name declared key i)).levels ≡ part (map (cell_seen c) c.cells) g.first_cell (levels_of c g) =
+        let named : group_type_name typing key i ≡ (group_printed c g).type_name = type_name_is k fits key given typing i (group_printed c g) (printed_at i g is) (group_declared (row.first_group + i) g place) in
+        let levels : (type_definition typing (group_type_name typing key i)).levels ≡ levels_of c g =
+        ap (λ n. (type_definition typing n).levels) (named ∙ d.named) ∙ ap (λ o. (unwrap_or o (let one : Definition = record { modifiers = 0; levels = 1; entries = [] } in one)).levels) d.definition ∙ sym d.levels in
+        let cells : cells_of level_actions key (content_group key i) (type_definition typing (group_type_name typing key i)).levels ≡ part (map (cell_seen c) c.cells) g.first_cell (levels_of c g) =
         ap₂ (cells_of level_actions key) (content_is k fits key given i (group_printed c g) (printed_at i g is)) levels
         ∙ cells_pushed i (levels_of c g)
         ∙ pushed_are (cell_of level_actions key i) (group_printed c g).cells (levels_of c g) (printed_size i g is) (cell_again i g is)
         ∙ sym (cells_by_row g) in
         λ j. record { key_type = (ap (type_place type_list) named ∙ place_is (row.first_group + i) g place) j; cells = cells j }
 
-    groups_pushed : (n : ℕ) → groups_of declared type_list level_actions key n ≡ pushed (resolved_group declared type_list level_actions key) n
+    groups_pushed : (n : ℕ) → groups_of typing type_list level_actions key n ≡ pushed (resolved_group typing type_list level_actions key) n
     unfolding groups_of
     groups_pushed zero = refl
-    groups_pushed (suc n) = ap (λ gs. gs ++ resolved_group declared type_list level_actions key n ∷ []) (groups_pushed n)
+    groups_pushed (suc n) = ap (λ gs. gs ++ resolved_group typing type_list level_actions key n ∷ []) (groups_pushed n)
 
-    groups_again : groups_of declared type_list level_actions key (group_count key) ≡ part (groups_seen c c.groups) row.first_group row.groups
+    groups_again : groups_of typing type_list level_actions key (group_count key) ≡ part (groups_seen c c.groups) row.first_group row.groups
     groups_again =
         groups_pushed (group_count key)
-        ∙ pushed_are (resolved_group declared type_list level_actions key) (map (group_seen c) rows) (group_count key)
+        ∙ pushed_are (resolved_group typing type_list level_actions key) (map (group_seen c) rows) (group_count key)
         (count_is k fits key given ∙ length-map rows (group_printed c) ∙ sym (length-map rows (group_seen c)))
         (λ i h is. at i h (slice_get rows i) refl (sym (slice_get-map (group_seen c) rows i) ∙ is))
         ∙ sym (ap (λ gs. part gs row.first_group row.groups) (groups_by_row c sound) ∙ ap (take row.groups) (drop-map (group_seen c) row.first_group c.groups) ∙ take-map (group_seen c) row.groups (drop row.first_group c.groups))
       where
-        at : (i : ℕ) (h : ResolvedGroup) (o : Option GroupRow) → slice_get rows i ≡ o → option_map (group_seen c) (slice_get rows i) ≡ Some h → resolved_group declared type_list level_actions key i ≡ h
+        at : (i : ℕ) (h : ResolvedGroup) (o : Option GroupRow) → slice_get rows i ≡ o → option_map (group_seen c) (slice_get rows i) ≡ Some h → resolved_group typing type_list level_actions key i ≡ h
         at i h None none is = let never : None ≡ Some h = ap (option_map (group_seen c)) (sym none) ∙ is in cc
         at i h (Some g) there is =
             let same : group_seen c g ≡ h = (let both : Some (group_seen c g) ≡ Some h = ap (option_map (group_seen c)) (sym there) ∙ is in cc) in
             group_again i g there ∙ same
 
     -- a key is again what was seen of it
-    pub key_again : (modmap : Mods) → modmap ≡ row.modmap → key_of declared type_list level_actions key row.code (key_name c row) modmap ≡ key_seen c row
+    pub key_again : (modmap : Mods) → modmap ≡ row.modmap → key_of typing type_list level_actions key row.code (key_name c row) modmap ≡ key_seen c row
     key_again modmap mapped = λ j. record { code = row.code; name = key_name c row; modmap = mapped j; range = given.range_is j; groups = groups_again j }

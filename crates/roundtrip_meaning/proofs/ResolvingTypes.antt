@@ -10,9 +10,9 @@ use Rattle.kx_virtual_mods.specs.Sets.{has}
 use Rattle.kx_mods.specs.Mods.{mask}
 use Rattle.kx_resolve.specs.Keys.{type_of, type_with}
 use Rattle.kx_tables.specs.declared.rows.EntryRow.{EntryRow}
-use Rattle.kx_types.specs.KeyTypes.{Definition}
 use Rattle.roundtrip_meaning.proofs.ResolvingMasks.{live_again, mask_again, mods_again}
 use Rattle.roundtrip_text.specs.Source.{AreApart, EachOf, EntryFits, TypeFits}
+use Rattle.kx_resolve.specs.Typing.{Typing}
 use Rattle.roundtrip_meaning.specs.Types.{definition_seen, entry_seen}
 
 module _ (real : ℕ → RealSet) (real_is : (set r : ℕ) → set < 2 ^ 8 → r < 8 → real set r ≡ has set r) where
@@ -59,13 +59,13 @@ module _ (real : ℕ → RealSet) (real_is : (set r : ℕ) → set < 2 ^ 8 → r
     entries = entries_behind t [] t.entries fits.entries (all_new t.entries) fits.apart i;
   }
 
-  module _ (declared : List ℕ → Option Definition) where
+  module _ (typing : Typing) where
     abbrev IsDeclared : ResolvedType → Type 0
-    IsDeclared t = declared t.name ≡ Some (definition_seen t)
+    IsDeclared t = typing.declared t.name ≡ Some (definition_seen t)
 
-    pub named_type_again : (t : ResolvedType) → TypeFits t → IsDeclared t → type_of real declared t.name ≡ t
+    pub named_type_again : (t : ResolvedType) → TypeFits t → IsDeclared t → type_of real typing t.name ≡ t
     named_type_again t fits is = ap (λ o. type_with real t.name (unwrap_or o (record { modifiers = 0; levels = 1; entries = [] }))) is ∙ type_again t fits
 
-    pub types_again : (ts : List ResolvedType) → EachOf TypeFits ts → EachOf IsDeclared ts → map (type_of real declared) (map (λ (t : ResolvedType). t.name) ts) ≡ ts
+    pub types_again : (ts : List ResolvedType) → EachOf TypeFits ts → EachOf IsDeclared ts → map (type_of real typing) (map (λ (t : ResolvedType). t.name) ts) ≡ ts
     types_again [] fit is = refl
     types_again (t ∷ ts) fit is = ap₂ (λ u us. u ∷ us) (named_type_again t fit.0 is.0) (types_again ts fit.1 is.1)

@@ -6,19 +6,19 @@ use Rattle.kx_resolve.specs.Selecting.{RealSet}
 use Rattle.kx_virtual_mods.specs.Sets.{has}
 use Rattle.kx_resolve.specs.Keys.{Keyed}
 use Rattle.kx_tables.specs.Content.{Content}
-use Rattle.kx_types.specs.KeyTypes.{Definition}
 use Rattle.roundtrip_meaning.specs.Given.{IsGiven}
 use Rattle.roundtrip_text.specs.Source.{EachOf, PrintedKey, cell_at, keys_printed, types_printed}
+use Rattle.kx_resolve.specs.Typing.{Typing}
 use Rattle.roundtrip_meaning.specs.Types.{definition_seen}
 
 abbrev pub pair_of : PrintedKey → Pair
 pair_of k = record { name = k.name; code = k.code }
 
--- `real` is what a set of modifiers stands for, `declared` are the types by name
-pub record ReadAgain (c : Content) (real : ℕ → RealSet) (declared : List ℕ → Option Definition) (keyed : Keyed) : Type 0 where
+-- `real` is what a set of modifiers stands for, `typing` tells the types of groups
+pub record ReadAgain (c : Content) (real : ℕ → RealSet) (typing : Typing) (keyed : Keyed) : Type 0 where
   -- sets of real modifiers stand for themselves
   pub real_is : (set r : ℕ) → set < 2 ^ 8 → r < 8 → real set r ≡ has set r
-  pub declared_are : EachOf (λ (t : ResolvedType). declared t.name ≡ Some (definition_seen t)) (types_printed c)
+  pub declared_are : EachOf (λ (t : ResolvedType). typing.declared t.name ≡ Some (definition_seen t)) (types_printed c)
   pub names_are : (code : ℕ) → keyed.name code ≡ name_in (map pair_of (keys_printed c)) code
   pub given_are : EachOf (λ (k : PrintedKey). IsGiven k (keyed.key k.code)) (keys_printed c)
   pub mapped_are : EachOf (λ (k : PrintedKey). keyed.modmap k.code ≡ k.modmap) (keys_printed c)

@@ -2,7 +2,7 @@
 //! that this resolves to what was seen in the tables.
 #![tactic(auto)]
 
-ghost use Rattle.ks_core.specs.Entry.{Entry};
+ghost use Rattle.ks_core.specs.Table.{KeysymTable};
 ghost use Rattle.ks_core.specs.Lines.{is_sound};
 ghost use Rattle.kx_builder.specs.Resolved.{ResolvedType};
 ghost use Rattle.kx_builder.specs.Seen.{seen};
@@ -18,6 +18,7 @@ ghost use Rattle.kx_parse.specs.declared.tree.Tree.{Tree};
 ghost use Rattle.kx_resolve.specs.Given.{given_by};
 ghost use Rattle.kx_resolve.specs.Keys.{Keyed, resolved_of};
 ghost use Rattle.kx_resolve.specs.Selecting.{RealSet};
+ghost use Rattle.kx_resolve.specs.Typing.{Typing};
 ghost use Rattle.kx_symbols.specs.Keys.{key_moves, key_rules};
 ghost use Rattle.kx_tables.specs.Content.{Content};
 ghost use Rattle.kx_tables.specs.Sound.{Sound};
@@ -57,9 +58,9 @@ pub fn printed_types_are_declared()
 
 /// A section of printed names of groups, keys and modifier maps gives each key what was printed of it.
 pub fn printed_keys_are_given()
-    ensures { (codes : Codes) (names : List Entry) (place : PlaceValue) (ks : List PrintedKey)
+    ensures { (codes : Codes) (names : KeysymTable) (place : PlaceValue) (ks : List PrintedKey)
         (group_names keys maps : List Item)
-        → list_all is_sound names ≡ true → EachOf IsNameItem group_names
+        → list_all is_sound names.names ≡ true → EachOf IsNameItem group_names
         → AreShown (λ (k : PrintedKey) i. IsItem (IsKey k) i) ks keys
         → AreShown (λ (l : MapLine) i. IsItem (IsModifierMap l.modifier l.name) i)
         (flat_map maps_of_key ks) maps
@@ -74,7 +75,6 @@ pub fn printed_keys_are_given()
 
 /// Types and keys that are read as they were printed resolve to those that are seen in the tables.
 pub fn read_again_resolves_again()
-    ensures { (c : Content) (real : ℕ → RealSet) (declared : List ℕ
-        → Option Definition) (keyed : Keyed) → Sound c → ReadAgain c real declared keyed
-        → resolved_of real declared keyed ≡ seen c }
+    ensures { (c : Content) (real : ℕ → RealSet) (typing : Typing) (keyed : Keyed) → Sound c
+        → ReadAgain c real typing keyed → resolved_of real typing keyed ≡ seen c }
 {}

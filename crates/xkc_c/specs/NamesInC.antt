@@ -1,14 +1,14 @@
 -- Names of keysyms, and the faults of lines that give them, as C has them.
-use Rattle.std.specs.Prelude.{List, [], Option, None, Some}
-use Rattle.ks_core.specs.Entry.{Entry}
+use Rattle.std.specs.Prelude.{[], Option, None, Some}
+use Rattle.ks_core.specs.Table.{KeysymTable, with_names}
 use Rattle.ks_core.specs.declared.fault.NameFault.{NameFault}
 use Rattle.ks_core.specs.declared.fault.NameFault.TheVariants as name_faults
 use Rattle.xkc_c.specs.declared.names.XkcNamesFault.{XkcNamesFault}
 
--- the names beside the built-in ones: an empty handle has none
-abbrev pub names_in : Option (List Entry) → List Entry
-names_in None = []
-names_in (Some given) = given
+-- an empty handle has the built-in names alone
+abbrev pub names_in : Option KeysymTable → KeysymTable
+names_in None = with_names []
+names_in (Some table) = table
 
 abbrev pub names_fault_in_c : NameFault → XkcNamesFault
 names_fault_in_c name_faults.Memory = record { line = 0; number = 1 }

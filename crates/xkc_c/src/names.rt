@@ -5,6 +5,7 @@ ghost use Rattle.ks_core.specs.Lines.{AreFaultless, IsFirstFault, given_by, line
 ghost use Rattle.ks_core.specs.Names.{keysym_named, name_of_keysym};
 ghost use Rattle.ks_core.specs.declared.fault.NameFault.{NameFault};
 ghost use Rattle.ks_core.specs.declared.fault.NameFault.TheVariants.{Memory};
+ghost use Rattle.ks_core.specs.Table.{with_names, x11_table};
 ghost use Rattle.xkc_c.specs.NamesInC.{names_fault_in_c, names_in};
 ghost use Rattle.xkc_c.specs.Out.{Copies};
 ghost use Rattle.xkc_c.specs.declared.status.TheConstants.{MEMORY, MISSING, NAMES, OK};
@@ -32,7 +33,8 @@ pub extern "C" fn xkc_names_read(
     lines: &[u8],
     fault: &mut XkcNamesFault,
 ) -> u32
-    ensures read { result ≡ OK → (names.new.value ≡ Some (given_by (lines_of lines.now)))
+    ensures read { result ≡ OK → (names.new.value
+        ≡ Some (with_names (given_by (lines_of lines.now))))
         × AreFaultless (lines_of lines.now) }
     ensures refused { result ≢ OK → names.new ≡ names.old }
     ensures fault { result ≡ NAMES
@@ -52,6 +54,22 @@ pub extern "C" fn xkc_names_read(
                 NAMES
             }
         },
+    }
+}
+
+/// Puts the names and letters of X11 in the place of what the handle has.
+#[unsafe(no_mangle)]
+pub extern "C" fn xkc_names_x11(alloc: Global, names: &mut NamesHandle) -> u32
+    ensures filled { result ≡ OK → names.new.value ≡ Some x11_table }
+    ensures refused { result ≢ OK → names.new ≡ names.old }
+    ensures statuses { (result ≡ OK) ⊎ (result ≡ MEMORY) }
+{
+    match Box::new(alloc, NameTable::x11()) {
+        Err(_) => MEMORY,
+        Ok(table) => {
+            names.put(table);
+            OK
+        }
     }
 }
 
@@ -107,7 +125,7 @@ pub extern "C" fn xkc_names_end(alloc: Global, names: &mut NamesHandle)
 
 /// The names of lines on the heap.
 fn boxed(alloc: Global, lines: &[u8]) -> Result<Box<NameTable>, NameFault>
-    ensures names { IfOk result (λ b. b.value ≡ given_by (lines_of lines.now)) }
+    ensures names { IfOk result (λ b. b.value ≡ with_names (given_by (lines_of lines.now))) }
     ensures faultless { OnOk result (AreFaultless (lines_of lines.now)) }
     ensures fault { IfErr result (λ e. (e ≡ Memory) ⊎ IsFirstFault (lines_of lines.now) e) }
 {

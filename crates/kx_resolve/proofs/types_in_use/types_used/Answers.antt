@@ -8,45 +8,47 @@ use Rattle.kx_resolve.specs.Given.{KeyGiven, given_in}
 use Rattle.kx_resolve.specs.Keys.{type_names_below, types_used}
 use Rattle.kx_resolve.specs.TypesInUse.{AreUsed, TypeInUse, type_in_use}
 use Rattle.kx_symbols.specs.Keys.{key_at}
-use Rattle.kx_types.specs.Types.{NamedTypes, type_named}
+use Rattle.ks_core.specs.declared.letters.Letters.{Letters}
+use Rattle.kx_types.specs.Types.{NamedTypes}
+use Rattle.kx_resolve.specs.Typing.{typing_by, typing_of}
 use Rattle.kx_resolve.proofs.types_in_use.types_used.Goals as goal
 
 pub codes-init : goal.codes-init
 codes-init c =
-    let declared = type_named c.args.types.now in
+    let typing = typing_of c.args.typing in
     let name : ℕ → Option (List ℕ) = name_of c.args.codes.now in
     let key : ℕ → KeyGiven = λ code. given_in (key_at c.args.keys.now code) in
-    subst (λ ns. AreUsed declared ns c.new.result c.new-2.result.items) (sym (used_none declared name key))
-    (subst (λ us. AreUsed declared [] us c.new-2.result.items) (sym c.new.ensures) (subst (AreUsed declared [] []) (sym c.new-2.ensures.items) (none_used declared)))
+    subst (λ ns. AreUsed typing ns c.new.result c.new-2.result.items) (sym (used_none typing name key))
+    (subst (λ us. AreUsed typing [] us c.new-2.result.items) (sym c.new.ensures) (subst (AreUsed typing [] []) (sym c.new-2.ensures.items) (none_used typing)))
 
 pub codes-preserved : goal.codes-preserved
 codes-preserved c =
-    let declared = type_named c.args.types.now in
+    let typing = typing_of c.args.typing in
     let name : ℕ → Option (List ℕ) = name_of c.args.codes.now in
     let key : ℕ → KeyGiven = λ code. given_in (key_at c.args.keys.now code) in
     let code = c.codes.code in
-    subst (λ ns. AreUsed declared ns c.use_code.new.used.names c.use_code.new.used.group_types.items) (sym (used_next declared name key code))
-    (c.in_ok-use_code.ensures.used (type_names_below declared name key code) c.codes.invariant)
+    subst (λ ns. AreUsed typing ns c.use_code.new.used.names c.use_code.new.used.group_types.items) (sym (used_next typing name key code))
+    (c.in_ok-use_code.ensures.used (type_names_below typing name key code) c.codes.invariant)
 
-module _ (types : NamedTypes) (name : ℕ → Option (List ℕ)) (key : ℕ → KeyGiven) (used : List (List ℕ)) (group_types : List TypeInUse) (code end : ℕ) (past : end ≤ code) (upto : code ≤ end) (ends : IsEnd end name) (are : AreUsed (type_named types) (type_names_below (type_named types) name key code) used group_types) where
-  whole : type_names_below (type_named types) name key code ≡ type_names_below (type_named types) name key 4096
-  whole = let all : code ≡ end = omega (arith, past, upto) in ap (type_names_below (type_named types) name key) all ∙ sym (used_whole (type_named types) name key end ends)
+module _ (types : NamedTypes) (letters : Letters) (name : ℕ → Option (List ℕ)) (key : ℕ → KeyGiven) (used : List (List ℕ)) (group_types : List TypeInUse) (code end : ℕ) (past : end ≤ code) (upto : code ≤ end) (ends : IsEnd end name) (are : AreUsed (typing_by types letters) (type_names_below (typing_by types letters) name key code) used group_types) where
+  whole : type_names_below (typing_by types letters) name key code ≡ type_names_below (typing_by types letters) name key 4096
+  whole = let all : code ≡ end = omega (arith, past, upto) in ap (type_names_below (typing_by types letters) name key) all ∙ sym (used_whole (typing_by types letters) name key end ends)
 
-  used_all : used ≡ types_used (type_named types) name key
-  used_all = (subst (λ ns. AreUsed (type_named types) ns used group_types) whole are).used_are ∙ used_is (type_named types) name key
+  used_all : used ≡ types_used (typing_by types letters) name key
+  used_all = (subst (λ ns. AreUsed (typing_by types letters) ns used group_types) whole are).used_are ∙ used_is (typing_by types letters) name key
 
   used_count : length used ≤ length types + 1
-  used_count = let count : length used ≡ length (types_used (type_named types) name key) = ap length used_all in omega (arith, count, used_few types name key)
+  used_count = let count : length used ≡ length (types_used (typing_by types letters) name key) = ap length used_all in omega (arith, count, used_few types letters name key)
 
-  typed_all : length used ≤ 4097 → group_types ≡ map (type_in_use (type_named types) used) (type_names_below (type_named types) name key 4096)
-  typed_all few = are.types_are ∙ places_whole (type_named types) used (type_names_below (type_named types) name key code) (omega (arith, few)) ∙ ap (map (type_in_use (type_named types) used)) whole
+  typed_all : length used ≤ 4097 → group_types ≡ map (type_in_use (typing_by types letters) used) (type_names_below (typing_by types letters) name key 4096)
+  typed_all few = are.types_are ∙ places_whole (typing_by types letters) used (type_names_below (typing_by types letters) name key code) (omega (arith, few)) ∙ ap (map (type_in_use (typing_by types letters) used)) whole
 
 pub returns-clause-used : goal.returns-clause-used
-returns-clause-used c = used_all c.args.types.now (name_of c.args.codes.now) (λ code. given_in (key_at c.args.keys.now code)) c.codes.used.names c.codes.used.group_types.items c.codes.code c.end-code-end.result c.codes-test.false c.codes.auto.code-end c.end-code-end.ensures c.codes.invariant
+returns-clause-used c = used_all c.args.typing.types.now c.args.typing.letters (name_of c.args.codes.now) (λ code. given_in (key_at c.args.keys.now code)) c.codes.used.names c.codes.used.group_types.items c.codes.code c.end-code-end.result c.codes-test.false c.codes.auto.code-end c.end-code-end.ensures c.codes.invariant
 
 pub prove-unreachable-requires : goal.prove-unreachable-requires
 prove-unreachable-requires c =
-    let few = used_count c.args.types.now (name_of c.args.codes.now) (λ code. given_in (key_at c.args.keys.now code)) c.codes.used.names c.codes.used.group_types.items c.codes.code c.end-code-end.result c.codes-test.false c.codes.auto.code-end c.end-code-end.ensures c.codes.invariant in
+    let few = used_count c.args.typing.types.now c.args.typing.letters (name_of c.args.codes.now) (λ code. given_in (key_at c.args.keys.now code)) c.codes.used.names c.codes.used.group_types.items c.codes.code c.end-code-end.result c.codes-test.false c.codes.auto.code-end c.end-code-end.ensures c.codes.invariant in
     omega (arith, few, c.if-prove.true, c.len.ensures.value, c.len-2.ensures.value)
 
 pub returns-clause-few : goal.returns-clause-few
@@ -54,5 +56,5 @@ returns-clause-few c = omega (arith, c.if-prove.false, c.len.ensures.value, c.le
 
 pub returns-clause-group_types : goal.returns-clause-group_types
 returns-clause-group_types c =
-    typed_all c.args.types.now (name_of c.args.codes.now) (λ code. given_in (key_at c.args.keys.now code)) c.codes.used.names c.codes.used.group_types.items c.codes.code c.end-code-end.result c.codes-test.false c.codes.auto.code-end c.end-code-end.ensures c.codes.invariant
+    typed_all c.args.typing.types.now c.args.typing.letters (name_of c.args.codes.now) (λ code. given_in (key_at c.args.keys.now code)) c.codes.used.names c.codes.used.group_types.items c.codes.code c.end-code-end.result c.codes-test.false c.codes.auto.code-end c.end-code-end.ensures c.codes.invariant
     (omega (arith, c.if-prove.false, c.len.ensures.value, c.len-2.ensures.few))

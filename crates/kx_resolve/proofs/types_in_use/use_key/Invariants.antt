@@ -2,8 +2,8 @@ use Rattle.std.proofs.Common.{List, ℕ, ◌++◌}
 use Rattle.kx_resolve.specs.Given.{given}
 use Rattle.kx_resolve.specs.Keys.{type_names}
 use Rattle.kx_resolve.specs.TypesInUse.{AreUsed}
-use Rattle.kx_types.specs.Types.{type_named}
+use Rattle.kx_resolve.specs.Typing.{typing_of}
 use Rattle.kx_resolve.proofs.types_in_use.use_key.Given as goal
 
 abbrev pub invariant-groups : goal.invariant-groups
-invariant-groups l = (names : List (List ℕ)) → AreUsed (type_named l.types) names l.fn.used.names l.fn.used.group_types.items → AreUsed (type_named l.types) (names ++ type_names (type_named l.types) (given l.key) l.group) l.used.names l.used.group_types.items
+invariant-groups l = (names : List (List ℕ)) → AreUsed (typing_of l.typing) names l.fn.used.names l.fn.used.group_types.items → AreUsed (typing_of l.typing) (names ++ type_names (typing_of l.typing) (given l.key) l.group) l.used.names l.used.group_types.items

@@ -17,16 +17,16 @@ returns-in-Some-clause-lexical c = (built_in-named c.in-Some.name.now c.args.key
 
 pub returns-in-None-clause-short : goal.returns-in-None-clause-short
 returns-in-None-clause-short c =
-    IfSome-map c.given_name.result (λ name. is_sound (name.now, c.args.keysym) ≡ true) (λ name. length name.now ≤ 64)
-    (λ name sound. let short = (sound-parts (name.now, c.args.keysym) sound).short in omega (arith, short)) c.given_name.ensures.sound
+    IfSome-map c.further_name.result (λ name. is_sound (name.now, c.args.keysym) ≡ true) (λ name. length name.now ≤ 64)
+    (λ name sound. let short = (sound-parts (name.now, c.args.keysym) sound).short in omega (arith, short)) c.further_name.ensures.sound
 
 pub returns-in-None-clause-back : goal.returns-in-None-clause-back
 returns-in-None-clause-back c =
-    IfSome-both c.given_name.result (λ name. is_sound (name.now, c.args.keysym) ≡ true) (λ name. keysym_in c.args.self.now name.now ≡ Some c.args.keysym)
+    IfSome-both c.further_name.result (λ name. is_sound (name.now, c.args.keysym) ≡ true) (λ name. keysym_in c.args.self.now.names name.now ≡ Some c.args.keysym)
     (λ name. keysym_named c.args.self.now name.now ≡ Some c.args.keysym)
-    (λ name sound back. keysym_named-given c.args.self.now name.now c.args.keysym (sound-parts (name.now, c.args.keysym) sound).not_built_in back) c.given_name.ensures.sound c.given_name.ensures.back
+    (λ name sound back. keysym_named-given c.args.self.now name.now c.args.keysym (sound-parts (name.now, c.args.keysym) sound).not_built_in back) c.further_name.ensures.sound c.further_name.ensures.back
 
 pub returns-in-None-clause-lexical : goal.returns-in-None-clause-lexical
 returns-in-None-clause-lexical c =
-    IfSome-map c.given_name.result (λ name. is_sound (name.now, c.args.keysym) ≡ true) (λ name. is_word_or_number name.now ≡ true)
-    (λ name sound. is_word_or_number-word name.now (sound-parts (name.now, c.args.keysym) sound).word) c.given_name.ensures.sound
+    IfSome-map c.further_name.result (λ name. is_sound (name.now, c.args.keysym) ≡ true) (λ name. is_word_or_number name.now ≡ true)
+    (λ name sound. is_word_or_number-word name.now (sound-parts (name.now, c.args.keysym) sound).word) c.further_name.ensures.sound

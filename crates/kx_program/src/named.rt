@@ -1,0 +1,175 @@
+//! Keymaps that are asked for by names.
+use crate::looking::print_text;
+use crate::showing::show_fault;
+use crate::sources::{Gathered, gather, open_folders, read};
+use crate::words::{Includes, Keymap, Source};
+use ks_core::NameTable;
+use kx_explain::{Text, Texts};
+use kx_failure::Failure;
+use kx_lex::Fault;
+use kx_names::{Asked, Made, NamesFault, Wanted, hints_of, list_lines, make_source, warnings_of};
+use kx_reach::Folder;
+use kx_tool::compile;
+use std::alloc::AllocError;
+use std::rt::Files as FileSystem;
+
+/// Says on standard error that no folder has the file of a path, and which folders were looked in.
+fn show_missing(rt: &impl Eprint, path: &str, folders: &[&str]) {
+    let _ = rt.eprintln(format_args!("error: no folder has '{path}': -I DIR names one"));
+    for folder in folders {
+        let _ = rt.eprintln(format_args!("looked for in {folder}"));
+    }
+}
+
+/// What ends a task whose names have no source; what is wrong is shown.
+fn failure_of<'a>(rt: &impl Eprint, fault: NamesFault, folders: &[&str]) -> Failure<'a> {
+    match fault {
+        NamesFault::Memory => Failure::from(AllocError),
+        NamesFault::File(path) => Failure::Found(path),
+        NamesFault::Missing(path) => {
+            show_missing(rt, path.as_str(), folders);
+            Failure::Found(path)
+        }
+        NamesFault::Rules(fault, message) => {
+            let _ = rt.eprint(message);
+            Failure::Rules(fault)
+        }
+    }
+}
+
+/// Shows the names that no rule takes.
+fn show_passed(
+    rt: &(impl FileSystem + Eprint + AllocGlobal),
+    asked: &Asked,
+    folders: &[Folder],
+    made: &Made,
+) {
+    if let Ok(lines) = warnings_of(rt, folders, asked, &made.passed) {
+        let _ = rt.eprint(lines);
+    }
+}
+
+/// The source that names make. Names that no rule takes are shown, but for where it is to be quiet.
+pub(crate) fn source_named<'a>(
+    rt: &(impl FileSystem + Eprint + AllocGlobal),
+    asked: &Asked<'a>,
+    folders: &[&'a str],
+    is_quiet: bool,
+) -> Result<Vec<u8>, Failure<'a>> {
+    let opened = open_folders(rt, folders)?;
+    match make_source(rt, asked, opened.as_slice()) {
+        Ok(made) => {
+            if !is_quiet {
+                show_passed(rt, asked, opened.as_slice(), &made);
+            }
+            Ok(made.source)
+        }
+        Err(fault) => Err(failure_of(rt, fault, folders)),
+    }
+}
+
+/// Shows the layouts and variants that aren't listed.
+fn show_hints<'a>(
+    rt: &(impl FileSystem + Eprint + AllocGlobal),
+    asked: &Asked,
+    folders: &[&'a str],
+) -> Result<(), Failure<'a>> {
+    let opened = open_folders(rt, folders)?;
+    let lines = hints_of(rt, opened.as_slice(), asked)?;
+    let _ = rt.eprint(lines);
+    Ok(())
+}
+
+/// Shows the names that led to a fault, and of a file or map that isn't there those that aren't listed.
+pub(crate) fn show_asked(
+    rt: &(impl FileSystem + Eprint + AllocGlobal),
+    fault: Fault,
+    source: Source,
+    includes: &Includes,
+) {
+    let Source::Names(asked) = source else {
+        return;
+    };
+    if fault == Fault::Memory {
+        return;
+    }
+    let _ = rt.eprintln(format_args!("asked for by {asked}"));
+    if matches!(fault, Fault::FileMissing(_) | Fault::MapMissing(_)) {
+        let _ = show_hints(rt, &asked, includes.folders.as_slice());
+    }
+}
+
+/// Compiles in memory what names mean.
+pub(crate) fn compile_named<'a>(
+    rt: &(impl FileSystem + Eprint + AllocGlobal),
+    names: &NameTable,
+    asked: Asked<'a>,
+    includes: &Includes<'a>,
+) -> Result<Vec<u8>, Failure<'a>> {
+    let source = Source::Names(asked);
+    let gathered = gather(rt, source, includes, false)?;
+    compile_gathered(rt, names, source, includes, &gathered)
+}
+
+/// Compiles in memory a source with its files.
+fn compile_gathered<'a>(
+    rt: &(impl FileSystem + Eprint + AllocGlobal),
+    names: &NameTable,
+    source: Source<'a>,
+    includes: &Includes<'a>,
+    gathered: &Gathered,
+) -> Result<Vec<u8>, Failure<'a>> {
+    let bytes = gathered.bytes.as_slice();
+    match compile(rt.alloc(), bytes, &gathered.files, names) {
+        Ok((image, _)) => Ok(image),
+        Err(fault) => {
+            let handed = gathered.handed(rt.alloc(), includes)?;
+            let name = "";
+            let path = source.path();
+            let files = handed.texts.as_slice();
+            let shown = Texts {
+                source: Text { name, path, bytes },
+                files,
+            };
+            show_fault(rt, fault, shown, includes);
+            show_asked(rt, fault, source, includes);
+            Err(Failure::Source(fault))
+        }
+    }
+}
+
+/// The image of a keymap that is looked at.
+pub(crate) fn read_keymap<'a>(
+    rt: &(impl FileSystem + Eprint + AllocGlobal),
+    names: &NameTable,
+    keymap: &Keymap<'a>,
+) -> Result<Vec<u8>, Failure<'a>> {
+    match keymap {
+        Keymap::Image(path) => read(rt, path),
+        Keymap::Names(asked, includes) => compile_named(rt, names, *asked, includes),
+    }
+}
+
+/// Prints the source that names make.
+pub(crate) fn print_source<'a>(
+    rt: &(impl FileSystem + Print + Eprint + AllocGlobal),
+    asked: Asked<'a>,
+    folders: &[&'a str],
+) -> Result<(), Failure<'a>> {
+    let source = source_named(rt, &asked, folders, false)?;
+    print_text(rt, String::from_utf8_lossy(rt.alloc(), source.as_slice()))
+}
+
+/// Prints the names that are listed for rules.
+pub(crate) fn print_list<'a>(
+    rt: &(impl FileSystem + Print + Eprint + AllocGlobal),
+    rules: &str,
+    folders: &[&'a str],
+    wanted: Wanted,
+) -> Result<(), Failure<'a>> {
+    let opened = open_folders(rt, folders)?;
+    match list_lines(rt, opened.as_slice(), rules, wanted) {
+        Ok(lines) => print_text(rt, Ok(lines)),
+        Err(fault) => Err(failure_of(rt, fault, folders)),
+    }
+}

@@ -1,0 +1,130 @@
+//! The words that ask for a keymap by its names.
+use clap::{Arg, ArgAction, ArgMatches, Command};
+use kx_names::{Asked, Environment, Written};
+use std::alloc::{AllocError, Global};
+
+/// The words that ask for a keymap by its names.
+const NAME_WORDS: [&str; 5] = ["rules", "model", "layout", "variant", "options"];
+
+/// The commands that take names, whatever stands behind them.
+const NAME_COMMANDS: [&str; 2] = ["rules", "list"];
+
+/// Whether a word is `--NAME` or `--NAME=..` of a name.
+fn is_name_word(word: &str) -> bool {
+    let Some(rest) = word.strip_prefix("--") else {
+        return false;
+    };
+    let name = match rest.split_once('=') {
+        Some((name, _)) => name,
+        None => rest,
+    };
+    NAME_WORDS.contains(&name)
+}
+
+/// Whether words ask for a keymap by its names: then they have no SOURCE, and no IMAGE that is read. The first word is the
+/// program's own name.
+pub(crate) fn are_by_names(words: &[String]) -> bool {
+    words
+        .iter()
+        .take_while(|word| word.as_str() != "--")
+        .any(|word| is_name_word(word.as_str()))
+}
+
+/// Whether the environment may stand for words that aren't written.
+pub fn ask_environment(words: &[String]) -> bool {
+    let is_command = match words.get(1) {
+        Some(word) => NAME_COMMANDS.contains(&word.as_str()),
+        None => false,
+    };
+    is_command || are_by_names(words)
+}
+
+fn name<'a>(alloc: Global, id: &'a str, value: &'a str, help: &'a str) -> Arg<'a> {
+    Arg::new(alloc, id)
+        .long(id)
+        .value_name(value)
+        .help(help)
+        .action(ArgAction::Set)
+}
+
+pub(crate) fn rules<'a>(alloc: Global) -> Arg<'a> {
+    name(
+        alloc,
+        "rules",
+        "R",
+        "The rules by which names are read, as evdev",
+    )
+}
+
+/// Adds the words for names to a command.
+pub(crate) fn with_names<'a>(
+    alloc: Global,
+    command: Command<'a>,
+) -> Result<Command<'a>, AllocError> {
+    command
+        .arg(rules(alloc))?
+        .arg(name(alloc, "model", "M", "A keyboard's model, as pc105"))?
+        .arg(name(
+            alloc,
+            "layout",
+            "L",
+            "Layouts by name in the place of a file, as us,de",
+        ))?
+        .arg(name(alloc, "variant", "V", "A variant for each layout, as ,neo"))?
+        .arg(name(
+            alloc,
+            "options",
+            "O",
+            "Options, as grp:alt_shift_toggle,caps:escape",
+        ))
+}
+
+fn written_in<'a>(matches: &ArgMatches<'a>) -> Written<'a> {
+    Written {
+        rules: matches.get_str("rules"),
+        model: matches.get_str("model"),
+        layouts: matches.get_str("layout"),
+        variants: matches.get_str("variant"),
+        options: matches.get_str("options"),
+    }
+}
+
+/// Whether variants are written without layouts.
+pub(crate) fn lack_layouts(matches: &ArgMatches) -> bool {
+    let written = written_in(matches);
+    let has_layouts = written.layouts.is_some_and(|word| !word.is_empty());
+    written.variants.is_some_and(|word| !word.is_empty()) && !has_layouts
+}
+
+/// The names that words ask for.
+pub(crate) fn asked_in<'a>(matches: &ArgMatches<'a>, environment: &'a Environment) -> Asked<'a> {
+    Asked::of(written_in(matches), environment)
+}
+
+/// The rules that words ask for.
+pub(crate) fn rules_in<'a>(matches: &ArgMatches<'a>, environment: &'a Environment) -> &'a str {
+    let written = Written {
+        rules: matches.get_str("rules"),
+        model: None,
+        layouts: None,
+        variants: None,
+        options: None,
+    };
+    Asked::of(written, environment).rules
+}
+
+/// The folders that are named, or those of the environment where none is.
+pub(crate) fn folders_in<'a>(
+    alloc: Global,
+    matches: &ArgMatches<'a>,
+    environment: &'a Environment,
+) -> Result<Vec<&'a str>, AllocError> {
+    if let Some(folders) = matches.get_strs("include") {
+        return Vec::from_slice(alloc, folders);
+    }
+    let mut folders = Vec::new(alloc);
+    for folder in environment.folders() {
+        folders.push(folder.as_str())?;
+    }
+    Ok(folders)
+}
