@@ -133,6 +133,17 @@ pub enum Task<'a> {
     },
 }
 
+/// Which words a command has that reads a keymap.
+#[derive(Clone, Copy, Debug, PartialEq, Eq)]
+enum Shape {
+    /// Those of files, and no option but `--quiet`: all that most calls ask for, since each word takes time to make.
+    Bare,
+    /// Those of files and all options, of which some may stand in the place of a file: what help and refusals tell.
+    Whole,
+    /// All options, of which some stand in the place of a file.
+    Names,
+}
+
 /// How the words of a command are read.
 #[derive(Clone, Copy)]
 struct Reading<'a> {
@@ -141,6 +152,16 @@ struct Reading<'a> {
     /// Whether names stand in the place of a file.
     is_by_names: bool,
     environment: &'a Environment,
+}
+
+impl Reading<'_> {
+    /// The words that a refusal tells.
+    fn shape(self) -> Shape {
+        match self.is_by_names {
+            true => Shape::Names,
+            false => Shape::Whole,
+        }
+    }
 }
 
 fn path<'a>(alloc: Global, id: &'a str, help: &'a str) -> Arg<'a> {
@@ -192,36 +213,45 @@ fn warn<'a>(alloc: Global) -> Arg<'a> {
 fn with_file<'a>(
     command: Command<'a>,
     file: Arg<'a>,
-    is_by_names: bool,
+    shape: Shape,
 ) -> Result<Command<'a>, AllocError> {
-    match is_by_names {
-        true => Ok(command),
-        false => command.arg(file),
+    match shape {
+        Shape::Names => Ok(command),
+        Shape::Bare | Shape::Whole => command.arg(file),
     }
 }
 
-fn try_command<'a>(alloc: Global) -> Result<Command<'a>, AllocError> {
-    let command = Command::new(alloc, "try")
-        .about("Answers events from a source on standard input (as without words), or by names")
+/// Adds the options of a command that compiles.
+fn with_options<'a>(
+    alloc: Global,
+    command: Command<'a>,
+    shape: Shape,
+) -> Result<Command<'a>, AllocError> {
+    if shape == Shape::Bare {
+        return command.arg(quiet(alloc));
+    }
+    let command = command
         .arg(names(alloc))?
         .arg(folders(alloc))?
         .arg(quiet(alloc))?
         .arg(warn(alloc))?;
-    with_names(alloc, command)?.arg(files(alloc))
+    with_names(alloc, command)
 }
 
-fn compile_command<'a>(alloc: Global, is_by_names: bool) -> Result<Command<'a>, AllocError> {
+fn try_command<'a>(alloc: Global, shape: Shape) -> Result<Command<'a>, AllocError> {
+    let command = Command::new(alloc, "try").about(
+        "Answers events from a source on standard input (as without words), or by names",
+    );
+    with_options(alloc, command, shape)?.arg(files(alloc))
+}
+
+fn compile_command<'a>(alloc: Global, shape: Shape) -> Result<Command<'a>, AllocError> {
     let command = Command::new(alloc, "compile")
-        .about("Compiles a source, or a layout by its names, to an image")
-        .arg(names(alloc))?
-        .arg(folders(alloc))?
-        .arg(quiet(alloc))?
-        .arg(warn(alloc))?;
-    let command = with_names(alloc, command)?;
+        .about("Compiles a source, or a layout by its names, to an image");
     with_file(
-        command,
+        with_options(alloc, command, shape)?,
         path(alloc, "SOURCE", "The keymap's source"),
-        is_by_names,
+        shape,
     )?
     .arg(path(alloc, "OUT", "The image that is written"))?
     .arg(files(alloc))
@@ -231,13 +261,18 @@ fn compile_command<'a>(alloc: Global, is_by_names: bool) -> Result<Command<'a>, 
 fn with_keymap<'a>(
     alloc: Global,
     command: Command<'a>,
-    is_by_names: bool,
+    shape: Shape,
 ) -> Result<Command<'a>, AllocError> {
-    let command = with_names(alloc, command.arg(names(alloc))?.arg(folders(alloc))?)?;
+    let command = match shape {
+        Shape::Bare => command,
+        Shape::Whole | Shape::Names => {
+            with_names(alloc, command.arg(names(alloc))?.arg(folders(alloc))?)?
+        }
+    };
     with_file(
         command,
         path(alloc, "IMAGE", "The keymap's image"),
-        is_by_names,
+        shape,
     )
 }
 
@@ -248,11 +283,11 @@ fn replay_command<'a>(alloc: Global) -> Result<Command<'a>, AllocError> {
         .arg(path(alloc, "IMAGE", "The keymap's image"))
 }
 
-fn print_command<'a>(alloc: Global, is_by_names: bool) -> Result<Command<'a>, AllocError> {
+fn print_command<'a>(alloc: Global, shape: Shape) -> Result<Command<'a>, AllocError> {
     let command = Command::new(alloc, "print").about(
         "Prints all that an image tells as the source of a keymap",
     );
-    with_keymap(alloc, command, is_by_names)
+    with_keymap(alloc, command, shape)
 }
 
 fn dump_command<'a>(alloc: Global) -> Result<Command<'a>, AllocError> {
@@ -261,7 +296,7 @@ fn dump_command<'a>(alloc: Global) -> Result<Command<'a>, AllocError> {
         .arg(path(alloc, "IMAGE", "The image"))
 }
 
-fn show_command<'a>(alloc: Global, is_by_names: bool) -> Result<Command<'a>, AllocError> {
+fn show_command<'a>(alloc: Global, shape: Shape) -> Result<Command<'a>, AllocError> {
     let group = Arg::new(alloc, "group")
         .long("group")
         .value_name("N")
@@ -275,14 +310,14 @@ fn show_command<'a>(alloc: Global, is_by_names: bool) -> Result<Command<'a>, All
         .about("Prints a picture of the keyboard that an image tells")
         .arg(group)?
         .arg(svg)?;
-    with_keymap(alloc, command, is_by_names)
+    with_keymap(alloc, command, shape)
 }
 
-fn find_command<'a>(alloc: Global, is_by_names: bool) -> Result<Command<'a>, AllocError> {
+fn find_command<'a>(alloc: Global, shape: Shape) -> Result<Command<'a>, AllocError> {
     let command = Command::new(alloc, "find").about(
         "Prints each key, group and level that gives a keysym, and the modifiers to hold",
     );
-    with_keymap(alloc, command, is_by_names)?.arg(path(
+    with_keymap(alloc, command, shape)?.arg(path(
         alloc,
         "KEYSYM",
         "The keysym's name, or a character",
@@ -342,15 +377,15 @@ const COMMANDS: [&str; 11] = [
 fn command_named<'a>(
     alloc: Global,
     word: &str,
-    is_by_names: bool,
+    shape: Shape,
 ) -> Result<Option<Command<'a>>, AllocError> {
     let command = match word {
-        "try" => try_command(alloc)?,
-        "compile" => compile_command(alloc, is_by_names)?,
+        "try" => try_command(alloc, shape)?,
+        "compile" => compile_command(alloc, shape)?,
         "replay" => replay_command(alloc)?,
-        "print" => print_command(alloc, is_by_names)?,
-        "show" => show_command(alloc, is_by_names)?,
-        "find" => find_command(alloc, is_by_names)?,
+        "print" => print_command(alloc, shape)?,
+        "show" => show_command(alloc, shape)?,
+        "find" => find_command(alloc, shape)?,
         "list" => list_command(alloc)?,
         "rules" => rules_command(alloc)?,
         "names" => names_command(alloc)?,
@@ -365,7 +400,7 @@ fn command_named<'a>(
 fn whole_command<'a>(alloc: Global) -> Result<Command<'a>, AllocError> {
     let mut whole = program(alloc);
     for word in COMMANDS {
-        if let Some(command) = command_named(alloc, word, false)? {
+        if let Some(command) = command_named(alloc, word, Shape::Whole)? {
             whole = whole.subcommand(command)?;
         }
     }
@@ -377,12 +412,12 @@ fn whole_command<'a>(alloc: Global) -> Result<Command<'a>, AllocError> {
 fn command_for<'a>(
     alloc: Global,
     first: &str,
-    is_by_names: bool,
+    shape: Shape,
 ) -> Result<Command<'a>, AllocError> {
     if first == "--version" || first == "-V" {
         return Ok(program(alloc));
     }
-    match command_named(alloc, first, is_by_names)? {
+    match command_named(alloc, first, shape)? {
         Some(command) => program(alloc).subcommand(command),
         None => whole_command(alloc),
     }
@@ -391,16 +426,16 @@ fn command_for<'a>(
 /// A word that a command can't take, with the command's own usage.
 fn refused(reading: Reading, message: &str) -> Result<Error, AllocError> {
     let alloc = reading.alloc;
-    let is_by_names = reading.is_by_names;
+    let shape = reading.shape();
     let used = match reading.command {
-        "compile" => compile_command(alloc, is_by_names)?.bin_name("xkc compile")?,
+        "compile" => compile_command(alloc, shape)?.bin_name("xkc compile")?,
         "upgrade" => upgrade_command(alloc)?.bin_name("xkc upgrade")?,
-        "show" => show_command(alloc, is_by_names)?.bin_name("xkc show")?,
-        "find" => find_command(alloc, is_by_names)?.bin_name("xkc find")?,
-        "print" => print_command(alloc, is_by_names)?.bin_name("xkc print")?,
+        "show" => show_command(alloc, shape)?.bin_name("xkc show")?,
+        "find" => find_command(alloc, shape)?.bin_name("xkc find")?,
+        "print" => print_command(alloc, shape)?.bin_name("xkc print")?,
         "rules" => rules_command(alloc)?.bin_name("xkc rules")?,
         "list" => list_command(alloc)?.bin_name("xkc list")?,
-        _ => try_command(alloc)?.bin_name("xkc try")?,
+        _ => try_command(alloc, shape)?.bin_name("xkc try")?,
     };
     let mut used = used;
     used.error(ErrorKind::ValueValidation, message)
@@ -683,6 +718,39 @@ fn bare_task<'a>(alloc: Global) -> Task<'a> {
     }
 }
 
+/// Whether a word is an option that few calls have.
+fn is_option(word: &str) -> bool {
+    word.starts_with('-') && word != "--quiet"
+}
+
+/// The words as the command that the first of them names takes them. Options that aren't written are made only to tell what
+/// is wrong.
+fn matches_of<'a>(
+    alloc: Global,
+    first: &str,
+    words: &'a [String],
+    shape: Shape,
+) -> Result<ArgMatches<'a>, Error> {
+    let outcome = command_for(alloc, first, shape)?.try_get_matches_from(words);
+    match outcome {
+        Err(error) if shape == Shape::Bare && error.kind() != ErrorKind::OutOfMemory => {
+            command_for(alloc, first, Shape::Whole)?.try_get_matches_from(words)
+        }
+        outcome => outcome,
+    }
+}
+
+/// Which words the command is to have.
+fn shape_of(words: &[String], is_by_names: bool) -> Shape {
+    if is_by_names {
+        Shape::Names
+    } else if words.iter().any(|word| is_option(word.as_str())) {
+        Shape::Whole
+    } else {
+        Shape::Bare
+    }
+}
+
 /// What the words ask for, with what the environment has for names; the first is the program's own name.
 pub fn task_in<'a>(
     alloc: Global,
@@ -693,8 +761,8 @@ pub fn task_in<'a>(
         return Ok(bare_task(alloc));
     };
     let is_by_names = are_by_names(words);
-    let command = command_for(alloc, first.as_str(), is_by_names)?;
-    let matches = command.try_get_matches_from(words)?;
+    let shape = shape_of(words, is_by_names);
+    let matches = matches_of(alloc, first.as_str(), words, shape)?;
     match matches.subcommand() {
         Some((command, inner)) => {
             let reading = Reading {

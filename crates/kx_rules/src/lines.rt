@@ -6,7 +6,7 @@ ghost use Rattle.kx_rules.specs.Pieces.{pieces};
 
 use crate::scan::{Kind, next_piece};
 use crate::word::Piece;
-use std::alloc::{AllocError, Global};
+use std::alloc::AllocError;
 
 fn is_word(kind: Kind) -> bool
     ensures { result ≡ is_word kind }
@@ -46,33 +46,20 @@ fn closes(line: &[Piece], kind: Kind) -> bool
     }
 }
 
-/// A line, and what is left of the text behind it.
-#[derive(Drop)]
-pub(crate) struct Cut<'a> {
-    pub(crate) line: Vec<Piece<'a>>,
-    pub(crate) rest: &'a [u8],
-}
-
-impl<'a> Cut<'a> {
-    /// How many bytes of the text are left where the line begins.
-    pub(crate) fn left(&self) -> usize {
-        match self.line.first() {
-            None => 0,
-            Some(piece) => piece.left(),
-        }
-    }
-}
-
-/// The first line of a text.
+/// Puts the first line of a text in the place of another, and answers what is left of the text behind it; nothing where there
+/// is no line.
 #[tactic(auto, using(crate::proofs::Cutting::more_of_line, crate::proofs::Cutting::end_of_line, crate::proofs::Cutting::last_line, crate::proofs::Cutting::no_line))]
-pub(crate) fn next_line<'a>(alloc: Global, text: &'a [u8]) -> Result<Option<Cut<'a>>, AllocError>
+pub(crate) fn next_line<'a>(
+    line: &mut Vec<Piece<'a>>,
+    text: &'a [u8],
+) -> Result<Option<&'a [u8]>, AllocError>
     ensures value { IfOk result (λ found.
-        MatchOption found (lines [] (pieces text.entry.now 0) ≡ []) (λ cut.
-        lines [] (pieces text.entry.now 0) ≡ cut.line.items ∷ lines [] (pieces cut.rest.now 0))) }
+        MatchOption found (lines [] (pieces text.entry.now 0) ≡ []) (λ rest.
+        lines [] (pieces text.entry.now 0) ≡ line.new.items ∷ lines [] (pieces rest.now 0))) }
     ensures shorter { IfOk result (λ found.
-        IfSome found (λ cut. length cut.rest.now < length text.entry.now)) }
+        IfSome found (λ rest. length rest.now < length text.entry.now)) }
 {
-    let mut line = Vec::new(alloc);
+    line.clear();
     let mut rest = text;
     'pieces: loop {
         match next_piece(rest) {
@@ -82,7 +69,7 @@ pub(crate) fn next_line<'a>(alloc: Global, text: &'a [u8]) -> Result<Option<Cut<
                 line.push(Piece::of(found.kind, found.text, found.left))?;
                 rest = found.rest;
                 if is_end {
-                    return Ok(Some(Cut { line, rest }));
+                    return Ok(Some(rest));
                 }
             }
         }
@@ -90,7 +77,7 @@ pub(crate) fn next_line<'a>(alloc: Global, text: &'a [u8]) -> Result<Option<Cut<
     if line.is_empty() {
         return Ok(None);
     }
-    Ok(Some(Cut { line, rest }))
+    Ok(Some(rest))
 }
 
 /// How many words a line begins with.

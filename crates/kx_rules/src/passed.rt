@@ -58,7 +58,8 @@ pub(crate) struct Uses {
     texts: Vec<Vec<u8>>,
     lines: Vec<PassedLine>,
     text: usize,
-    line: usize,
+    /// Whether the last line has no number yet.
+    lacks_line: bool,
 }
 
 fn unmarked(alloc: Global, words: &[Word]) -> Result<Vec<bool>, AllocError> {
@@ -104,13 +105,20 @@ impl Uses {
             texts: Vec::new(alloc),
             lines: Vec::new(alloc),
             text: 0,
-            line: 1,
+            lacks_line: false,
         })
     }
 
-    /// Goes to a line of the text that is read.
-    pub(crate) fn go_to(&mut self, line: usize) {
-        self.line = line;
+    pub(crate) fn lacks_line(&self) -> bool {
+        self.lacks_line
+    }
+
+    /// Tells the number of the last line.
+    pub(crate) fn tell_line(&mut self, line: usize) {
+        if let Some(last) = self.lines.last_mut() {
+            last.line = line;
+        }
+        self.lacks_line = false;
     }
 
     /// Begins an included text.
@@ -129,14 +137,15 @@ impl Uses {
         self.text = text;
     }
 
-    /// Notes the line that is read, if it is faulty.
+    /// Notes the line that is read, if it is faulty; its number is told later, since few are.
     pub(crate) fn note(&mut self, is_faulty: bool, reason: Reason) -> Result<(), AllocError> {
         if is_faulty {
             self.lines.push(PassedLine {
                 text: self.text,
-                line: self.line,
+                line: 0,
                 reason,
             })?;
+            self.lacks_line = true;
         }
         Ok(())
     }

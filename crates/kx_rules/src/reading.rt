@@ -12,6 +12,7 @@ use crate::names::Names;
 use crate::passed::{Passed, Uses};
 use crate::state::{State, Taken};
 use crate::texts::Texts;
+use crate::word::Piece;
 use std::alloc::{AllocError, Global};
 
 /// A place in a text and the number of its line, counted from 1.
@@ -26,8 +27,9 @@ impl Place {
         Place { line: 1, at: 0 }
     }
 
-    /// The place further on where so many bytes are left.
-    fn at(self, text: &[u8], left: usize) -> Place {
+    /// The place further on where a line begins.
+    fn at(self, text: &[u8], line: &[Piece]) -> Place {
+        let left = line.first().map_or(0, |piece| piece.left());
         let at = text.len().saturating_sub(left);
         let passed = text.get(self.at..at).unwrap_or(&[]);
         let ends = passed.iter().filter(|byte| **byte == b'\n').count();
@@ -51,26 +53,30 @@ fn read(
     ensures { IfOk result (λ left. (state.new, left)
         ≡ run names.now (included depth names.now texts.now) state.old (lines_of text.now)) }
 {
+    let mut line = Vec::new(alloc);
     let mut rest = text;
     let mut place = Place::new();
     'lines: loop {
-        match next_line(alloc, rest)? {
+        match next_line(&mut line, rest)? {
             None => return Ok(None),
-            Some(cut) => {
-                place = place.at(text, cut.left());
-                state.go_to(place.line);
-                match state.take(alloc, names, texts, depth, cut.line.as_slice())? {
-                    Taken::Next => {}
+            Some(behind) => {
+                match state.take(alloc, names, texts, depth, line.as_slice())? {
+                    Taken::Next => {
+                        if state.lacks_line() {
+                            place = place.at(text, line.as_slice());
+                            state.tell_line(place.line);
+                        }
+                    }
                     Taken::Unexpected(left) => return Ok(Some(left)),
                     Taken::Inner(inner) => {
                         let outer = state.text();
-                        state.name_text(alloc, cut.line.as_slice())?;
+                        state.name_text(alloc, line.as_slice())?;
                         let _ = read(alloc, state, names, texts, depth - 1, inner)?;
                         state.leave_to(outer);
                         state.begin();
                     }
                 }
-                rest = cut.rest;
+                rest = behind;
             }
         }
     }

@@ -3,6 +3,7 @@ ghost use Rattle.std.specs.Prelude.{◌≡◌, ◌≤◌, ◌<◌, ◌+◌, leng
 ghost use Rattle.kx_rules.specs.Pieces.{gap_len, is_blank, is_word_byte, kind_at, line_len, piece, piece_len, pieces, text_at, word_len};
 ghost use Rattle.kx_rules.specs.declared.scan.Kind.TheVariants.{Word as WordKind, Include as IncludeKind};
 ghost use Rattle.std.specs.List.{prefix_len};
+ghost use Rattle.std.specs.Prelude.{nat_le};
 
 /// What a piece is. A `Bad` one begins with a byte that begins no piece.
 #[derive(Clone, Copy, Debug, PartialEq, Eq)]
@@ -50,6 +51,16 @@ fn line_len(text: &[u8]) -> usize
     text.iter().take_while(|byte| **byte != b'\n').count()
 }
 
+/// Whether a word is at the front.
+fn begins_word(text: &[u8]) -> bool
+    ensures { result ≡ nat_le 1 (word_len text.now) }
+{
+    match text {
+        [] => false,
+        [byte, ..] => is_word_byte(*byte),
+    }
+}
+
 /// How many bytes at the front say nothing.
 #[tactic(auto, unfolding(crate::specs::Pieces::gap_len))]
 fn gap_len(text: &[u8]) -> usize
@@ -87,14 +98,14 @@ fn kind_at(text: &[u8]) -> Kind
     } else if text.starts_with(b"*") {
         Kind::Star
     } else if text.starts_with(b"$") {
-        if 1 <= word_len(&text[1..]) {
+        if begins_word(&text[1..]) {
             Kind::Group
         } else {
             Kind::Bad
         }
     } else if text.starts_with(b"include") {
         Kind::Include
-    } else if 1 <= word_len(text) {
+    } else if begins_word(text) {
         Kind::Word
     } else {
         Kind::Bad

@@ -116,11 +116,16 @@ impl State {
         (self.components, self.uses)
     }
 
-    /// Goes to a line of the text that is read.
-    pub(crate) fn go_to(&mut self, line: usize)
+    /// Whether the line that was taken last is noted, and not told yet.
+    pub(crate) fn lacks_line(&self) -> bool {
+        self.uses.lacks_line()
+    }
+
+    /// Tells the number of the line that was noted last.
+    pub(crate) fn tell_line(&mut self, line: usize)
         ensures { self.new ≡ self.old }
     {
-        self.uses.go_to(line);
+        self.uses.tell_line(line);
     }
 
     /// Which text is read.
