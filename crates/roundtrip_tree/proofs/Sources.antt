@@ -110,17 +110,17 @@ mapped_shown Is f (x ∷ xs) [] are = elim are [ ]
 mapped_shown Is f (x ∷ xs) (z ∷ zs) (shows_more one are) = shows_more one (mapped_shown Is f xs zs are)
 
 -- a word isn't the mark that ends a section
-word_starts : {text : List ℕ} (keyword : Option Keyword) (w : List ℕ) {ss : List Slice} {ts rest : List Token} → Begins text (slice (Word keyword) w ∷ ss) ts rest → before_mark close_brace ts ≡ true
+pub word_starts : {text : List ℕ} (keyword : Option Keyword) (w : List ℕ) {ss : List Slice} {ts rest : List Token} → Begins text (slice (Word keyword) w ∷ ss) ts rest → before_mark close_brace ts ≡ true
 word_starts keyword w (more span at begins) = refl
 
 key_name_starts : {text : List ℕ} (w : List ℕ) {ss : List Slice} {ts rest : List Token} → Begins text (slice KeyName w ∷ ss) ts rest → before_mark close_brace ts ≡ true
 key_name_starts w (more span at begins) = refl
 
 -- the front of tokens is these sections
-record Front (text : List ℕ) (ss : List Section) (ts rest : List Token) : Type 0 where
-  spelled : many_front (before_mark close_brace) (section text).spells ss ts rest
+pub record Front (text : List ℕ) (ss : List Section) (ts rest : List Token) : Type 0 where
+  pub spelled : many_front (before_mark close_brace) (section text).spells ss ts rest
 
-one_more : (text : List ℕ) {X : Type 0} {k : Kind} {Is : X → Item → Type 0} {xs : List X} {ts mid : List Token} → before_mark close_brace ts ≡ true → (r : ReadsAs (section text) (IsSection k Is xs) ts mid) → (ss : List Section) (rest : List Token) → Front text ss mid rest → Front text (plain k r.is.items ∷ ss) ts rest
+pub one_more : (text : List ℕ) {X : Type 0} {k : Kind} {Is : X → Item → Type 0} {xs : List X} {ts mid : List Token} → before_mark close_brace ts ≡ true → (r : ReadsAs (section text) (IsSection k Is xs) ts mid) → (ss : List Section) (rest : List Token) → Front text ss mid rest → Front text (plain k r.is.items ∷ ss) ts rest
 one_more text {k = k} {ts = ts} {mid = mid} starts r ss rest f = record { spelled = (starts, mid, plain_spelled, f.spelled) }
   where
     plain_spelled : (section text).spells ts (plain k r.is.items) mid
@@ -193,7 +193,7 @@ module _ (text : List ℕ) where
     pub spelled : Spells text tokens tree
     pub shows : ShowsSource ks us ds gs tree
 
-  source_spelled : (ss : List Section) (s1 s2 s3 s4 : Span) (us : List Token) → Front text ss us (token (Mark 125) s3 ∷ token (Mark 59) s4 ∷ [])
+  pub source_spelled : (ss : List Section) (s1 s2 s3 s4 : Span) (us : List Token) → Front text ss us (token (Mark 125) s3 ∷ token (Mark 59) s4 ∷ [])
       → Spells text (token (Word (Some keywords.XkbKeymap)) s1 ∷ token (Mark 123) s2 ∷ us) (record { sections = ss })
   unfolding source flags held_sections optional_text flag_of is_keyword
   source_spelled ss s1 s2 s3 s4 us f =
