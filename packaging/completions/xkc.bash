@@ -17,36 +17,40 @@ _xkc_listed() {
     esac
 }
 
-# Sets `word` to the word before the cursor, and `before` to the one before it, with the colons that part words put back.
+# Sets `word` to the word before the cursor, and `before` to the one before it, with the signs that part words put back; of
+# an option with its value, as --layout=us, `word` is the value and `before` the option.
 _xkc_words() {
     local line=${COMP_LINE:0:COMP_POINT}
     word=${line##*[[:space:]]}
     line=${line%"$word"}
     line=${line%"${line##*[![:space:]]}"}
     before=${line##*[[:space:]]}
+    case $word in --*=*)
+        before=${word%%=*}
+        word=${word#*=}
+        ;;
+    esac
 }
 
 _xkc() {
-    local word before options=--help
-    local commands='try compile replay print show find list rules names dump upgrade'
-    local named='--rules --model --layout --variant --options'
+    local word before options
+    local commands='try compile replay print show find list rules names dump upgrade help'
+    local named='--rules --model --layout --variant --options' include='-I --include' help='-h --help'
     _xkc_words
     if [ "$COMP_CWORD" -eq 1 ]; then
-        COMPREPLY=($(compgen -W "$commands help --names --include --help --version" -- "$word"))
+        COMPREPLY=($(compgen -W "$commands $help -V --version" -- "$word"))
+        compopt +o filenames
         return
     fi
     case ${COMP_WORDS[1]} in
-        help)
-            COMPREPLY=($(compgen -W "$commands" -- "$word"))
-            return
-            ;;
-        try) options="--names --include --quiet --warn $named --help" ;;
-        compile) options="--names --include --quiet --warn $named --help" ;;
-        replay) options='--names --help' ;;
-        print | find) options="--names --include $named --help" ;;
-        show) options="--names --include --group --svg $named --help" ;;
-        rules) options="--include $named --help" ;;
-        list) options='layouts variants options models --rules --include --help' ;;
+        help) options=$commands ;;
+        try | compile) options="--names $include --quiet --warn $named $help" ;;
+        replay) options="--names $help" ;;
+        print | find) options="--names $include $named $help" ;;
+        show) options="--names $include --group --svg $named $help" ;;
+        rules) options="$include $named $help" ;;
+        list) options="layouts variants options models --rules $include $help" ;;
+        names | dump | upgrade) options=$help ;;
     esac
     case $before in
         --names) COMPREPLY=($(compgen -f -- "$word")) ;;
@@ -59,7 +63,7 @@ _xkc() {
         --options) _xkc_listed options "$word" ;;
         *)
             case ${COMP_WORDS[1]} in
-                list | rules) COMPREPLY=($(compgen -W "$options" -- "$word")) ;;
+                help | list | rules) COMPREPLY=($(compgen -W "$options" -- "$word")) ;;
                 *) COMPREPLY=($(compgen -f -W "$options" -- "$word")) ;;
             esac
             ;;
