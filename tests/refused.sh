@@ -1,7 +1,7 @@
 #!/bin/sh
 # Refuses each growth of memory in turn: of five calls on a desktop's keymap, each of which CALLS makes twice, and of the
-# tasks of PROGRAM over that keymap. A growth that is refused gives want of memory, no byte of an answer, and no file; and the
-# same call with memory answers as ever.
+# tasks of PROGRAM over that keymap. A growth that is refused gives want of memory, no byte of an answer, and no file, or the
+# task does without it and ends whole; and the same call with memory answers as ever.
 #   tests/refused.sh CALLS PROGRAM
 # Each growth at which it is otherwise is a line, and the last line counts the growths.
 set -u
