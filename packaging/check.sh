@@ -39,8 +39,8 @@ cp -R "$top/install.sh" "$top/LICENSE" "$top/packaging" "$top/include" "$work/tr
 cd "$work/tree" || exit 2
 whole='./bin/xkc ./share/bash-completion/completions/xkc ./share/fish/vendor_completions.d/xkc.fish ./share/licenses/xkc/LICENSE '
 whole="$whole./share/man/man1/xkc.1 ./share/zsh/site-functions/_xkc "
-with_library='./bin/xkc ./include/xkc.h ./lib/libxkc-xkbcommon.so ./lib/libxkc.a ./lib/libxkc.so ./lib/libxkc.so.0 ./lib/pkgconfig/xkc.pc '
-with_library="$with_library${whole#./bin/xkc }"
+with_library='./bin/xkc ./include/xkc.h ./lib/libxkc-xkbcommon.so ./lib/libxkc.a ./lib/libxkc.so ./lib/libxkc.so.0 '
+with_library="$with_library./lib/pkgconfig/xkc.pc ${whole#./bin/xkc }"
 
 ends 1 "$work/none"
 printf '#!/bin/sh\n' > crates/xkc/out/xkc

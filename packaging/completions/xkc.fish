@@ -29,7 +29,8 @@ complete -c xkc -n '__xkc_is help' -f -a "$commands"
 complete -c xkc -n '__xkc_is list' -f -a 'layouts variants options models'
 complete -c xkc -n '__xkc_is rules' -f
 complete -c xkc -n '__xkc_is try compile replay print show find' -l names -r -d 'A file of names of keysyms'
-complete -c xkc -n "__xkc_is $named list" -s I -l include -x -a '(__fish_complete_directories (commandline -ct))' -d 'A folder of included files'
+complete -c xkc -n "__xkc_is $named list" -s I -l include -x -d 'A folder of included files' \
+    -a '(__fish_complete_directories (commandline -ct))'
 complete -c xkc -n "__xkc_is $named list" -l rules -x -d 'The rules by which names are read'
 complete -c xkc -n "__xkc_is $named" -l model -x -a '(__xkc_listed models)' -d "A keyboard's model"
 complete -c xkc -n "__xkc_is $named" -l layout -x -a '(__xkc_listed layouts)' -d 'Layouts by name'
