@@ -1,5 +1,6 @@
 pub mod Cutting
 pub mod Expanding
+pub mod InWords
 pub mod Including
 pub mod Items
 pub mod Keyed
@@ -7,4 +8,5 @@ pub mod Lists
 pub mod Running
 pub mod Scanning
 pub mod Telling
+pub mod Words
 pub mod Writing

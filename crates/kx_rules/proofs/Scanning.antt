@@ -1,7 +1,7 @@
 -- Pieces from a place on.
-use Rattle.std.proofs.Common.{◌≡◌, ℕ, zero, suc, ◌-◌, ◌≤◌, nat_le, cond, true, List, [], ◌∷◌, length, drop, refl, sym, ap, ◌∙◌, arith}
-use Rattle.std.proofs.lemmas.Bool.{le-leb}
-use Rattle.kx_rules.specs.Pieces.{Piece, gap_len, kind_at, piece, piece_len, pieces, text_at}
+use Rattle.std.proofs.Common.{◌≡◌, ℕ, zero, suc, ◌-◌, ◌≤◌, nat_le, Bool, cond, true, false, ◌==◌, ◌||◌, List, [], ◌∷◌, length, drop, refl, sym, ap, ◌∙◌, arith}
+use Rattle.std.proofs.lemmas.Bool.{eqb-false, le-leb, ne_eqb}
+use Rattle.kx_rules.specs.Pieces.{Piece, gap_len, is_blank, kind_at, piece, piece_len, pieces, text_at}
 use Rattle.kx_rules.specs.declared.scan.Kind.{Kind}
 
 pieces-drop : (bs : List ℕ) (k : ℕ) → pieces bs k ≡ pieces (drop k bs) 0
@@ -32,6 +32,20 @@ pieces-from b bs = refl
 from-piece : (b : ℕ) (bs : List ℕ) (k : ℕ) → from 0 b bs (suc k) ≡ piece (kind_at (b ∷ bs)) (text_at (kind_at (b ∷ bs)) (b ∷ bs)) (length (b ∷ bs)) ∷ pieces bs k
 unfolding from
 from-piece b bs k = ap (λ n. piece (kind_at (b ∷ bs)) (text_at (kind_at (b ∷ bs)) (b ∷ bs)) (length (b ∷ bs)) ∷ pieces bs n) (less-one k)
+
+other_way : (n b : ℕ) → (b == n) ≡ false → (n == b) ≡ false
+other_way n b h = ne_eqb n b (λ e. eqb-false b n h (sym e))
+
+-- a gap begins with a blank, a slash or a backslash
+pub no_gap : (b : ℕ) (bs : List ℕ) → ((is_blank b || b == 47) || b == 92) ≡ false → gap_len (b ∷ bs) ≡ 0
+unfolding gap_len
+no_gap b bs h = let none = none_of (is_blank b) (b == 47) (b == 92) h in rw (none.0, other_way 47 b none.1, other_way 92 b none.2) refl
+  where
+    none_of : (p q r : Bool) → ((p || q) || r) ≡ false → (p ≡ false) × (q ≡ false) × (r ≡ false)
+    none_of true q r h = cc
+    none_of false true r h = cc
+    none_of false false true h = cc
+    none_of false false false h = (refl, refl, refl)
 
 pub skip_gap : (text : List ℕ) (n : ℕ) → n ≡ gap_len text → pieces (drop n text) 0 ≡ pieces text 0
 skip_gap [] zero e = refl

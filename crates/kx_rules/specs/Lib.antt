@@ -1,3 +1,4 @@
+pub mod Bytes
 pub mod Expansions
 pub mod Lines
 pub mod Mappings

@@ -1,6 +1,7 @@
 //! The components that a rules file names for a model, layouts, variants and options, as libxkbcommon 1.5 reads it.
 #![tactic(auto)]
 
+mod bytes;
 mod columns;
 mod components;
 mod expansion;

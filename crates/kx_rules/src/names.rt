@@ -1,5 +1,5 @@
 //! What a keymap is asked for by.
-ghost use Rattle.std.specs.Prelude.{◌≡◌, ◌≤◌, ◌<◌, ◌∷◌, [], IfOk, IfSome, OnOk, get_or, length, reverse};
+ghost use Rattle.std.specs.Prelude.{◌≡◌, ◌≤◌, ◌<◌, ◌∷◌, [], true, IfOk, IfSome, OnOk, get_or, length, reverse};
 ghost use Rattle.std.specs.Option.{option_map};
 ghost use Rattle.std.specs.List.{list_all, prefix_len};
 ghost use Rattle.kx_rules.specs.Names.{are_short, has, is_short, is_space, item_len, items, items_behind, names_of, with_word, with_words, without_back, without_front};
@@ -38,6 +38,13 @@ impl WordSet {
     {
         self.words.insert(OwnedName::of(alloc, word)?, ())?;
         Ok(())
+    }
+
+    #[tactic(auto, using(crate::proofs::Keyed::nothing_keyed))]
+    fn is_empty(&self) -> bool
+        ensures { result ≡ true → self.now ≡ [] }
+    {
+        self.words.as_slice().is_empty()
     }
 
     fn has(&self, word: &[u8]) -> bool
@@ -220,6 +227,9 @@ impl<'a> Names<'a> {
     pub(crate) fn has_option(&self, word: &[u8]) -> bool
         ensures { result ≡ has self.now.options word.now }
     {
+        if self.options.is_empty() {
+            return false;
+        }
         self.options.has(word)
     }
 

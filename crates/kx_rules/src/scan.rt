@@ -3,7 +3,9 @@ ghost use Rattle.std.specs.Prelude.{◌≡◌, ◌≤◌, ◌<◌, ◌+◌, leng
 ghost use Rattle.kx_rules.specs.Pieces.{gap_len, is_blank, is_word_byte, kind_at, line_len, piece, piece_len, pieces, text_at, word_len};
 ghost use Rattle.kx_rules.specs.declared.scan.Kind.TheVariants.{Word as WordKind, Include as IncludeKind};
 ghost use Rattle.std.specs.List.{prefix_len};
-ghost use Rattle.std.specs.Prelude.{nat_le};
+ghost use Rattle.std.specs.Prelude.{nat_le, ◌==◌, ◌||◌};
+
+use crate::bytes::is_word_byte;
 
 /// What a piece is. A `Bad` one begins with a byte that begins no piece.
 #[derive(Clone, Copy, Debug, PartialEq, Eq)]
@@ -24,12 +26,6 @@ fn is_blank(byte: u8) -> bool
     byte == b' ' || byte == b'\t' || byte == b'\r'
 }
 
-fn is_word_byte(byte: u8) -> bool
-    ensures { result ≡ is_word_byte byte }
-{
-    byte.is_ascii_graphic() && byte != b'\\'
-}
-
 fn blank_len(text: &[u8]) -> usize
     ensures value { result ≡ prefix_len is_blank text.now }
     ensures within { result ≤ length text.now }
@@ -37,11 +33,37 @@ fn blank_len(text: &[u8]) -> usize
     text.iter().take_while(|byte| is_blank(**byte)).count()
 }
 
-fn word_len(text: &[u8]) -> usize
+fn short_word_len(text: &[u8]) -> usize
     ensures value { result ≡ word_len text.now }
     ensures within { result ≤ length text.now }
 {
     text.iter().take_while(|byte| is_word_byte(**byte)).count()
+}
+
+/// How many bytes of a word stand at the front. Four bytes a turn, since most bytes of a text stand in words.
+fn word_len(text: &[u8]) -> usize
+    ensures value { result ≡ word_len text.now }
+    ensures within { result ≤ length text.now }
+{
+    let mut len = 0;
+    let mut rest = text;
+    'fours: while let [first, second, third, fourth, left @ ..] = rest {
+        if !is_word_byte(*first) {
+            return len;
+        }
+        if !is_word_byte(*second) {
+            return len + 1;
+        }
+        if !is_word_byte(*third) {
+            return len + 2;
+        }
+        if !is_word_byte(*fourth) {
+            return len + 3;
+        }
+        len += 4;
+        rest = left;
+    }
+    len + short_word_len(rest)
 }
 
 fn line_len(text: &[u8]) -> usize
@@ -61,9 +83,28 @@ fn begins_word(text: &[u8]) -> bool
     }
 }
 
-/// How many bytes at the front say nothing.
-#[tactic(auto, unfolding(crate::specs::Pieces::gap_len))]
+/// Whether what says nothing may begin with this byte.
+fn begins_gap(byte: u8) -> bool
+    ensures { result ≡ ((is_blank byte || byte == 47) || byte == 92) }
+{
+    is_blank(byte) || byte == b'/' || byte == b'\\'
+}
+
+/// How many bytes at the front say nothing. Few pieces begin with a byte that a gap may begin with.
+#[tactic(auto, unfolding(crate::specs::Pieces::gap_len), using(crate::proofs::Scanning::no_gap))]
 fn gap_len(text: &[u8]) -> usize
+    ensures value { result ≡ gap_len text.now }
+    ensures within { result ≤ length text.now }
+{
+    match text {
+        [] => 0,
+        [byte, ..] if !begins_gap(*byte) => 0,
+        _ => long_gap_len(text),
+    }
+}
+
+#[tactic(auto, unfolding(crate::specs::Pieces::gap_len))]
+fn long_gap_len(text: &[u8]) -> usize
     ensures value { result ≡ gap_len text.now }
     ensures within { result ≤ length text.now }
 {
@@ -89,26 +130,19 @@ fn kind_at(text: &[u8]) -> Kind
     ensures word { result ≡ WordKind → 1 ≤ word_len text.now }
     ensures include { result ≡ IncludeKind → 7 ≤ length text.now }
 {
-    if text.starts_with(b"\n") {
-        Kind::NewLine
-    } else if text.starts_with(b"!") {
-        Kind::Bang
-    } else if text.starts_with(b"=") {
-        Kind::Equals
-    } else if text.starts_with(b"*") {
-        Kind::Star
-    } else if text.starts_with(b"$") {
-        if begins_word(&text[1..]) {
-            Kind::Group
-        } else {
-            Kind::Bad
-        }
-    } else if text.starts_with(b"include") {
-        Kind::Include
-    } else if begins_word(text) {
-        Kind::Word
-    } else {
-        Kind::Bad
+    match text {
+        [] => Kind::Bad,
+        [byte, behind @ ..] => match *byte {
+            b'\n' => Kind::NewLine,
+            b'!' => Kind::Bang,
+            b'=' => Kind::Equals,
+            b'*' => Kind::Star,
+            b'$' if begins_word(behind) => Kind::Group,
+            b'$' => Kind::Bad,
+            b'i' if text.starts_with(b"include") => Kind::Include,
+            byte if is_word_byte(byte) => Kind::Word,
+            _ => Kind::Bad,
+        },
     }
 }
 
