@@ -1,4 +1,5 @@
 //! The arguments of actions.
+use crate::near::Nearest;
 use kx_parse::{Argument, PlacedArgument, Term};
 
 /// The actions, and the arguments that each has.
@@ -20,6 +21,15 @@ pub(crate) fn action_named(word: &[u8]) -> Option<(&'static str, &'static str)> 
         }
     }
     None
+}
+
+/// The name of an action that has an effect, to which a word is near.
+pub fn near_action(word: &[u8]) -> Option<&[u8]> {
+    let mut nearest = Nearest::to(word);
+    for (name, _) in ARGUMENTS {
+        nearest.offer(name.as_bytes());
+    }
+    nearest.name()
 }
 
 /// The word that says which argument is given.

@@ -70,7 +70,8 @@ pub(crate) fn write_file_missing(
                 out,
                 ": add {name}=PATH, or -I DIR where DIR/{folder}/{name} is"
             ),
-            _ => Ok(()),
+            Ok(_) => out.push_str("; a group stands behind ':', as us:2"),
+            Err(_) => Ok(()),
         };
     }
     Ok(())

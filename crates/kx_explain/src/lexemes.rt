@@ -21,6 +21,37 @@ fn first_character(text: &[u8]) -> Option<&[u8]> {
     None
 }
 
+/// Says which character that stands for a mark begins nothing, and which mark does; answers whether it is one.
+fn write_mistaken_mark(out: &mut String, front: &[u8]) -> Result<bool, AllocError> {
+    let character = first_character(front).unwrap_or(front.get(..1).unwrap_or(&[]));
+    let wanted = match str::from_utf8(character) {
+        Ok("'" | "`" | "´" | "“" | "”" | "„" | "‘" | "’" | "«" | "»") => {
+            "a text stands between straight double quotes, as \"us\""
+        }
+        Ok(":") => "a value stands behind '='",
+        _ => return Ok(false),
+    };
+    let mark = quoted(character);
+    write!(out, "{mark} begins nothing here: {wanted}")?;
+    Ok(true)
+}
+
+/// Says which character stands outside quotes, and how its keysym is written.
+fn write_character(out: &mut String, bytes: &[u8]) -> Result<(), AllocError> {
+    let words = quoted(bytes);
+    write!(out, "{words} stands outside quotes and comments")?;
+    match str::from_utf8(bytes)
+        .ok()
+        .and_then(|text| text.chars().next())
+    {
+        Some(character) if character.is_alphanumeric() => {
+            let number = u32::from(character);
+            write!(out, "; as a keysym it is U{number:04X}")
+        }
+        _ => Ok(()),
+    }
+}
+
 /// Says which byte begins nothing.
 pub(crate) fn write_bad_byte(out: &mut String, text: &[u8], span: Span) -> Result<(), AllocError> {
     let front = text.get(span.start as usize..).unwrap_or(&[]);
@@ -30,15 +61,15 @@ pub(crate) fn write_bad_byte(out: &mut String, text: &[u8], span: Span) -> Resul
     if front.starts_with(b"%%\r") {
         return out.push_str("'%%' with a carriage return behind it ends no source");
     }
+    if write_mistaken_mark(out, front)? {
+        return Ok(());
+    }
     if byte.is_ascii_graphic() {
         let mark = quoted(bytes_in(text, span));
         return write!(out, "{mark} begins nothing that a keymap has");
     }
     match first_character(front) {
-        Some(bytes) if !byte.is_ascii() => {
-            let character = quoted(bytes);
-            write!(out, "{character} stands outside quotes and comments")
-        }
+        Some(bytes) if !byte.is_ascii() => write_character(out, bytes),
         _ => write!(
             out,
             "the byte 0x{byte:02x} stands outside quotes and comments"

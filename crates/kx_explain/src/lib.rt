@@ -16,12 +16,14 @@ mod quotes;
 mod ranges;
 mod section_rules;
 mod site;
+mod slips;
 mod statement_rules;
 mod syntax;
 mod value_rules;
 mod values;
 mod wanted;
 
+pub use actions::near_action;
 pub use explaining::{Explanation, explain};
 pub use kx_reach::{Text, Texts};
 pub use near::Nearest;

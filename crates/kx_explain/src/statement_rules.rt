@@ -10,6 +10,8 @@ use kx_lex::{Keyword, Token, TokenKind};
 
 const BEHIND_FIELD: &str = "'=' or ';' after a field";
 
+const BEFORE_SECTION: &str = "'};' of the section before the next one";
+
 const BEHIND_VALUE: &str = "';' after a value";
 
 /// Takes a field, and answers what could stand after it.
@@ -161,6 +163,20 @@ fn wanted_behind(token: Option<&Token>) -> &'static str {
         TokenKind::Word(Some(Keyword::VirtualModifiers)) => {
             "the name of a virtual modifier after 'virtual_modifiers'"
         }
+        TokenKind::Word(
+            Some(
+                Keyword::XkbKeycodes
+                | Keyword::XkbTypes
+                | Keyword::XkbSymbols
+                | Keyword::XkbCompat
+                | Keyword::XkbCompatMap
+                | Keyword::XkbCompatibility
+                | Keyword::XkbCompatibilityMap
+                | Keyword::Default
+                | Keyword::Partial
+                | Keyword::Hidden,
+            ),
+        ) => BEFORE_SECTION,
         _ => BEHIND_FIELD,
     }
 }

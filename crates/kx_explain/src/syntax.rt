@@ -2,6 +2,7 @@
 use crate::cursor::Cursor;
 use crate::found::Found;
 use crate::section_rules::{take_file, take_source};
+use crate::slips::likely_slip;
 use kx_lex::{At, Fault, Span, Token, lex};
 use std::alloc::{AllocError, Global};
 
@@ -48,8 +49,12 @@ pub(crate) fn write_syntax(
         text,
         span: at.span,
     };
-    match wanted_at(tokens.as_slice(), at) {
-        Some(wanted) => write!(out, "expected {wanted}, found {found}"),
-        None => write!(out, "{found} can't stand here"),
+    let Some(wanted) = wanted_at(tokens.as_slice(), at) else {
+        return write!(out, "{found} can't stand here");
+    };
+    write!(out, "expected {wanted}, found {found}")?;
+    match likely_slip(wanted, text, at.span) {
+        Some(slip) => write!(out, "; {slip}"),
+        None => Ok(()),
     }
 }

@@ -1,6 +1,7 @@
 //! What the program does: its words, the tasks that they ask for, and what a user sees where one ends early.
 #![tactic(auto)]
 
+mod failing;
 mod keeping;
 mod looking;
 mod named;

@@ -3,10 +3,9 @@ use crate::named::read_keymap;
 use crate::sources::{read, read_names};
 use crate::words::Keymap;
 use ks_core::{Keysym, NameTable};
-use kx_failure::Failure;
+use kx_failure::{Failure, FileKind};
 use kx_image::View;
 use kx_show::{draw, picture, write_names, write_places};
-use kx_tool::ReplayFault;
 use std::alloc::AllocError;
 use std::rt::Files as FileSystem;
 
@@ -18,7 +17,7 @@ pub(crate) fn print_text<'a>(
     let text = text?;
     match rt.print(text.as_str()) {
         Ok(()) => Ok(()),
-        Err(_) => Err(Failure::Replay(ReplayFault::Write)),
+        Err(_) => Err(Failure::Write),
     }
 }
 
@@ -26,7 +25,7 @@ pub(crate) fn print_text<'a>(
 fn view_of<'a>(bytes: &[u8]) -> Result<View<'_>, Failure<'a>> {
     match View::open(bytes) {
         Ok(view) => Ok(view),
-        Err(fault) => Err(Failure::Image(fault)),
+        Err(fault) => Err(Failure::Image(fault, FileKind::of(bytes))),
     }
 }
 

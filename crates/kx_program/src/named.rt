@@ -1,4 +1,5 @@
 //! Keymaps that are asked for by names.
+use crate::failing::unusable;
 use crate::looking::print_text;
 use crate::showing::show_fault;
 use crate::sources::{Gathered, gather, open_folders, read};
@@ -22,13 +23,17 @@ fn show_missing(rt: &impl Eprint, path: &str, folders: &[&str]) {
 }
 
 /// What ends a task whose names have no source; what is wrong is shown.
-fn failure_of<'a>(rt: &impl Eprint, fault: NamesFault, folders: &[&str]) -> Failure<'a> {
+fn failure_of<'a>(
+    rt: &(impl FileSystem + Eprint + AllocGlobal),
+    fault: NamesFault,
+    folders: &[&str],
+) -> Failure<'a> {
     match fault {
         NamesFault::Memory => Failure::from(AllocError),
-        NamesFault::File(path) => Failure::Found(path),
+        NamesFault::File(path) => unusable(rt, path),
         NamesFault::Missing(path) => {
             show_missing(rt, path.as_str(), folders);
-            Failure::Found(path)
+            Failure::Missing(path)
         }
         NamesFault::Rules(fault, message) => {
             let _ = rt.eprint(message);

@@ -243,13 +243,16 @@ impl fmt::Display for Warned<'_> {
 }
 
 /// Shows a fault on standard error, in the text in which it stands; of a file that isn't there also the folders in which it
-/// was looked for.
+/// was looked for. Lack of memory stands in none.
 pub(crate) fn show_fault(
     rt: &(impl Eprint + AllocGlobal),
     fault: Fault,
     texts: Texts,
     includes: &Includes,
 ) {
+    if fault == Fault::Memory {
+        return;
+    }
     let _ = rt.eprint(Shown::of(rt.alloc(), fault, texts));
     if matches!(fault, Fault::FileMissing(_)) {
         for folder in includes.folders.as_slice() {

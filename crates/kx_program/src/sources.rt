@@ -1,4 +1,5 @@
 //! The files that a task reads.
+use crate::failing::unusable;
 use crate::named::source_named;
 use crate::words::{Included, Includes, Source};
 use ks_core::NameTable;
@@ -32,7 +33,7 @@ pub(crate) fn read_names<'a>(
     let lines = read(rt, path)?;
     match NameTable::with_lines(rt.alloc(), lines.as_slice()) {
         Ok(names) => Ok(names),
-        Err(fault) => Err(Failure::Names(fault)),
+        Err(fault) => Err(Failure::Names(path, fault)),
     }
 }
 
@@ -182,7 +183,7 @@ pub(crate) fn find<'a>(
     };
     match find_files(rt, folders.as_slice(), texts) {
         Ok(found) => Ok(found),
-        Err(FindFault::File(path)) => Err(Failure::Found(path)),
+        Err(FindFault::File(path)) => Err(unusable(rt, path)),
         Err(FindFault::Memory) => Err(Failure::from(AllocError)),
     }
 }

@@ -1,4 +1,5 @@
 //! What the program does.
+use crate::failing::fail;
 use crate::keeping::Kept;
 use crate::looking::{find_in_keymap, print_names, show_keymap};
 use crate::named::{compile_named, print_list, print_source, read_keymap, show_asked};
@@ -12,7 +13,7 @@ use crate::words::{Includes, Keymap, Source, Task, task_in};
 use crate::writing::write_whole;
 use ks_core::{Feed, Lent, NameTable, Notes};
 use kx_explain::{Text, Texts};
-use kx_failure::Failure;
+use kx_failure::{Failure, FileKind};
 use kx_image::{UpgradeFault, View, upgrade};
 use kx_lex::Fault;
 use kx_names::{Asked, Environment, read_environment};
@@ -45,7 +46,7 @@ fn print_notes<'a>(rt: &impl Print, notes: Notes) -> Result<(), Failure<'a>> {
     );
     match rt.println(line) {
         Ok(()) => Ok(()),
-        Err(_) => Err(Failure::Replay(ReplayFault::Write)),
+        Err(_) => Err(Failure::Write),
     }
 }
 
@@ -221,7 +222,7 @@ fn answer_events<'a>(
     let mut out = Lent::new(io::writer(rt));
     match replay(rt.alloc(), &mut feed, image, names, &mut out) {
         Ok(()) => Ok(()),
-        Err(fault) => Err(Failure::Replay(fault)),
+        Err(fault) => Err(Failure::of_replay(fault, FileKind::of(image))),
     }
 }
 
@@ -256,12 +257,12 @@ fn print_keymap<'a>(
     let bytes = read_keymap(rt, &names, keymap)?;
     let view = match View::open(bytes.as_slice()) {
         Ok(view) => view,
-        Err(fault) => return Err(Failure::Image(fault)),
+        Err(fault) => return Err(Failure::Image(fault, FileKind::of(bytes.as_slice()))),
     };
     let mut out = Lent::new(io::writer(rt));
     match print(&view, &mut out) {
         Ok(()) => Ok(()),
-        Err(_) => Err(Failure::Replay(ReplayFault::Write)),
+        Err(_) => Err(Failure::Write),
     }
 }
 
@@ -271,12 +272,12 @@ fn dump_image<'a>(
 ) -> Result<(), Failure<'a>> {
     let bytes = read(rt, image)?;
     if let Err(fault) = View::open(bytes.as_slice()) {
-        return Err(Failure::Image(fault));
+        return Err(Failure::Image(fault, FileKind::of(bytes.as_slice())));
     }
     let mut out = Lent::new(io::writer(rt));
     match dump(bytes.as_slice(), &mut out) {
         Ok(()) => Ok(()),
-        Err(_) => Err(Failure::Replay(ReplayFault::Write)),
+        Err(_) => Err(Failure::Write),
     }
 }
 
@@ -288,12 +289,12 @@ fn upgrade_image<'a>(
 ) -> Result<(), Failure<'a>> {
     let bytes = read(rt, image)?;
     if let Err(fault) = View::open(bytes.as_slice()) {
-        return Err(Failure::Image(fault));
+        return Err(Failure::Image(fault, FileKind::of(bytes.as_slice())));
     }
     let mut out = Lent::new(Vec::new(rt.alloc()));
     match upgrade(bytes.as_slice(), &mut out) {
         Ok(()) => put_file(rt, newer, out.device.as_slice()),
-        Err(UpgradeFault::Image(fault)) => Err(Failure::Image(fault)),
+        Err(UpgradeFault::Image(fault)) => Err(Failure::Image(fault, FileKind::Image)),
         Err(UpgradeFault::Write) => Err(Failure::Source(Fault::Memory)),
     }
 }
@@ -347,13 +348,6 @@ pub fn run<'a>(
             wanted,
         } => print_list(rt, rules, folders.as_slice(), wanted),
     }
-}
-
-/// Prints a failure's line, and answers its status, which stands where the line can't be written.
-fn fail(rt: &impl Print, failure: Failure) -> u8 {
-    let status = failure.status();
-    let _ = rt.println(failure);
-    status
 }
 
 /// What the environment has for names, where the words ask for it.

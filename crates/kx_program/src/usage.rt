@@ -1,4 +1,5 @@
 //! What is said of words that ask for help, or that are wrong.
+use crate::failing::fail;
 use crate::words::not_text;
 use clap::Error;
 use clap::error::ErrorKind;
@@ -28,11 +29,8 @@ pub fn explain(rt: &(impl Print + Eprint), error: Error) -> u8 {
 }
 
 /// Says that there is no memory, and answers the status to end with.
-pub fn out_of_memory(rt: &impl Print) -> u8 {
-    let failure = Failure::Source(Fault::Memory);
-    let status = failure.status();
-    let _ = rt.println(failure);
-    status
+pub fn out_of_memory(rt: &(impl Print + Eprint)) -> u8 {
+    fail(rt, Failure::Source(Fault::Memory))
 }
 
 /// A word as printed text has it.
