@@ -97,7 +97,7 @@ answers='38 down a consumed=none base=none latched=none locked=none group=1
 38 up a consumed=none base=none latched=none locked=none group=1'
 notes='notes keysyms=0 keys=0 types=0 levels=0 actions=0'
 
-for part in tasks refusals words reading writing printing folders named looking messages; do
+for part in tasks streams refusals words reading writing printing folders named looking messages; do
     . "$tests/program/$part.sh"
 done
 echo "$passed passed, $failed failed"

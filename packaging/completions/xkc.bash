@@ -45,8 +45,7 @@ _xkc() {
     case ${COMP_WORDS[1]} in
         help) options=$commands ;;
         try | compile) options="--names $include --quiet --warn $named $help" ;;
-        replay) options="--names $help" ;;
-        print | find) options="--names $include $named $help" ;;
+        print | find | replay) options="--names $include $named $help" ;;
         show) options="--names $include --group --svg $named $help" ;;
         rules) options="$include $named $help" ;;
         list) options="layouts variants options models --rules $include $help" ;;

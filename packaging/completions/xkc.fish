@@ -12,11 +12,11 @@ function __xkc_is
 end
 
 set -l commands try compile replay print show find list rules names dump upgrade help
-set -l named try compile print show find rules
+set -l named try compile replay print show find rules
 complete -c xkc -n "not __xkc_is $commands" -f -a try -d 'Answer events from a source on standard input'
 complete -c xkc -n "not __xkc_is $commands" -f -a compile -d 'Compile a source, or a layout by its names'
-complete -c xkc -n "not __xkc_is $commands" -f -a replay -d 'Answer lines of events by an image'
-complete -c xkc -n "not __xkc_is $commands" -f -a print -d 'Print all that an image tells as keymap text'
+complete -c xkc -n "not __xkc_is $commands" -f -a replay -d 'Answer lines of events by a keymap'
+complete -c xkc -n "not __xkc_is $commands" -f -a print -d 'Print all that a keymap tells as text'
 complete -c xkc -n "not __xkc_is $commands" -f -a show -d 'Print a picture of the keyboard'
 complete -c xkc -n "not __xkc_is $commands" -f -a find -d 'Print the keys that give a keysym'
 complete -c xkc -n "not __xkc_is $commands" -f -a list -d 'Print the names of layouts, variants, options and models'

@@ -209,8 +209,7 @@ wrong "'two'" show --layout us two
 wrong "'two'" print --rules evdev two
 wrong KEYSYM find --model pc105
 wrong "'two'" find --layout us a two
-wrong -I show -I kit two
-wrong --layout replay --layout us two
+wrong "'two'" replay --layout us two
 wrong "'x'" list x y
 wrong "'z'" list layouts x z
 wrong "'two'" rules two

@@ -20,7 +20,7 @@ wrong "'kept'" compile --names kept source kept
 wrong "'kept'" upgrade kept kept
 wrong "'a'" try a
 wrong "'a=c'" try a=b a=c
-wrong IMAGE print
+wrong KEYMAP print
 wrong "'33'" show --group 33 two
 wrong "'x'" show --group x two
 wrong KEYSYM find two
@@ -29,7 +29,7 @@ wrong --quiet print --quiet two
 wrong "'some'" try --warn some
 wrong "'some'" compile --warn some --quiet source kept
 wrong kept dump two kept
-wrong --names print --names names two
+wrong 'standard input has the events' replay -
 wrong "'a\\377'" compile source "$(printf 'a\377')"
 wrong "'0'" show --group 0 two
 wrong "'o'" print two o

@@ -1,6 +1,6 @@
 //! What the environment says of names and folders.
 use std::alloc::{AllocError, Global};
-use std::env::{Env, FillError, VarError};
+use std::env::{Env, VarError};
 use std::rt::Files;
 use std::{env, fs};
 
@@ -85,26 +85,8 @@ impl Environment {
     }
 }
 
-/// The room for a value of common length, in bytes; the toolchain's own for any is 4,096 that are cleared each time.
-const COMMON_ROOM: usize = 128;
-
 /// The value of a variable; none where it isn't set, or isn't text.
 fn read_variable(rt: &(impl Env + AllocGlobal), name: &str) -> Result<Option<String>, AllocError> {
-    let mut room = [0u8; COMMON_ROOM];
-    match rt.var(name, &mut room) {
-        Ok(length) => match str::from_utf8(&room[..length]) {
-            Ok(value) => Ok(Some(String::from_str(rt.alloc(), value)?)),
-            Err(_) => Ok(None),
-        },
-        Err(FillError::NotPresent) => Ok(None),
-        Err(FillError::TooLong) => read_long_variable(rt, name),
-    }
-}
-
-fn read_long_variable(
-    rt: &(impl Env + AllocGlobal),
-    name: &str,
-) -> Result<Option<String>, AllocError> {
     match env::var(rt, name) {
         Ok(value) => Ok(Some(value)),
         Err(VarError::OutOfMemory) => Err(AllocError),

@@ -13,6 +13,14 @@ pub(crate) fn fail(rt: &(impl Print + Eprint), failure: Failure) -> u8 {
     status
 }
 
+/// The same where an image was to go to standard output: nothing else may stand there.
+pub(crate) fn fail_aside(rt: &impl Eprint, failure: Failure) -> u8 {
+    let status = failure.status();
+    let _ = rt.eprint(format_args!("{}", failure.words()));
+    let _ = rt.eprintln(failure);
+    status
+}
+
 /// The failure of a file that was found and can't be read: it is tried again, to see why.
 pub(crate) fn unusable<'a>(rt: &(impl FileSystem + AllocGlobal), path: String) -> Failure<'a> {
     let kind = match read_file(rt, path.as_str()) {

@@ -30,12 +30,12 @@ fn view_of<'a>(bytes: &[u8]) -> Result<View<'_>, Failure<'a>> {
 }
 
 pub(crate) fn show_keymap<'a>(
-    rt: &(impl FileSystem + Print + Eprint + AllocGlobal),
+    rt: &(impl FileSystem + Input + Print + Eprint + AllocGlobal),
     names: Option<&'a str>,
     keymap: &Keymap<'a>,
     group: u8,
     is_drawn: bool,
-) -> Result<(), Failure<'a>> {
+) -> Result<u8, Failure<'a>> {
     let names = read_names(rt, names)?;
     let bytes = read_keymap(rt, &names, keymap)?;
     let view = view_of(bytes.as_slice())?;
@@ -44,7 +44,8 @@ pub(crate) fn show_keymap<'a>(
     } else {
         picture(rt.alloc(), &view, &names, group)
     };
-    print_text(rt, text)
+    print_text(rt, text)?;
+    Ok(0)
 }
 
 /// The keysym of a word: its name, or the one character that it is.
@@ -64,11 +65,11 @@ fn keysym_of(names: &NameTable, word: &str) -> Option<Keysym> {
 }
 
 pub(crate) fn find_in_keymap<'a>(
-    rt: &(impl FileSystem + Print + Eprint + AllocGlobal),
+    rt: &(impl FileSystem + Input + Print + Eprint + AllocGlobal),
     names: Option<&'a str>,
     keymap: &Keymap<'a>,
     word: &'a str,
-) -> Result<(), Failure<'a>> {
+) -> Result<u8, Failure<'a>> {
     let names = read_names(rt, names)?;
     let bytes = read_keymap(rt, &names, keymap)?;
     let view = view_of(bytes.as_slice())?;
@@ -77,7 +78,8 @@ pub(crate) fn find_in_keymap<'a>(
     };
     let mut text = String::new(rt.alloc());
     write_places(rt.alloc(), &view, keysym.0, &mut text)?;
-    print_text(rt, Ok(text))
+    print_text(rt, Ok(text))?;
+    Ok(0)
 }
 
 pub(crate) fn print_names<'a>(

@@ -2,11 +2,11 @@
 use crate::failing::unusable;
 use crate::looking::print_text;
 use crate::showing::show_fault;
-use crate::sources::{Gathered, gather, open_folders, read};
+use crate::sources::{Gathered, gather, open_folders, read_source};
 use crate::words::{Includes, Keymap, Source};
 use ks_core::NameTable;
 use kx_explain::{Text, Texts};
-use kx_failure::Failure;
+use kx_failure::{Failure, FileKind};
 use kx_lex::Fault;
 use kx_names::{Asked, Made, NamesFault, Wanted, hints_of, list_lines, make_source, warnings_of};
 use kx_reach::Folder;
@@ -104,18 +104,6 @@ pub(crate) fn show_asked(
     }
 }
 
-/// Compiles in memory what names mean.
-pub(crate) fn compile_named<'a>(
-    rt: &(impl FileSystem + Eprint + AllocGlobal),
-    names: &NameTable,
-    asked: Asked<'a>,
-    includes: &Includes<'a>,
-) -> Result<Vec<u8>, Failure<'a>> {
-    let source = Source::Names(asked);
-    let gathered = gather(rt, source, includes, false)?;
-    compile_gathered(rt, names, source, includes, &gathered)
-}
-
 /// Compiles in memory a source with its files.
 fn compile_gathered<'a>(
     rt: &(impl FileSystem + Eprint + AllocGlobal),
@@ -143,16 +131,21 @@ fn compile_gathered<'a>(
     }
 }
 
-/// The image of a keymap that is looked at.
+/// The image of a keymap that is looked at. Bytes of a file that are no source are taken for one: who opens them says what they
+/// are.
 pub(crate) fn read_keymap<'a>(
-    rt: &(impl FileSystem + Eprint + AllocGlobal),
+    rt: &(impl FileSystem + Input + Eprint + AllocGlobal),
     names: &NameTable,
     keymap: &Keymap<'a>,
 ) -> Result<Vec<u8>, Failure<'a>> {
-    match keymap {
-        Keymap::Image(path) => read(rt, path),
-        Keymap::Names(asked, includes) => compile_named(rt, names, *asked, includes),
+    let source = keymap.source;
+    let includes = &keymap.includes;
+    let bytes = read_source(rt, source, includes, false)?;
+    if matches!(source, Source::File(_)) && FileKind::of(bytes.as_slice()) != FileKind::Source {
+        return Ok(bytes);
     }
+    let gathered = gather(rt, bytes, includes)?;
+    compile_gathered(rt, names, source, includes, &gathered)
 }
 
 /// Prints the source that names make.

@@ -1,15 +1,16 @@
 //! The files that a task reads.
 use crate::failing::unusable;
 use crate::named::source_named;
-use crate::words::{Included, Includes, Source};
+use crate::words::{INPUT, Included, Includes, Source};
 use ks_core::NameTable;
 use kx_explain::{Text, Texts};
 use kx_failure::Failure;
 use kx_reach::{FindFault, Folder, Found, find_files, read_file};
-use kx_tool::Files;
+use kx_tool::{Files, ReplayFault};
 use std::alloc::{AllocError, Global};
-use std::mem;
+use std::io::Read;
 use std::rt::Files as FileSystem;
+use std::{io, mem};
 
 /// Reads a file.
 pub(crate) fn read<'a>(
@@ -19,6 +20,27 @@ pub(crate) fn read<'a>(
     match read_file(rt, path) {
         Ok(bytes) => Ok(bytes),
         Err(fault) => Err(Failure::of_file(&fault, path)),
+    }
+}
+
+/// Reads standard input to its end.
+fn read_input<'a>(rt: &(impl Input + AllocGlobal)) -> Result<Vec<u8>, Failure<'a>> {
+    let mut bytes = Vec::new(rt.alloc());
+    match rt.reader().read_to_end(&mut bytes) {
+        Ok(_) => Ok(bytes),
+        Err(fault) if fault.kind() == io::ErrorKind::OutOfMemory => Err(Failure::from(AllocError)),
+        Err(_) => Err(Failure::Replay(ReplayFault::Read)),
+    }
+}
+
+/// Reads a file, or standard input in its place.
+pub(crate) fn read_or_input<'a>(
+    rt: &(impl FileSystem + Input + AllocGlobal),
+    path: &'a str,
+) -> Result<Vec<u8>, Failure<'a>> {
+    match path {
+        INPUT => read_input(rt),
+        _ => read(rt, path),
     }
 }
 
@@ -209,26 +231,24 @@ impl Gathered {
 }
 
 /// Reads a source, or makes it of names.
-fn read_source<'a>(
-    rt: &(impl FileSystem + Eprint + AllocGlobal),
+pub(crate) fn read_source<'a>(
+    rt: &(impl FileSystem + Input + Eprint + AllocGlobal),
     source: Source<'a>,
     includes: &Includes<'a>,
     is_quiet: bool,
 ) -> Result<Vec<u8>, Failure<'a>> {
     match source {
-        Source::File(path) => read(rt, path),
+        Source::File(path) => read_or_input(rt, path),
         Source::Names(asked) => source_named(rt, &asked, includes.folders.as_slice(), is_quiet),
     }
 }
 
-/// Reads a source, and the files that it may include.
+/// Reads the files that a source may include.
 pub(crate) fn gather<'a>(
-    rt: &(impl FileSystem + Eprint + AllocGlobal),
-    source: Source<'a>,
+    rt: &(impl FileSystem + AllocGlobal),
+    bytes: Vec<u8>,
     includes: &Includes<'a>,
-    is_quiet: bool,
 ) -> Result<Gathered, Failure<'a>> {
-    let bytes = read_source(rt, source, includes, is_quiet)?;
     let included = includes.files.as_slice();
     let mut files = handed_in(rt.alloc(), included, read_included(rt, included)?)?;
     let mut found = find(rt, includes, &files, bytes.as_slice())?;

@@ -1,22 +1,23 @@
 //! What the program does.
-use crate::failing::fail;
+use crate::failing::{fail, fail_aside};
 use crate::keeping::Kept;
 use crate::looking::{find_in_keymap, print_names, show_keymap};
-use crate::named::{compile_named, print_list, print_source, read_keymap, show_asked};
+use crate::named::{print_list, print_source, read_keymap, show_asked};
 use crate::naming::ask_environment;
+use crate::putting::{Put, is_output, put_image};
 use crate::showing::{Warned, show_fault};
 use crate::sources::{
-    add_found, all_handed, find, gather, handed_in, read, read_included, read_names, texts_of,
+    add_found, all_handed, find, gather, handed_in, read_included, read_names, read_or_input,
+    read_source, texts_of,
 };
 use crate::usage::{explain, out_of_memory};
-use crate::words::{Includes, Keymap, Source, Task, task_in};
-use crate::writing::write_whole;
+use crate::words::{Compile, Includes, Keymap, Source, Task, task_in};
 use ks_core::{Feed, Lent, NameTable, Notes};
 use kx_explain::{Text, Texts};
 use kx_failure::{Failure, FileKind};
 use kx_image::{UpgradeFault, View, upgrade};
 use kx_lex::Fault;
-use kx_names::{Asked, Environment, read_environment};
+use kx_names::{Environment, read_environment};
 use kx_noted::{Noted, Telling};
 use kx_print::print;
 use kx_reach::Ahead;
@@ -33,7 +34,12 @@ fn show_noted(rt: &impl Eprint, noted: &Noted, texts: Texts) {
     }
 }
 
-fn print_notes<'a>(rt: &impl Print, notes: Notes) -> Result<(), Failure<'a>> {
+/// Tells what was passed over: on standard output, or on standard error where the image went there.
+fn print_notes<'a>(
+    rt: &(impl Print + Eprint),
+    out: &str,
+    notes: Notes,
+) -> Result<(), Failure<'a>> {
     let Notes {
         keysyms,
         keys,
@@ -44,7 +50,11 @@ fn print_notes<'a>(rt: &impl Print, notes: Notes) -> Result<(), Failure<'a>> {
     let line = format_args!(
         "notes keysyms={keysyms} keys={keys} types={types} levels={levels} actions={actions}"
     );
-    match rt.println(line) {
+    let outcome = match is_output(out) {
+        true => rt.eprintln(line),
+        false => rt.println(line),
+    };
+    match outcome {
         Ok(()) => Ok(()),
         Err(_) => Err(Failure::Write),
     }
@@ -60,16 +70,15 @@ fn keep_on_heap(alloc: Global) {
 }
 
 fn compile_to<'a>(
-    rt: &(impl FileSystem + Print + Eprint + AllocGlobal),
-    names: Option<&'a str>,
-    source: Source<'a>,
-    image: &'a str,
-    includes: &Includes<'a>,
-    telling: Telling,
-) -> Result<(), Failure<'a>> {
+    rt: &(impl FileSystem + Input + Print + Eprint + AllocGlobal),
+    task: &Compile<'a>,
+) -> Result<u8, Failure<'a>> {
     keep_on_heap(rt.alloc());
-    let names = read_names(rt, names)?;
-    let gathered = gather(rt, source, includes, telling == Telling::Nothing)?;
+    let names = read_names(rt, task.names)?;
+    let source = task.source;
+    let includes = &task.includes;
+    let bytes = read_source(rt, source, includes, task.telling == Telling::Nothing)?;
+    let gathered = gather(rt, bytes, includes)?;
     let handed = gathered.handed(rt.alloc(), includes)?;
     let texts = Texts {
         source: Text {
@@ -79,9 +88,8 @@ fn compile_to<'a>(
         },
         files: handed.texts.as_slice(),
     };
-    let noted = Noted::new(telling, handed.installed.as_slice());
-    let files = &gathered.files;
-    let outcome = compile_texts(rt, &names, texts, files, includes, image, noted);
+    let noted = Noted::new(task.telling, handed.installed.as_slice());
+    let outcome = compile_texts(rt, task, &names, texts, &gathered.files, noted);
     if let Err(Failure::Source(fault)) = &outcome {
         show_asked(rt, *fault, source, includes);
     }
@@ -91,36 +99,58 @@ fn compile_to<'a>(
 /// Compiles a source with the files that it may include.
 fn compile_texts<'a>(
     rt: &(impl FileSystem + Print + Eprint + AllocGlobal),
+    task: &Compile<'a>,
     names: &NameTable,
     texts: Texts,
     files: &Files,
-    includes: &Includes,
-    image: &'a str,
     mut noted: Noted,
-) -> Result<(), Failure<'a>> {
+) -> Result<u8, Failure<'a>> {
     match compile_once(rt.alloc(), texts.source.bytes, files, names, &mut noted) {
         Ok((bytes, notes)) => {
-            put_file(rt, image, bytes.as_slice())?;
-            show_noted(rt, &noted, texts);
-            print_notes(rt, notes)
+            let status = put_compiled(rt, task, texts, bytes.as_slice())?;
+            if status == 0 {
+                show_noted(rt, &noted, texts);
+                print_notes(rt, task.image, notes)?;
+            }
+            Ok(status)
         }
         Err(fault) => {
-            show_fault(rt, fault, texts, includes);
+            show_fault(rt, fault, texts, &task.includes);
             Err(Failure::Source(fault))
         }
     }
 }
 
-/// Writes a file, whole or not at all.
-fn put_file<'a>(
-    rt: &(impl FileSystem + AllocGlobal),
-    path: &'a str,
+/// Writes the image of a source, and answers the status to end with.
+fn put_compiled<'a>(
+    rt: &(impl FileSystem + Print + Eprint + AllocGlobal),
+    task: &Compile<'a>,
+    texts: Texts,
     bytes: &[u8],
-) -> Result<(), Failure<'a>> {
-    match write_whole(rt, path, bytes) {
-        Ok(()) => Ok(()),
-        Err(fault) => Err(Failure::of_file(&fault, path)),
+) -> Result<u8, Failure<'a>> {
+    let named = paths_in(rt.alloc(), task)?;
+    let put = Put {
+        out: task.image,
+        named: named.as_slice(),
+        texts: texts.files,
+        folders: task.includes.folders.as_slice(),
+    };
+    put_image(rt, put, bytes)
+}
+
+/// The paths of files that the words name to be read.
+fn paths_in<'a>(alloc: Global, task: &Compile<'a>) -> Result<Vec<&'a str>, AllocError> {
+    let mut paths = Vec::new(alloc);
+    if let Source::File(path) = task.source {
+        paths.push(path)?;
     }
+    if let Some(path) = task.names {
+        paths.push(path)?;
+    }
+    for file in task.includes.files.as_slice() {
+        paths.push(file.path)?;
+    }
+    Ok(paths)
 }
 
 /// Answers a source and the events after it.
@@ -226,30 +256,19 @@ fn answer_events<'a>(
     }
 }
 
-fn answer_image<'a>(
-    rt: &(impl FileSystem + Input + Print + AllocGlobal),
-    names: Option<&'a str>,
-    image: &'a str,
-) -> Result<(), Failure<'a>> {
-    let names = read_names(rt, names)?;
-    let bytes = read(rt, image)?;
-    answer_events(rt, &names, bytes.as_slice())
-}
-
-/// Answers events by the keymap that names mean.
-fn answer_named<'a>(
+/// Answers events by a keymap.
+fn answer_keymap<'a>(
     rt: &(impl FileSystem + Input + Print + Eprint + AllocGlobal),
     names: Option<&'a str>,
-    asked: Asked<'a>,
-    includes: &Includes<'a>,
+    keymap: &Keymap<'a>,
 ) -> Result<(), Failure<'a>> {
     let names = read_names(rt, names)?;
-    let bytes = compile_named(rt, &names, asked, includes)?;
+    let bytes = read_keymap(rt, &names, keymap)?;
     answer_events(rt, &names, bytes.as_slice())
 }
 
 fn print_keymap<'a>(
-    rt: &(impl FileSystem + Print + Eprint + AllocGlobal),
+    rt: &(impl FileSystem + Input + Print + Eprint + AllocGlobal),
     names: Option<&'a str>,
     keymap: &Keymap<'a>,
 ) -> Result<(), Failure<'a>> {
@@ -267,10 +286,10 @@ fn print_keymap<'a>(
 }
 
 fn dump_image<'a>(
-    rt: &(impl FileSystem + Print + AllocGlobal),
+    rt: &(impl FileSystem + Input + Print + AllocGlobal),
     image: &'a str,
 ) -> Result<(), Failure<'a>> {
-    let bytes = read(rt, image)?;
+    let bytes = read_or_input(rt, image)?;
     if let Err(fault) = View::open(bytes.as_slice()) {
         return Err(Failure::Image(fault, FileKind::of(bytes.as_slice())));
     }
@@ -281,72 +300,87 @@ fn dump_image<'a>(
     }
 }
 
-/// Nothing is written where the bytes are no image.
+/// Writes an image anew, and answers the status to end with. Nothing is written where the bytes are no image.
 fn upgrade_image<'a>(
-    rt: &(impl FileSystem + AllocGlobal),
+    rt: &(impl FileSystem + Input + Print + Eprint + AllocGlobal),
     image: &'a str,
     newer: &'a str,
-) -> Result<(), Failure<'a>> {
-    let bytes = read(rt, image)?;
+) -> Result<u8, Failure<'a>> {
+    let bytes = read_or_input(rt, image)?;
     if let Err(fault) = View::open(bytes.as_slice()) {
         return Err(Failure::Image(fault, FileKind::of(bytes.as_slice())));
     }
     let mut out = Lent::new(Vec::new(rt.alloc()));
     match upgrade(bytes.as_slice(), &mut out) {
-        Ok(()) => put_file(rt, newer, out.device.as_slice()),
+        Ok(()) => {
+            let put = Put {
+                out: newer,
+                named: &[image],
+                texts: &[],
+                folders: &[],
+            };
+            put_image(rt, put, out.device.as_slice())
+        }
         Err(UpgradeFault::Image(fault)) => Err(Failure::Image(fault, FileKind::Image)),
         Err(UpgradeFault::Write) => Err(Failure::Source(Fault::Memory)),
     }
 }
 
-/// Does what the words ask for. What is read of a source that is compiled is left to the system, so the program is to end soon
-/// after.
+/// Does what the words ask for, and answers the status to end with. What is read of a source that is compiled is left to the
+/// system, so the program is to end soon after.
 pub fn run<'a>(
     rt: &(impl FileSystem + Input + Print + Eprint + AllocGlobal),
     task: Task<'a>,
-) -> Result<(), Failure<'a>> {
+) -> Result<u8, Failure<'a>> {
     match task {
-        Task::Try {
-            names,
-            asked: None,
-            includes,
-            telling,
-        } => answer_source(rt, names, &includes, telling),
-        Task::Try {
-            names,
-            asked: Some(asked),
-            includes,
-            ..
-        } => answer_named(rt, names, asked, &includes),
-        Task::Compile {
-            names,
-            source,
-            image,
-            includes,
-            telling,
-        } => compile_to(rt, names, source, image, &includes, telling),
-        Task::Replay { names, image } => answer_image(rt, names, image),
-        Task::Print { names, keymap } => print_keymap(rt, names, &keymap),
-        Task::Dump { image } => dump_image(rt, image),
-        Task::Upgrade { image, newer } => upgrade_image(rt, image, newer),
+        Task::Compile(compile) => return compile_to(rt, &compile),
+        Task::Upgrade { image, newer } => return upgrade_image(rt, image, newer),
         Task::Show {
             names,
             keymap,
             group,
             is_drawn,
-        } => show_keymap(rt, names, &keymap, group, is_drawn),
+        } => return show_keymap(rt, names, &keymap, group, is_drawn),
         Task::Find {
             names,
             keymap,
             keysym,
-        } => find_in_keymap(rt, names, &keymap, keysym),
-        Task::Names { headers } => print_names(rt, headers.as_slice()),
-        Task::Rules { asked, folders } => print_source(rt, asked, folders.as_slice()),
+        } => return find_in_keymap(rt, names, &keymap, keysym),
+        Task::Try {
+            names,
+            asked: None,
+            includes,
+            telling,
+        } => answer_source(rt, names, &includes, telling)?,
+        Task::Try {
+            names,
+            asked: Some(asked),
+            includes,
+            ..
+        } => {
+            let source = Source::Names(asked);
+            answer_keymap(rt, names, &Keymap { source, includes })?;
+        }
+        Task::Replay { names, keymap } => answer_keymap(rt, names, &keymap)?,
+        Task::Print { names, keymap } => print_keymap(rt, names, &keymap)?,
+        Task::Dump { image } => dump_image(rt, image)?,
+        Task::Names { headers } => print_names(rt, headers.as_slice())?,
+        Task::Rules { asked, folders } => print_source(rt, asked, folders.as_slice())?,
         Task::List {
             rules,
             folders,
             wanted,
-        } => print_list(rt, rules, folders.as_slice(), wanted),
+        } => print_list(rt, rules, folders.as_slice(), wanted)?,
+    }
+    Ok(0)
+}
+
+/// Whether a task writes an image on standard output, where nothing else may stand.
+fn is_piped(task: &Task) -> bool {
+    match task {
+        Task::Compile(compile) => is_output(compile.image),
+        Task::Upgrade { newer, .. } => is_output(newer),
+        _ => false,
     }
 }
 
@@ -376,8 +410,10 @@ pub fn run_words(
         Ok(task) => task,
         Err(error) => return explain(rt, error),
     };
+    let is_piped = is_piped(&task);
     match run(rt, task) {
-        Ok(()) => 0,
+        Ok(status) => status,
+        Err(failure) if is_piped => fail_aside(rt, failure),
         Err(failure) => fail(rt, failure),
     }
 }

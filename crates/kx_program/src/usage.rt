@@ -1,5 +1,6 @@
 //! What is said of words that ask for help, or that are wrong.
 use crate::failing::fail;
+use crate::naming::are_by_names;
 use crate::words::not_text;
 use clap::Error;
 use clap::error::ErrorKind;
@@ -11,6 +12,9 @@ use std::env::{Env, FillError};
 
 /// The status that wrong words end with.
 const USAGE: u8 = 2;
+
+/// What answers are made to.
+const EVENTS: &str = "lines of events as 'down 38' and 'up 38'";
 
 /// The longest word that is shown where it isn't text, in bytes.
 const MOST_SHOWN: usize = 4096;
@@ -31,6 +35,20 @@ pub fn explain(rt: &(impl Print + Eprint), error: Error) -> u8 {
 /// Says that there is no memory, and answers the status to end with.
 pub fn out_of_memory(rt: &(impl Print + Eprint)) -> u8 {
     fail(rt, Failure::Source(Fault::Memory))
+}
+
+/// What standard input is to give, where the words ask for lines of it. The first word is the program's own name.
+pub fn awaited(words: &[String]) -> Option<&'static str> {
+    let task = match words.get(1) {
+        Some(word) => word.as_str(),
+        None => "try",
+    };
+    match task {
+        "try" if are_by_names(words) => Some(EVENTS),
+        "try" => Some("a keymap's source, a line %%, and lines of events as 'down 38' and 'up 38'"),
+        "replay" => Some(EVENTS),
+        _ => None,
+    }
 }
 
 /// A word as printed text has it.

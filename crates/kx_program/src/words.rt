@@ -10,6 +10,9 @@ use std::alloc::{AllocError, Global};
 
 const VERSION: &str = "0.1.0";
 
+/// The word for standard input in the place of a file that is read, and for standard output in the place of one that is written.
+pub const INPUT: &str = "-";
+
 /// What stands below the help of the whole program.
 const SESSION: &str = "\
 Without words a keymap's source is read from standard input, up to a line %%, and the lines after it are events:
@@ -41,7 +44,7 @@ pub struct Includes<'a> {
 /// Where a source is taken from.
 #[derive(Clone, Copy, Debug, PartialEq, Eq)]
 pub enum Source<'a> {
-    /// The file at a path.
+    /// The file at a path, or standard input for [`INPUT`].
     File(&'a str),
     /// It is made of names.
     Names(Asked<'a>),
@@ -51,19 +54,31 @@ impl<'a> Source<'a> {
     /// How the source is called where a fault in it is shown.
     pub fn path(self) -> &'a str {
         match self {
+            Source::File(INPUT) => "<stdin>",
             Source::File(path) => path,
             Source::Names(_) => "<names>",
         }
     }
 }
 
-/// A keymap that is looked at.
+/// A keymap that is looked at: an image, or a source, which is compiled in memory.
 #[derive(Debug, Drop, PartialEq)]
-pub enum Keymap<'a> {
-    /// The image at a path.
-    Image(&'a str),
-    /// What names mean, with the folders in which they are looked for; it is compiled in memory.
-    Names(Asked<'a>, Includes<'a>),
+pub struct Keymap<'a> {
+    /// Where the source is taken from; a file may hold an image in its place.
+    pub source: Source<'a>,
+    /// What a source may include.
+    pub includes: Includes<'a>,
+}
+
+/// A source that is compiled to an image.
+#[derive(Debug, Drop, PartialEq)]
+pub struct Compile<'a> {
+    pub names: Option<&'a str>,
+    pub source: Source<'a>,
+    /// The path of the image that is written, or [`INPUT`] for standard output.
+    pub image: &'a str,
+    pub includes: Includes<'a>,
+    pub telling: Telling,
 }
 
 /// What the words ask for.
@@ -76,18 +91,11 @@ pub enum Task<'a> {
         includes: Includes<'a>,
         telling: Telling,
     },
-    /// Compile a source to an image.
-    Compile {
-        names: Option<&'a str>,
-        source: Source<'a>,
-        image: &'a str,
-        includes: Includes<'a>,
-        telling: Telling,
-    },
-    /// Answer events from standard input by an image.
+    Compile(Compile<'a>),
+    /// Answer events from standard input by a keymap.
     Replay {
         names: Option<&'a str>,
-        image: &'a str,
+        keymap: Keymap<'a>,
     },
     /// Print the keymap text that tells all of an image.
     Print {
@@ -98,14 +106,14 @@ pub enum Task<'a> {
     Dump {
         image: &'a str,
     },
-    /// Print a picture of the keyboard that an image tells, in an effective group from 0.
+    /// Print a picture of a keymap's keyboard, in an effective group from 0.
     Show {
         names: Option<&'a str>,
         keymap: Keymap<'a>,
         group: u8,
         is_drawn: bool,
     },
-    /// Print the keys of an image that give a keysym.
+    /// Print the keys of a keymap that give a keysym.
     Find {
         names: Option<&'a str>,
         keymap: Keymap<'a>,
@@ -250,10 +258,10 @@ fn compile_command<'a>(alloc: Global, shape: Shape) -> Result<Command<'a>, Alloc
         .about("Compiles a source, or a layout by its names, to an image");
     with_file(
         with_options(alloc, command, shape)?,
-        path(alloc, "SOURCE", "The keymap's source"),
+        path(alloc, "SOURCE", "The keymap's source; - is standard input"),
         shape,
     )?
-    .arg(path(alloc, "OUT", "The image that is written"))?
+    .arg(path(alloc, "OUT", "The image that is written; - is standard output"))?
     .arg(files(alloc))
 }
 
@@ -271,23 +279,26 @@ fn with_keymap<'a>(
     };
     with_file(
         command,
-        path(alloc, "IMAGE", "The keymap's image"),
+        path(
+            alloc,
+            "KEYMAP",
+            "The keymap's image or source; - is standard input",
+        ),
         shape,
     )
 }
 
-fn replay_command<'a>(alloc: Global) -> Result<Command<'a>, AllocError> {
-    Command::new(alloc, "replay")
-        .about("Answers lines of events on standard input by an image")
-        .arg(names(alloc))?
-        .arg(path(alloc, "IMAGE", "The keymap's image"))
+fn replay_command<'a>(alloc: Global, shape: Shape) -> Result<Command<'a>, AllocError> {
+    let command = Command::new(alloc, "replay")
+        .about("Answers lines of events on standard input by a keymap");
+    with_keymap(alloc, command, shape)?.arg(files(alloc))
 }
 
 fn print_command<'a>(alloc: Global, shape: Shape) -> Result<Command<'a>, AllocError> {
     let command = Command::new(alloc, "print").about(
-        "Prints all that an image tells as the source of a keymap",
+        "Prints all that a keymap's image tells as the source of a keymap",
     );
-    with_keymap(alloc, command, shape)
+    with_keymap(alloc, command, shape)?.arg(files(alloc))
 }
 
 fn dump_command<'a>(alloc: Global) -> Result<Command<'a>, AllocError> {
@@ -307,21 +318,20 @@ fn show_command<'a>(alloc: Global, shape: Shape) -> Result<Command<'a>, AllocErr
         .help("Print a drawing that a browser opens")
         .action(ArgAction::SetTrue);
     let command = Command::new(alloc, "show")
-        .about("Prints a picture of the keyboard that an image tells")
+        .about("Prints a picture of a keymap's keyboard")
         .arg(group)?
         .arg(svg)?;
-    with_keymap(alloc, command, shape)
+    with_keymap(alloc, command, shape)?.arg(files(alloc))
 }
 
 fn find_command<'a>(alloc: Global, shape: Shape) -> Result<Command<'a>, AllocError> {
     let command = Command::new(alloc, "find").about(
         "Prints each key, group and level that gives a keysym, and the modifiers to hold",
     );
-    with_keymap(alloc, command, shape)?.arg(path(
-        alloc,
-        "KEYSYM",
-        "The keysym's name, or a character",
-    ))
+    let keysym = path(alloc, "KEYSYM", "The keysym's name, or a character");
+    with_keymap(alloc, command, shape)?
+        .arg(keysym)?
+        .arg(files(alloc))
 }
 
 fn rules_command<'a>(alloc: Global) -> Result<Command<'a>, AllocError> {
@@ -357,7 +367,7 @@ fn upgrade_command<'a>(alloc: Global) -> Result<Command<'a>, AllocError> {
     Command::new(alloc, "upgrade")
         .about("Writes an image anew, in the newest version")
         .arg(path(alloc, "IMAGE", "The image of any version"))?
-        .arg(path(alloc, "OUT", "The image that is written"))
+        .arg(path(alloc, "OUT", "The image that is written; - is standard output"))
 }
 
 fn program<'a>(alloc: Global) -> Command<'a> {
@@ -382,7 +392,7 @@ fn command_named<'a>(
     let command = match word {
         "try" => try_command(alloc, shape)?,
         "compile" => compile_command(alloc, shape)?,
-        "replay" => replay_command(alloc)?,
+        "replay" => replay_command(alloc, shape)?,
         "print" => print_command(alloc, shape)?,
         "show" => show_command(alloc, shape)?,
         "find" => find_command(alloc, shape)?,
@@ -433,6 +443,7 @@ fn refused(reading: Reading, message: &str) -> Result<Error, AllocError> {
         "show" => show_command(alloc, shape)?.bin_name("xkc show")?,
         "find" => find_command(alloc, shape)?.bin_name("xkc find")?,
         "print" => print_command(alloc, shape)?.bin_name("xkc print")?,
+        "replay" => replay_command(alloc, shape)?.bin_name("xkc replay")?,
         "rules" => rules_command(alloc)?.bin_name("xkc rules")?,
         "list" => list_command(alloc)?.bin_name("xkc list")?,
         _ => try_command(alloc, shape)?.bin_name("xkc try")?,
@@ -552,14 +563,14 @@ fn compile_of<'a>(reading: Reading<'a>, matches: &ArgMatches<'a>) -> Result<Task
     let is_read = source == Source::File(image)
         || names == Some(image)
         || includes.files.iter().any(|file| file.path == image);
-    check_out(reading, image, is_read)?;
-    Ok(Task::Compile {
+    check_out(reading, image, is_read && image != INPUT)?;
+    Ok(Task::Compile(Compile {
         names,
         source,
         image,
         includes,
         telling: telling_of(reading, matches)?,
-    })
+    }))
 }
 
 fn try_of<'a>(reading: Reading<'a>, matches: &ArgMatches<'a>) -> Result<Task<'a>, Error> {
@@ -574,7 +585,7 @@ fn try_of<'a>(reading: Reading<'a>, matches: &ArgMatches<'a>) -> Result<Task<'a>
 fn upgrade_of<'a>(reading: Reading, matches: &ArgMatches<'a>) -> Result<Task<'a>, Error> {
     let image = required(matches, "IMAGE");
     let newer = required(matches, "OUT");
-    check_out(reading, newer, image == newer)?;
+    check_out(reading, newer, image == newer && newer != INPUT)?;
     Ok(Task::Upgrade { image, newer })
 }
 
@@ -592,26 +603,20 @@ fn group_of(reading: Reading, matches: &ArgMatches) -> Result<u8, Error> {
     }
 }
 
-/// The keymap that is looked at. Folders are for names alone.
+/// The keymap that is looked at.
 fn keymap_of<'a>(reading: Reading<'a>, matches: &ArgMatches<'a>) -> Result<Keymap<'a>, Error> {
-    if let Some(asked) = asked_of(reading, matches)? {
-        let folders = folders_of(reading, matches)?;
-        let files = Vec::new(reading.alloc);
-        return Ok(Keymap::Names(asked, Includes { files, folders }));
-    }
-    if reading.command == "print" && matches.get_str("names").is_some() {
+    let source = match asked_of(reading, matches)? {
+        Some(asked) => Source::Names(asked),
+        None => Source::File(required(matches, "KEYMAP")),
+    };
+    if reading.command == "replay" && source == Source::File(INPUT) {
         return Err(refused(
             reading,
-            "--names is for a keymap by its names, as --layout has them",
+            "standard input has the events, so the keymap can't be read from there",
         )?);
     }
-    if matches.get_strs("include").is_some() {
-        return Err(refused(
-            reading,
-            "-I is for a keymap by its names, as --layout has them",
-        )?);
-    }
-    Ok(Keymap::Image(required(matches, "IMAGE")))
+    let includes = includes_of(reading, matches)?;
+    Ok(Keymap { source, includes })
 }
 
 /// What the words of a command that only looks at a keymap ask for.
@@ -620,6 +625,7 @@ fn look_of<'a>(reading: Reading<'a>, matches: &ArgMatches<'a>) -> Result<Task<'a
     let keymap = keymap_of(reading, matches)?;
     match reading.command {
         "print" => Ok(Task::Print { names, keymap }),
+        "replay" => Ok(Task::Replay { names, keymap }),
         "show" => Ok(Task::Show {
             names,
             keymap,
@@ -689,11 +695,7 @@ fn rules_of<'a>(reading: Reading<'a>, matches: &ArgMatches<'a>) -> Result<Task<'
 fn task_of<'a>(reading: Reading<'a>, matches: &ArgMatches<'a>) -> Result<Task<'a>, Error> {
     match reading.command {
         "compile" => compile_of(reading, matches),
-        "print" | "show" | "find" => look_of(reading, matches),
-        "replay" => Ok(Task::Replay {
-            names: matches.get_str("names"),
-            image: required(matches, "IMAGE"),
-        }),
+        "print" | "show" | "find" | "replay" => look_of(reading, matches),
         "dump" => Ok(Task::Dump {
             image: required(matches, "IMAGE"),
         }),

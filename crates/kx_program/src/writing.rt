@@ -1,23 +1,24 @@
 //! Files that are written whole or not at all.
 use std::alloc::{AllocError, Global};
-use std::fs::{File, OpenFile, Permissions};
+use std::fs::{File, Metadata, OpenFile, Permissions};
 use std::io::Write;
 use std::rt::Files as FileSystem;
 use std::{fs, io};
 
 /// What stands where a file is to be written.
-enum Standing {
+#[derive(Drop)]
+pub(crate) enum Standing {
     /// Nothing: a new file is put there.
     Nothing,
-    /// A plain file, which a new one replaces, with these permissions.
-    Plain(Permissions),
+    /// A plain file, which a new one with its permissions replaces.
+    Plain(Metadata),
     /// Something else, as a device or a link, which is written into.
     Other,
 }
 
-fn standing_at(rt: &impl FileSystem, path: &str) -> Standing {
+pub(crate) fn standing_at(rt: &impl FileSystem, path: &str) -> Standing {
     match fs::symlink_metadata(rt, path) {
-        Ok(found) if found.is_file() => Standing::Plain(found.permissions()),
+        Ok(found) if found.is_file() => Standing::Plain(found),
         Ok(_) => Standing::Other,
         Err(fault) if fault.kind() == io::ErrorKind::NotFound => Standing::Nothing,
         Err(_) => Standing::Other,
@@ -67,16 +68,17 @@ fn part_of(alloc: Global, path: &str, number: u32) -> Result<String, AllocError>
     }
 }
 
-/// Writes a file: beside it first, and then in its place, so that it is never cut. A part that is there already is left
-/// alone, since it may be another's: another run writes it, or left it where it was killed.
-pub fn write_whole(
+/// Writes a file where this stands: beside it first, and then in its place, so that it is never cut. A part that is there
+/// already is left alone, since it may be another's: another run writes it, or left it where it was killed.
+pub(crate) fn write_over(
     rt: &(impl FileSystem + AllocGlobal),
     path: &str,
     bytes: &[u8],
+    standing: Standing,
 ) -> io::Result<()> {
-    let permissions = match standing_at(rt, path) {
+    let permissions = match standing {
         Standing::Nothing => None,
-        Standing::Plain(permissions) => Some(permissions),
+        Standing::Plain(found) => Some(found.permissions()),
         Standing::Other => return fs::write(rt, path, bytes),
     };
     for number in 0..MOST_PARTS {

@@ -1,5 +1,5 @@
 //! What a keymap is asked for by.
-ghost use Rattle.std.specs.Prelude.{◌≡◌, ◌≤◌, ◌<◌, ◌∷◌, [], true, IfOk, IfSome, OnOk, get_or, length, reverse};
+ghost use Rattle.std.specs.Prelude.{◌≡◌, ◌≤◌, ◌<◌, ◌∷◌, [], IfOk, IfSome, OnOk, get_or, length, reverse};
 ghost use Rattle.std.specs.Option.{option_map};
 ghost use Rattle.std.specs.List.{list_all, prefix_len};
 ghost use Rattle.kx_rules.specs.Names.{are_short, has, is_short, is_space, item_len, items, items_behind, names_of, with_word, with_words, without_back, without_front};
@@ -9,6 +9,9 @@ use crate::word::Word;
 use kx_ordered::{Ordered, OwnedName};
 use std::alloc::{AllocError, Global};
 use std::marker::Model;
+
+/// So many words are looked through one by one: most are asked for without options, of which there is an empty one then.
+const FEW: usize = 4;
 
 /// Words, each once.
 #[derive(Drop)]
@@ -40,17 +43,18 @@ impl WordSet {
         Ok(())
     }
 
-    #[tactic(auto, using(crate::proofs::Keyed::nothing_keyed))]
-    fn is_empty(&self) -> bool
-        ensures { result ≡ true → self.now ≡ [] }
-    {
-        self.words.as_slice().is_empty()
-    }
-
     fn has(&self, word: &[u8]) -> bool
         ensures { result ≡ has self.now word.now }
     {
         self.words.place_of_owned_name(word).is_some()
+    }
+
+    /// The same, word by word: faster where there are few.
+    #[tactic(auto, using(crate::proofs::Keyed::any_mapped))]
+    fn has_among_few(&self, word: &[u8]) -> bool
+        ensures { result ≡ has self.now word.now }
+    {
+        self.words.as_slice().iter().any(|entry| word == entry.0.as_slice())
     }
 
     fn place_of(&self, word: &[u8]) -> Option<usize> {
@@ -227,8 +231,8 @@ impl<'a> Names<'a> {
     pub(crate) fn has_option(&self, word: &[u8]) -> bool
         ensures { result ≡ has self.now.options word.now }
     {
-        if self.options.is_empty() {
-            return false;
+        if self.options.words.len() <= FEW {
+            return self.options.has_among_few(word);
         }
         self.options.has(word)
     }

@@ -1,0 +1,131 @@
+//! Where an image is written.
+use crate::words::INPUT;
+use crate::writing::{Standing, standing_at, write_over};
+use kx_explain::Text;
+use kx_failure::Failure;
+use std::fs::Metadata;
+use std::io::Write;
+use std::os::unix::fs::MetadataExt;
+use std::rt::Files as FileSystem;
+use std::{fs, io};
+
+/// The status that words end with which name a file that is read as the one that is written.
+const WRONG_WORDS: u8 = 2;
+
+/// Whether a path is standard output's.
+pub(crate) fn is_output(path: &str) -> bool {
+    matches!(path, INPUT | "/dev/stdout" | "/dev/fd/1" | "/proc/self/fd/1")
+}
+
+/// The part of a path behind its folders.
+fn last_name(path: &str) -> &str {
+    match path.rsplit_once('/') {
+        Some((_, name)) => name,
+        None => path,
+    }
+}
+
+/// What tells a file from all others.
+#[derive(Clone, Copy, PartialEq, Eq)]
+struct Identity {
+    device: u64,
+    node: u64,
+}
+
+impl Identity {
+    /// Of a file that a file system numbers.
+    fn of(found: &Metadata) -> Option<Identity> {
+        match found.ino() {
+            0 => None,
+            node => Some(Identity {
+                device: found.dev(),
+                node,
+            }),
+        }
+    }
+
+    /// Of the file to which a path leads.
+    fn at(rt: &impl FileSystem, path: &str) -> Option<Identity> {
+        Identity::of(&fs::metadata(rt, path).ok()?)
+    }
+}
+
+fn write_output<'a>(rt: &impl Print, bytes: &[u8]) -> Result<(), Failure<'a>> {
+    let mut out = io::writer(rt);
+    match out.write_all(bytes) {
+        Ok(()) => Ok(()),
+        Err(_) => Err(Failure::Write),
+    }
+}
+
+/// The file that is written, and those that are read.
+#[derive(Clone, Copy)]
+pub(crate) struct Put<'a, 't> {
+    pub out: &'a str,
+    /// The paths of files that the words name.
+    pub named: &'t [&'t str],
+    /// What was found in folders.
+    pub texts: &'t [Text<'t>],
+    pub folders: &'t [&'t str],
+}
+
+impl Put<'_, '_> {
+    /// Whether the file that is written is one of those that are read. What was found has OUT's own name, so that no other is
+    /// looked at.
+    fn is_read(&self, rt: &(impl FileSystem + AllocGlobal), standing: &Standing) -> bool {
+        let identity = match standing {
+            Standing::Nothing => None,
+            Standing::Plain(found) => Identity::of(found),
+            Standing::Other => Identity::at(rt, self.out),
+        };
+        if identity.is_none() {
+            return false;
+        }
+        self.named.iter().any(|path| Identity::at(rt, path) == identity)
+            || self
+                .texts
+                .iter()
+                .filter(|text| last_name(text.path) == last_name(self.out))
+                .any(|text| self.is_found(rt, text.path, identity))
+    }
+
+    /// Whether a path below one of the folders leads to a file.
+    fn is_found(
+        &self,
+        rt: &(impl FileSystem + AllocGlobal),
+        path: &str,
+        identity: Option<Identity>,
+    ) -> bool {
+        self.folders
+            .iter()
+            .any(|folder| match format!(in rt.alloc(); "{folder}/{path}") {
+                Ok(whole) => Identity::at(rt, whole.as_str()) == identity,
+                Err(_) => false,
+            })
+    }
+}
+
+/// Writes an image, whole or not at all, and answers the status to end with: a file that is read is left as it is, and standard
+/// error says so.
+pub(crate) fn put_image<'a>(
+    rt: &(impl FileSystem + Print + Eprint + AllocGlobal),
+    put: Put<'a, '_>,
+    bytes: &[u8],
+) -> Result<u8, Failure<'a>> {
+    let out = put.out;
+    if is_output(out) {
+        write_output(rt, bytes)?;
+        return Ok(0);
+    }
+    let standing = standing_at(rt, out);
+    if put.is_read(rt, &standing) {
+        let _ = eprintln!(rt;
+            "error: the file '{out}' is read, and can't be OUT too\n\nFor more information, try '--help'."
+        );
+        return Ok(WRONG_WORDS);
+    }
+    match write_over(rt, out, bytes, standing) {
+        Ok(()) => Ok(0),
+        Err(fault) => Err(Failure::of_file(&fault, out)),
+    }
+}
