@@ -1,5 +1,5 @@
 # shellcheck shell=sh disable=SC2154
-# What standard error says of a source: the lines of messages.cases, whose head says how they are read.
+# What standard error says of a source: the lines of messages.cases, whose head says how they are read, and of mistakes.cases.
 
 # Each line that wants something becomes a folder messages/N, with the source a.xkb, the files that are handed in, their names in
 # a list, and what is wanted. Numbers, words and lines stand in messages/list.
@@ -80,8 +80,8 @@ LC_ALL=C awk -v folder=messages '
     }
     /^\|/ { text = text "\n" substr($0, 3); next }
     /^#/ || /^$/ { next }
-    { end(); line = NR; word = $1; text = substr($0, length($1) + 2) }
-    END { end() }' "$tests/program/messages.cases"
+    { end(); line = FILENAME ":" FNR; sub(/.*\//, "", line); word = $1; text = substr($0, length($1) + 2) }
+    END { end() }' "$tests/program/messages.cases" "$tests/program/mistakes.cases"
 
 while read -r number word line; do
     cd "messages/$number" || exit 2
@@ -93,7 +93,7 @@ while read -r number word line; do
         shows | warns) cp said found ;;
         *) echo "no word of these cases: $word" > found ;;
     esac
-    holds "messages.cases:$line: $word: wanted '$(cat wanted)', found '$(cat found)'" cmp -s found wanted
+    holds "$line: $word: wanted '$(cat wanted)', found '$(cat found)'" cmp -s found wanted
     cd ../..
 done < messages/list
-holds 'each line of messages.cases was read' [ "$(wc -l < messages/list)" -eq "$(grep -cE '^(says|shows|warns) ' "$tests/program/messages.cases")" ]
+holds 'each line of messages.cases and mistakes.cases was read' [ "$(wc -l < messages/list)" -eq "$(cat "$tests/program/messages.cases" "$tests/program/mistakes.cases" | grep -cE '^(says|shows|warns) ')" ]

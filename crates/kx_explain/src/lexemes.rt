@@ -23,7 +23,11 @@ fn first_character(text: &[u8]) -> Option<&[u8]> {
 
 /// Says which character that stands for a mark begins nothing, and which mark does; answers whether it is one.
 fn write_mistaken_mark(out: &mut String, front: &[u8]) -> Result<bool, AllocError> {
-    let character = first_character(front).unwrap_or(front.get(..1).unwrap_or(&[]));
+    let first = front.get(..1).unwrap_or(&[]);
+    let character = match first_character(front) {
+        Some(character) if !first.is_ascii() => character,
+        _ => first,
+    };
     let wanted = match str::from_utf8(character) {
         Ok("'" | "`" | "´" | "“" | "”" | "„" | "‘" | "’" | "«" | "»") => {
             "a text stands between straight double quotes, as \"us\""

@@ -41,6 +41,8 @@ pub enum Failure<'a> {
     Rules(RulesFault),
     Source(Fault),
     Replay(ReplayFault),
+    /// The line of this number, with its text, is no event.
+    Event(u64, String),
     /// What is printed can't be written.
     Write,
 }
@@ -111,6 +113,7 @@ impl fmt::Display for Failure<'_> {
             Failure::Rules(fault) => write!(f, "{fault}"),
             Failure::Source(fault) => write!(f, "{fault}"),
             Failure::Replay(fault) => write!(f, "{fault}"),
+            Failure::Event(line, _) => write!(f, "P3 Line {line}"),
             Failure::Write => fmt::Display::fmt(&ReplayFault::Write, f),
         }
     }

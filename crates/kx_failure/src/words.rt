@@ -11,6 +11,13 @@ use std::{fmt, io};
 /// How an image is made of a source.
 const COMPILE: &str = "'xkc compile FILE OUT' makes an image of a keymap's source";
 
+/// What an event is.
+const EVENT: &str =
+    "expected 'down 38' or 'up 38', with a key's code from 0 to 65535 in decimal digits, and nothing behind it";
+
+/// So many characters of a line are shown.
+const MOST_SHOWN: usize = 64;
+
 /// What is wrong, in lines that begin with `error: `. Nothing of a fault of a source or of rules, nor of a file that no folder has:
 /// where they are found more is known of them, and they are said there.
 #[derive(Clone, Copy)]
@@ -116,15 +123,41 @@ fn write_image<W: Write>(f: &mut Formatter<W>, fault: ImageFault, kind: FileKind
     }
 }
 
+/// A line as a terminal may show it.
+#[derive(Clone, Copy)]
+struct Line<'a>(&'a str);
+
+impl fmt::Display for Line<'_> {
+    fn fmt<W: Write>(&self, f: &mut Formatter<W>) -> fmt::Result {
+        for character in self.0.chars().take(MOST_SHOWN) {
+            match character {
+                '\r' => f.write_str("\\r")?,
+                '\t' => f.write_str("\\t")?,
+                _ if character.is_control() => f.write_char('?')?,
+                _ => f.write_char(character)?,
+            }
+        }
+        Ok(())
+    }
+}
+
+/// Says which line is no event, with its text, and what an event is.
+fn write_event<W: Write>(f: &mut Formatter<W>, line: u64, text: &str) -> fmt::Result {
+    let text = Line(text);
+    writeln!(
+        f,
+        "error: line {line} of the events, '{text}', is no event: {EVENT}"
+    )
+}
+
 /// Says why lines are answered no further.
 fn write_replay<W: Write>(f: &mut Formatter<W>, fault: ReplayFault) -> fmt::Result {
     match fault {
         ReplayFault::Memory => f.write_str("error: no memory is left\n"),
         ReplayFault::Image(fault) => write_image(f, fault, FileKind::Other),
-        ReplayFault::Line(line) => writeln!(
-            f,
-            "error: line {line} of the events is no event: expected 'down 38' or 'up 38', with a key's code from 0 to 65535 in decimal digits, and nothing behind it"
-        ),
+        ReplayFault::Line(line) => {
+            writeln!(f, "error: line {line} of the events is no event: {EVENT}")
+        }
         ReplayFault::Read => f.write_str(
             "error: the input can't be read, or has more than 67,108,864 bytes\n",
         ),
@@ -147,6 +180,7 @@ impl fmt::Display for Words<'_, '_> {
             Failure::Names(path, fault) => write_names(f, path, *fault),
             Failure::Image(fault, kind) => write_image(f, *fault, *kind),
             Failure::Replay(fault) => write_replay(f, *fault),
+            Failure::Event(line, text) => write_event(f, *line, text.as_str()),
             Failure::Write => write_replay(f, ReplayFault::Write),
             Failure::Source(Fault::Memory) => f.write_str("error: no memory is left\n"),
             Failure::Source(_) | Failure::Rules(_) | Failure::Missing(_) => Ok(()),

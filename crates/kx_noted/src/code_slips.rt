@@ -24,6 +24,16 @@ fn pair_of<'l>(entry: &MapEntry<'l>) -> Option<(&'l KeyName, u32)> {
 }
 
 impl Reader<'_, '_, '_> {
+    /// The code that a name has itself, and not as an alias.
+    fn kept_code(&self, name: &[u8]) -> Option<u16> {
+        let code = self.read.codes.code_of(name)?;
+        if self.read.codes.name_of(code) == Some(name) {
+            Some(code)
+        } else {
+            None
+        }
+    }
+
     /// Notes a keycode that another statement takes from its name, or that its name doesn't keep.
     pub(crate) fn note_code(
         &mut self,
@@ -42,20 +52,21 @@ impl Reader<'_, '_, '_> {
         if holder == Some(word) {
             return self.slips.keep_code(code, at);
         }
-        let word = shown(word);
-        match holder {
-            Some(other) => {
-                let other = shown(other);
-                let message = format_args!(
-                    "the code {code} of <{word}> is given to <{other}> in a later statement"
-                );
-                self.warnings.add(WarningKind::Repeated, at, message)
-            }
-            None => {
-                let message = format_args!("<{word}> is given another code in a later statement");
-                self.warnings.add(WarningKind::Repeated, at, message)
-            }
+        if let Some(kept) = self.kept_code(word) {
+            let word = shown(word);
+            let message = format_args!("another statement gives <{word}> the code {kept}");
+            return self.warnings.add(WarningKind::Repeated, at, message);
         }
+        let word = shown(word);
+        let Some(other) = holder else {
+            let message = format_args!("another statement takes the code {code} from <{word}>");
+            return self.warnings.add(WarningKind::Repeated, at, message);
+        };
+        let other = shown(other);
+        let message = format_args!(
+            "another statement gives the code {code} of <{word}> to <{other}>"
+        );
+        self.warnings.add(WarningKind::Repeated, at, message)
     }
 
     /// Notes an alias that stands for no code.

@@ -395,6 +395,7 @@ impl Reader<'_, '_, '_> {
             Statement::Alias { name, target } => self.note_alias(file, name, target),
             Statement::KeyType { name, fields } => {
                 self.note_type_again(file, name, is_meant)?;
+                self.note_type_levels(file, name)?;
                 self.note_type_fields(file, fields.as_slice())
             }
             Statement::Interpretation { symbol, fields, .. } => {

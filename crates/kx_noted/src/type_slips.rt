@@ -1,5 +1,6 @@
 //! Likely slips in types.
 use crate::kind::WarningKind;
+use crate::levels::unreached_level;
 use crate::masks::{EntryMask, TypeWords, index_of, is_of, value_of};
 use crate::statements::Reader;
 use kx_explain::quoted;
@@ -182,6 +183,20 @@ impl Reader<'_, '_, '_> {
             Some(words) => self.note_entries(file, &words, fields),
             None => Ok(()),
         }
+    }
+
+    /// Notes that no modifiers lead to a level of a type.
+    pub(crate) fn note_type_levels(&mut self, file: u32, name: &Name) -> Result<(), AllocError> {
+        let read = self.read;
+        let word = name.bytes.as_slice();
+        let Some(level) = read.types.named(word).and_then(unreached_level) else {
+            return Ok(());
+        };
+        let span = name.span;
+        let word = quoted(word);
+        let message = format_args!("no map[..] of the type {word} leads to level {level}");
+        self.warnings
+            .add(WarningKind::Entries, At { file, span }, message)
     }
 
     /// Notes a type that is written again in its map.

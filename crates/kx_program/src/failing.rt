@@ -1,6 +1,10 @@
 //! What a task that ends early says.
+use crate::hearing::Heard;
+use ks_core::Feed;
 use kx_failure::Failure;
 use kx_reach::read_file;
+use kx_tool::ReplayFault;
+use std::alloc::Global;
 use std::io;
 use std::rt::Files as FileSystem;
 
@@ -28,4 +32,24 @@ pub(crate) fn unusable<'a>(rt: &(impl FileSystem + AllocGlobal), path: String) -
         Err(fault) => fault.kind(),
     };
     Failure::Found(path, kind)
+}
+
+/// The failure of events, with the line that was refused where that was kept; so many lines stand before the events.
+pub(crate) fn with_line<'a, F: Feed + Drop>(
+    alloc: Global,
+    heard: &Heard<F>,
+    before: u64,
+    failure: Failure<'a>,
+) -> Failure<'a> {
+    let Failure::Replay(ReplayFault::Line(number)) = failure else {
+        return failure;
+    };
+    let line = match heard.line(before.saturating_add(number)) {
+        Some(line) => String::from_utf8_lossy(alloc, line).ok(),
+        None => None,
+    };
+    match line {
+        Some(line) => Failure::Event(number, line),
+        None => Failure::Replay(ReplayFault::Line(number)),
+    }
 }

@@ -2,6 +2,7 @@
 #![tactic(auto)]
 
 mod failing;
+mod hearing;
 mod keeping;
 mod looking;
 mod named;

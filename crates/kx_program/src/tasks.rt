@@ -1,5 +1,6 @@
 //! What the program does.
-use crate::failing::{fail, fail_aside};
+use crate::failing::{fail, fail_aside, with_line};
+use crate::hearing::{Heard, lines_in};
 use crate::keeping::Kept;
 use crate::looking::{find_in_keymap, print_names, show_keymap};
 use crate::named::{print_list, print_source, read_keymap, show_asked};
@@ -162,7 +163,7 @@ fn answer_feed<'a, F: Feed + Drop>(
     files: &Files,
     includes: &Includes,
 ) -> Result<(), Failure<'a>> {
-    let mut feed = Kept::new(rt.alloc(), feed);
+    let mut feed = Heard::new(rt.alloc(), Kept::new(rt.alloc(), feed));
     let mut out = Lent::new(io::writer(rt));
     match session(rt.alloc(), &mut feed, files, names, &mut out) {
         Ok(()) => Ok(()),
@@ -171,12 +172,13 @@ fn answer_feed<'a, F: Feed + Drop>(
                 let source = Text {
                     name: "",
                     path: "<stdin>",
-                    bytes: feed.source(),
+                    bytes: feed.feed.source(),
                 };
                 let files = texts;
                 show_fault(rt, fault, Texts { source, files }, includes);
             }
-            Err(Failure::of_session(fault))
+            let before = lines_in(feed.feed.source()).saturating_add(1);
+            Err(with_line(rt.alloc(), &feed, before, Failure::of_session(fault)))
         }
     }
 }
@@ -248,11 +250,14 @@ fn answer_events<'a>(
     names: &NameTable,
     image: &[u8],
 ) -> Result<(), Failure<'a>> {
-    let mut feed = Lent::new(rt.reader());
+    let mut feed = Heard::new(rt.alloc(), Lent::new(rt.reader()));
     let mut out = Lent::new(io::writer(rt));
     match replay(rt.alloc(), &mut feed, image, names, &mut out) {
         Ok(()) => Ok(()),
-        Err(fault) => Err(Failure::of_replay(fault, FileKind::of(image))),
+        Err(fault) => {
+            let failure = Failure::of_replay(fault, FileKind::of(image));
+            Err(with_line(rt.alloc(), &feed, 0, failure))
+        }
     }
 }
 
