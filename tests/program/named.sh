@@ -83,11 +83,11 @@ gives 1 'P3 Line 1' try --layout us < session
 "$program" compile --layout us named_image > ../out
 gives 0 "$("$program" print named_image)" print --layout us
 gives 0 "$("$program" show named_image)" show --layout us
-gives 0 "$("$program" show --svg --group 2 named_image)" show --rules evdev --svg --group 2
+gives 0 "$("$program" show --svg named_image)" show --rules evdev --svg
 gives 1 'no keysym is named nosuch' find --layout us nosuch
 echo 'odd 0x1234567' > odd_names
 gives 3 'cannot use nothing' show --names nothing --layout us
-gives 0 '' find --names odd_names --layout us odd
+gives 1 '' find --names odd_names --layout us odd
 
 # The environment.
 XKB_DEFAULT_LAYOUT=de XKB_DEFAULT_VARIANT=neo XKB_DEFAULT_OPTIONS=grp:shifts

@@ -61,6 +61,12 @@ fn print_notes<'a>(
     }
 }
 
+/// The status that ends a search which finds nothing.
+const NOT_FOUND: u8 = 1;
+
+/// The status that words end with which name no group of the keymap.
+const WRONG_WORDS: u8 = 2;
+
 /// The greatest block of which glibc's `malloc` learns: see [`keep_on_heap`].
 const GREATEST_BLOCK: usize = 0x1ff_0000;
 
