@@ -6,6 +6,19 @@ shown() {
     holds "standard output shows: $1" grep -qF -e "$1" ../out
 }
 
+# said TEXT: standard error of the last run has this text.
+said() {
+    holds "standard error says: $1" grep -qF -e "$1" ../err
+}
+
+# draws TEXT WORD..: a picture of a keymap has this text.
+draws() {
+    text=$1
+    shift
+    "$program" show "$@" > ../out 2> ../err
+    shown "$text"
+}
+
 cat > board <<'END'
 xkb_keymap {
 xkb_keycodes { <AE01>=10; <AC01>=38; <LFSH>=50; <RALT>=108; <KPAD>=86; <I99>=99; };
@@ -39,19 +52,85 @@ shown 'prefers-color-scheme: dark'
 "$program" show --group 2 --svg board.image > ../out 2> ../err
 shown '&lt;'
 holds 'show --svg: the drawing ends' [ "$(tail -n 1 ../out)" = '</svg>' ]
+gives 2 '' show --group 3 board.image
+said "error: '3' is no group of this keymap, which has 2 groups"
+gives 2 '' show --group 3 --svg board.image
+gives 2 '' show --group 2 two
+said "error: '2' is no group of this keymap, which has 1 group"
 gives 1 'I1 Truncated' show none
 gives 3 'cannot use nothing' show nothing
 
-gives 0 'AC01 code=38 group=1 level=2 hold=Shift,Lock' find board.image A
+gives 0 'AC01 code=38 group=1 level=2 hold=Shift,Lock keys=Shift (LFSH)' find board.image A
 gives 0 'AC01 code=38 group=1 level=1 hold=none' find board.image a
 gives 0 'AC01 code=38 group=2 level=1 hold=none' find board.image ф
-gives 0 'AE01 code=10 group=1 level=4 hold=Shift+Mod5' find board.image dead_acute
+gives 0 'AE01 code=10 group=1 level=4 hold=Shift+Mod5 keys=-' find board.image dead_acute
 gives 0 'I99 code=99 group=1 level=1 hold=none' find board.image 0x101f600
-gives 0 'I99 code=99 group=1 level=2 hold=Shift,Lock' find board.image y
-gives 0 '' find board.image z
+gives 0 'I99 code=99 group=1 level=2 hold=Shift,Lock keys=Shift (LFSH)' find board.image y
+gives 1 'no key gives z' find board.image z
+said "no level of a key has the keysym 'z'"
+gives 1 'no key gives €' find board.image €
+said "no level of a key has the keysym '€'"
 gives 1 'no keysym is named nosuch' find board.image nosuch
 echo 'mine 0x61' > names
 gives 0 'AC01 code=38 group=1 level=1 hold=none' find --names names board.image mine
+
+# Characters by keysyms of several sets, some that can't be seen, and dead keys; modifiers that are held, latched and locked.
+cat > letters <<'END'
+xkb_keymap {
+xkb_keycodes { <AE01>=10; <AE02>=11; <AE03>=12; <AE04>=13; <AD01>=24; <AD02>=25; <AD03>=26; <AC01>=38; <FK10>=76;
+<LFSH>=50; <RTSH>=62; <CAPS>=66; <RALT>=108; <LCTL>=37; <I90>=90; <I91>=91; };
+xkb_types {
+type "TWO" { modifiers=Shift; map[Shift]=Level2; };
+type "FOUR" { modifiers=Shift+Mod5; map[Shift]=Level2; map[Mod5]=Level3; map[Shift+Mod5]=Level4; };
+type "OTHER" { modifiers=Mod2+Mod3; map[Mod2]=Level2; map[Mod3]=Level2; }; };
+xkb_compat { interpret Shift_L { action=SetMods(modifiers=Shift); }; interpret Shift_R { action=SetMods(modifiers=Shift); };
+interpret ISO_Level3_Latch { action=LatchMods(modifiers=Mod5); }; interpret Caps_Lock { action=LockMods(modifiers=Mod2); };
+interpret F13 { action=SetMods(modifiers=Mod3); }; interpret F14 { action=SetMods(modifiers=Mod5); }; };
+xkb_symbols {
+key <AE01> { type="FOUR", [EuroSign, 0x10020ac, Arabic_seen, kana_A] };
+key <AE02> { type="FOUR", [Thai_kokai, Thai_sarau, hebrew_aleph, Cyrillic_a] };
+key <AE03> { type="FOUR", [U200C, U200F, U2066, UE0001] }; key <AE04> { type="TWO", [0x100000a, emspace] };
+key <AD01> { type="FOUR", [dead_acute, dead_belowdot, ampersand, less] }; key <AD02> { type="OTHER", [x, y] };
+key <AD03> { type="TWO", [{ U0644, U0627 }, radical] };
+key <AC01> { type="FOUR", [Redo, Redo, XF86Launch1, Redo] }; key <FK10> { type="FOUR", [F10, F10, F10, XF86Switch_VT_10] };
+key <LFSH> {[Shift_L]}; key <RTSH> {[Shift_R]}; key <CAPS> {[Caps_Lock]}; key <RALT> {[ISO_Level3_Latch]}; key <LCTL> {[F13]};
+key <I90> {[F14]}; key <I91> {[KP_7]};
+}; };
+END
+"$program" compile letters letters.image > ../out 2> ../err
+gives 0 'AE01 code=10 group=1 level=1 hold=none
+AE01 code=10 group=1 level=2 hold=Shift keys=Shift (LFSH/RTSH)' find letters.image €
+gives 0 'AE01 code=10 group=1 level=1 hold=none' find letters.image EuroSign
+gives 0 'AE01 code=10 group=1 level=3 hold=Mod5 keys=press AltGr (RALT) first' find letters.image س
+gives 0 'AE01 code=10 group=1 level=4 hold=Shift+Mod5 keys=Shift (LFSH/RTSH) + press AltGr (RALT) first' find letters.image ア
+gives 0 'AE02 code=11 group=1 level=4 hold=Shift+Mod5 keys=Shift (LFSH/RTSH) + press AltGr (RALT) first' find letters.image а
+gives 0 'AD02 code=25 group=1 level=2 hold=Mod2,Mod3 keys=toggle Caps Lock (CAPS) or F13 (LCTL)' find letters.image y
+gives 0 'AD03 code=26 group=1 level=2 hold=Shift keys=Shift (LFSH/RTSH)' find letters.image √
+gives 0 'I91 code=91 group=1 level=1 hold=none' find letters.image 7
+draws '│ア  │' letters.image
+shown '│س   │'
+shown '│€   │'
+shown '│◌ุ   │'
+shown '│א   │'
+shown '│LRI │'
+shown '│RLM │'
+shown '│ZWNJ│'
+shown '│UE00│'
+shown '│emsp│'
+shown '│◌´  │'
+shown '│◌̣   │'
+shown '│لا  │'
+shown '│VT10│'
+holds 'show: no character that only tells how text is laid out' \
+    sh -c '! grep -q "$(printf "\342\200\217\|\342\201\246\|\342\200\214")" ../out'
+holds 'show: at most 80 columns with letters of all widths' [ "$(LC_ALL=C.UTF-8 wc -L < ../out)" -le 80 ]
+draws '>◌́</text>' --svg letters.image
+shown '>F10</text>'
+shown '>VT10</text>'
+shown '>&amp;</text>'
+shown '>&lt;</text>'
+shown '>س</text>'
+holds 'show --svg: a word that stands on a key already stands once' [ "$(grep -c '>Redo</text>' ../out)" -eq 1 ]
 
 cat > header.h <<'END'
 #ifndef HEADER

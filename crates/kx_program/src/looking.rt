@@ -1,12 +1,13 @@
 //! What only looks at images and headers.
 use crate::named::read_keymap;
 use crate::sources::{read, read_names};
+use crate::usage::refuse_words;
 use crate::words::Keymap;
-use ks_core::{Keysym, NameTable};
+use ks_core::NameTable;
 use kx_failure::{Failure, FileKind};
 use kx_image::View;
-use kx_show::{draw, picture, write_names, write_places};
-use std::alloc::AllocError;
+use kx_show::{draw, group_count, keysyms_of, picture, write_names, write_places};
+use std::alloc::{AllocError, Global};
 use std::rt::Files as FileSystem;
 
 /// Prints a text that was made.
@@ -29,6 +30,8 @@ fn view_of<'a>(bytes: &[u8]) -> Result<View<'_>, Failure<'a>> {
     }
 }
 
+/// Prints a picture of a keymap's keys, or a drawing, in an effective group from 0; answers the status to end with, since the
+/// keymap may have no such group.
 pub(crate) fn show_keymap<'a>(
     rt: &(impl FileSystem + Input + Print + Eprint + AllocGlobal),
     names: Option<&'a str>,
@@ -39,6 +42,15 @@ pub(crate) fn show_keymap<'a>(
     let names = read_names(rt, names)?;
     let bytes = read_keymap(rt, &names, keymap)?;
     let view = view_of(bytes.as_slice())?;
+    let groups = group_count(&view);
+    if group > 0 && group >= groups {
+        let number = group.saturating_add(1);
+        let noun = if groups == 1 { "group" } else { "groups" };
+        return Ok(refuse_words(
+            rt,
+            format_args!("'{number}' is no group of this keymap, which has {groups} {noun}"),
+        ));
+    }
     let text = if is_drawn {
         draw(rt.alloc(), &view, &names, group)
     } else {
@@ -48,38 +60,42 @@ pub(crate) fn show_keymap<'a>(
     Ok(0)
 }
 
-/// The keysym of a word: its name, or the one character that it is.
-fn keysym_of(names: &NameTable, word: &str) -> Option<Keysym> {
-    if let Some(keysym) = names.by_name(word) {
-        return Some(keysym);
-    }
+/// The keysyms that a word means: the one of this name, and, where it is one character, each that gives it. None is of a word
+/// that means nothing.
+fn keysyms_in(alloc: Global, names: &NameTable, word: &str) -> Result<Vec<u32>, AllocError> {
     let mut characters = word.chars();
-    match (characters.next(), characters.next()) {
-        (Some(character), None) => match u32::from(character) {
-            number @ (0x20..=0x7e | 0xa0..=0xff) => Some(Keysym(number)),
-            number @ 0x100.. => Some(Keysym(number.saturating_add(0x0100_0000))),
-            _ => None,
-        },
-        _ => None,
+    let mut keysyms = match (characters.next(), characters.next()) {
+        (Some(character), None) => keysyms_of(alloc, character)?,
+        _ => Vec::new(alloc),
+    };
+    if let Some(keysym) = names.by_name(word)
+        && !keysyms.contains(&keysym.0)
+    {
+        keysyms.push(keysym.0)?;
     }
+    Ok(keysyms)
 }
 
+/// Prints the places that give what a word means.
 pub(crate) fn find_in_keymap<'a>(
     rt: &(impl FileSystem + Input + Print + Eprint + AllocGlobal),
     names: Option<&'a str>,
     keymap: &Keymap<'a>,
     word: &'a str,
-) -> Result<u8, Failure<'a>> {
+) -> Result<(), Failure<'a>> {
     let names = read_names(rt, names)?;
     let bytes = read_keymap(rt, &names, keymap)?;
     let view = view_of(bytes.as_slice())?;
-    let Some(keysym) = keysym_of(&names, word) else {
+    let keysyms = keysyms_in(rt.alloc(), &names, word)?;
+    if keysyms.is_empty() {
         return Err(Failure::Keysym(word));
-    };
+    }
     let mut text = String::new(rt.alloc());
-    write_places(rt.alloc(), &view, keysym.0, &mut text)?;
-    print_text(rt, Ok(text))?;
-    Ok(0)
+    write_places(rt.alloc(), &view, &names, keysyms.as_slice(), &mut text)?;
+    if text.is_empty() {
+        return Err(Failure::NoKey(word));
+    }
+    print_text(rt, Ok(text))
 }
 
 pub(crate) fn print_names<'a>(

@@ -1,4 +1,5 @@
 //! Where an image is written.
+use crate::usage::refuse_words;
 use crate::words::INPUT;
 use crate::writing::{Standing, standing_at, write_over};
 use kx_explain::Text;
@@ -8,9 +9,6 @@ use std::io::Write;
 use std::os::unix::fs::MetadataExt;
 use std::rt::Files as FileSystem;
 use std::{fs, io};
-
-/// The status that words end with which name a file that is read as the one that is written.
-const WRONG_WORDS: u8 = 2;
 
 /// Whether a path is standard output's.
 pub(crate) fn is_output(path: &str) -> bool {
@@ -119,10 +117,10 @@ pub(crate) fn put_image<'a>(
     }
     let standing = standing_at(rt, out);
     if put.is_read(rt, &standing) {
-        let _ = eprintln!(rt;
-            "error: the file '{out}' is read, and can't be OUT too\n\nFor more information, try '--help'."
-        );
-        return Ok(WRONG_WORDS);
+        return Ok(refuse_words(
+            rt,
+            format_args!("the file '{out}' is read, and can't be OUT too"),
+        ));
     }
     match write_over(rt, out, bytes, standing) {
         Ok(()) => Ok(0),

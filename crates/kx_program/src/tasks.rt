@@ -61,12 +61,6 @@ fn print_notes<'a>(
     }
 }
 
-/// The status that ends a search which finds nothing.
-const NOT_FOUND: u8 = 1;
-
-/// The status that words end with which name no group of the keymap.
-const WRONG_WORDS: u8 = 2;
-
 /// The greatest block of which glibc's `malloc` learns: see [`keep_on_heap`].
 const GREATEST_BLOCK: usize = 0x1ff_0000;
 
@@ -356,7 +350,7 @@ pub fn run<'a>(
             names,
             keymap,
             keysym,
-        } => return find_in_keymap(rt, names, &keymap, keysym),
+        } => find_in_keymap(rt, names, &keymap, keysym)?,
         Task::Try {
             names,
             asked: None,

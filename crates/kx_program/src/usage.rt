@@ -9,6 +9,7 @@ use kx_failure::{DEVICE, Failure};
 use kx_lex::Fault;
 use std::alloc::{AllocError, Global};
 use std::env::{Env, FillError};
+use std::fmt;
 
 /// The status that wrong words end with.
 const USAGE: u8 = 2;
@@ -18,6 +19,12 @@ const EVENTS: &str = "lines of events as 'down 38' and 'up 38'";
 
 /// The longest word that is shown where it isn't text, in bytes.
 const MOST_SHOWN: usize = 4096;
+
+/// Says what is wrong with the words, where only what they name tells it, and answers the status to end with.
+pub(crate) fn refuse_words(rt: &impl Eprint, message: impl fmt::Display) -> u8 {
+    let _ = eprintln!(rt; "error: {message}\n\nFor more information, try '--help'.");
+    USAGE
+}
 
 /// Prints help, or what is wrong with the words, and answers the status to end with.
 pub fn explain(rt: &(impl Print + Eprint), error: Error) -> u8 {

@@ -1,1 +1,2 @@
+pub mod CharacterTable
 pub mod FoundSpots

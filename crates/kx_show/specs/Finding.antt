@@ -1,5 +1,6 @@
--- Where tables give a keysym.
-use Rattle.std.specs.Prelude.{ℕ, ◌≡◌, ◌+◌, ◌<◌, Some, slice_get}
+-- Where tables give one of some keysyms.
+use Rattle.std.specs.Prelude.{ℕ, ◌≡◌, ◌+◌, ◌<◌, List, Some, slice_get}
+use Rattle.std.specs.List.{Contains}
 use Rattle.kx_tables.specs.Content.{Content}
 use Rattle.kx_tables.specs.declared.rows.CellRow.{CellRow}
 use Rattle.kx_tables.specs.declared.rows.GroupRow.{GroupRow}
@@ -7,27 +8,29 @@ use Rattle.kx_tables.specs.declared.rows.KeyRow.{KeyRow}
 use Rattle.kx_tables.specs.declared.rows.TypeRow.{TypeRow}
 use Rattle.kx_show.specs.declared.finding.Spot.{Spot}
 
--- a cell gives a keysym, alone or with others
-pub record CellGives (c : Content) (keysym : ℕ) (cell : CellRow) : Type 0 where
+-- a cell gives a keysym that is wanted, alone or with others
+pub record CellGives (c : Content) (wanted : List ℕ) (cell : CellRow) : Type 0 where
   pub index : ℕ
   pub within : index < cell.keysyms
+  pub keysym : ℕ
+  pub is_wanted : Contains wanted keysym
   pub is_keysym : slice_get c.keysyms (cell.first_keysym + index) ≡ Some keysym
 
--- a group gives a keysym at a level, counted from 0
-pub record LevelGives (c : Content) (keysym : ℕ) (group : GroupRow) (level : ℕ) : Type 0 where
+-- a group gives a keysym that is wanted at a level, counted from 0
+pub record LevelGives (c : Content) (wanted : List ℕ) (group : GroupRow) (level : ℕ) : Type 0 where
   pub cell : CellRow
   pub has_cell : slice_get c.cells (group.first_cell + level) ≡ Some cell
-  pub gives : CellGives c keysym cell
+  pub gives : CellGives c wanted cell
 
--- a spot is a level of this group of a key, which has so many, and gives a keysym there
-pub record IsLevelOf (c : Content) (keysym : ℕ) (row : GroupRow) (levels : ℕ) (key group : ℕ) (spot : Spot) : Type 0 where
+-- a spot is a level of this group of a key, which has so many, and gives a keysym that is wanted there
+pub record IsLevelOf (c : Content) (wanted : List ℕ) (row : GroupRow) (levels : ℕ) (key group : ℕ) (spot : Spot) : Type 0 where
   pub is_key : spot.key ≡ key
   pub is_group : spot.group ≡ group
   pub within : spot.level < levels
-  pub gives : LevelGives c keysym row spot.level
+  pub gives : LevelGives c wanted row spot.level
 
--- a key gives a keysym in a group and at a level, both counted from 0
-pub record Gives (c : Content) (keysym : ℕ) (spot : Spot) : Type 0 where
+-- a key gives a keysym that is wanted in a group and at a level, both counted from 0
+pub record Gives (c : Content) (wanted : List ℕ) (spot : Spot) : Type 0 where
   pub key : KeyRow
   pub has_key : slice_get c.keys spot.key ≡ Some key
   pub within : spot.group < key.groups
@@ -35,4 +38,4 @@ pub record Gives (c : Content) (keysym : ℕ) (spot : Spot) : Type 0 where
   pub has_row : slice_get c.groups (key.first_group + spot.group) ≡ Some row
   pub key_type : TypeRow
   pub has_type : slice_get c.types row.key_type ≡ Some key_type
-  pub is_level : IsLevelOf c keysym row key_type.levels spot.key spot.group spot
+  pub is_level : IsLevelOf c wanted row key_type.levels spot.key spot.group spot

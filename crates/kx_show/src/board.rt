@@ -21,7 +21,7 @@ pub(crate) struct Board<'a> {
 }
 
 /// The place of the key of a name.
-fn place_of(name: &[u8]) -> Option<usize> {
+pub(crate) fn place_of(name: &[u8]) -> Option<usize> {
     let mut wanted = name;
     for other in &OTHER_NAMES {
         if other.name.as_bytes() == name {

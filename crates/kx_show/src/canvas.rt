@@ -1,6 +1,7 @@
 //! Boxes and labels that are drawn with characters.
+use crate::labels::columns_of;
 use std::alloc::{AllocError, Global};
-use unicode_width::{UnicodeWidthChar, UnicodeWidthStr};
+use unicode_width::UnicodeWidthChar;
 
 /// How many columns a canvas has.
 pub(crate) const COLUMNS: usize = 80;
@@ -19,10 +20,9 @@ static GLYPHS: [char; 16] = [
     ' ', '╵', '╶', '└', '╷', '│', '┌', '├', '╴', '┘', '─', '┴', '┐', '┤', '┬', '┼',
 ];
 
-/// A label on a canvas.
+/// A label on a line of a canvas.
 #[derive(Drop)]
 struct Placed {
-    line: usize,
     column: usize,
     text: String,
 }
@@ -42,7 +42,8 @@ pub(crate) struct Canvas {
     alloc: Global,
     /// The lines of boxes that leave each point, line by line.
     lines: Vec<u8>,
-    labels: Vec<Placed>,
+    /// The labels of each line.
+    labels: Vec<Vec<Placed>>,
 }
 
 impl Canvas {
@@ -51,10 +52,14 @@ impl Canvas {
         for _ in 0..height.saturating_mul(COLUMNS) {
             lines.push(0)?;
         }
+        let mut labels = Vec::new(alloc);
+        for _ in 0..height {
+            labels.push(Vec::new(alloc))?;
+        }
         Ok(Canvas {
             alloc,
             lines,
-            labels: Vec::new(alloc),
+            labels,
         })
     }
 
@@ -96,16 +101,16 @@ impl Canvas {
         columns: usize,
     ) -> Result<(), AllocError> {
         let text = cut(self.alloc, text, columns)?;
-        self.labels.push(Placed { line, column, text })?;
+        if let Some(labels) = self.labels.get_mut(line) {
+            labels.push(Placed { column, text })?;
+        }
         Ok(())
     }
 
     /// The label that begins at a point.
     fn label_at(&self, line: usize, column: usize) -> Option<&str> {
-        let found = self
-            .labels
-            .iter()
-            .find(|label| label.line == line && label.column == column)?;
+        let labels = self.labels.get(line)?;
+        let found = labels.iter().find(|label| label.column == column)?;
         Some(found.text.as_str())
     }
 
@@ -116,7 +121,7 @@ impl Canvas {
         for column in 0..COLUMNS {
             if let Some(label) = self.label_at(line, column) {
                 text.push_str(label)?;
-                covered = column.saturating_add(label.width());
+                covered = column.saturating_add(columns_of(label));
             }
             if column >= covered {
                 let place = line.saturating_mul(COLUMNS).saturating_add(column);

@@ -3,16 +3,24 @@
 
 mod board;
 mod canvas;
+mod character_table;
+mod characters;
 mod drawing;
 mod finding;
 mod headers;
+mod holding;
 mod labels;
 mod levels;
 mod listing;
+mod places;
 mod slots;
 mod terminal;
+mod words;
 
+pub use characters::{character_of, keysyms_of};
 pub use drawing::draw;
-pub use finding::{Spot, spots, write_places};
+pub use finding::{Spot, spots};
 pub use headers::write_names;
+pub use listing::group_count;
+pub use places::write_places;
 pub use terminal::picture;

@@ -32,12 +32,12 @@ loop-group-preserved g c =
       kept = λ s at. steps.kept s (c.loop-group.invariant.kept s at);
       each = λ s at. elim (steps.each s at) [
         | inl before ↦ c.loop-group.invariant.each s before
-        | inr here ↦ inr (level_gives content c.args.keysym key row c.type_row-levels.result c.args.key group s c.key_row-row.ensures below has_row c.type_row-levels.ensures here)
+        | inr here ↦ inr (level_gives content c.args.keysyms.now key row c.type_row-levels.result c.args.key group s c.key_row-row.ensures below has_row c.type_row-levels.ensures here)
       ];
       all = λ s is_key within gives. elim (cases_lt s.group group) [
         | inl less ↦ steps.kept s (c.loop-group.invariant.all s is_key less gives)
         | inr more ↦
             let is_group : s.group ≡ group = omega (arith, more, within) in
-            steps.all s (gives_level content c.args.keysym key row c.type_row-levels.result c.args.key group s c.key_row-row.ensures has_row c.type_row-levels.ensures is_key is_group gives)
+            steps.all s (gives_level content c.args.keysyms.now key row c.type_row-levels.result c.args.key group s c.key_row-row.ensures has_row c.type_row-levels.ensures is_key is_group gives)
       ];
     }

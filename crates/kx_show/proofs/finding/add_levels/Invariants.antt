@@ -7,6 +7,6 @@ use Rattle.kx_show.proofs.finding.add_levels.Given as goal
 abbrev pub invariant-loop-level : goal.invariant-loop-level
 invariant-loop-level g l = record {
   kept : (s : Spot) → Contains l.initial.found.items s → Contains l.found.items s;
-  each : (s : Spot) → Contains l.found.items s → Contains l.initial.found.items s ⊎ IsLevelOf (g.T.Rows.content l.tables) l.fn.keysym l.fn.row l.fn.levels l.fn.key l.fn.group s;
-  all : (s : Spot) → IsLevelOf (g.T.Rows.content l.tables) l.fn.keysym l.fn.row l.level l.fn.key l.fn.group s → Contains l.found.items s;
+  each : (s : Spot) → Contains l.found.items s → Contains l.initial.found.items s ⊎ IsLevelOf (g.T.Rows.content l.tables) l.fn.keysyms l.fn.row l.fn.levels l.fn.key l.fn.group s;
+  all : (s : Spot) → IsLevelOf (g.T.Rows.content l.tables) l.fn.keysyms l.fn.row l.level l.fn.key l.fn.group s → Contains l.found.items s;
 }

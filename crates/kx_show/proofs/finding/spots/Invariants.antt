@@ -6,6 +6,6 @@ use Rattle.kx_show.proofs.finding.spots.Given as goal
 
 abbrev pub invariant-loop-key : goal.invariant-loop-key
 invariant-loop-key g l = record {
-  each : (s : Spot) → Contains l.found.items s → Gives (g.T.Rows.content l.tables) l.fn.keysym s;
-  all : (s : Spot) → s.key < l.key → Gives (g.T.Rows.content l.tables) l.fn.keysym s → Contains l.found.items s;
+  each : (s : Spot) → Contains l.found.items s → Gives (g.T.Rows.content l.tables) l.fn.keysyms s;
+  all : (s : Spot) → s.key < l.key → Gives (g.T.Rows.content l.tables) l.fn.keysyms s → Contains l.found.items s;
 }
