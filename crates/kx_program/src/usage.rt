@@ -21,7 +21,7 @@ const EVENTS: &str = "lines of events as 'down 38' and 'up 38'";
 const MOST_SHOWN: usize = 4096;
 
 /// Says what is wrong with the words, where only what they name tells it, and answers the status to end with.
-pub(crate) fn refuse_words(rt: &impl Eprint, message: impl fmt::Display) -> u8 {
+pub(crate) fn refuse_words(rt: &impl Eprint, message: impl fmt::Display + Drop) -> u8 {
     let _ = eprintln!(rt; "error: {message}\n\nFor more information, try '--help'.");
     USAGE
 }
