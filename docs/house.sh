@@ -14,7 +14,7 @@ esac
 top=$(cd "$(dirname "$0")/.." && pwd)
 page=$top/docs/CONTRIBUTING.md
 drawn=$(mktemp "$page.XXXXXX")
-trap 'rm -f "$drawn"' EXIT
+trap 'rm -f "$drawn" "$drawn.house"' EXIT
 
 # A line is a part of the house, or a stage and its crates; a stage may take several.
 stages() {
@@ -99,10 +99,7 @@ firsts() {
     END {
         if (failed) exit 1
         for (i = 1; i <= count; i++) if (!(name[i] in drawn)) wrong(name[i] " has no stage")
-    }' > "$drawn.house" || {
-    rm -f "$drawn.house"
-    exit 1
-}
+    }' > "$drawn.house"
 
 awk -v house="$drawn.house" '
     /^<!-- house: docs\/house\.sh -->$/ {
@@ -117,11 +114,9 @@ awk -v house="$drawn.house" '
     /^<!-- house ends -->$/ { inside = 0; marks++ }
     !inside { print }
     END { exit marks == 2 ? 0 : 1 }' "$page" > "$drawn" || {
-    rm -f "$drawn.house"
     echo "docs/house.sh: $page has not the two marker lines" >&2
     exit 1
 }
-rm -f "$drawn.house"
 if [ "${1-}" = --check ]; then
     cmp -s "$drawn" "$page" || {
         echo 'docs/house.sh: the house in docs/CONTRIBUTING.md is to be drawn again' >&2
