@@ -38,7 +38,7 @@ calls kx_tool kx_headline
 = Beside them
 print kx_print
 round-trip roundtrip_text roundtrip_tree roundtrip_meaning kx_roundtrip
-names kx_rules kx_names
+names kx_rules rules_tree kx_names
 program kx_reach kx_explain kx_noted kx_show kx_failure kx_program xkc
 C kx_handles xkc_c
 example compositor

@@ -1,6 +1,6 @@
 #!/bin/bash
-# Tests of install.sh, over stand-ins for what is built, and that the man page and the completions say all words of PROGRAM:
-# packaging/check.sh PROGRAM. Each failure is a line, and the last line counts.
+# Tests of install.sh, over stand-ins for what is built, that the man page and the completions say all words of PROGRAM, and that
+# the drawing of the house is that of crates.txt: packaging/check.sh PROGRAM. Each failure is a line, and the last line counts.
 set -u
 top=$(cd "$(dirname "$0")/.." && pwd)
 program=$(cd "$(dirname "${1-}")" && pwd)/$(basename "${1-}")
@@ -87,5 +87,7 @@ for command in $("$program" --help | sed -n '/^Commands:/,/^$/s/^  \([a-z]*\) .*
     holds "xkc.bash offers of $command $(offered "$command" | sort | xargs)" \
         [ "$(offered "$command" | sort)" = "$(options_of "$command" | sort)" ]
 done
+holds 'the house in docs/CONTRIBUTING.md is another' "$top/docs/house.sh" --check
+
 echo "$passed passed, $failed failed"
 [ "$failed" -eq 0 ]
