@@ -12,7 +12,10 @@ use std::{fs, io};
 
 /// Whether a path is standard output's.
 pub(crate) fn is_output(path: &str) -> bool {
-    matches!(path, INPUT | "/dev/stdout" | "/dev/fd/1" | "/proc/self/fd/1")
+    matches!(
+        path,
+        INPUT | "/dev/stdout" | "/dev/fd/1" | "/proc/self/fd/1"
+    )
 }
 
 /// The part of a path behind its folders.
@@ -79,7 +82,9 @@ impl Put<'_, '_> {
         if identity.is_none() {
             return false;
         }
-        self.named.iter().any(|path| Identity::at(rt, path) == identity)
+        self.named
+            .iter()
+            .any(|path| Identity::at(rt, path) == identity)
             || self
                 .texts
                 .iter()

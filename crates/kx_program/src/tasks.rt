@@ -36,11 +36,7 @@ fn show_noted(rt: &impl Eprint, noted: &Noted, texts: Texts) {
 }
 
 /// Tells what was passed over: on standard output, or on standard error where the image went there.
-fn print_notes<'a>(
-    rt: &(impl Print + Eprint),
-    out: &str,
-    notes: Notes,
-) -> Result<(), Failure<'a>> {
+fn print_notes<'a>(rt: &(impl Print + Eprint), out: &str, notes: Notes) -> Result<(), Failure<'a>> {
     let Notes {
         keysyms,
         keys,

@@ -254,14 +254,19 @@ fn try_command<'a>(alloc: Global, shape: Shape) -> Result<Command<'a>, AllocErro
 }
 
 fn compile_command<'a>(alloc: Global, shape: Shape) -> Result<Command<'a>, AllocError> {
-    let command = Command::new(alloc, "compile")
-        .about("Compiles a source, or a layout by its names, to an image");
+    let command = Command::new(alloc, "compile").about(
+        "Compiles a source, or a layout by its names, to an image",
+    );
     with_file(
         with_options(alloc, command, shape)?,
         path(alloc, "SOURCE", "The keymap's source; - is standard input"),
         shape,
     )?
-    .arg(path(alloc, "OUT", "The image that is written; - is standard output"))?
+    .arg(path(
+        alloc,
+        "OUT",
+        "The image that is written; - is standard output",
+    ))?
     .arg(files(alloc))
 }
 
@@ -289,8 +294,9 @@ fn with_keymap<'a>(
 }
 
 fn replay_command<'a>(alloc: Global, shape: Shape) -> Result<Command<'a>, AllocError> {
-    let command = Command::new(alloc, "replay")
-        .about("Answers lines of events on standard input by a keymap");
+    let command = Command::new(alloc, "replay").about(
+        "Answers lines of events on standard input by a keymap",
+    );
     with_keymap(alloc, command, shape)?.arg(files(alloc))
 }
 
@@ -367,7 +373,11 @@ fn upgrade_command<'a>(alloc: Global) -> Result<Command<'a>, AllocError> {
     Command::new(alloc, "upgrade")
         .about("Writes an image anew, in the newest version")
         .arg(path(alloc, "IMAGE", "The image of any version"))?
-        .arg(path(alloc, "OUT", "The image that is written; - is standard output"))
+        .arg(path(
+            alloc,
+            "OUT",
+            "The image that is written; - is standard output",
+        ))
 }
 
 fn program<'a>(alloc: Global) -> Command<'a> {
@@ -419,11 +429,7 @@ fn whole_command<'a>(alloc: Global) -> Result<Command<'a>, AllocError> {
 
 /// The program's words, as far as the first one asks for them: where it names a command, the others aren't made, and for the
 /// version none is.
-fn command_for<'a>(
-    alloc: Global,
-    first: &str,
-    shape: Shape,
-) -> Result<Command<'a>, AllocError> {
+fn command_for<'a>(alloc: Global, first: &str, shape: Shape) -> Result<Command<'a>, AllocError> {
     if first == "--version" || first == "-V" {
         return Ok(program(alloc));
     }

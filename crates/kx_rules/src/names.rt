@@ -54,7 +54,10 @@ impl WordSet {
     fn has_among_few(&self, word: &[u8]) -> bool
         ensures { result ≡ has self.now word.now }
     {
-        self.words.as_slice().iter().any(|entry| word == entry.0.as_slice())
+        self.words
+            .as_slice()
+            .iter()
+            .any(|entry| word == entry.0.as_slice())
     }
 
     fn place_of(&self, word: &[u8]) -> Option<usize> {
