@@ -151,3 +151,45 @@ for how in any alike; do
     awk 'BEGIN { print "xkb_keymap { xkb_symbols { modifier_map Mod1 {" } { printf "%s%s", (NR > 1 ? "," : ""), $0 } END { print "}; }; };" }' "$work/words" > "$work/source"
     run "30,000 keysyms of modifier maps, $how"
 done
+
+# Rules of nearly 1 MiB, and names by the thousand. A folder has what the components name.
+rules=$work/folder
+mkdir -p "$rules/rules" "$rules/keycodes" "$rules/types" "$rules/compat" "$rules/symbols"
+echo 'xkb_keycodes { <A>=1; };' > "$rules/keycodes/a"
+echo 'xkb_types { };' > "$rules/types/a"
+echo 'xkb_compat { };' > "$rules/compat/a"
+echo 'xkb_symbols { key <A> {[a]}; };' > "$rules/symbols/a"
+front='! model = keycodes types compat
+  * = a a a
+! layout = symbols
+  * = a'
+
+# named NAME [WORDS]: compiles what the rules make of the words
+named() {
+    name=$1
+    shift
+    least=1000000000
+    for turn in 1 2 3; do
+        start=$(date +%s%N)
+        "$program" compile --quiet -I "$rules" --rules r "$@" "$work/image" > "$work/line" 2> /dev/null || true
+        stop=$(date +%s%N)
+        time=$(((stop - start) / 1000))
+        [ "$time" -ge "$least" ] || least=$time
+    done
+    printf '%8d microseconds  %s: %s\n' "$least" "$name" "$(head -c 60 "$work/line")"
+}
+
+many=$(awk 'BEGIN { for (i = 0; i < 10000; i++) printf "%so%d", (i ? "," : ""), i }')
+{ echo "$front"; echo '! option = symbols'; awk 'BEGIN { for (i = 0; i < 50000; i++) printf "  p%d = +b\n", i }'; } > "$rules/rules/r"
+named '50,000 rules for other options, and 10,000 options' --options "$many"
+{ echo "$front"; awk 'BEGIN { for (i = 0; i < 40000; i++) printf "! option = symbols\n  p%d = +b\n", i }'; } > "$rules/rules/r"
+named '40,000 mappings with a rule each, and 10,000 options' --options "$many"
+{ echo "$front"; awk 'BEGIN { for (i = 0; i < 4000; i++) { printf "! $g%d =", i; for (k = 0; k < 30; k++) printf " o%d", (i * 7 + k) % 12000; print "" } print "! option = symbols"; for (i = 0; i < 30000; i++) printf "  $g%d = +b\n", i % 4000 }'; } > "$rules/rules/r"
+named '4,000 groups of 30 options, 30,000 rules for them, and 10,000 options' --options "$many"
+{ echo "$front"; awk 'BEGIN { for (i = 0; i < 500000; i++) printf "a " }'; } > "$rules/rules/r"
+named 'a line of half a million words'
+{ echo "$front"; awk 'BEGIN { for (i = 0; i < 300; i++) printf "! include %%S/r%d\n", i % 10 }'; } > "$rules/rules/r"
+for part in 0 1 2 3 4 5 6 7 8 9; do
+    awk -v next_part=$(((part + 1) % 10)) 'BEGIN { for (i = 0; i < 300; i++) printf "! include %%S/r%d\n", next_part }' > "$rules/rules/r$part"
+done
+named '300 includes of rules that include 300 each, over and over'
