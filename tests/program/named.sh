@@ -87,7 +87,7 @@ gives 0 "$("$program" show --svg named_image)" show --rules evdev --svg
 gives 1 'no keysym is named nosuch' find --layout us nosuch
 echo 'odd 0x1234567' > odd_names
 gives 3 'cannot use nothing' show --names nothing --layout us
-gives 1 '' find --names odd_names --layout us odd
+gives 1 'no key gives odd' find --names odd_names --layout us odd
 
 # The environment.
 XKB_DEFAULT_LAYOUT=de XKB_DEFAULT_VARIANT=neo XKB_DEFAULT_OPTIONS=grp:shifts

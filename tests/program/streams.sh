@@ -81,7 +81,6 @@ same folder/symbols/map compile --names names -I folder including folder/symbols
 same one upgrade one ./one
 gives 0 "$notes" compile another here/out
 holds 'an image by a path through a link' cmp -s out two
-gives 0 "$notes" compile source another
-holds 'another link of the source is replaced by the image' cmp -s another two
+same source compile source another
 holds 'the source itself is left' cmp -s source ../source_was
 rm link here another
