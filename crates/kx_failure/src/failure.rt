@@ -62,7 +62,8 @@ impl Failure<'_> {
     /// A file at a path can't be used, or there is no memory for it.
     pub fn of_file<'a>(fault: &io::Error, path: &'a str) -> Failure<'a>
         ensures memory { error_kind fault.now ≡ OutOfMemory → result ≡ Failure.Source Memory }
-        ensures file { error_kind fault.now ≢ OutOfMemory → result ≡ Failure.File path.entry (error_kind fault.now) }
+        ensures file { error_kind fault.now ≢ OutOfMemory
+            → result ≡ Failure.File path.entry (error_kind fault.now) }
     {
         match fault.kind() {
             io::ErrorKind::OutOfMemory => Failure::Source(Fault::Memory),
@@ -113,7 +114,7 @@ impl fmt::Display for Failure<'_> {
             Failure::Rules(fault) => write!(f, "{fault}"),
             Failure::Source(fault) => write!(f, "{fault}"),
             Failure::Replay(fault) => write!(f, "{fault}"),
-            Failure::Event(line, _) => write!(f, "P3 Line {line}"),
+            Failure::Event(line, _) => fmt::Display::fmt(&ReplayFault::Line(*line), f),
             Failure::Write => fmt::Display::fmt(&ReplayFault::Write, f),
         }
     }

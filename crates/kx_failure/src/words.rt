@@ -18,8 +18,8 @@ const EVENT: &str =
 /// So many characters of a line are shown.
 const MOST_SHOWN: usize = 64;
 
-/// What is wrong, in lines that begin with `error: `. Nothing of a fault of a source or of rules, nor of a file that no folder has:
-/// where they are found more is known of them, and they are said there.
+/// What is wrong, in lines that begin with `error: `. Nothing of a fault of a source or of rules, nor of a file that no folder
+/// has: where they are found more is known of them, and they are said there.
 #[derive(Clone, Copy)]
 pub struct Words<'f, 'a> {
     failure: &'f Failure<'a>,

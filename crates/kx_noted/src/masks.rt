@@ -35,8 +35,8 @@ pub(crate) struct TypeWords<'t> {
 pub(crate) enum EntryMask<'t> {
     /// Bits for the places of its modifiers among those of the type.
     Of(u32),
-    /// It has a modifier that the type doesn't have.
-    Beyond(&'t [u8]),
+    /// The same, and a modifier that the type doesn't have.
+    Beyond(u32, &'t [u8]),
     /// Its words don't tell.
     Unknown,
 }
@@ -94,13 +94,17 @@ impl<'t> TypeWords<'t> {
             return EntryMask::Unknown;
         };
         let mut bits: u32 = 0;
+        let mut beyond = None;
         for word in wanted.as_slice() {
             match self.place_of(word) {
                 Some(place) => bits |= 1u32.wrapping_shl(place as u32),
-                None => return EntryMask::Beyond(word),
+                None => beyond = Some(*word),
             }
         }
-        EntryMask::Of(bits)
+        match beyond {
+            Some(word) => EntryMask::Beyond(bits, word),
+            None => EntryMask::Of(bits),
+        }
     }
 }
 

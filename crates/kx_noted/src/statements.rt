@@ -400,22 +400,11 @@ impl Reader<'_, '_, '_> {
             }
             Statement::Interpretation { symbol, fields, .. } => {
                 self.note_interpreted(file, symbol)?;
-                for field in fields.as_slice() {
-                    self.note_truth(file, field)?;
-                }
-                Ok(())
+                self.note_truths(file, fields.as_slice())
             }
-            Statement::Key { fields, .. } => {
-                for field in fields.as_slice() {
-                    self.note_key_field_value(file, field)?;
-                }
-                Ok(())
-            }
+            Statement::Key { fields, .. } => self.note_key_truths(file, fields.as_slice()),
             Statement::ModifierMap { entries, .. } => {
-                for entry in entries.as_slice() {
-                    self.note_map_entry(file, entry)?;
-                }
-                Ok(())
+                self.note_map_entries(file, entries.as_slice())
             }
             Statement::Field(field) => {
                 self.note_truth(file, field.get())?;

@@ -1,11 +1,12 @@
 //! Likely slips in symbols and compat.
+use crate::keysyms::has_name;
 use crate::kind::WarningKind;
 use crate::masks::{index_of, is_of, value_of};
 use crate::statements::Reader;
 use ks_core::Notes;
 use kx_explain::quoted;
 use kx_key_fields::read_group;
-use kx_lex::{At, Number, Span};
+use kx_lex::{At, Number};
 use kx_parse::{Entry, Expression, Field, KeyField, Setting, Symbol, Term};
 use kx_symbols::symbol_keysym;
 use std::alloc::AllocError;
@@ -65,15 +66,26 @@ impl Reader<'_, '_, '_> {
             .add(WarningKind::Idle, At { file, span }, message)
     }
 
-    pub(crate) fn note_key_field_value(
+    /// Notes fields that say nothing, since their values are no truth values.
+    pub(crate) fn note_truths(&mut self, file: u32, fields: &[Field]) -> Result<(), AllocError> {
+        for field in fields {
+            self.note_truth(file, field)?;
+        }
+        Ok(())
+    }
+
+    /// The same of the fields of a key.
+    pub(crate) fn note_key_truths(
         &mut self,
         file: u32,
-        field: &KeyField,
+        fields: &[KeyField],
     ) -> Result<(), AllocError> {
-        match field {
-            KeyField::Field(field) => self.note_truth(file, field.get()),
-            KeyField::List(_) => Ok(()),
+        for field in fields {
+            if let KeyField::Field(field) = field {
+                self.note_truth(file, field.get())?;
+            }
         }
+        Ok(())
     }
 
     /// Notes a keysym of a statement that no key gives, and what that leads to.
@@ -101,12 +113,18 @@ impl Reader<'_, '_, '_> {
             .add(WarningKind::Idle, At { file, span }, message)
     }
 
-    /// Notes an entry of a modifier map for a keysym that no key gives.
-    pub(crate) fn note_map_entry(&mut self, file: u32, entry: &Entry) -> Result<(), AllocError> {
-        match entry {
-            Entry::Symbol(symbol) => self.note_ungiven(file, symbol, "no key is mapped by it"),
-            Entry::KeyName(_) => Ok(()),
+    /// Notes entries of a modifier map for keysyms that no key gives.
+    pub(crate) fn note_map_entries(
+        &mut self,
+        file: u32,
+        entries: &[Entry],
+    ) -> Result<(), AllocError> {
+        for entry in entries {
+            if let Entry::Symbol(symbol) = entry {
+                self.note_ungiven(file, symbol, "no key is mapped by it")?;
+            }
         }
+        Ok(())
     }
 
     /// Notes an interpretation for a keysym that no key gives.
@@ -160,10 +178,10 @@ impl Reader<'_, '_, '_> {
         let is_sought = (0x100..0x11_0000).contains(&value)
             && self.warnings.has_room(WarningKind::Idle, file)
             && self.takes_number();
-        if !is_sought || crate::keysyms::has_name(value) {
+        if !is_sought || has_name(value) {
             return Ok(());
         }
-        let span: Span = number.span;
+        let span = number.span;
         let message = format_args!(
             "0x{value:x} is the number of no keysym that has a name; the keysym of the character is U{value:04X}"
         );

@@ -86,7 +86,10 @@ impl Reader<'_, '_, '_> {
         let span = field.span;
         let at = At { file, span };
         match entry_mask(words, field, b"map") {
-            Some(EntryMask::Beyond(word)) => self.note_beyond(at, word),
+            Some(EntryMask::Beyond(mask, word)) => {
+                maps.add(mask);
+                self.note_beyond(at, word)
+            }
             Some(EntryMask::Of(mask)) if maps.has(mask) => self.warnings.add(
                 WarningKind::Repeated,
                 at,
@@ -111,7 +114,7 @@ impl Reader<'_, '_, '_> {
         let span = field.span;
         let at = At { file, span };
         match entry_mask(words, field, b"preserve") {
-            Some(EntryMask::Beyond(word)) => self.note_beyond(at, word),
+            Some(EntryMask::Beyond(_, word)) => self.note_beyond(at, word),
             Some(EntryMask::Of(mask)) if !maps.has(mask) => {
                 maps.add(mask);
                 self.warnings.add(
