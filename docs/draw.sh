@@ -9,6 +9,8 @@ fi
 picture=$(dirname "$0")/keyboard.svg
 part=$(mktemp "$picture.XXXXXX")
 trap 'rm -f "$part"' EXIT
-"$1" show --layout de --svg > "$part"
+# The list of keys that aren't on the picture of a PC keyboard is cut off.
+"$1" show --layout de --svg |
+    sed '1s/viewBox="0 0 \([0-9]*\) [0-9]*" width="[0-9]*" height="[0-9]*"/viewBox="0 0 \1 830" width="\1" height="830"/' > "$part"
 chmod 644 "$part"
 mv "$part" "$picture"

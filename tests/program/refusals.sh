@@ -106,7 +106,7 @@ if [ "$(id -u)" -ne 0 ]; then
 fi
 
 # What it says of what stands in the place of an image.
-gives 1 'I2 Magic' print source
+gives 1 'I2 Magic' dump source
 tells "error: no image but a keymap's source: 'xkc compile FILE OUT' makes an image of it"
 printf '// of mine\n\ndefault partial alphanumeric_keys\nxkb_symbols "mine" { key <A> { [a] }; };\n' > kind
 gives 1 'I2 Magic' show kind

@@ -17,9 +17,9 @@ gives 0 "$("$program" show --svg two)" show --svg source
 gives 0 "$answers" replay --names names including map=map < events
 gives 0 "$text" print --names names including map=map
 gives 0 "$("$program" find two a)" find --names names including a map=map
-mkdir -p folder/symbols
-cp map folder/symbols/map
-gives 0 "$("$program" find two a)" find --names names -I folder including a
+mkdir -p own_folder/symbols
+cp map own_folder/symbols/map
+gives 0 "$("$program" find two a)" find --names names -I own_folder including a
 gives 1 'F9 FileMissing at 0:61-66' print including
 says "including:1:62: error: no file 'map' is handed in"
 gives 1 'I2 Magic' dump source
@@ -77,7 +77,7 @@ same source compile source link
 same source compile link source
 same map compile --names names including ./map map=map
 same names compile --names names including ./names map=map
-same folder/symbols/map compile --names names -I folder including folder/symbols/map
+same own_folder/symbols/map compile --names names -I own_folder including own_folder/symbols/map
 same one upgrade one ./one
 gives 0 "$notes" compile another here/out
 holds 'an image by a path through a link' cmp -s out two

@@ -3,6 +3,7 @@
 
 mod failing;
 mod hearing;
+mod identity;
 mod keeping;
 mod looking;
 mod named;

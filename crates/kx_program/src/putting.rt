@@ -1,14 +1,13 @@
 //! Where an image is written.
+use crate::identity::Identity;
 use crate::usage::refuse_words;
 use crate::words::INPUT;
 use crate::writing::{Standing, standing_at, write_over};
 use kx_explain::Text;
 use kx_failure::Failure;
-use std::fs::Metadata;
+use std::io;
 use std::io::Write;
-use std::os::unix::fs::MetadataExt;
 use std::rt::Files as FileSystem;
-use std::{fs, io};
 
 /// Whether a path is standard output's.
 pub(crate) fn is_output(path: &str) -> bool {
@@ -26,31 +25,6 @@ fn last_name(path: &str) -> &str {
     }
 }
 
-/// What tells a file from all others.
-#[derive(Clone, Copy, PartialEq, Eq)]
-struct Identity {
-    device: u64,
-    node: u64,
-}
-
-impl Identity {
-    /// Of a file that a file system numbers.
-    fn of(found: &Metadata) -> Option<Identity> {
-        match found.ino() {
-            0 => None,
-            node => Some(Identity {
-                device: found.dev(),
-                node,
-            }),
-        }
-    }
-
-    /// Of the file to which a path leads.
-    fn at(rt: &impl FileSystem, path: &str) -> Option<Identity> {
-        Identity::of(&fs::metadata(rt, path).ok()?)
-    }
-}
-
 fn write_output<'a>(rt: &impl Print, bytes: &[u8]) -> Result<(), Failure<'a>> {
     let mut out = io::writer(rt);
     match out.write_all(bytes) {
@@ -63,7 +37,9 @@ fn write_output<'a>(rt: &impl Print, bytes: &[u8]) -> Result<(), Failure<'a>> {
 #[derive(Clone, Copy)]
 pub(crate) struct Put<'a, 't> {
     pub out: &'a str,
-    /// The paths of files that the words name.
+    /// Of the source, where it is a file.
+    pub source: Option<Identity>,
+    /// The paths of other files that the words name.
     pub named: &'t [&'t str],
     /// What was found in folders.
     pub texts: &'t [Text<'t>],

@@ -1,6 +1,7 @@
 //! What the program does.
 use crate::failing::{fail, fail_aside, with_line};
 use crate::hearing::{Heard, lines_in};
+use crate::identity::Identity;
 use crate::keeping::Kept;
 use crate::looking::{find_in_keymap, print_names, show_keymap};
 use crate::named::{print_list, print_source, read_keymap, show_asked};
@@ -74,8 +75,9 @@ fn compile_to<'a>(
     let names = read_names(rt, task.names)?;
     let source = task.source;
     let includes = &task.includes;
-    let bytes = read_source(rt, source, includes, task.telling == Telling::Nothing)?;
-    let gathered = gather(rt, bytes, includes)?;
+    let read = read_source(rt, source, includes, task.telling == Telling::Nothing)?;
+    let identity = read.identity;
+    let gathered = gather(rt, read.bytes, includes)?;
     let handed = gathered.handed(rt.alloc(), includes)?;
     let texts = Texts {
         source: Text {
@@ -86,25 +88,38 @@ fn compile_to<'a>(
         files: handed.texts.as_slice(),
     };
     let noted = Noted::new(task.telling, handed.installed.as_slice());
-    let outcome = compile_texts(rt, task, &names, texts, &gathered.files, noted);
+    let read = Compiled {
+        identity,
+        texts,
+        files: &gathered.files,
+    };
+    let outcome = compile_texts(rt, task, &names, read, noted);
     if let Err(Failure::Source(fault)) = &outcome {
         show_asked(rt, *fault, source, includes);
     }
     outcome
 }
 
-/// Compiles a source with the files that it may include.
+/// A source that was read, with the files that it may include.
+#[derive(Clone, Copy)]
+struct Compiled<'t> {
+    identity: Option<Identity>,
+    texts: Texts<'t>,
+    files: &'t Files,
+}
+
+/// Compiles a source, and answers the status to end with.
 fn compile_texts<'a>(
     rt: &(impl FileSystem + Print + Eprint + AllocGlobal),
     task: &Compile<'a>,
     names: &NameTable,
-    texts: Texts,
-    files: &Files,
+    read: Compiled,
     mut noted: Noted,
 ) -> Result<u8, Failure<'a>> {
-    match compile_once(rt.alloc(), texts.source.bytes, files, names, &mut noted) {
+    let texts = read.texts;
+    match compile_once(rt.alloc(), texts.source.bytes, read.files, names, &mut noted) {
         Ok((bytes, notes)) => {
-            let status = put_compiled(rt, task, texts, bytes.as_slice())?;
+            let status = put_compiled(rt, task, read, bytes.as_slice())?;
             if status == 0 {
                 show_noted(rt, &noted, texts);
                 print_notes(rt, task.image, notes)?;
@@ -122,25 +137,23 @@ fn compile_texts<'a>(
 fn put_compiled<'a>(
     rt: &(impl FileSystem + Print + Eprint + AllocGlobal),
     task: &Compile<'a>,
-    texts: Texts,
+    read: Compiled,
     bytes: &[u8],
 ) -> Result<u8, Failure<'a>> {
-    let named = paths_in(rt.alloc(), task)?;
+    let named = other_paths_in(rt.alloc(), task)?;
     let put = Put {
         out: task.image,
+        source: read.identity,
         named: named.as_slice(),
-        texts: texts.files,
+        texts: read.texts.files,
         folders: task.includes.folders.as_slice(),
     };
     put_image(rt, put, bytes)
 }
 
-/// The paths of files that the words name to be read.
-fn paths_in<'a>(alloc: Global, task: &Compile<'a>) -> Result<Vec<&'a str>, AllocError> {
+/// The paths of files that the words name to be read, but for the source.
+fn other_paths_in<'a>(alloc: Global, task: &Compile<'a>) -> Result<Vec<&'a str>, AllocError> {
     let mut paths = Vec::new(alloc);
-    if let Source::File(path) = task.source {
-        paths.push(path)?;
-    }
     if let Some(path) = task.names {
         paths.push(path)?;
     }
@@ -316,6 +329,7 @@ fn upgrade_image<'a>(
         Ok(()) => {
             let put = Put {
                 out: newer,
+                source: None,
                 named: &[image],
                 texts: &[],
                 folders: &[],

@@ -229,6 +229,18 @@ fn with_file<'a>(
     }
 }
 
+/// Adds the word for files that a source may include, but for where a call has no option: more words than it takes are read anew.
+fn with_files<'a>(
+    alloc: Global,
+    command: Command<'a>,
+    shape: Shape,
+) -> Result<Command<'a>, AllocError> {
+    match shape {
+        Shape::Bare => Ok(command),
+        Shape::Whole | Shape::Names => command.arg(files(alloc)),
+    }
+}
+
 /// Adds the options of a command that compiles.
 fn with_options<'a>(
     alloc: Global,
@@ -250,24 +262,21 @@ fn try_command<'a>(alloc: Global, shape: Shape) -> Result<Command<'a>, AllocErro
     let command = Command::new(alloc, "try").about(
         "Answers events from a source on standard input (as without words), or by names",
     );
-    with_options(alloc, command, shape)?.arg(files(alloc))
+    with_files(alloc, with_options(alloc, command, shape)?, shape)
 }
 
 fn compile_command<'a>(alloc: Global, shape: Shape) -> Result<Command<'a>, AllocError> {
     let command = Command::new(alloc, "compile").about(
         "Compiles a source, or a layout by its names, to an image",
     );
-    with_file(
-        with_options(alloc, command, shape)?,
-        path(alloc, "SOURCE", "The keymap's source; - is standard input"),
-        shape,
-    )?
-    .arg(path(
+    let source = path(alloc, "SOURCE", "The keymap's source; - is standard input");
+    let out = path(
         alloc,
         "OUT",
         "The image that is written; - is standard output",
-    ))?
-    .arg(files(alloc))
+    );
+    let command = with_file(with_options(alloc, command, shape)?, source, shape)?.arg(out)?;
+    with_files(alloc, command, shape)
 }
 
 /// Adds the word for an image, or the words for names in its place.
@@ -297,14 +306,14 @@ fn replay_command<'a>(alloc: Global, shape: Shape) -> Result<Command<'a>, AllocE
     let command = Command::new(alloc, "replay").about(
         "Answers lines of events on standard input by a keymap",
     );
-    with_keymap(alloc, command, shape)?.arg(files(alloc))
+    with_files(alloc, with_keymap(alloc, command, shape)?, shape)
 }
 
 fn print_command<'a>(alloc: Global, shape: Shape) -> Result<Command<'a>, AllocError> {
     let command = Command::new(alloc, "print").about(
         "Prints all that a keymap's image tells as the source of a keymap",
     );
-    with_keymap(alloc, command, shape)?.arg(files(alloc))
+    with_files(alloc, with_keymap(alloc, command, shape)?, shape)
 }
 
 fn dump_command<'a>(alloc: Global) -> Result<Command<'a>, AllocError> {
@@ -327,7 +336,7 @@ fn show_command<'a>(alloc: Global, shape: Shape) -> Result<Command<'a>, AllocErr
         .about("Prints a picture of a keymap's keyboard")
         .arg(group)?
         .arg(svg)?;
-    with_keymap(alloc, command, shape)?.arg(files(alloc))
+    with_files(alloc, with_keymap(alloc, command, shape)?, shape)
 }
 
 fn find_command<'a>(alloc: Global, shape: Shape) -> Result<Command<'a>, AllocError> {
@@ -335,9 +344,7 @@ fn find_command<'a>(alloc: Global, shape: Shape) -> Result<Command<'a>, AllocErr
         "Prints each key, group and level that gives a keysym, and the modifiers to hold",
     );
     let keysym = path(alloc, "KEYSYM", "The keysym's name, or a character");
-    with_keymap(alloc, command, shape)?
-        .arg(keysym)?
-        .arg(files(alloc))
+    with_files(alloc, with_keymap(alloc, command, shape)?.arg(keysym)?, shape)
 }
 
 fn rules_command<'a>(alloc: Global) -> Result<Command<'a>, AllocError> {

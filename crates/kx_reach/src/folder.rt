@@ -1,5 +1,5 @@
 //! Folders under which files are looked for.
-use std::alloc::AllocError;
+use std::alloc::{AllocError, Global};
 use std::io::{Read, Seek, SeekFrom};
 use std::rt::Files;
 use std::{fs, io};
@@ -63,16 +63,23 @@ fn room_for(file: &mut impl Seek) -> io::Result<u64> {
     }
 }
 
-/// The bytes of a file. Room for them is made at once where their count is known, so that none of them is moved.
+/// The bytes of a file that is open. Room for them is made at once where their count is known, so that none of them is moved.
+///
+/// # Errors
+/// Where it can't be read, or no memory.
+pub fn read_opened(alloc: Global, file: &mut (impl Read + Seek)) -> io::Result<Vec<u8>> {
+    let room = room_for(file)?;
+    let mut bytes = Vec::with_capacity(alloc, room as usize)?;
+    file.read_to_end(&mut bytes)?;
+    Ok(bytes)
+}
+
+/// The bytes of a file.
 ///
 /// # Errors
 /// Where it can't be read, or no memory.
 pub fn read_file(rt: &(impl Files + AllocGlobal), path: &str) -> io::Result<Vec<u8>> {
-    let mut file = fs::open(rt, path)?;
-    let room = room_for(&mut file)?;
-    let mut bytes = Vec::with_capacity(rt.alloc(), room as usize)?;
-    file.read_to_end(&mut bytes)?;
-    Ok(bytes)
+    read_opened(rt.alloc(), &mut fs::open(rt, path)?)
 }
 
 impl Folder {

@@ -16,7 +16,7 @@ mod words;
 
 pub use ahead::{Ahead, source_in};
 pub use chain::{chain_to, is_in};
-pub use folder::{Folder, read_file};
+pub use folder::{Folder, read_file, read_opened};
 pub use kinds::kind_name;
 pub use search::{FindFault, Found, find_files};
 pub use text::{Text, Texts, bytes_in, is_within};
