@@ -67,16 +67,21 @@ fn begins_with(line: &[u8], words: &[&str]) -> bool {
     words.iter().any(|word| line.starts_with(word.as_bytes()))
 }
 
-/// Whether a word stands in a line.
-fn has_word(line: &[u8], word: &[u8]) -> bool {
-    line.windows(word.len()).any(|bytes| bytes == word)
+/// Whether a keymap's word stands in a line, behind blanks or none.
+fn has_keymap(line: &[u8]) -> bool {
+    for word in line.split(|byte| byte.is_ascii_whitespace()) {
+        if word.starts_with(b"xkb_keymap") {
+            return true;
+        }
+    }
+    false
 }
 
 /// What a line tells of its file; nothing, where it may stand in several kinds.
 fn kind_of_line(line: &[u8]) -> Option<FileKind> {
     let line = line.trim_ascii_start();
     if begins_with(line, MAP_WORDS.as_slice()) {
-        return Some(if has_word(line, b"xkb_keymap") {
+        return Some(if has_keymap(line) {
             FileKind::Source
         } else {
             FileKind::Maps
