@@ -273,9 +273,7 @@ pub(crate) fn read_source<'a>(
             Ok(read) => Ok(read),
             Err(fault) => Err(Failure::of_file(&fault, path)),
         },
-        Source::Names(asked) => {
-            Ok(ReadSource::of(source_named(rt, &asked, folders, is_quiet)?))
-        }
+        Source::Names(asked) => { Ok(ReadSource::of(source_named(rt, &asked, folders, is_quiet)?)) }
     }
 }
 

@@ -117,7 +117,13 @@ fn compile_texts<'a>(
     mut noted: Noted,
 ) -> Result<u8, Failure<'a>> {
     let texts = read.texts;
-    match compile_once(rt.alloc(), texts.source.bytes, read.files, names, &mut noted) {
+    match compile_once(
+        rt.alloc(),
+        texts.source.bytes,
+        read.files,
+        names,
+        &mut noted,
+    ) {
         Ok((bytes, notes)) => {
             let status = put_compiled(rt, task, read, bytes.as_slice())?;
             if status == 0 {

@@ -344,7 +344,11 @@ fn find_command<'a>(alloc: Global, shape: Shape) -> Result<Command<'a>, AllocErr
         "Prints each key, group and level that gives a keysym, and the modifiers to hold",
     );
     let keysym = path(alloc, "KEYSYM", "The keysym's name, or a character");
-    with_files(alloc, with_keymap(alloc, command, shape)?.arg(keysym)?, shape)
+    with_files(
+        alloc,
+        with_keymap(alloc, command, shape)?.arg(keysym)?,
+        shape,
+    )
 }
 
 fn rules_command<'a>(alloc: Global) -> Result<Command<'a>, AllocError> {
