@@ -10,9 +10,6 @@ use kx_ordered::{Ordered, OwnedName};
 use std::alloc::{AllocError, Global};
 use std::marker::Model;
 
-/// So many words are looked through one by one: most are asked for without options, of which there is an empty one then.
-const FEW: usize = 4;
-
 /// Words, each once.
 #[derive(Drop)]
 struct WordSet {
@@ -47,17 +44,6 @@ impl WordSet {
         ensures { result ≡ has self.now word.now }
     {
         self.words.place_of_owned_name(word).is_some()
-    }
-
-    /// The same, word by word: faster where there are few.
-    #[tactic(auto, using(crate::proofs::Keyed::any_mapped))]
-    fn has_among_few(&self, word: &[u8]) -> bool
-        ensures { result ≡ has self.now word.now }
-    {
-        self.words
-            .as_slice()
-            .iter()
-            .any(|entry| word == entry.0.as_slice())
     }
 
     fn place_of(&self, word: &[u8]) -> Option<usize> {
@@ -234,9 +220,6 @@ impl<'a> Names<'a> {
     pub(crate) fn has_option(&self, word: &[u8]) -> bool
         ensures { result ≡ has self.now.options word.now }
     {
-        if self.options.words.len() <= FEW {
-            return self.options.has_among_few(word);
-        }
         self.options.has(word)
     }
 
