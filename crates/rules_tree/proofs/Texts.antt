@@ -76,12 +76,25 @@ made_slices c =
     ++ (part_slices (codes "xkb_compat") c.compat
     ++ part_slices (codes "xkb_symbols") c.symbols)))
 
+-- behind the text between quotes
+abbrev behind : List ℕ
+behind = codes " };" ++ 10 ∷ []
+
+-- before it
+abbrev before : List ℕ
+before = codes " { include " ++ (34 ∷ [])
+
+line_is : (head text : List ℕ) → section_line head text ≡ head ++ (codes " { include " ++ ((34 ∷ (text ++ (34 ∷ []))) ++ behind))
+line_is head text =
+    append_assoc (head ++ before) text (34 ∷ behind) ∙ append_assoc head before (text ++ (34 ∷ behind))
+    ∙ ap (λ xs. head ++ (codes " { include " ++ (34 ∷ xs))) (sym (append_assoc text (34 ∷ []) behind))
+
 part_lexes : (head text : List ℕ) → is_text_word head ≡ true → list_all is_plain text ≡ true → Lexes (section_line head text) (part_slices head text)
 part_lexes head text h all =
     let quoted = string_lexes text (λ rest. closes text rest all) in
-    let inner = then_lexes (marks_lex (codes " { ") refl) (before_lexes (one_word (codes "include") refl) refl (then_lexes (marks_lex (codes " ") refl) (then_lexes quoted (marks_lex (codes " };" ++ 10 ∷ []) refl)))) in
-    let whole = before_lexes (one_word head h) refl inner in
-    subst (λ xs. Lexes (head ++ (codes " { include " ++ 34 ∷ xs)) (part_slices head text)) (append_assoc text (34 ∷ []) (codes " };" ++ 10 ∷ [])) whole
+    let inner = then_lexes (marks_lex (codes " { ") refl) (before_lexes (one_word (codes "include") refl) refl (then_lexes (marks_lex (codes " ") refl) (then_lexes quoted (marks_lex behind refl)))) in
+    let whole : Lexes (head ++ (codes " { include " ++ ((34 ∷ (text ++ (34 ∷ []))) ++ behind))) (part_slices head text) = before_lexes (one_word head h) refl inner in
+    subst (λ bs. Lexes bs (part_slices head text)) (sym (line_is head text)) whole
 
 -- each component's bytes stand for themselves
 pub record PlainParts (c : Components) : Type 0 where
@@ -108,7 +121,7 @@ made_lexes c writable =
     let compat = part_lexes (codes "xkb_compat") c.compat refl all.compat in
     let symbols = part_lexes (codes "xkb_symbols") c.symbols refl all.symbols in
     let end : Lexes (codes "};" ++ 10 ∷ []) closed = marks_lex (codes "};" ++ 10 ∷ []) refl in
-    subst (Lexes (source_of c)) (joined (word (codes "xkb_keymap") ∷ mark 123 ∷ []) _ _ _ _ closed)
+    subst (Lexes (source_of c)) (joined (word (codes "xkb_keymap") ∷ mark 123 ∷ []) (part_slices (codes "xkb_keycodes") c.keycodes) (part_slices (codes "xkb_types") c.types) (part_slices (codes "xkb_compat") c.compat) (part_slices (codes "xkb_symbols") c.symbols) closed)
     (then_lexes (then_lexes (then_lexes (then_lexes (then_lexes head keycodes) types) compat) symbols) end)
   where
     joined : (a b c d e f : List Slice) → ((((a ++ b) ++ c) ++ d) ++ e) ++ f ≡ a ++ ((b ++ (c ++ (d ++ e))) ++ f)
