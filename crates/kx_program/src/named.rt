@@ -140,7 +140,7 @@ pub(crate) fn read_keymap<'a>(
 ) -> Result<Vec<u8>, Failure<'a>> {
     let source = keymap.source;
     let includes = &keymap.includes;
-    let bytes = read_source(rt, source, includes, false)?.bytes;
+    let bytes = read_source(rt, source, includes, false)?;
     if matches!(source, Source::File(_)) && FileKind::of(bytes.as_slice()) != FileKind::Source {
         return Ok(bytes);
     }

@@ -37,8 +37,8 @@ fn write_output<'a>(rt: &impl Print, bytes: &[u8]) -> Result<(), Failure<'a>> {
 #[derive(Clone, Copy)]
 pub(crate) struct Put<'a, 't> {
     pub out: &'a str,
-    /// Of the source, where it is a file.
-    pub source: Option<Identity>,
+    /// The path of the source, where it is a file, and how many bytes it gave.
+    pub source: Option<(&'t str, usize)>,
     /// The paths of other files that the words name.
     pub named: &'t [&'t str],
     /// What was found in folders.
@@ -50,22 +50,38 @@ impl Put<'_, '_> {
     /// Whether the file that is written is one of those that are read. What was found has OUT's own name, so that no other is
     /// looked at.
     fn is_read(&self, rt: &(impl FileSystem + AllocGlobal), standing: &Standing) -> bool {
-        let identity = match standing {
-            Standing::Nothing => None,
-            Standing::Plain(found) => Identity::of(found),
-            Standing::Other => Identity::at(rt, self.out),
+        let (identity, length) = match standing {
+            Standing::Nothing => (None, None),
+            Standing::Plain(found) => (Identity::of(found), Some(found.len())),
+            Standing::Other => (Identity::at(rt, self.out), None),
         };
         if identity.is_none() {
             return false;
         }
-        self.named
-            .iter()
-            .any(|path| Identity::at(rt, path) == identity)
+        self.is_source(rt, identity, length)
+            || self
+                .named
+                .iter()
+                .any(|path| Identity::at(rt, path) == identity)
             || self
                 .texts
                 .iter()
                 .filter(|text| last_name(text.path) == last_name(self.out))
                 .any(|text| self.is_found(rt, text.path, identity))
+    }
+
+    /// Whether a file is the source; one of another length isn't, which spares most calls a question.
+    fn is_source(
+        &self,
+        rt: &impl FileSystem,
+        identity: Option<Identity>,
+        length: Option<u64>,
+    ) -> bool {
+        match (self.source, length) {
+            (None, _) => false,
+            (Some((_, given)), Some(length)) if length != given as u64 => false,
+            (Some((path, _)), _) => Identity::at(rt, path) == identity,
+        }
     }
 
     /// Whether a path below one of the folders leads to a file.

@@ -1,18 +1,16 @@
 //! The files that a task reads.
 use crate::failing::unusable;
-use crate::identity::Identity;
 use crate::named::source_named;
 use crate::words::{INPUT, Included, Includes, Source};
 use ks_core::NameTable;
 use kx_explain::{Text, Texts};
 use kx_failure::Failure;
-use kx_reach::{FindFault, Folder, Found, find_files, read_file, read_opened};
+use kx_reach::{FindFault, Folder, Found, find_files, read_file};
 use kx_tool::{Files, ReplayFault};
 use std::alloc::{AllocError, Global};
-use std::fs::OpenFile;
 use std::io::Read;
 use std::rt::Files as FileSystem;
-use std::{fs, io, mem};
+use std::{io, mem};
 
 /// Reads a file.
 pub(crate) fn read<'a>(
@@ -232,48 +230,16 @@ impl Gathered {
     }
 }
 
-/// A source's bytes, and which file they were read from, if from one.
-#[derive(Drop)]
-pub(crate) struct ReadSource {
-    pub bytes: Vec<u8>,
-    pub identity: Option<Identity>,
-}
-
-impl ReadSource {
-    /// Bytes that no file has.
-    fn of(bytes: Vec<u8>) -> ReadSource {
-        ReadSource {
-            bytes,
-            identity: None,
-        }
-    }
-}
-
-fn read_known(rt: &(impl FileSystem + AllocGlobal), path: &str) -> io::Result<ReadSource> {
-    let mut file = fs::open(rt, path)?;
-    let identity = match file.metadata() {
-        Ok(found) => Identity::of(&found),
-        Err(_) => None,
-    };
-    let bytes = read_opened(rt.alloc(), &mut file)?;
-    Ok(ReadSource { bytes, identity })
-}
-
 /// Reads a source, or makes it of names.
 pub(crate) fn read_source<'a>(
     rt: &(impl FileSystem + Input + Eprint + AllocGlobal),
     source: Source<'a>,
     includes: &Includes<'a>,
     is_quiet: bool,
-) -> Result<ReadSource, Failure<'a>> {
-    let folders = includes.folders.as_slice();
+) -> Result<Vec<u8>, Failure<'a>> {
     match source {
-        Source::File(INPUT) => Ok(ReadSource::of(read_input(rt)?)),
-        Source::File(path) => match read_known(rt, path) {
-            Ok(read) => Ok(read),
-            Err(fault) => Err(Failure::of_file(&fault, path)),
-        },
-        Source::Names(asked) => { Ok(ReadSource::of(source_named(rt, &asked, folders, is_quiet)?)) }
+        Source::File(path) => read_or_input(rt, path),
+        Source::Names(asked) => source_named(rt, &asked, includes.folders.as_slice(), is_quiet),
     }
 }
 

@@ -1,7 +1,6 @@
 //! What the program does.
 use crate::failing::{fail, fail_aside, with_line};
 use crate::hearing::{Heard, lines_in};
-use crate::identity::Identity;
 use crate::keeping::Kept;
 use crate::looking::{find_in_keymap, print_names, show_keymap};
 use crate::named::{print_list, print_source, read_keymap, show_asked};
@@ -13,7 +12,7 @@ use crate::sources::{
     read_source, texts_of,
 };
 use crate::usage::{explain, out_of_memory};
-use crate::words::{Compile, Includes, Keymap, Source, Task, task_in};
+use crate::words::{Compile, INPUT, Includes, Keymap, Source, Task, task_in};
 use ks_core::{Feed, Lent, NameTable, Notes};
 use kx_explain::{Text, Texts};
 use kx_failure::{Failure, FileKind};
@@ -75,9 +74,8 @@ fn compile_to<'a>(
     let names = read_names(rt, task.names)?;
     let source = task.source;
     let includes = &task.includes;
-    let read = read_source(rt, source, includes, task.telling == Telling::Nothing)?;
-    let identity = read.identity;
-    let gathered = gather(rt, read.bytes, includes)?;
+    let bytes = read_source(rt, source, includes, task.telling == Telling::Nothing)?;
+    let gathered = gather(rt, bytes, includes)?;
     let handed = gathered.handed(rt.alloc(), includes)?;
     let texts = Texts {
         source: Text {
@@ -89,7 +87,6 @@ fn compile_to<'a>(
     };
     let noted = Noted::new(task.telling, handed.installed.as_slice());
     let read = Compiled {
-        identity,
         texts,
         files: &gathered.files,
     };
@@ -103,7 +100,6 @@ fn compile_to<'a>(
 /// A source that was read, with the files that it may include.
 #[derive(Clone, Copy)]
 struct Compiled<'t> {
-    identity: Option<Identity>,
     texts: Texts<'t>,
     files: &'t Files,
 }
@@ -149,12 +145,20 @@ fn put_compiled<'a>(
     let named = other_paths_in(rt.alloc(), task)?;
     let put = Put {
         out: task.image,
-        source: read.identity,
+        source: read_path_of(task.source, read.texts.source.bytes.len()),
         named: named.as_slice(),
         texts: read.texts.files,
         folders: task.includes.folders.as_slice(),
     };
     put_image(rt, put, bytes)
+}
+
+/// The path of a source that was read from a file, with how many bytes it gave.
+fn read_path_of(source: Source, length: usize) -> Option<(&str, usize)> {
+    match source {
+        Source::File(INPUT) | Source::Names(_) => None,
+        Source::File(path) => Some((path, length)),
+    }
 }
 
 /// The paths of files that the words name to be read, but for the source.
