@@ -6,16 +6,22 @@ use std::io;
 /// So many bytes of the last line are kept.
 const MOST_KEPT: usize = 128;
 
-/// A reader that keeps the lines among the bytes that it gave last, so that one that is refused can be shown.
+/// The lines among the bytes that were given last.
 #[derive(Drop)]
-pub struct Heard<F> {
-    pub feed: F,
+struct Lines {
     /// The front of the line that those bytes went on with, and those bytes.
     bytes: Vec<u8>,
     /// How many lines ended before.
     before: u64,
     /// Whether no memory was left for them.
     is_lost: bool,
+}
+
+/// A reader that keeps the lines among the bytes that it gave last, so that one that is refused can be shown.
+#[derive(Drop)]
+pub struct Heard<F> {
+    pub feed: F,
+    lines: Lines,
 }
 
 /// How many lines end in bytes.
@@ -30,18 +36,8 @@ fn last_line(bytes: &[u8]) -> &[u8] {
     bytes.rsplit(|byte| *byte == b'\n').next().unwrap_or(bytes)
 }
 
-impl<F: Feed> Heard<F> {
-    pub fn new(alloc: Global, feed: F) -> Heard<F> {
-        Heard {
-            feed,
-            bytes: Vec::new(alloc),
-            before: 0,
-            is_lost: false,
-        }
-    }
-
-    /// The line of a number, counted from 1, where it is among those that are kept.
-    pub fn line(&self, number: u64) -> Option<&[u8]> {
+impl Lines {
+    fn line(&self, number: u64) -> Option<&[u8]> {
         if self.is_lost {
             return None;
         }
@@ -70,6 +66,25 @@ impl<F: Feed> Heard<F> {
     }
 }
 
+impl<F: Feed> Heard<F> {
+    pub fn new(alloc: Global, feed: F) -> Heard<F> {
+        let bytes = Vec::new(alloc);
+        Heard {
+            feed,
+            lines: Lines {
+                bytes,
+                before: 0,
+                is_lost: false,
+            },
+        }
+    }
+
+    /// The line of a number, counted from 1, where it is among those that are kept.
+    pub fn line(&self, number: u64) -> Option<&[u8]> {
+        self.lines.line(number)
+    }
+}
+
 impl<F: Feed> Feed for Heard<F> {
     ghost left = { λ s. F.left s.feed };
 
@@ -79,7 +94,7 @@ impl<F: Feed> Feed for Heard<F> {
 
     fn take(&mut self, buffer: &mut [u8]) -> io::Result<usize> {
         let count = self.feed.take(buffer)?;
-        self.keep(&buffer[..count]);
+        self.lines.keep(&buffer[..count]);
         Ok(count)
     }
 }
