@@ -742,6 +742,16 @@ fn is_option(word: &str) -> bool {
     word.starts_with('-') && word != "--quiet"
 }
 
+/// The words as a command of this shape takes them.
+fn matches_by<'a>(
+    alloc: Global,
+    first: &str,
+    words: &'a [String],
+    shape: Shape,
+) -> Result<ArgMatches<'a>, Error> {
+    command_for(alloc, first, shape)?.try_get_matches_from(words)
+}
+
 /// The words as the command that the first of them names takes them. Options that aren't written are made only to tell what
 /// is wrong.
 fn matches_of<'a>(
@@ -750,12 +760,14 @@ fn matches_of<'a>(
     words: &'a [String],
     shape: Shape,
 ) -> Result<ArgMatches<'a>, Error> {
-    let outcome = command_for(alloc, first, shape)?.try_get_matches_from(words);
-    match outcome {
-        Err(error) if shape == Shape::Bare && error.kind() != ErrorKind::OutOfMemory => {
-            command_for(alloc, first, Shape::Whole)?.try_get_matches_from(words)
+    match matches_by(alloc, first, words, shape) {
+        Ok(matches) => Ok(matches),
+        Err(error) => {
+            if shape != Shape::Bare || error.kind() == ErrorKind::OutOfMemory {
+                return Err(error);
+            }
+            matches_by(alloc, first, words, Shape::Whole)
         }
-        outcome => outcome,
     }
 }
 
