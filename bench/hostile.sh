@@ -4,19 +4,26 @@
 set -eu
 . "$(dirname "$0")/program.sh"
 
-# run NAME [WORDS]: compiles $work/source
-run() {
+# timed NAME WORD..: runs `xkc compile` with these words
+timed() {
     name=$1
     shift
     least=1000000000
     for turn in 1 2 3; do
         start=$(date +%s%N)
-        "$program" compile "$work/source" "$work/image" "$@" > "$work/line" 2> /dev/null || true
+        "$program" compile "$@" > "$work/line" 2> /dev/null || true
         stop=$(date +%s%N)
         time=$(((stop - start) / 1000))
         [ "$time" -ge "$least" ] || least=$time
     done
     printf '%8d microseconds  %s: %s\n' "$least" "$name" "$(head -c 60 "$work/line")"
+}
+
+# run NAME [WORDS]: compiles $work/source
+run() {
+    name=$1
+    shift
+    timed "$name" "$work/source" "$work/image" "$@"
 }
 
 # include KIND WORD COUNT: a source that includes `a` so many times, by includes joined with WORD
@@ -168,15 +175,7 @@ front='! model = keycodes types compat
 named() {
     name=$1
     shift
-    least=1000000000
-    for turn in 1 2 3; do
-        start=$(date +%s%N)
-        "$program" compile --quiet -I "$rules" --rules r "$@" "$work/image" > "$work/line" 2> /dev/null || true
-        stop=$(date +%s%N)
-        time=$(((stop - start) / 1000))
-        [ "$time" -ge "$least" ] || least=$time
-    done
-    printf '%8d microseconds  %s: %s\n' "$least" "$name" "$(head -c 60 "$work/line")"
+    timed "$name" --quiet -I "$rules" --rules r "$@" "$work/image"
 }
 
 many=$(awk 'BEGIN { for (i = 0; i < 10000; i++) printf "%so%d", (i ? "," : ""), i }')

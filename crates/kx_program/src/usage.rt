@@ -11,6 +11,20 @@ use std::alloc::{AllocError, Global};
 use std::env::{Env, FillError};
 use std::fmt;
 
+/// What stands below the help of the whole program.
+pub(crate) const SESSION: &str = "\
+Without words a keymap's source is read from standard input, up to a line %%, and the lines after it are events:
+
+    down 38
+    up 38
+
+Each is answered by a line: the code, the direction, the keysyms, and the keyboard's state after the event:
+
+    38 down a consumed=none base=none latched=none locked=none group=1
+
+The status is 0, or 1 where something is refused, 2 where these words are wrong, and 3 where a file, the input or the
+output can't be used. A refusal is one line on standard output; what it means stands on standard error.";
+
 /// The status that wrong words end with.
 const USAGE: u8 = 2;
 

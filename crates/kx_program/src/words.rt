@@ -2,6 +2,7 @@
 use crate::naming::{
     are_by_names, asked_in, folders_in, lack_layouts, rules, rules_in, with_names,
 };
+use crate::usage::SESSION;
 use clap::error::ErrorKind;
 use clap::{Arg, ArgAction, ArgMatches, Command, Error};
 use kx_names::{Asked, Environment, Kind, Wanted};
@@ -12,20 +13,6 @@ const VERSION: &str = "0.1.0";
 
 /// The word for standard input in the place of a file that is read, and for standard output in the place of one that is written.
 pub const INPUT: &str = "-";
-
-/// What stands below the help of the whole program.
-const SESSION: &str = "\
-Without words a keymap's source is read from standard input, up to a line %%, and the lines after it are events:
-
-    down 38
-    up 38
-
-Each is answered by a line: the code, the direction, the keysyms, and the keyboard's state after the event:
-
-    38 down a consumed=none base=none latched=none locked=none group=1
-
-The status is 0, or 1 where something is refused, 2 where these words are wrong, and 3 where a file, the input or the
-output can't be used. A refusal is one line on standard output; what it means stands on standard error.";
 
 /// A file that a source may include: its name, and where it lies.
 #[derive(Clone, Copy, Debug, PartialEq, Eq)]
