@@ -268,6 +268,7 @@ impl Reader<'_, '_, '_> {
             };
             let name = str::from_utf8(name).unwrap_or("");
             self.note_key_groups(at, name, key, used, reached.as_slice())?;
+            self.note_replaced(code, name)?;
         }
         Ok(())
     }

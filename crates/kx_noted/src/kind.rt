@@ -22,10 +22,16 @@ pub enum WarningKind {
     Unreached,
     /// Keys with groups to which nothing leads, or which X11 doesn't have, and with types for groups that they don't have.
     Groups,
+    /// Statements that others of their kind replace.
+    Repeated,
+    /// Entries of types that can't be met, and modifiers of types without an entry.
+    Entries,
+    /// Statements that say nothing.
+    Idle,
 }
 
 /// How many kinds there are.
-pub(crate) const KIND_COUNT: usize = 8;
+pub(crate) const KIND_COUNT: usize = 11;
 
 /// The kinds in the order in which they are counted.
 pub static KINDS: [WarningKind; KIND_COUNT] = [
@@ -37,6 +43,9 @@ pub static KINDS: [WarningKind; KIND_COUNT] = [
     WarningKind::Again,
     WarningKind::Unreached,
     WarningKind::Groups,
+    WarningKind::Repeated,
+    WarningKind::Entries,
+    WarningKind::Idle,
 ];
 
 impl WarningKind {
@@ -51,6 +60,9 @@ impl WarningKind {
             WarningKind::Again => 5,
             WarningKind::Unreached => 6,
             WarningKind::Groups => 7,
+            WarningKind::Repeated => 8,
+            WarningKind::Entries => 9,
+            WarningKind::Idle => 10,
         }
     }
 
@@ -70,6 +82,9 @@ impl WarningKind {
             WarningKind::Again => "key is written again",
             WarningKind::Unreached => "group has levels to which nothing leads",
             WarningKind::Groups => "key has groups that can't be used",
+            WarningKind::Repeated => "statement is replaced by another",
+            WarningKind::Entries => "type has entries that can't be met",
+            WarningKind::Idle => "statement says nothing",
         }
     }
 
@@ -84,6 +99,9 @@ impl WarningKind {
             WarningKind::Again => "keys are written again",
             WarningKind::Unreached => "groups have levels to which nothing leads",
             WarningKind::Groups => "keys have groups that can't be used",
+            WarningKind::Repeated => "statements are replaced by others",
+            WarningKind::Entries => "types have entries that can't be met",
+            WarningKind::Idle => "statements say nothing",
         }
     }
 }

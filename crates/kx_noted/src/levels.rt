@@ -19,6 +19,14 @@ fn reached_in(key_type: &KeyType) -> Reached {
     reached
 }
 
+/// The first level after the first to which no entry of a type leads, from 1.
+pub(crate) fn unreached_level(key_type: &KeyType) -> Option<usize> {
+    let reached = reached_in(key_type);
+    let count = usize::from(key_type.levels());
+    let level = (1..count).find(|level| !reached.get(*level).copied().unwrap_or(true))?;
+    Some(level.saturating_add(1))
+}
+
 /// The levels to which the entries of each type lead, by its place; of a type that isn't declared each counts as one.
 pub(crate) fn reached_levels(alloc: Global, types: &Types) -> Result<Vec<Reached>, AllocError> {
     let mut all = Vec::new(alloc);

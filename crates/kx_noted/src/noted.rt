@@ -19,8 +19,17 @@ pub enum Telling {
 /// Goes through what was read of a source: the source first, then the author's files, then installed ones.
 fn note_all(alloc: Global, reader: &mut Reader) -> Result<(), AllocError> {
     let bodies = reader.read.bodies;
-    reader.note_own(&bodies.symbols)?;
-    reader.note_own(&bodies.compat)?;
+    for body in [
+        &bodies.symbols,
+        &bodies.compat,
+        &bodies.types,
+        &bodies.keycodes,
+    ] {
+        reader.note_own(body)?;
+    }
+    reader.note_files(&bodies.types, false)?;
+    reader.note_files(&bodies.keycodes, false)?;
+    reader.note_taken_codes(&bodies.keycodes)?;
     for is_installed in [false, true] {
         reader.note_files(&bodies.symbols, is_installed)?;
         reader.note_files(&bodies.compat, is_installed)?;

@@ -1,6 +1,7 @@
 //! What is passed over in statements.
 use crate::kind::WarningKind;
 use crate::names::{near_key, near_keysym};
+use crate::slips::Slips;
 use crate::warning::Warnings;
 use ks_core::Notes;
 use kx_actions::is_action_word;
@@ -8,8 +9,8 @@ use kx_explain::quoted;
 use kx_include::{Entry as MapEntry, Expansion, Map};
 use kx_lex::At;
 use kx_parse::{
-    BracePart, Call, Element, Entry, Field, Item, KeyField, KeyName, List, Setting, Statement,
-    Symbol, Value,
+    BracePart, Call, Element, Entry, Field, Item, KeyField, KeyName, List, Mode, Setting,
+    Statement, Symbol, Value,
 };
 use kx_source::ReadSource;
 use kx_symbols::symbol_keysym;
@@ -25,6 +26,10 @@ struct Met {
     at: At,
     /// The number of the map in which that stands.
     map: usize,
+    /// Whether one statement alone gives it something.
+    is_one: bool,
+    /// Where the author's text last replaces it.
+    replaced: Option<At>,
 }
 
 /// What was read of a source, what is said of it, and where each key was last given something.
@@ -36,11 +41,14 @@ pub(crate) struct Reader<'a, 'l, 'f> {
     /// By keycode.
     met: Box<Vec<Option<Met>>>,
     /// How many maps were gone through.
-    maps: usize,
+    pub maps: usize,
+    pub slips: Box<Slips>,
     /// For how many unknown names of keysyms, of keys and of types near ones are still looked for.
     keysyms_left: usize,
     keys_left: usize,
     types_left: usize,
+    /// For how many numbers of keysyms names are still looked for.
+    numbers_left: usize,
 }
 
 /// Nothing met of each keycode below a number.
@@ -50,6 +58,16 @@ fn nothing_met(alloc: Global, count: u16) -> Result<Vec<Option<Met>>, AllocError
         met.push(None)?;
     }
     Ok(met)
+}
+
+/// Whether a word is the U form of a keysym but for its first letter.
+fn is_character(word: &[u8]) -> bool {
+    match word {
+        [b'u', digits @ ..] => {
+            (4..=6).contains(&digits.len()) && digits.iter().all(u8::is_ascii_hexdigit)
+        }
+        _ => false,
+    }
 }
 
 /// Whether one more near name is looked for.
@@ -72,15 +90,18 @@ impl<'a, 'l, 'f> Reader<'a, 'l, 'f> {
     ) -> Result<Reader<'a, 'l, 'f>, AllocError> {
         let warnings = Box::new(alloc, Warnings::new(alloc, is_whole, installed)?)?;
         let met = Box::new(alloc, nothing_met(alloc, read.codes.end())?)?;
+        let slips = Box::new(alloc, Slips::new(alloc))?;
         Ok(Reader {
             read,
             warnings,
             installed,
             met,
             maps: 0,
+            slips,
             keysyms_left: MOST_SOUGHT,
             keys_left: MOST_SOUGHT,
             types_left: MOST_SOUGHT,
+            numbers_left: MOST_SOUGHT,
         })
     }
 
@@ -100,6 +121,19 @@ impl<'a, 'l, 'f> Reader<'a, 'l, 'f> {
         }
     }
 
+    /// Whether a name is looked for of a further number.
+    pub(crate) fn takes_number(&mut self) -> bool {
+        takes_one(&mut self.numbers_left)
+    }
+
+    /// Where the author's text replaces a key to which nothing else gives anything.
+    pub(crate) fn replaces_nothing(&self, code: u16) -> Option<At> {
+        match self.met.get(usize::from(code)) {
+            Some(Some(met)) if met.is_one => met.replaced,
+            _ => None,
+        }
+    }
+
     /// Whether a near name is looked for, for a further warning of unknown names of types in a text.
     pub(crate) fn seeks_type(&mut self, file: u32) -> bool {
         self.warnings.has_room(WarningKind::Types, file) && takes_one(&mut self.types_left)
@@ -108,8 +142,12 @@ impl<'a, 'l, 'f> Reader<'a, 'l, 'f> {
 
 impl Reader<'_, '_, '_> {
     fn note_symbol(&mut self, file: u32, symbol: &Symbol) -> Result<(), AllocError> {
-        let Symbol::Word(word) = symbol else {
-            return Ok(());
+        let word = match symbol {
+            Symbol::Word(word) => word,
+            Symbol::Number(number) if !self.is_installed(file) => {
+                return self.note_number(file, number);
+            }
+            Symbol::Number(_) => return Ok(()),
         };
         if self.read.notes.keysyms == 0 {
             return Ok(());
@@ -134,6 +172,12 @@ impl Reader<'_, '_, '_> {
         };
         let name = quoted(word);
         match near.map(quoted) {
+            _ if is_character(word) => {
+                let message = format_args!(
+                    "no keysym is named {name}; the keysym of a character begins with a capital U"
+                );
+                self.warnings.add(kind, at, message)
+            }
             Some(near) => {
                 let message = format_args!("no keysym is named {name}; {near} is one");
                 self.warnings.add(kind, at, message)
@@ -192,7 +236,7 @@ impl Reader<'_, '_, '_> {
     }
 
     /// Notes a key's name without a code.
-    fn note_unknown_key(&mut self, at: At, word: &[u8]) -> Result<(), AllocError> {
+    pub(crate) fn note_unknown_key(&mut self, at: At, word: &[u8]) -> Result<(), AllocError> {
         let kind = WarningKind::Keys;
         let is_sought = self.warnings.has_room(kind, at.file) && takes_one(&mut self.keys_left);
         let near = if is_sought {
@@ -229,14 +273,38 @@ impl Reader<'_, '_, '_> {
 
     /// Keeps where a key is given something, as far as no place before it is nearer to the author; answers whether the map gave
     /// it something before.
-    fn meet(&mut self, code: u16, at: At) -> bool {
+    fn meet(&mut self, code: u16, at: At, mode: Mode) -> bool {
         let map = self.maps;
+        let is_own = !self.is_installed(at.file);
+        let replaced = if is_own && mode == Mode::Replace {
+            Some(at)
+        } else {
+            None
+        };
         let Some(Some(met)) = self.met.get(usize::from(code)).copied() else {
-            self.keep(code, Met { at, map });
+            let is_one = true;
+            self.keep(
+                code,
+                Met {
+                    at,
+                    map,
+                    is_one,
+                    replaced,
+                },
+            );
             return false;
         };
         let at = if self.stays(met.at, at) { met.at } else { at };
-        self.keep(code, Met { at, map });
+        let is_one = false;
+        self.keep(
+            code,
+            Met {
+                at,
+                map,
+                is_one,
+                replaced,
+            },
+        );
         met.map == map
     }
 
@@ -247,13 +315,19 @@ impl Reader<'_, '_, '_> {
     }
 
     /// Notes a key's name without a code, and one that is written again without a word before `key`.
-    fn note_key(&mut self, file: u32, name: &KeyName, is_meant: bool) -> Result<(), AllocError> {
+    fn note_key(
+        &mut self,
+        file: u32,
+        name: &KeyName,
+        mode: Mode,
+        is_meant: bool,
+    ) -> Result<(), AllocError> {
         let span = name.span();
         let at = At { file, span };
         let Some(code) = self.read.codes.code_of(name.as_slice()) else {
             return self.note_unknown_key(at, name.as_slice());
         };
-        if self.meet(code, at) && !is_meant {
+        if self.meet(code, at, mode) && !is_meant {
             self.note_again(at, name)?;
         }
         Ok(())
@@ -282,11 +356,12 @@ impl Reader<'_, '_, '_> {
         &mut self,
         file: u32,
         statement: &Statement,
+        mode: Mode,
         is_meant: bool,
     ) -> Result<(), AllocError> {
         match statement {
             Statement::Key { name, fields } => {
-                self.note_key(file, name, is_meant)?;
+                self.note_key(file, name, mode, is_meant)?;
                 for field in fields.as_slice() {
                     self.note_key_field(file, field)?;
                 }
@@ -308,20 +383,59 @@ impl Reader<'_, '_, '_> {
         Ok(())
     }
 
+    /// Notes likely slips in a statement of the author's.
+    fn note_slips(
+        &mut self,
+        file: u32,
+        statement: &Statement,
+        is_meant: bool,
+    ) -> Result<(), AllocError> {
+        match statement {
+            Statement::Keycode { name, code } => self.note_code(file, name, code.value),
+            Statement::Alias { name, target } => self.note_alias(file, name, target),
+            Statement::KeyType { name, fields } => {
+                self.note_type_again(file, name, is_meant)?;
+                self.note_type_levels(file, name)?;
+                self.note_type_fields(file, fields.as_slice())
+            }
+            Statement::Interpretation { symbol, fields, .. } => {
+                self.note_interpreted(file, symbol)?;
+                self.note_truths(file, fields.as_slice())
+            }
+            Statement::Key { fields, .. } => self.note_key_truths(file, fields.as_slice()),
+            Statement::ModifierMap { entries, .. } => {
+                self.note_map_entries(file, entries.as_slice())
+            }
+            Statement::Field(field) => {
+                self.note_truth(file, field.get())?;
+                self.note_group_name(file, field.get(), is_meant)
+            }
+            Statement::IndicatorName { .. }
+            | Statement::VirtualModifiers(_)
+            | Statement::Indicator { .. }
+            | Statement::Group { .. } => Ok(()),
+        }
+    }
+
     fn note_map(&mut self, map: &Map) -> Result<(), AllocError> {
+        let file = map.place.file;
+        let is_own = !self.is_installed(file);
         self.maps = self.maps.saturating_add(1);
         for entry in map.entries.as_slice() {
             if let MapEntry::Own(
                 Item::Statement {
+                    mode,
                     statement,
                     first,
                     span,
-                    ..
                 },
             ) = entry
             {
                 let is_meant = span.start < first.start;
-                self.note_statement(map.place.file, statement, is_meant)?;
+                self.note_statement(file, statement, *mode, is_meant)?;
+                if is_own {
+                    self.note_slips(file, statement, is_meant)?;
+                }
             }
         }
         Ok(())

@@ -1,6 +1,6 @@
 //! What is said of what is passed over.
 use crate::kind::{Counted, KIND_COUNT, KINDS, WarningKind};
-use kx_explain::quoted;
+use kx_explain::{near_action, quoted};
 use kx_lex::At;
 use kx_ordered::{Ordered, OwnedName};
 use std::alloc::{AllocError, Global};
@@ -135,11 +135,22 @@ impl TextWarnings {
     fn add_actions(&mut self, alloc: Global) -> Result<(), AllocError> {
         let idle = mem::replace(&mut self.idle, Ordered::new(alloc));
         for (word, idle) in idle.as_slice() {
-            let word = quoted(word.as_slice());
+            let word = word.as_slice();
+            let name = quoted(word);
             let places = idle.places;
             let noun = if places == 1 { "place" } else { "places" };
-            let message = format_args!("the action {word} has no effect ({places} {noun})");
-            self.add(alloc, WarningKind::Actions, idle.first, message)?;
+            match near_action(word).map(quoted) {
+                Some(near) => {
+                    let message = format_args!(
+                        "the action {name} has no effect ({places} {noun}); {near} is one that has"
+                    );
+                    self.add(alloc, WarningKind::Actions, idle.first, message)?;
+                }
+                None => {
+                    let message = format_args!("the action {name} has no effect ({places} {noun})");
+                    self.add(alloc, WarningKind::Actions, idle.first, message)?;
+                }
+            }
         }
         Ok(())
     }
