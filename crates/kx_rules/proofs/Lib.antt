@@ -5,6 +5,7 @@ pub mod Including
 pub mod Items
 pub mod Keyed
 pub mod Lists
+pub mod PassedRules
 pub mod Running
 pub mod Scanning
 pub mod Telling

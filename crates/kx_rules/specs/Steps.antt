@@ -1,8 +1,11 @@
 -- What a line does to a state, as the code takes it: a text that is included is left to the caller.
-use Rattle.std.specs.Prelude.{◌≡◌, ℕ, ◌+◌, true, false, List, Option, None, Some}
+use Rattle.std.specs.Prelude.{◌≡◌, ℕ, ◌+◌, Bool, true, false, List, ◌∷◌, drop, Option, None, Some}
+use Rattle.std.specs.List.{prefix_len}
 use Rattle.kx_rules.specs.Lines.{Line}
 use Rattle.kx_rules.specs.Names.{Names}
+use Rattle.kx_rules.specs.Pieces.{Piece}
 use Rattle.kx_rules.specs.Rules.{Reading, State, Texts, after, anew, included, is_room, lines_of, opening, run, text_of}
+use Rattle.kx_rules.specs.declared.scan.Kind.{Kind}
 use Rattle.kx_rules.specs.declared.state.Taken.{Taken}
 use Rattle.kx_rules.specs.declared.state.Taken.TheVariants.{Next, Inner, Unexpected}
 
@@ -29,3 +32,11 @@ abbrev pub IsTaken : Names → Texts → ℕ → Line → State → State → Ta
 IsTaken names texts depth line old new Next = reading names texts depth line old ≡ (new, None)
 IsTaken names texts depth line old new (Unexpected left) = reading names texts depth line old ≡ (new, Some left)
 IsTaken names texts depth line old new (Inner text) = (shallower : ℕ) × (depth ≡ shallower + 1) × (reading names texts depth line old ≡ (anew (run names (included shallower names texts) new (lines_of text.now)).0, None))
+
+-- the first piece passes a test, and behind it stands the rest
+abbrev pub BeginsWith : (Kind → Bool) → List Piece → List Piece → Type 0
+BeginsWith test ps rest = (p : Piece) × (test p.kind ≡ true) × (ps ≡ p ∷ rest)
+
+-- behind all pieces that pass a test stands one of a kind, and behind that the rest
+abbrev pub IsBehind : (Kind → Bool) → Kind → List Piece → List Piece → Type 0
+IsBehind test kind ps rest = (p : Piece) × (p.kind ≡ kind) × (drop (prefix_len (λ q. test q.kind) ps) ps ≡ p ∷ rest)

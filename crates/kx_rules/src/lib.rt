@@ -14,6 +14,7 @@ mod names;
 mod passed;
 mod reading;
 mod scan;
+mod skipping;
 mod source;
 mod state;
 mod texts;

@@ -1,7 +1,8 @@
 //! What a keymap is asked for by.
-ghost use Rattle.std.specs.Prelude.{◌≡◌, ◌≤◌, ◌<◌, ◌∷◌, [], IfOk, IfSome, OnOk, get_or, length, reverse};
+ghost use Rattle.std.specs.Prelude.{◌≡◌, ◌≤◌, ◌<◌, ◌∷◌, [], IfOk, IfSome, OnOk, get_or, length, position, reverse};
 ghost use Rattle.std.specs.Option.{option_map};
 ghost use Rattle.std.specs.List.{list_all, prefix_len};
+ghost use Rattle.std.specs.Str.{bytes_eq};
 ghost use Rattle.kx_rules.specs.Names.{are_short, has, is_short, is_space, item_len, items, items_behind, names_of, with_word, with_words, without_back, without_front};
 
 use crate::limits::MOST_NAME_BYTES;
@@ -40,14 +41,26 @@ impl WordSet {
         Ok(())
     }
 
+    /// The place of a word. Most sets have one, which is empty.
+    fn place_of(&self, word: &[u8]) -> Option<usize>
+        ensures { result ≡ position (bytes_eq word.now) self.now }
+    {
+        match self.words.as_slice() {
+            [only] => {
+                if word == only.0.as_slice() {
+                    Some(0)
+                } else {
+                    None
+                }
+            }
+            _ => self.words.place_of_owned_name(word),
+        }
+    }
+
     fn has(&self, word: &[u8]) -> bool
         ensures { result ≡ has self.now word.now }
     {
-        self.words.place_of_owned_name(word).is_some()
-    }
-
-    fn place_of(&self, word: &[u8]) -> Option<usize> {
-        self.words.place_of_owned_name(word)
+        self.place_of(word).is_some()
     }
 
     fn no_marks(&self, alloc: Global) -> Result<Vec<bool>, AllocError> {
@@ -224,7 +237,9 @@ impl<'a> Names<'a> {
     }
 
     /// The place of an option, each counted once.
-    pub(crate) fn place_of_option(&self, word: &[u8]) -> Option<usize> {
+    pub(crate) fn place_of_option(&self, word: &[u8]) -> Option<usize>
+        ensures { result ≡ position (bytes_eq word.now) self.now.options }
+    {
         self.options.place_of(word)
     }
 

@@ -57,7 +57,7 @@ fn read(
     let mut rest = text;
     let mut place = Place::new();
     'lines: loop {
-        match next_line(&mut line, rest)? {
+        match next_line(&mut line, state.behind_passed(rest))? {
             None => return Ok(None),
             Some(behind) => {
                 match state.take(alloc, names, texts, depth, line.as_slice())? {

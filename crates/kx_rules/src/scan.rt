@@ -26,7 +26,7 @@ fn is_blank(byte: u8) -> bool
     byte == b' ' || byte == b'\t' || byte == b'\r'
 }
 
-fn blank_len(text: &[u8]) -> usize
+pub(crate) fn blank_len(text: &[u8]) -> usize
     ensures value { result ≡ prefix_len is_blank text.now }
     ensures within { result ≤ length text.now }
 {
@@ -41,7 +41,7 @@ fn short_word_len(text: &[u8]) -> usize
 }
 
 /// How many bytes of a word stand at the front. Four bytes a turn, since most bytes of a text stand in words.
-fn word_len(text: &[u8]) -> usize
+pub(crate) fn word_len(text: &[u8]) -> usize
     ensures value { result ≡ word_len text.now }
     ensures within { result ≤ length text.now }
 {

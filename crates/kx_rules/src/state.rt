@@ -1,11 +1,11 @@
 //! What lasts from line to line.
-ghost use Rattle.std.specs.Prelude.{◌≡◌, ◌≤◌, ℕ, List, IfOk, OnOk};
+ghost use Rattle.std.specs.Prelude.{◌≡◌, ◌≤◌, ℕ, List, IfOk, OnOk, length};
 ghost use Rattle.std.specs.Option.{option_map};
 ghost use Rattle.kx_rules.specs.Lines.{Heading, Inclusion, inclusion, line_of, listing, ruled, sides, told, words_len};
 ghost use Rattle.kx_rules.specs.Mappings.{mapping_of};
 ghost use Rattle.kx_rules.specs.Matches.{members_of, with_group};
 ghost use Rattle.kx_rules.specs.Names.{Names as NamesValue};
-ghost use Rattle.kx_rules.specs.Rules.{State as StateValue, after, anew, at_first, has_rules, rules_of, with_rule};
+ghost use Rattle.kx_rules.specs.Rules.{State as StateValue, after, anew, at_first, has_rules, lines_of, rules_of, run, with_rule};
 ghost use Rattle.kx_rules.specs.Steps.{IsCutAt, IsEntered, IsTaken};
 ghost use Rattle.kx_rules.specs.declared.limits.TheConstants.{MOST_READ_BYTES};
 
@@ -18,6 +18,7 @@ use crate::members::Groups;
 use crate::names::Names;
 use crate::passed::{Reason, Uses};
 use crate::scan::Kind;
+use crate::skipping::behind_rules;
 use crate::texts::Texts;
 use crate::word::Piece;
 use std::alloc::{AllocError, Global};
@@ -148,6 +149,20 @@ impl State {
         ensures { self.new ≡ self.old }
     {
         self.uses.leave_to(text);
+    }
+
+    /// What is left of a text behind rules that are passed over.
+    pub(crate) fn behind_passed<'a>(&self, text: &'a [u8]) -> &'a [u8]
+        ensures value { (names : NamesValue) → (inc : List ℕ → StateValue → StateValue)
+            → run names inc self.now (lines_of result.now)
+            ≡ run names inc self.now (lines_of text.entry.now) }
+        ensures within { length result.now ≤ length text.entry.now }
+    {
+        match self.rules {
+            Rules::PassedOver => behind_rules(text),
+            Rules::NoRules => text,
+            Rules::Under(_) => text,
+        }
     }
 
     /// Whether a rule may stand here.

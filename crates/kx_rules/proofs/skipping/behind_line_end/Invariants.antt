@@ -1,0 +1,12 @@
+use Rattle.std.proofs.Common.{◌≤◌, ℕ, List, length}
+use Rattle.kx_rules.specs.Lines.{is_word}
+use Rattle.kx_rules.specs.Pieces.{Piece, pieces}
+use Rattle.kx_rules.specs.Steps.{IsBehind}
+use Rattle.kx_rules.specs.declared.scan.Kind.TheVariants.{NewLine}
+use Rattle.kx_rules.proofs.skipping.behind_line_end.Given as goal
+
+abbrev pub invariant-words : goal.invariant-words
+invariant-words l = record { same : (found : List Piece) → IsBehind is_word NewLine (pieces l.rest 0) found → IsBehind is_word NewLine (pieces l.text 0) found; within : length l.rest ≤ length l.text }
+
+abbrev pub decreases-words : goal.decreases-words
+decreases-words l = length l.rest
