@@ -5,9 +5,11 @@ pub mod Including
 pub mod Items
 pub mod Keyed
 pub mod Lists
+pub mod Marking
 pub mod PassedRules
 pub mod Running
 pub mod Scanning
 pub mod Telling
+pub mod Using
 pub mod Words
 pub mod Writing

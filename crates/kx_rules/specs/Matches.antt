@@ -1,5 +1,5 @@
 -- Which rules are for the names that were asked for.
-use Rattle.std.specs.Prelude.{ℕ, Bool, true, false, ◌&&◌, nat_eq, List, [], ◌∷◌, ◌++◌, length, get_or, take, map, is_some, unwrap_or, if◌then◌else◌}
+use Rattle.std.specs.Prelude.{ℕ, Bool, true, false, ◌&&◌, nat_eq, nat_le, List, [], ◌∷◌, ◌++◌, length, filter_map, get_or, take, map, position, is_some, unwrap_or, if◌then◌else◌}
 use Rattle.std.specs.Map.{lookup}
 use Rattle.std.specs.List.{list_all, list_any, zip}
 use Rattle.std.specs.Str.{bytes_eq}
@@ -16,7 +16,8 @@ pub record Members : Type 0 where
   pub model : Bool
   pub layouts : List Bool
   pub variants : List Bool
-  pub choice : Bool
+  -- by the options' places
+  pub options : List ℕ
 
 abbrev pub has_text : List Piece → List ℕ → Bool
 has_text pieces word = list_any (λ piece. bytes_eq word piece.text) pieces
@@ -26,7 +27,7 @@ members_of names pieces = record {
   model = has_text pieces names.model;
   layouts = map (has_text pieces) (take GREATEST_INDEX names.layouts);
   variants = map (has_text pieces) (take GREATEST_INDEX names.variants);
-  choice = list_any (λ piece. has names.options piece.text) pieces;
+  options = filter_map (λ piece. position (bytes_eq piece.text) names.options) pieces;
 }
 
 abbrev pub Groups : Type 0
@@ -37,14 +38,14 @@ abbrev pub with_group : Groups → List ℕ → Members → Groups
 with_group groups name members = if is_some (lookup (bytes_eq name) groups) then groups else groups ++ (name, members) ∷ []
 
 abbrev pub nobody : Members
-nobody = record { model = false; layouts = []; variants = []; choice = false }
+nobody = record { model = false; layouts = []; variants = []; options = [] }
 
 -- no name is in a group that isn't there
 abbrev pub group_of : Groups → List ℕ → Members
 group_of groups name = unwrap_or (lookup (bytes_eq name) groups) nobody
 
 abbrev pub is_member : ℕ → Column → Members → Bool
-is_member place column members = elim column.field [ Model ↦ members.model | Layout ↦ get_or members.layouts place false | Variant ↦ get_or members.variants place false | Choice ↦ members.choice ]
+is_member place column members = elim column.field [ Model ↦ members.model | Layout ↦ get_or members.layouts place false | Variant ↦ get_or members.variants place false | Choice ↦ nat_le 1 (length members.options) ]
 
 -- what isn't there has no bytes, and so isn't named by a word
 abbrev pub is_named : Names → ℕ → Column → List ℕ → Bool

@@ -1,5 +1,5 @@
 -- The components that a rules text gives.
-use Rattle.std.specs.Prelude.{ℕ, zero, suc, ◌+◌, ◌-◌, Bool, true, false, not, ◌==◌, ◌||◌, nat_le, List, [], ◌∷◌, length, take, Option, None, Some, Result, Ok, Err, if◌then◌else◌}
+use Rattle.std.specs.Prelude.{ℕ, zero, suc, ◌+◌, ◌-◌, Bool, true, false, not, ◌==◌, ◌||◌, nat_le, List, [], ◌∷◌, ◌++◌, length, take, Option, None, Some, Result, Ok, Err, if◌then◌else◌}
 use Rattle.std.specs.List.{count_by}
 use Rattle.std.specs.Map.{lookup}
 use Rattle.std.specs.Str.{bytes_eq}
@@ -9,13 +9,16 @@ use Rattle.kx_rules.specs.Mappings.{Mapping, has_choice, mapping_of}
 use Rattle.kx_rules.specs.Matches.{Groups, applies, members_of, with_group}
 use Rattle.kx_rules.specs.Names.{Names, are_short}
 use Rattle.kx_rules.specs.Pieces.{Piece, pieces}
+use Rattle.kx_rules.specs.Uses.{IsLeft, uses_of}
 use Rattle.kx_rules.specs.declared.columns.Section.{Section}
 use Rattle.kx_rules.specs.declared.columns.Section.TheVariants.{Keycodes, Types, Compat, Symbols, Geometry}
 use Rattle.kx_rules.specs.declared.fault.Fault.{Fault}
 use Rattle.kx_rules.specs.declared.fault.Fault.TheVariants.{LongName, TooMuch, Unexpected, NoComponents}
 use Rattle.kx_rules.specs.declared.limits.TheConstants.{MOST_DEPTH, MOST_READ_BYTES}
+use Rattle.kx_rules.specs.declared.passed.Passed.{Passed}
 use Rattle.kx_rules.specs.declared.state.Rules.{Rules}
 use Rattle.kx_rules.specs.declared.state.Rules.TheVariants.{NoRules, PassedOver, Under}
+use Rattle.kx_rules.specs.declared.uses.Use.{Use}
 
 pub record Components : Type 0 where
   pub keycodes : List ℕ
@@ -31,6 +34,8 @@ pub record State : Type 0 where
   -- how many bytes were read, and whether an include was left out for it
   pub read : ℕ
   pub is_full : Bool
+  -- what the rules that applied took
+  pub taken : List Use
 
 -- behind which no rules may stand
 abbrev pub anew : State → State
@@ -61,7 +66,7 @@ with_texts names (section ∷ sections) (value ∷ rights) c = with_texts names 
 abbrev pub with_rule_under : Names → Mapping → List Piece → List Piece → State → State
 with_rule_under names mapping lefts rights s =
     if applies names s.groups mapping lefts rights
-    then record s { rules = (if has_choice mapping.columns then s.rules else PassedOver); components = with_texts names mapping.sections rights s.components }
+    then record s { rules = (if has_choice mapping.columns then s.rules else PassedOver); components = with_texts names mapping.sections rights s.components; taken = s.taken ++ uses_of names s.groups mapping.columns lefts rights }
     else s
 
 abbrev pub with_rule : Names → Rules → List Piece → List Piece → State → State
@@ -119,7 +124,7 @@ included (suc depth) names texts name s = elim (text_of texts name) [
 ]
 
 abbrev pub at_first : ℕ → State
-at_first read = record { rules = NoRules; groups = []; components = record { keycodes = []; types = []; compat = []; symbols = [] }; read = read; is_full = false }
+at_first read = record { rules = NoRules; groups = []; components = record { keycodes = []; types = []; compat = []; symbols = [] }; read = read; is_full = false; taken = [] }
 
 abbrev pub is_some_empty : Components → Bool
 is_some_empty c = (nat_le (length c.keycodes) 0 || nat_le (length c.types) 0) || (nat_le (length c.compat) 0 || nat_le (length c.symbols) 0)
@@ -132,9 +137,17 @@ abbrev pub outcome : List ℕ → Reading → Result Components Fault
 outcome text (s, Some left) = Err (Unexpected (line_number text left))
 outcome text (s, None) = if s.is_full then Err TooMuch else if is_some_empty s.components then Err NoComponents else Ok s.components
 
+-- what is read of a whole text
+abbrev pub whole : List ℕ → Texts → Names → Reading
+whole text texts names = run names (included MOST_DEPTH names texts) (at_first (length text)) (lines_of text)
+
 -- the components for names; the limits on names and on bytes are ours
 unfoldable pub meaning : List ℕ → Texts → Names → Result Components Fault
 meaning text texts names =
     if not (are_short names) then Err LongName else
     if not (nat_le (length text) MOST_READ_BYTES) then Err TooMuch else
-    outcome text (run names (included MOST_DEPTH names texts) (at_first (length text)) (lines_of text))
+    outcome text (whole text texts names)
+
+-- what no rule of the text took is passed over
+abbrev pub IsPassedOver : List ℕ → Texts → Names → Passed → Type 0
+IsPassedOver text texts names passed = IsLeft names (whole text texts names).0.groups (whole text texts names).0.taken passed

@@ -74,7 +74,8 @@ impl Mapping {
     }
 }
 
-fn layout_place(columns: &[Column]) -> usize
+/// The place of the layout, and of the variant too, among the words left of a sign =.
+pub(crate) fn layout_place(columns: &[Column]) -> usize
     ensures { result ≡ layout_place columns.now }
 {
     let mut rest = columns;
@@ -87,7 +88,7 @@ fn layout_place(columns: &[Column]) -> usize
     0
 }
 
-fn is_field(field: Field, other: Field) -> bool
+pub(crate) fn is_field(field: Field, other: Field) -> bool
     ensures { result ≡ is_field field other }
 {
     field == other

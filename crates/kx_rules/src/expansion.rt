@@ -4,7 +4,6 @@ ghost use Rattle.std.specs.Option.{option_map};
 ghost use Rattle.kx_rules.specs.Expansions.{enclosed, expanded, index_in, indexed, is_joint, is_part, item_at, joined, lettered, named, placeholder};
 ghost use Rattle.kx_rules.specs.Pieces.{begins};
 
-use crate::columns::Field;
 use crate::limits::GREATEST_INDEX;
 use crate::names::Names;
 use crate::word::Word;
@@ -36,7 +35,8 @@ fn item_at<'a>(items: &[Word<'a>], place: Option<usize>) -> &'a [u8]
     }
 }
 
-fn front(bytes: &[u8]) -> &[u8]
+/// The first three bytes, or all where there are fewer.
+pub(crate) fn front(bytes: &[u8]) -> &[u8]
     ensures { result.now ≡ take 3 bytes.now }
 {
     bytes.get(..3).unwrap_or(bytes)
@@ -75,7 +75,7 @@ fn named<'a>(names: &Names<'a>, letter: u8, bytes: &[u8]) -> Option<(&'a [u8], u
     }
 }
 
-fn is_joint(byte: u8) -> bool
+pub(crate) fn is_joint(byte: u8) -> bool
     ensures { result ≡ is_joint byte }
 {
     matches!(byte, b'+' | b'|' | b'_' | b'-')
@@ -205,36 +205,4 @@ pub(crate) fn join(to: &mut Vec<u8>, more: &[u8]) -> Result<(), AllocError>
         *to = all;
     }
     Ok(())
-}
-
-fn without_sign(bytes: &[u8]) -> &[u8] {
-    match bytes.split_first() {
-        None => bytes,
-        Some((sign, behind)) => {
-            if *sign == b'(' || is_joint(*sign) {
-                behind
-            } else {
-                bytes
-            }
-        }
-    }
-}
-
-/// The place of an item among so many that bytes behind its letter name.
-fn item_place(many: usize, bytes: &[u8]) -> Option<usize> {
-    match index_in(front(bytes)) {
-        None => { if many == 1 { Some(0) } else { None } }
-        place => { if many == 1 { None } else { place } }
-    }
-}
-
-/// Which name a placeholder behind its sign % writes, and its place.
-pub(crate) fn placeholder_in(names: &Names, bytes: &[u8]) -> Option<(Field, usize)> {
-    let (letter, behind) = without_sign(bytes).split_first()?;
-    match *letter {
-        b'm' => Some((Field::Model, 0)),
-        b'l' => Some((Field::Layout, item_place(names.layouts().len(), behind)?)),
-        b'v' => Some((Field::Variant, item_place(names.variants().len(), behind)?)),
-        _ => None,
-    }
 }

@@ -8,6 +8,7 @@ mod expansion;
 mod fault;
 mod limits;
 mod lines;
+mod marks;
 mod matching;
 mod members;
 mod names;
@@ -18,6 +19,7 @@ mod skipping;
 mod source;
 mod state;
 mod texts;
+mod uses;
 mod word;
 
 pub use components::Components;

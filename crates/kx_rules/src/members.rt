@@ -1,11 +1,11 @@
 //! Groups of names.
-ghost use Rattle.std.specs.Prelude.{◌≡◌, IfOk, OnOk, [], get_or, map, take, false};
+ghost use Rattle.std.specs.Prelude.{◌≡◌, IfOk, OnOk, [], filter_map, get_or, map, position, take, false};
 ghost use Rattle.std.specs.List.{list_any};
-ghost use Rattle.std.specs.Map.{lookup};
+ghost use Rattle.std.specs.Map.{keys_of, lookup};
 ghost use Rattle.std.specs.Option.{option_map};
 ghost use Rattle.std.specs.Str.{bytes_eq};
 ghost use Rattle.kx_rules.specs.Matches.{group_of, has_text, is_member, members_of, with_group};
-ghost use Rattle.kx_rules.specs.Names.{has};
+ghost use Rattle.kx_rules.specs.Uses.{options_at};
 
 use crate::columns::{Column, Field};
 use crate::limits::GREATEST_INDEX;
@@ -21,8 +21,7 @@ pub(crate) struct Members {
     model: bool,
     layouts: Vec<bool>,
     variants: Vec<bool>,
-    choice: bool,
-    /// The places of its options, of which no clause speaks.
+    /// The places of its options.
     options: Vec<usize>,
 }
 
@@ -31,7 +30,7 @@ impl Model for Members {
 
     ghost Value = { Members };
 
-    ghost view = { λ m. record { model = m.model; layouts = m.layouts.items; variants = m.variants.items; choice = m.choice } };
+    ghost view = { λ m. record { model = m.model; layouts = m.layouts.items; variants = m.variants.items; options = m.options.items } };
 }
 
 /// Whether a word is among the texts of pieces.
@@ -53,21 +52,15 @@ fn which(alloc: Global, words: &[Word], pieces: &[Piece]) -> Result<Vec<bool>, A
         .collect(alloc)
 }
 
-fn has_any(names: &Names, pieces: &[Piece]) -> bool
-    ensures { result ≡ list_any (λ piece. has names.now.options piece.text) pieces.now }
-{
-    pieces.iter().any(|piece| names.has_option(piece.text()))
-}
-
 /// The places of options that are among the texts of pieces.
-fn option_places(alloc: Global, names: &Names, pieces: &[Piece]) -> Result<Vec<usize>, AllocError> {
-    let mut places = Vec::new(alloc);
-    for piece in pieces {
-        if let Some(place) = names.place_of_option(piece.text()) {
-            places.push(place)?;
-        }
-    }
-    Ok(places)
+fn option_places(alloc: Global, names: &Names, pieces: &[Piece]) -> Result<Vec<usize>, AllocError>
+    ensures { IfOk result (λ places. places.items
+        ≡ filter_map (λ piece. position (bytes_eq piece.text) names.now.options) pieces.now) }
+{
+    pieces
+        .iter()
+        .filter_map(|piece| names.place_of_option(piece.text()))
+        .collect(alloc)
 }
 
 #[tactic(auto, unfolding(crate::specs::Matches::members_of))]
@@ -81,7 +74,6 @@ fn members_of(alloc: Global, names: &Names, pieces: &[Piece]) -> Result<Members,
         model: has_text(pieces, names.model()),
         layouts,
         variants,
-        choice: has_any(names, pieces),
         options,
     })
 }
@@ -96,6 +88,12 @@ fn flag_at(flags: &[bool], place: usize) -> bool
 }
 
 impl Members {
+    fn options(&self) -> &[usize]
+        ensures { result.now ≡ self.now.options }
+    {
+        self.options.as_slice()
+    }
+
     /// Whether a group has what a column is about.
     pub(crate) fn is_member(&self, place: usize, column: Column) -> bool
         ensures { result ≡ is_member place column self.now }
@@ -104,7 +102,7 @@ impl Members {
             Field::Model => self.model,
             Field::Layout => flag_at(self.layouts.as_slice(), place),
             Field::Variant => flag_at(self.variants.as_slice(), place),
-            Field::Choice => self.choice,
+            Field::Choice => !self.options.is_empty(),
         }
     }
 }
@@ -160,11 +158,28 @@ impl Groups {
         }
     }
 
-    /// The place of the group of a name, and those of its options.
-    pub(crate) fn options_of(&self, name: &[u8]) -> Option<(usize, &[usize])> {
-        let place = self.groups.place_of_owned_name(name)?;
-        let members = self.groups.value(place)?;
-        Some((place, members.options.as_slice()))
+    /// The place of the group of a name.
+    pub(crate) fn place_of(&self, name: &[u8]) -> Option<usize>
+        ensures { result ≡ position (bytes_eq name.now) (keys_of self.now) }
+    {
+        self.groups.place_of_owned_name(name)
+    }
+
+    /// No mark for each group.
+    pub(crate) fn no_marks(&self, alloc: Global) -> Result<Vec<bool>, AllocError>
+        ensures { IfOk result (λ marks. marks.items ≡ map (λ _. false) self.now) }
+    {
+        self.groups.as_slice().iter().map(|_| false).collect(alloc)
+    }
+
+    /// The places of the options of the group at a place.
+    pub(crate) fn options_at(&self, place: usize) -> &[usize]
+        ensures { result.now ≡ options_at self.now place }
+    {
+        match self.groups.value(place) {
+            None => &[],
+            Some(members) => members.options(),
+        }
     }
 
     /// Whether the group of a name has what a column is about.

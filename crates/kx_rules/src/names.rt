@@ -1,11 +1,13 @@
 //! What a keymap is asked for by.
-ghost use Rattle.std.specs.Prelude.{◌≡◌, ◌≤◌, ◌<◌, ◌∷◌, [], IfOk, IfSome, OnOk, get_or, length, position, reverse};
+ghost use Rattle.std.specs.Prelude.{◌≡◌, ◌≤◌, ◌<◌, ◌∷◌, [], IfOk, IfSome, OnOk, false, get_or, length, map, position, reverse};
 ghost use Rattle.std.specs.Option.{option_map};
 ghost use Rattle.std.specs.List.{list_all, prefix_len};
 ghost use Rattle.std.specs.Str.{bytes_eq};
+ghost use Rattle.kx_rules.specs.Marks.{unmarked};
 ghost use Rattle.kx_rules.specs.Names.{are_short, has, is_short, is_space, item_len, items, items_behind, names_of, with_word, with_words, without_back, without_front};
 
 use crate::limits::MOST_NAME_BYTES;
+use crate::marks::is_left;
 use crate::word::Word;
 use kx_ordered::{Ordered, OwnedName};
 use std::alloc::{AllocError, Global};
@@ -63,21 +65,45 @@ impl WordSet {
         self.place_of(word).is_some()
     }
 
-    fn no_marks(&self, alloc: Global) -> Result<Vec<bool>, AllocError> {
-        self.words.as_slice().iter().map(|_| false).collect(alloc)
+    fn no_marks(&self, alloc: Global) -> Result<Vec<bool>, AllocError>
+        ensures { IfOk result (λ marks. marks.items ≡ map (λ _. false) self.now) }
+    {
+        let marks = no_marks(alloc, self.words.as_slice())?;
+        Ok(marks)
     }
 
     /// The words that have bytes and no mark.
-    fn without(&self, alloc: Global, marks: &[bool]) -> Result<Vec<Vec<u8>>, AllocError> {
-        let mut left = Vec::new(alloc);
-        for (place, entry) in self.words.as_slice().iter().enumerate() {
-            let word = entry.0.as_slice();
-            if !word.is_empty() && !matches!(marks.get(place), Some(true)) {
-                left.push(Vec::from_slice(alloc, word)?)?;
-            }
-        }
-        Ok(left)
+    fn without(&self, alloc: Global, marks: &[bool]) -> Result<Vec<Vec<u8>>, AllocError>
+        ensures { IfOk result (λ left. map (λ w. w.items) left.items
+            ≡ map (λ e. e.1) (unmarked marks.now self.now)) }
+    {
+        words_left(alloc, self.words.as_slice(), marks)
     }
+}
+
+fn no_marks(alloc: Global, entries: &[(OwnedName, ())]) -> Result<Vec<bool>, AllocError>
+    ensures { IfOk result (λ marks. marks.items ≡ map (λ _. false) entries.now) }
+{
+    entries.iter().map(|_| false).collect(alloc)
+}
+
+/// The words of entries that have bytes and no mark.
+fn words_left(
+    alloc: Global,
+    entries: &[(OwnedName, ())],
+    marks: &[bool],
+) -> Result<Vec<Vec<u8>>, AllocError>
+    ensures { IfOk result (λ left. map (λ w. w.items) left.items
+        ≡ map (λ e. e.1) (unmarked marks.now (map (λ e. e.0) entries.now))) }
+{
+    let mut left = Vec::new(alloc);
+    'entries: for (place, entry) in entries.iter().enumerate() {
+        let word = entry.0.as_slice();
+        if is_left(marks, place, word) {
+            left.push(Vec::from_slice(alloc, word)?)?;
+        }
+    }
+    Ok(left)
 }
 
 fn is_space(byte: u8) -> bool
@@ -244,7 +270,9 @@ impl<'a> Names<'a> {
     }
 
     /// A mark for each option, which none has yet.
-    pub(crate) fn no_options(&self, alloc: Global) -> Result<Vec<bool>, AllocError> {
+    pub(crate) fn no_options(&self, alloc: Global) -> Result<Vec<bool>, AllocError>
+        ensures { IfOk result (λ marks. marks.items ≡ map (λ _. false) self.now.options) }
+    {
         self.options.no_marks(alloc)
     }
 
@@ -253,7 +281,10 @@ impl<'a> Names<'a> {
         &self,
         alloc: Global,
         marks: &[bool],
-    ) -> Result<Vec<Vec<u8>>, AllocError> {
+    ) -> Result<Vec<Vec<u8>>, AllocError>
+        ensures { IfOk result (λ left. map (λ w. w.items) left.items
+            ≡ map (λ e. e.1) (unmarked marks.now self.now.options)) }
+    {
         self.options.without(alloc, marks)
     }
 

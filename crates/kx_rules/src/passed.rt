@@ -1,11 +1,15 @@
-//! What is passed over, so that a program can warn of it. No clause speaks of it.
-use crate::columns::{Column, Field, Mapping};
-use crate::expansion::placeholder_in;
+//! What is passed over, so that a program can warn of it. Of lines that are passed over no clause speaks.
+ghost use Rattle.std.specs.Prelude.{◌≡◌, ◌++◌, IfOk, OnOk, []};
+ghost use Rattle.kx_rules.specs.Uses.{IsLeft, uses_of};
+
+use crate::columns::{Column, Field};
+use crate::marks::{is_model_left, items_left, options_left};
 use crate::members::Groups;
 use crate::names::Names;
-use crate::scan::Kind;
-use crate::word::{Piece, Word};
+use crate::uses::{Use, left_uses, push_all_written};
+use crate::word::Piece;
 use std::alloc::{AllocError, Global};
+use std::marker::Model;
 
 /// Why a line is passed over.
 #[derive(Clone, Copy, Debug, PartialEq, Eq)]
@@ -45,16 +49,10 @@ pub struct Passed {
     pub lines: Vec<PassedLine>,
 }
 
-/// What was taken and passed over so far.
+/// What was taken and passed over so far. Seen as what was taken.
 #[derive(Debug, Drop)]
 pub(crate) struct Uses {
-    model: bool,
-    layouts: Vec<bool>,
-    variants: Vec<bool>,
-    options: Vec<bool>,
-    has_all_options: bool,
-    /// Groups whose options are marked, by their places.
-    groups: Vec<bool>,
+    taken: Vec<Use>,
     texts: Vec<Vec<u8>>,
     lines: Vec<PassedLine>,
     text: usize,
@@ -62,51 +60,26 @@ pub(crate) struct Uses {
     lacks_line: bool,
 }
 
-fn unmarked(alloc: Global, words: &[Word]) -> Result<Vec<bool>, AllocError> {
-    words.iter().map(|_| false).collect(alloc)
-}
+impl Model for Uses {
+    ghost use Rattle.std.specs.Prelude.{List};
+    ghost use Rattle.kx_rules.specs.declared.uses.Use.{Use};
 
-fn mark(flags: &mut Vec<bool>, place: usize) {
-    if let Some(flag) = flags.get_mut(place) {
-        *flag = true;
-    }
-}
+    ghost Value = { List Use };
 
-fn is_marked(flags: &[bool], place: usize) -> bool {
-    match flags.get(place) {
-        None => false,
-        Some(flag) => *flag,
-    }
-}
-
-/// The places of words that have bytes and no mark.
-fn places_of(alloc: Global, words: &[Word], flags: &[bool]) -> Result<Vec<usize>, AllocError> {
-    let mut places = Vec::new(alloc);
-    for (place, word) in words.iter().enumerate() {
-        if !word.as_slice().is_empty() && !is_marked(flags, place) {
-            places.push(place)?;
-        }
-    }
-    Ok(places)
+    ghost view = { λ u. u.taken.items };
 }
 
 impl Uses {
-    pub(crate) fn new(alloc: Global, names: &Names) -> Result<Uses, AllocError> {
-        let layouts = unmarked(alloc, names.layouts())?;
-        let variants = unmarked(alloc, names.variants())?;
-        let options = names.no_options(alloc)?;
-        Ok(Uses {
-            model: false,
-            layouts,
-            variants,
-            options,
-            has_all_options: false,
-            groups: Vec::new(alloc),
+    pub(crate) fn new(alloc: Global) -> Uses
+        ensures { result ≡ [] }
+    {
+        Uses {
+            taken: Vec::new(alloc),
             texts: Vec::new(alloc),
             lines: Vec::new(alloc),
             text: 0,
             lacks_line: false,
-        })
+        }
     }
 
     pub(crate) fn lacks_line(&self) -> bool {
@@ -114,7 +87,9 @@ impl Uses {
     }
 
     /// Tells the number of the last line.
-    pub(crate) fn tell_line(&mut self, line: usize) {
+    pub(crate) fn tell_line(&mut self, line: usize)
+        ensures { self.new ≡ self.old }
+    {
         if let Some(last) = self.lines.last_mut() {
             last.line = line;
         }
@@ -122,7 +97,9 @@ impl Uses {
     }
 
     /// Begins an included text.
-    pub(crate) fn enter(&mut self, alloc: Global, name: &[u8]) -> Result<(), AllocError> {
+    pub(crate) fn enter(&mut self, alloc: Global, name: &[u8]) -> Result<(), AllocError>
+        ensures { self.new ≡ self.old }
+    {
         self.texts.push(Vec::from_slice(alloc, name)?)?;
         self.text = self.texts.len();
         Ok(())
@@ -133,12 +110,16 @@ impl Uses {
     }
 
     /// Goes back to a text.
-    pub(crate) fn leave_to(&mut self, text: usize) {
+    pub(crate) fn leave_to(&mut self, text: usize)
+        ensures { self.new ≡ self.old }
+    {
         self.text = text;
     }
 
     /// Notes the line that is read, if it is faulty; its number is told later, since few are.
-    pub(crate) fn note(&mut self, is_faulty: bool, reason: Reason) -> Result<(), AllocError> {
+    pub(crate) fn note(&mut self, is_faulty: bool, reason: Reason) -> Result<(), AllocError>
+        ensures { self.new ≡ self.old }
+    {
         if is_faulty {
             self.lines.push(PassedLine {
                 text: self.text,
@@ -150,100 +131,41 @@ impl Uses {
         Ok(())
     }
 
-    /// Marks the options of a group, once for each group.
-    fn mark_group(&mut self, groups: &Groups, name: &[u8]) -> Result<(), AllocError> {
-        let Some((place, options)) = groups.options_of(name) else {
-            return Ok(());
-        };
-        for _ in self.groups.len()..=place {
-            self.groups.push(false)?;
-        }
-        if !is_marked(self.groups.as_slice(), place) {
-            mark(&mut self.groups, place);
-            for option in options {
-                mark(&mut self.options, *option);
-            }
-        }
-        Ok(())
-    }
-
-    fn mark_all_options(&mut self) {
-        if !self.has_all_options {
-            self.has_all_options = true;
-            for flag in self.options.iter_mut() {
-                *flag = true;
-            }
-        }
-    }
-
-    fn mark_options(
-        &mut self,
-        names: &Names,
-        groups: &Groups,
-        value: &Piece,
-    ) -> Result<(), AllocError> {
-        match value.kind() {
-            Kind::Star => self.mark_all_options(),
-            Kind::Group => self.mark_group(groups, value.text())?,
-            _ => {
-                if let Some(place) = names.place_of_option(value.text()) {
-                    mark(&mut self.options, place);
-                }
-            }
-        }
-        Ok(())
-    }
-
-    fn mark_field(&mut self, field: Field, place: usize) {
-        match field {
-            Field::Model => self.model = true,
-            Field::Layout => mark(&mut self.layouts, place),
-            Field::Variant => mark(&mut self.variants, place),
-            Field::Choice => {}
-        }
-    }
-
-    /// Marks the names that a value writes.
-    fn mark_written(&mut self, names: &Names, value: &[u8]) {
-        for (place, byte) in value.iter().enumerate() {
-            if *byte == b'%' {
-                if let Some((field, item)) = placeholder_in(names, &value[place + 1..]) {
-                    self.mark_field(field, item);
-                }
-            }
-        }
-    }
-
-    /// Marks what a rule takes that applies.
+    /// Adds what a rule takes that applies.
+    #[tactic(auto, unfolding(crate::specs::Uses::uses_of))]
     pub(crate) fn take(
         &mut self,
         names: &Names,
         groups: &Groups,
-        mapping: &Mapping,
+        columns: &[Column],
         lefts: &[Piece],
         rights: &[Piece],
-    ) -> Result<(), AllocError> {
-        let place = mapping.layout_place();
-        for (column, value) in mapping.columns.iter().zip(lefts) {
-            if column.field == Field::Choice {
-                self.mark_options(names, groups, value)?;
-            } else {
-                self.mark_field(column.field, place);
-            }
-        }
-        for value in rights {
-            self.mark_written(names, value.text());
-        }
-        Ok(())
+    ) -> Result<(), AllocError>
+        ensures { OnOk result (self.new ≡ self.old
+            ++ uses_of names.now groups.now columns.now lefts.now rights.now) }
+    {
+        let alloc = *self.taken.allocator();
+        let found = left_uses(alloc, names, groups, columns, lefts)?;
+        self.taken.extend_from_slice(found.as_slice())?;
+        push_all_written(&mut self.taken, names, rights)
     }
 
     /// What is passed over in the end.
-    pub(crate) fn passed(self, alloc: Global, names: &Names) -> Result<Passed, AllocError> {
-        let layouts = places_of(alloc, names.layouts(), self.layouts.as_slice())?;
-        let variants = places_of(alloc, names.variants(), self.variants.as_slice())?;
-        let options = names.options_without(alloc, self.options.as_slice())?;
+    pub(crate) fn passed(
+        self,
+        alloc: Global,
+        names: &Names,
+        groups: &Groups,
+    ) -> Result<Passed, AllocError>
+        ensures { IfOk result (λ passed. IsLeft names.now groups.now self passed) }
+    {
+        let uses = self.taken.as_slice();
+        let model = is_model_left(alloc, groups, uses, names)?;
+        let layouts = items_left(alloc, groups, uses, Field::Layout, names.layouts())?;
+        let variants = items_left(alloc, groups, uses, Field::Variant, names.variants())?;
+        let options = options_left(alloc, groups, uses, names)?;
         Ok(Passed {
-            model: !self.model && !names.model().is_empty(),
+            model,
             layouts,
             variants,
             options,

@@ -1,6 +1,6 @@
 //! Whole texts.
 ghost use Rattle.std.specs.Prelude.{◌≡◌, ◌≤◌, ◌⊎◌, IfOk, IfErr, Ok, Err, length};
-ghost use Rattle.kx_rules.specs.Rules.{at_first, included, line_number, lines_of, meaning, run};
+ghost use Rattle.kx_rules.specs.Rules.{IsPassedOver, included, line_number, lines_of, meaning, run, whole};
 ghost use Rattle.kx_rules.specs.declared.fault.Fault.TheVariants.{Memory};
 ghost use Rattle.kx_rules.specs.declared.limits.TheConstants.{MOST_DEPTH, MOST_READ_BYTES};
 
@@ -8,6 +8,7 @@ use crate::components::Components;
 use crate::fault::Fault;
 use crate::limits::{MOST_DEPTH, MOST_READ_BYTES};
 use crate::lines::next_line;
+use crate::members::Groups;
 use crate::names::Names;
 use crate::passed::{Passed, Uses};
 use crate::state::{State, Taken};
@@ -99,10 +100,9 @@ fn read_first(
 ) -> Result<(State, Option<usize>), AllocError>
     requires { length text.now ≤ MOST_READ_BYTES }
     ensures { IfOk result (λ found. (found.0, found.1)
-        ≡ run names.now (included MOST_DEPTH names.now texts.now)
-        (at_first (length text.now)) (lines_of text.now)) }
+        ≡ whole text.now texts.now names.now) }
 {
-    let mut state = State::new(alloc, names, text.len())?;
+    let mut state = State::new(alloc, text.len());
     let left = read(alloc, &mut state, names, texts, MOST_DEPTH, text)?;
     Ok((state, left))
 }
@@ -114,16 +114,20 @@ pub struct Answer {
     pub passed: Passed,
 }
 
-/// The components that a rules text gives for names, and what was taken and passed over for them.
+/// The components that a rules text gives for names, and the groups and what was taken for them.
 #[tactic(auto, unfolding(crate::specs::Rules::meaning))]
 fn parts_of(
     alloc: Global,
     text: &[u8],
     texts: &Texts,
     names: &Names,
-) -> Result<(Components, Uses), Fault>
+) -> Result<(Components, Groups, Uses), Fault>
     ensures value { IfOk result (λ parts.
         meaning text.now texts.now names.now ≡ Ok parts.0) }
+    ensures groups { IfOk result (λ parts.
+        (whole text.now texts.now names.now).0.groups ≡ parts.1) }
+    ensures taken { IfOk result (λ parts.
+        (whole text.now texts.now names.now).0.taken ≡ parts.2) }
     ensures fault { IfErr result (λ e.
         (e ≡ Memory) ⊎ (meaning text.now texts.now names.now ≡ Err e)) }
 {
@@ -140,11 +144,11 @@ fn parts_of(
     if state.is_full() {
         return Err(Fault::TooMuch);
     }
-    let (components, uses) = state.into_parts();
+    let (components, groups, uses) = state.into_parts();
     if components.is_some_empty() {
         return Err(Fault::NoComponents);
     }
-    Ok((components, uses))
+    Ok((components, groups, uses))
 }
 
 /// The components that a rules text gives for names, with the texts that its includes find.
@@ -159,10 +163,12 @@ pub fn components_of(
 ) -> Result<Answer, Fault>
     ensures value { IfOk result (λ answer.
         meaning text.now texts.now names.now ≡ Ok answer.components) }
+    ensures passed { IfOk result (λ answer.
+        IsPassedOver text.now texts.now names.now answer.passed) }
     ensures fault { IfErr result (λ e.
         (e ≡ Memory) ⊎ (meaning text.now texts.now names.now ≡ Err e)) }
 {
-    let (components, uses) = parts_of(alloc, text, texts, names)?;
-    let passed = uses.passed(alloc, names)?;
+    let (components, groups, uses) = parts_of(alloc, text, texts, names)?;
+    let passed = uses.passed(alloc, names, &groups)?;
     Ok(Answer { components, passed })
 }

@@ -63,7 +63,7 @@ pub(crate) struct State {
     components: Components,
     read: usize,
     is_full: bool,
-    /// What is passed over, of which no clause speaks.
+    /// What was taken, and lines that were passed over.
     uses: Uses,
 }
 
@@ -73,7 +73,7 @@ impl Model for State {
 
     ghost Value = { State };
 
-    ghost view = { λ s. record { rules = s.rules; groups = s.groups; components = s.components; read = s.read; is_full = s.is_full } };
+    ghost view = { λ s. record { rules = s.rules; groups = s.groups; components = s.components; read = s.read; is_full = s.is_full; taken = s.uses } };
 
     ghost invariant = { λ s. s.read ≤ 4194304 };
 }
@@ -89,19 +89,18 @@ fn rules_of(mapping: Option<Mapping>) -> Rules
 
 impl State {
     /// Before a text of so many bytes.
-    pub(crate) fn new(alloc: Global, names: &Names, read: usize) -> Result<State, AllocError>
+    pub(crate) fn new(alloc: Global, read: usize) -> State
         requires { read ≤ MOST_READ_BYTES }
-        ensures { IfOk result (λ state. state ≡ at_first read) }
+        ensures { result ≡ at_first read }
     {
-        let uses = Uses::new(alloc, names)?;
-        Ok(State {
+        State {
             rules: Rules::NoRules,
             groups: Groups::new(alloc),
             components: Components::new(alloc),
             read,
             is_full: false,
-            uses,
-        })
+            uses: Uses::new(alloc),
+        }
     }
 
     pub(crate) fn is_full(&self) -> bool
@@ -110,11 +109,11 @@ impl State {
         self.is_full
     }
 
-    /// The components, and what was taken and passed over for them.
-    pub(crate) fn into_parts(self) -> (Components, Uses)
-        ensures { result.0 ≡ self.components }
+    /// The components, and the groups and what was taken for them.
+    pub(crate) fn into_parts(self) -> (Components, Groups, Uses)
+        ensures { result ≡ (self.components, self.groups, self.taken) }
     {
-        (self.components, self.uses)
+        (self.components, self.groups, self.uses)
     }
 
     /// Whether the line that was taken last is noted, and not told yet.
@@ -231,7 +230,8 @@ impl State {
         }
         let sections = mapping.sections.as_slice();
         let are_used = self.components.add_values(alloc, names, sections, rights)?;
-        self.uses.take(names, &self.groups, mapping, lefts, rights)?;
+        let columns = mapping.columns.as_slice();
+        self.uses.take(names, &self.groups, columns, lefts, rights)?;
         self.uses.note(!are_used, Reason::Value)?;
         if !mapping.has_choice() {
             self.rules = Rules::PassedOver;

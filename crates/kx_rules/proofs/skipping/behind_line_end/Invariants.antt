@@ -1,4 +1,4 @@
-use Rattle.std.proofs.Common.{◌≤◌, ℕ, List, length}
+use Rattle.std.proofs.Common.{◌≤◌, List, length}
 use Rattle.kx_rules.specs.Lines.{is_word}
 use Rattle.kx_rules.specs.Pieces.{Piece, pieces}
 use Rattle.kx_rules.specs.Steps.{IsBehind}
