@@ -37,9 +37,10 @@ keyboard kx_run
 calls kx_tool kx_headline
 = Beside them
 print kx_print
+clients kx_clients kx_client_text
 round-trip roundtrip_text roundtrip_tree roundtrip_meaning kx_roundtrip
 names kx_rules rules_tree kx_names
-program kx_reach kx_explain kx_noted kx_show kx_failure kx_program xkc
+program kx_reach kx_explain kx_noted kx_show kx_failure kx_words kx_program xkc
 C kx_handles xkc_c
 example compositor
 tests cases_kit cases cases_rules cases_parts library_tests tool_tests refused_calls

@@ -91,13 +91,38 @@ actions[1]= [ NoAction() ]
 };
 };
 };'
+# What clients read of it.
+client_text='xkb_keymap {
+xkb_keycodes {
+<A>= 38;
+};
+xkb_types {
+type "ONE_LEVEL" {
+modifiers= none;
+level_name[1]= "";
+};
+};
+xkb_compat {
+interpret Any+AnyOf(all) {
+action= NoAction();
+};
+};
+xkb_symbols {
+key <A> {
+repeat= yes,
+type[1]= "ONE_LEVEL",
+symbols[1]= [ a ],
+actions[1]= [ NoAction() ]
+};
+};
+};'
 printf 'down 38\nup 38\n' > events
 { cat source; echo %%; cat events; } > session
 answers='38 down a consumed=none base=none latched=none locked=none group=1
 38 up a consumed=none base=none latched=none locked=none group=1'
 notes='notes keysyms=0 keys=0 types=0 levels=0 actions=0'
 
-for part in tasks streams refusals words reading writing printing folders named looking messages; do
+for part in tasks streams clients refusals words reading writing printing folders named looking messages; do
     . "$tests/program/$part.sh"
 done
 echo "$passed passed, $failed failed"

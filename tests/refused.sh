@@ -156,6 +156,7 @@ task F1 compile -I kit --layout one --options one,none out
 task F1 list -I kit
 task F1 upgrade image out
 task F1 print image
+task F1 print -I kit --layout one --options one,none
 input=events
 task 'F1 P1' replay image
 input=session

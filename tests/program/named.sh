@@ -81,7 +81,9 @@ gives 0 'A code=38 group=1 level=1 hold=none' find -I kit --layout us a
 gives 0 "$answers" try --layout us < events
 gives 1 'P3 Line 1' try --layout us < session
 "$program" compile --layout us named_image > ../out
-gives 0 "$("$program" print named_image)" print --layout us
+"$program" print --layout us > named_text
+"$program" compile --quiet named_text named_again > ../out
+holds "the text of a layout by its name makes its image" cmp -s named_image named_again
 gives 0 "$("$program" show named_image)" show --layout us
 gives 0 "$("$program" show --svg named_image)" show --rules evdev --svg
 gives 1 'no keysym is named nosuch' find --layout us nosuch

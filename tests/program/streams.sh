@@ -10,12 +10,12 @@ says() {
 
 # ---- A source, or names, wherever an image is taken
 gives 0 "$answers" replay source < events
-gives 0 "$text" print source
+gives 0 "$client_text" print source
 gives 0 "$("$program" find two a)" find source a
 gives 0 "$("$program" show two)" show source
 gives 0 "$("$program" show --svg two)" show --svg source
 gives 0 "$answers" replay --names names including map=map < events
-gives 0 "$text" print --names names including map=map
+gives 0 "$client_text" print --names names including map=map
 gives 0 "$("$program" find two a)" find --names names including a map=map
 mkdir -p own_folder/symbols
 cp map own_folder/symbols/map
@@ -28,7 +28,7 @@ says "no image but a keymap's source"
 # ---- Standard input
 gives 0 "$notes" compile - out < source
 holds 'the image of a source on standard input' cmp -s out two
-gives 0 "$text" print - < source
+gives 0 "$client_text" print - < source
 gives 0 "$text" print - < two
 gives 0 "$("$program" show two)" show - < two
 gives 0 "$("$program" find two a)" find - a < one

@@ -7,17 +7,15 @@ mod identity;
 mod keeping;
 mod looking;
 mod named;
-mod naming;
+mod printing;
 mod putting;
 mod showing;
 mod sources;
 mod tasks;
 mod usage;
-mod words;
 mod writing;
 
 pub use kx_failure::Failure;
 pub use showing::{Shown, Warned};
 pub use tasks::{run, run_words};
 pub use usage::{awaited, out_of_memory, word_that_is_not_text};
-pub use words::{Compile, Included, Includes, Keymap, Source, Task, task_in};

@@ -2,11 +2,11 @@
 use crate::named::read_keymap;
 use crate::sources::{read, read_names};
 use crate::usage::refuse_words;
-use crate::words::Keymap;
 use ks_core::NameTable;
 use kx_failure::{Failure, FileKind};
 use kx_image::View;
 use kx_show::{draw, group_count, keysyms_of, picture, write_names, write_places};
+use kx_words::Keymap;
 use std::alloc::{AllocError, Global};
 use std::rt::Files as FileSystem;
 

@@ -3,7 +3,6 @@ use crate::failing::unusable;
 use crate::looking::print_text;
 use crate::showing::show_fault;
 use crate::sources::{Gathered, gather, open_folders, read_source};
-use crate::words::{Includes, Keymap, Source};
 use ks_core::NameTable;
 use kx_explain::{Text, Texts};
 use kx_failure::{Failure, FileKind};
@@ -11,6 +10,7 @@ use kx_lex::Fault;
 use kx_names::{Asked, Made, NamesFault, Wanted, hints_of, list_lines, make_source, warnings_of};
 use kx_reach::Folder;
 use kx_tool::compile;
+use kx_words::{Includes, Keymap, Source};
 use std::alloc::AllocError;
 use std::rt::Files as FileSystem;
 
@@ -104,48 +104,78 @@ pub(crate) fn show_asked(
     }
 }
 
+/// Shows a fault of a source with its files, and answers what ends the task.
+pub(crate) fn refuse_source<'a>(
+    rt: &(impl FileSystem + Eprint + AllocGlobal),
+    fault: Fault,
+    keymap: &Keymap<'a>,
+    gathered: &Gathered,
+) -> Failure<'a> {
+    let includes = &keymap.includes;
+    let handed = match gathered.handed(rt.alloc(), includes) {
+        Ok(handed) => handed,
+        Err(refused) => return Failure::from(refused),
+    };
+    let shown = Texts {
+        source: Text {
+            name: "",
+            path: keymap.source.path(),
+            bytes: gathered.bytes.as_slice(),
+        },
+        files: handed.texts.as_slice(),
+    };
+    show_fault(rt, fault, shown, includes);
+    show_asked(rt, fault, keymap.source, includes);
+    Failure::Source(fault)
+}
+
 /// Compiles in memory a source with its files.
-fn compile_gathered<'a>(
+pub(crate) fn compile_gathered<'a>(
     rt: &(impl FileSystem + Eprint + AllocGlobal),
     names: &NameTable,
-    source: Source<'a>,
-    includes: &Includes<'a>,
+    keymap: &Keymap<'a>,
     gathered: &Gathered,
 ) -> Result<Vec<u8>, Failure<'a>> {
     let bytes = gathered.bytes.as_slice();
     match compile(rt.alloc(), bytes, &gathered.files, names) {
         Ok((image, _)) => Ok(image),
-        Err(fault) => {
-            let handed = gathered.handed(rt.alloc(), includes)?;
-            let name = "";
-            let path = source.path();
-            let files = handed.texts.as_slice();
-            let shown = Texts {
-                source: Text { name, path, bytes },
-                files,
-            };
-            show_fault(rt, fault, shown, includes);
-            show_asked(rt, fault, source, includes);
-            Err(Failure::Source(fault))
-        }
+        Err(fault) => Err(refuse_source(rt, fault, keymap, gathered)),
     }
 }
 
-/// The image of a keymap that is looked at. Bytes of a file that are no source are taken for one: who opens them says what they
-/// are.
+/// What is read of a keymap that is looked at.
+#[derive(Drop)]
+pub(crate) enum Looked {
+    /// The bytes of an image, or of what is none: who opens them says what they are.
+    Image(Vec<u8>),
+    /// A source with the files that it may include.
+    Source(Gathered),
+}
+
+/// Reads a keymap that is looked at.
+pub(crate) fn read_looked<'a>(
+    rt: &(impl FileSystem + Input + Eprint + AllocGlobal),
+    keymap: &Keymap<'a>,
+) -> Result<Looked, Failure<'a>> {
+    let source = keymap.source;
+    let includes = &keymap.includes;
+    let bytes = read_source(rt, source, includes, false)?;
+    if matches!(source, Source::File(_)) && FileKind::of(bytes.as_slice()) != FileKind::Source {
+        return Ok(Looked::Image(bytes));
+    }
+    Ok(Looked::Source(gather(rt, bytes, includes)?))
+}
+
+/// The image of a keymap that is looked at.
 pub(crate) fn read_keymap<'a>(
     rt: &(impl FileSystem + Input + Eprint + AllocGlobal),
     names: &NameTable,
     keymap: &Keymap<'a>,
 ) -> Result<Vec<u8>, Failure<'a>> {
-    let source = keymap.source;
-    let includes = &keymap.includes;
-    let bytes = read_source(rt, source, includes, false)?;
-    if matches!(source, Source::File(_)) && FileKind::of(bytes.as_slice()) != FileKind::Source {
-        return Ok(bytes);
+    match read_looked(rt, keymap)? {
+        Looked::Image(bytes) => Ok(bytes),
+        Looked::Source(gathered) => compile_gathered(rt, names, keymap, &gathered),
     }
-    let gathered = gather(rt, bytes, includes)?;
-    compile_gathered(rt, names, source, includes, &gathered)
 }
 
 /// Prints the source that names make.

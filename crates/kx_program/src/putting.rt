@@ -1,10 +1,10 @@
 //! Where an image is written.
 use crate::identity::Identity;
 use crate::usage::refuse_words;
-use crate::words::INPUT;
 use crate::writing::{Standing, standing_at, write_over};
 use kx_explain::Text;
 use kx_failure::Failure;
+use kx_words::INPUT;
 use std::io;
 use std::io::Write;
 use std::rt::Files as FileSystem;

@@ -1,10 +1,10 @@
 //! What a layout author sees of a fault on standard error: where it stands, what is wrong, the line of the text with a
 //! mark, and the includes that led there.
-use crate::words::Includes;
 use kx_explain::{Explanation, Text, Texts, explain, place_of, plain_message, write_shown};
 use kx_lex::{At, Fault};
 use kx_noted::{KINDS, TextWarnings, Warnings};
 use kx_tool::{Position, locate};
+use kx_words::Includes;
 use std::alloc::Global;
 use std::fmt;
 use std::fmt::{Formatter, Write};

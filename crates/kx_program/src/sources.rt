@@ -1,12 +1,12 @@
 //! The files that a task reads.
 use crate::failing::unusable;
 use crate::named::source_named;
-use crate::words::{INPUT, Included, Includes, Source};
 use ks_core::NameTable;
 use kx_explain::{Text, Texts};
 use kx_failure::Failure;
 use kx_reach::{FindFault, Folder, Found, find_files, read_file};
 use kx_tool::{Files, ReplayFault};
+use kx_words::{INPUT, Included, Includes, Source};
 use std::alloc::{AllocError, Global};
 use std::io::Read;
 use std::rt::Files as FileSystem;

@@ -4,7 +4,7 @@ use crate::hearing::{Heard, lines_in};
 use crate::keeping::Kept;
 use crate::looking::{find_in_keymap, print_names, show_keymap};
 use crate::named::{print_list, print_source, read_keymap, show_asked};
-use crate::naming::ask_environment;
+use crate::printing::print_keymap;
 use crate::putting::{Put, is_output, put_image};
 use crate::showing::{Warned, show_fault};
 use crate::sources::{
@@ -12,7 +12,6 @@ use crate::sources::{
     read_source, texts_of,
 };
 use crate::usage::{explain, out_of_memory};
-use crate::words::{Compile, INPUT, Includes, Keymap, Source, Task, task_in};
 use ks_core::{Feed, Lent, NameTable, Notes};
 use kx_explain::{Text, Texts};
 use kx_failure::{Failure, FileKind};
@@ -20,9 +19,9 @@ use kx_image::{UpgradeFault, View, upgrade};
 use kx_lex::Fault;
 use kx_names::{Environment, read_environment};
 use kx_noted::{Noted, Telling};
-use kx_print::print;
 use kx_reach::Ahead;
 use kx_tool::{Files, ReplayFault, SessionFault, compile_once, dump, replay, session};
+use kx_words::{Compile, INPUT, Includes, Keymap, Source, Task, ask_environment, task_in};
 use std::alloc::{AllocError, Global};
 use std::env::Env;
 use std::io;
@@ -289,24 +288,6 @@ fn answer_keymap<'a>(
     let names = read_names(rt, names)?;
     let bytes = read_keymap(rt, &names, keymap)?;
     answer_events(rt, &names, bytes.as_slice())
-}
-
-fn print_keymap<'a>(
-    rt: &(impl FileSystem + Input + Print + Eprint + AllocGlobal),
-    names: Option<&'a str>,
-    keymap: &Keymap<'a>,
-) -> Result<(), Failure<'a>> {
-    let names = read_names(rt, names)?;
-    let bytes = read_keymap(rt, &names, keymap)?;
-    let view = match View::open(bytes.as_slice()) {
-        Ok(view) => view,
-        Err(fault) => return Err(Failure::Image(fault, FileKind::of(bytes.as_slice()))),
-    };
-    let mut out = Lent::new(io::writer(rt));
-    match print(&view, &mut out) {
-        Ok(()) => Ok(()),
-        Err(_) => Err(Failure::Write),
-    }
 }
 
 fn dump_image<'a>(

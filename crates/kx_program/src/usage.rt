@@ -1,29 +1,14 @@
 //! What is said of words that ask for help, or that are wrong.
 use crate::failing::fail;
-use crate::naming::are_by_names;
-use crate::words::not_text;
 use clap::Error;
 use clap::error::ErrorKind;
 use ks_core::{BufferedOut, Lent, write_printed_name};
 use kx_failure::{DEVICE, Failure};
 use kx_lex::Fault;
+use kx_words::{are_by_names, not_text};
 use std::alloc::{AllocError, Global};
 use std::env::{Env, FillError};
 use std::fmt;
-
-/// What stands below the help of the whole program.
-pub(crate) const SESSION: &str = "\
-Without words a keymap's source is read from standard input, up to a line %%, and the lines after it are events:
-
-    down 38
-    up 38
-
-Each is answered by a line: the code, the direction, the keysyms, and the keyboard's state after the event:
-
-    38 down a consumed=none base=none latched=none locked=none group=1
-
-The status is 0, or 1 where something is refused, 2 where these words are wrong, and 3 where a file, the input or the
-output can't be used. A refusal is one line on standard output; what it means stands on standard error.";
 
 /// The status that wrong words end with.
 const USAGE: u8 = 2;

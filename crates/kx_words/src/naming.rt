@@ -23,7 +23,7 @@ fn is_name_word(word: &str) -> bool {
 
 /// Whether words ask for a keymap by its names: then they have no SOURCE, and no IMAGE that is read. The first word is the
 /// program's own name.
-pub(crate) fn are_by_names(words: &[String]) -> bool {
+pub fn are_by_names(words: &[String]) -> bool {
     words
         .iter()
         .take_while(|word| word.as_str() != "--")

@@ -1,0 +1,5 @@
+use Rattle.std.proofs.Common.{◌≡◌, ◌<◌, ℕ, List, get_or, length}
+use Rattle.kx_client_text.proofs.alike.are_same_names.Given as goal
+
+abbrev pub invariant-places : goal.invariant-places
+invariant-places l = (length l.one ≡ length l.other) × ((k : ℕ) (d : List ℕ) → k < l.place → get_or l.one k d ≡ get_or l.other k d)

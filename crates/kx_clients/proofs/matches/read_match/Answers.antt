@@ -1,0 +1,12 @@
+use Rattle.std.proofs.Common.{◌++◌}
+use Rattle.kx_lex.specs.declared.fault.Fault.TheVariants.{Memory}
+use Rattle.kx_symbols.specs.KeyFaults.{symbol_faults}
+use Rattle.kx_compat.specs.Matches.{predicate_faults}
+use Rattle.kx_merge.proofs.Going.{blamed_behind, reported_or_out}
+use Rattle.kx_clients.proofs.matches.read_match.Goals as goal
+
+pub returns-in_err-condition-clause-faults : goal.returns-in_err-condition-clause-faults
+returns-in_err-condition-clause-faults c =
+    let symbol = symbol_faults c.args.file c.args.symbol.now in
+    let predicate = predicate_faults c.args.file c.args.names.now.names c.args.predicate.now in
+    reported_or_out c.from_residual-in_err-condition.result (symbol ++ predicate) c.in_err-condition.field-0.0 c.from_residual-in_err-condition.ensures.1 (blamed_behind Memory symbol predicate c.in_err-condition.field-0.0 c.in_err-condition.ensures.faults.1)

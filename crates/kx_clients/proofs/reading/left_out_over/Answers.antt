@@ -1,0 +1,61 @@
+use Rattle.std.proofs.Common.{◌≡◌, ◌⊎◌, ◌∷◌, Contains, inl, subst, sym}
+use Rattle.kx_codes.specs.CodeFaults.{faults_of as keycodes_faults}
+use Rattle.kx_codes.specs.Codes.{CodesShow}
+use Rattle.kx_include.specs.Shared.{expanded_body}
+use Rattle.kx_lex.specs.declared.fault.Fault.{Fault}
+use Rattle.kx_lex.specs.declared.fault.Fault.TheVariants.{Memory}
+use Rattle.kx_source.specs.Source.{HasFaultIn}
+use Rattle.kx_types.specs.Types.{types_faults}
+use Rattle.kx_clients.specs.Aliases.{alias_faults}
+use Rattle.kx_clients.specs.LeavesOut.{AreLeftOut}
+use Rattle.kx_clients.specs.LeftOut.{LeftOut}
+use Rattle.kx_clients.proofs.Aliased.{aliases_faultless}
+use Rattle.kx_clients.proofs.Faults.{out_of_memory, passed}
+use Rattle.kx_clients.proofs.Joining.{left_out_are, modifiers_same, told_faults_same}
+use Rattle.kx_clients.proofs.Refusals.{keycodes_refused, told_refused, types_refused}
+use Rattle.kx_clients.proofs.reading.left_out_over.Goals as goal
+
+pub returns-in_err-codes-clause-fault : goal.returns-in_err-codes-clause-fault
+returns-in_err-codes-clause-fault c =
+    let e = c.in_err-codes.field-0.0 in
+    passed c.from_residual.result (λ (e : Fault). (e ≡ Memory) ⊎ HasFaultIn c.args.names.now c.args.library.now e) e c.from_residual.ensures.1
+    (keycodes_refused c.args.names.now c.args.library.now c.requires.whole e
+    (subst (λ body. Contains (Memory ∷ keycodes_faults body) e) c.requires.bodies.keycodes c.in_err-codes.ensures.faults.1))
+
+pub returns-in_err-aliases-clause-fault : goal.returns-in_err-aliases-clause-fault
+returns-in_err-aliases-clause-fault c =
+    let e = c.in_err-aliases.field-0.0 in
+    let body = expanded_body c.args.bodies.now.keycodes in
+    passed c.from_residual-in_err-aliases.result (λ (e : Fault). (e ≡ Memory) ⊎ HasFaultIn c.args.names.now c.args.library.now e) e c.from_residual-in_err-aliases.ensures.1
+    (inl (out_of_memory (alias_faults body) e (aliases_faultless body c.in_ok-codes.ensures.faults.0) c.in_err-aliases.ensures.faults.1))
+
+pub returns-in_err-indicators-clause-fault : goal.returns-in_err-indicators-clause-fault
+returns-in_err-indicators-clause-fault c =
+    passed c.from_residual-in_err-indicators.result (λ (e : Fault). (e ≡ Memory) ⊎ HasFaultIn c.args.names.now c.args.library.now e) c.in_err-indicators.field-0.0 c.from_residual-in_err-indicators.ensures.1
+    (inl c.in_err-indicators.ensures.err)
+
+pub returns-in_err-types-clause-fault : goal.returns-in_err-types-clause-fault
+returns-in_err-types-clause-fault c =
+    let e = c.in_err-types.field-0.0 in
+    let same = modifiers_same c.args.library.now c.args.bodies.now c.requires.bodies c.args.modifiers.now c.requires.names in
+    passed c.from_residual-in_err-types.result (λ (e : Fault). (e ≡ Memory) ⊎ HasFaultIn c.args.names.now c.args.library.now e) e c.from_residual-in_err-types.ensures.1
+    (types_refused c.args.names.now c.args.library.now c.requires.whole e
+    (subst (λ fs. Contains (Memory ∷ fs) e) (λ i. types_faults (same i) (c.requires.bodies.types i)) c.in_err-types.ensures.faults.1))
+
+pub returns-in_err-keys-clause-fault : goal.returns-in_err-keys-clause-fault
+returns-in_err-keys-clause-fault c =
+    let e = c.in_err-keys.field-0.0 in
+    let are = c.requires.bodies in
+    let codes_show = subst (CodesShow c.in_ok-codes.codes) are.keycodes c.in_ok-codes.ensures.shows in
+    passed c.from_residual-in_err-keys.result (λ (e : Fault). (e ≡ Memory) ⊎ HasFaultIn c.args.names.now c.args.library.now e) e c.from_residual-in_err-keys.ensures.1
+    (told_refused c.args.names.now c.args.library.now c.requires.whole e
+    (subst (λ fs. Contains (Memory ∷ fs) e) (told_faults_same c.args.library.now c.args.bodies.now are c.args.modifiers.now c.requires.names c.in_ok-types.types c.in_ok-types.ensures.shows c.in_ok-codes.codes codes_show c.args.names.now) c.in_err-keys.ensures.err))
+
+pub returns-clause-are : goal.returns-clause-are
+returns-clause-are c =
+    let are = c.requires.bodies in
+    let codes_show = subst (CodesShow c.in_ok-codes.codes) are.keycodes c.in_ok-codes.ensures.shows in
+    let keys = c.in_ok-keys.keys in
+    let left : LeftOut = record { aliases = c.in_ok-aliases.aliases.items; indicators = c.in_ok-indicators.indicators.items; modifiers = keys.modifiers.items; repeating = keys.repeating.items } in
+    subst (AreLeftOut c.args.names.now c.args.library.now) (sym c.of.ensures)
+    (left_out_are c.args.library.now c.args.bodies.now are c.args.modifiers.now c.requires.names c.in_ok-types.types c.in_ok-types.ensures.shows c.in_ok-codes.codes codes_show c.args.names.now left c.in_ok-aliases.ensures.aliases c.in_ok-indicators.ensures.names c.in_ok-keys.ensures.are)

@@ -1,0 +1,11 @@
+pub mod Aliases
+pub mod IndicatorNames
+pub mod InterpretationRepeats
+pub mod KeyRepeats
+pub mod LeavesOut
+pub mod LeftOut
+pub mod Made
+pub mod Read
+pub mod Records
+pub mod Repeats
+pub mod VirtualModifiers

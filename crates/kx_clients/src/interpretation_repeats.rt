@@ -1,0 +1,363 @@
+//! Whether the keys of interpretations repeat, by the statements of a keymap's compat sections.
+ghost use Rattle.std.specs.Prelude.{◌≡◌, [], ℕ, IfErr, IfOk, None, OnOk, Some, unwrap_or};
+ghost use Rattle.std.specs.Option.{option_map};
+ghost use Rattle.std.proofs.Common.{◌∙◌, ap, rules, sym};
+ghost use Rattle.kx_compat.specs.Sections.{interpretation_in, is_interpret};
+ghost use Rattle.kx_key_fields.specs.AttributeFields.{truth_in};
+ghost use Rattle.kx_lex.specs.declared.fault.Fault.TheVariants.{Memory};
+ghost use Rattle.kx_merge.specs.Last.{last_given};
+ghost use Rattle.kx_merge.specs.Moved.{moved_key, moved_value, moved_width};
+ghost use Rattle.kx_merge.specs.Offers.{merged_value, merged_width};
+ghost use Rattle.kx_merge.specs.Records.{AreOffered, mode_of};
+ghost use Rattle.kx_merge.specs.Reports.{ReportsOrRunsOut};
+ghost use Rattle.kx_merge.specs.Words.{meaning_among, truth_words};
+ghost use Rattle.kx_parse.specs.declared.tree.Mode.{Mode as ModeValue};
+ghost use Rattle.kx_clients.specs.InterpretationRepeats.{default_truth, field_truth, item_truths, match_faults, named_truth, next_said, next_truth, said_faults, truth_moves, truth_offers, truth_rules};
+ghost use Rattle.kx_clients.specs.Records.{truth_cell, truth_width};
+
+use crate::matches::read_match;
+use ks_core::{NameTable, Notes};
+use kx_compat::InterpretationMatch;
+use kx_include::{Expansion, Place};
+use kx_lex::{Boxed, Fault, Name, Row};
+use kx_merge::{Fields, lone_word, merge, merged_value, records_for, truth_named};
+use kx_ordered::Ordered;
+use kx_parse::{Expression, Field, Item, Mode, Predicate, Setting, Statement, Symbol, Value};
+use kx_virtual_mods::ModNames;
+use std::alloc::Global;
+
+// ---- Fields
+
+fn expression_truth(expression: &Expression) -> Option<bool>
+    ensures { result ≡ meaning_among truth_words expression.now }
+{
+    match lone_word(expression) {
+        Some(word) => truth_named(word.bytes.as_slice()),
+        None => None,
+    }
+}
+
+/// The truth value that a field is set to: without a value it is true, with `!` false.
+fn truth_in(setting: &Setting) -> Option<bool>
+    ensures { result ≡ truth_in setting.now }
+{
+    match setting {
+        Setting::Off => Some(false),
+        Setting::On => Some(true),
+        Setting::To(Value::Expression(expression)) => expression_truth(expression),
+        Setting::To(Value::Call(_)) => None,
+        Setting::To(Value::List(_)) => None,
+    }
+}
+
+/// What a field says whose word is this one.
+fn named_truth(word: &Name, field: &Field) -> Option<bool>
+    ensures { result ≡ named_truth word.now field.now }
+{
+    if field.place.index.is_some() {
+        return None;
+    }
+    if word.bytes.as_slice().eq_ignore_ascii_case(b"repeat") {
+        truth_in(&field.setting)
+    } else {
+        None
+    }
+}
+
+fn field_truth(field: &Field) -> Option<bool>
+    ensures { result ≡ field_truth field.now }
+{
+    if field.place.member.is_some() {
+        return None;
+    }
+    named_truth(&field.place.word, field)
+}
+
+/// What the last of the fields says that says anything, else what there was before them.
+fn last_truth(fields: &[Field], before: Option<bool>) -> Option<bool>
+    ensures { result ≡ last_given field_truth before fields.now }
+{
+    fields
+        .iter()
+        .fold(before, |last, field| field_truth(field).or(last))
+}
+
+fn is_interpret(word: &[u8]) -> bool
+    ensures { result ≡ is_interpret word.now }
+{
+    word.eq_ignore_ascii_case(b"interpret")
+}
+
+/// What a field of a section gives interpretations as a default.
+fn default_truth(field: &Field) -> Option<bool>
+    ensures { result ≡ default_truth field.now }
+{
+    if !is_interpret(field.place.word.bytes.as_slice()) {
+        return None;
+    }
+    match &field.place.member {
+        Some(member) => named_truth(member.get(), field),
+        None => None,
+    }
+}
+
+// ---- Statements
+
+/// What statements and defaults say of the repeating of an interpretation's keys.
+#[derive(Clone, Copy, Debug)]
+pub(crate) struct SaidOfMatch {
+    said: Option<bool>,
+}
+
+/// What the statements of a compat section are read against.
+#[derive(Clone, Copy)]
+pub(crate) struct Context<'a> {
+    pub table: &'a NameTable,
+    pub names: &'a ModNames,
+}
+
+/// The symbol, the predicate and the fields of an interpretation.
+fn interpretation_in(
+    statement: &Statement,
+) -> Option<(&Symbol, &Option<Boxed<Predicate>>, &Row<Field>)>
+    ensures { option_map (λ i. (i.0.now, i.1.now, i.2.now)) result
+        ≡ interpretation_in statement.now }
+{
+    match statement {
+        Statement::Interpretation {
+            symbol,
+            predicate,
+            fields,
+        } => Some((symbol, predicate, fields)),
+        _ => None,
+    }
+}
+
+#[tactic(auto, using(kx_merge::proofs::Offered::nothing_offered))]
+fn no_records(alloc: Global) -> Vec<(InterpretationMatch, SaidOfMatch)>
+    ensures { (mode : ModeValue) → AreOffered mode truth_cell truth_width result.items [] }
+{
+    Vec::new(alloc)
+}
+
+/// What an interpretation gives.
+fn read_interpretation(
+    alloc: Global,
+    context: &Context,
+    file: u32,
+    default: Option<bool>,
+    interpretation: (&Symbol, &Option<Boxed<Predicate>>, &Row<Field>),
+) -> Result<Vec<(InterpretationMatch, SaidOfMatch)>, Fault>
+    ensures records { (mode : ModeValue)
+        → IfOk result (λ records. AreOffered mode truth_cell truth_width records.items
+        (truth_offers context.now.table.now context.now.names.now.names default mode
+        (Some (
+          interpretation.entry.0.now,
+          interpretation.entry.1.now,
+          interpretation.entry.2.now,
+        )))) }
+    ensures faults { ReportsOrRunsOut result
+        (said_faults context.now.names.now.names file
+        (Some (
+          interpretation.entry.0.now,
+          interpretation.entry.1.now,
+          interpretation.entry.2.now,
+        ))) }
+{
+    let (symbol, predicate, fields) = interpretation;
+    let (table, names) = (context.table, context.names);
+    let mut notes = Notes::new();
+    let key = read_match(table, names, file, symbol, predicate, &mut notes)?;
+    let said = last_truth(fields.as_slice(), default);
+    records_for(alloc, key, SaidOfMatch { said })
+}
+
+/// The default after a statement that is no interpretation.
+fn behind(default: Option<bool>, statement: &Statement) -> Option<bool>
+    ensures { result ≡ next_said default statement.now }
+{
+    match statement {
+        Statement::Field(field) => default_truth(field.get()).or(default),
+        _ => default,
+    }
+}
+
+/// What a statement gives, and the default after it.
+fn read_statement(
+    alloc: Global,
+    context: &Context,
+    file: u32,
+    default: Option<bool>,
+    statement: &Statement,
+) -> Result<(Vec<(InterpretationMatch, SaidOfMatch)>, Option<bool>), Fault>
+    ensures records { (mode : ModeValue)
+        → IfOk result (λ said. AreOffered mode truth_cell truth_width said.0.items
+        (truth_offers context.now.table.now context.now.names.now.names default mode
+        (interpretation_in statement.now))) }
+    ensures next { IfOk result (λ said. said.1 ≡ next_said default statement.now) }
+    ensures faults { ReportsOrRunsOut result
+        (said_faults context.now.names.now.names file (interpretation_in statement.now)) }
+{
+    match interpretation_in(statement) {
+        None => Ok((no_records(alloc), behind(default, statement))),
+        Some(interpretation) => {
+            let records = read_interpretation(alloc, context, file, default, interpretation)?;
+            Ok((records, behind(default, statement)))
+        }
+    }
+}
+
+/// What an item of a compat section gives, and the default after it.
+fn read_item(
+    alloc: Global,
+    context: &Context,
+    file: u32,
+    default: Option<bool>,
+    item: &Item,
+) -> Result<(Vec<(InterpretationMatch, SaidOfMatch)>, Option<bool>), Fault>
+    ensures records { IfOk result (λ said.
+        AreOffered (mode_of item.now) truth_cell truth_width said.0.items
+        (item_truths context.now.table.now context.now.names.now.names default item.now)) }
+    ensures next { IfOk result (λ said. said.1 ≡ next_truth default item.now) }
+    ensures faults { ReportsOrRunsOut result
+        (match_faults context.now.names.now.names file item.now) }
+{
+    match item {
+        Item::Include { .. } => Ok((no_records(alloc), default)),
+        Item::Statement { statement, .. } => {
+            read_statement(alloc, context, file, default, statement)
+        }
+    }
+}
+
+impl<'a> Fields<Context<'a>> for SaidOfMatch {
+    type Key = InterpretationMatch;
+
+    type Cell = ();
+
+    type Value = bool;
+
+    type Defaults = Option<bool>;
+
+    ghost rules = { λ context. truth_rules context.table.now context.names.now.names };
+
+    ghost moves = { truth_moves };
+
+    ghost cell = { truth_cell };
+
+    ghost width = { truth_width };
+
+    fn start(_alloc: Global, _context: &Context<'a>) -> Option<bool> {
+        None
+    }
+
+    fn read(
+        alloc: Global,
+        context: &Context<'a>,
+        default: Option<bool>,
+        place: Place,
+        item: &Item,
+        _notes: &mut Notes,
+    ) -> Result<(Vec<(InterpretationMatch, SaidOfMatch)>, Option<bool>), Fault> {
+        read_item(alloc, context, place.file, default, item)
+    }
+
+    fn merge(&mut self, _alloc: Global, other: SaidOfMatch, mode: Mode) -> Result<(), Fault>
+        ensures cells { OnOk result ((c : Unit {0})
+            → truth_cell self.new c ≡ merged_value mode (truth_cell self.old c)
+            (truth_cell other c)) }
+        ensures widths { OnOk result ((g : ℕ)
+            → truth_width self.new g ≡ merged_width mode (truth_width self.old g)
+            (truth_width other g)) }
+        ensures err { IfErr result (λ e. e ≡ Memory) }
+    {
+        self.said = merged_value(mode, self.said, other.said);
+        Ok(())
+    }
+
+    fn none(_alloc: Global) -> SaidOfMatch
+        ensures cells { (c : Unit {0}) → truth_cell result c ≡ None }
+        ensures widths { (g : ℕ) → truth_width result g ≡ 0 }
+    {
+        SaidOfMatch { said: None }
+    }
+
+    fn merge_moved(
+        &mut self,
+        _alloc: Global,
+        other: &SaidOfMatch,
+        _group: Option<u8>,
+        mode: Mode,
+    ) -> Result<(), Fault>
+        ensures cells { OnOk result ((c : Unit {0})
+            → truth_cell self.new c ≡ merged_value mode (truth_cell self.old c)
+            (moved_value truth_moves _group (truth_cell other.now) c)) }
+        ensures widths { OnOk result ((g : ℕ)
+            → truth_width self.new g ≡ merged_width mode (truth_width self.old g)
+            (moved_width truth_moves _group (truth_width other.now) g)) }
+        ensures err { IfErr result (λ e. e ≡ Memory) }
+    {
+        self.said = merged_value(mode, self.said, other.said);
+        Ok(())
+    }
+
+    fn key_in(key: &InterpretationMatch, _group: Option<u8>) -> Option<InterpretationMatch>
+        ensures { result ≡ moved_key truth_moves _group key.now }
+    {
+        Some(*key)
+    }
+
+    ghost apart = { λ n j k to one two. ap (λ key. unwrap_or key to) (one ∙ sym two) };
+
+    ghost same = { λ j k e. Prim.search rules };
+}
+
+// ---- By what interpretations are told apart by
+
+/// Whether the keys of interpretations repeat.
+#[derive(Drop)]
+pub(crate) struct InterpretationRepeats {
+    by_match: Ordered<InterpretationMatch, SaidOfMatch>,
+}
+
+impl InterpretationRepeats {
+    ghost use Rattle.std.specs.Prelude.{◌≡◌, IfOk};
+    ghost use Rattle.kx_compat.specs.declared.interpretation_match.InterpretationMatch.{InterpretationMatch as MatchValue};
+    ghost use Rattle.kx_include.specs.Shared.{expanded_body};
+    ghost use Rattle.kx_merge.specs.Reports.{ReportsOrRunsOut};
+    ghost use Rattle.kx_clients.specs.InterpretationRepeats.{all_match_faults, match_repeats};
+    ghost use Rattle.kx_clients.specs.Records.{truth_recorded};
+
+    /// Those of an expanded body.
+    ///
+    /// # Errors
+    /// The faults of keysyms and conditions of interpretations, at their places, as
+    /// [`interpretations`](kx_compat::interpretations) has them; `Memory`.
+    pub(crate) fn of(
+        alloc: Global,
+        expansion: &Expansion,
+        names: &ModNames,
+        table: &NameTable,
+    ) -> Result<InterpretationRepeats, Fault>
+        ensures repeats { IfOk result (λ said. (m : MatchValue) → truth_recorded said.by_match m
+            ≡ match_repeats table.now names.now.names (expanded_body expansion.now) m) }
+        ensures faults { ReportsOrRunsOut result
+            (all_match_faults table.now names.now.names (expanded_body expansion.now)) }
+    {
+        let context = Context { table, names };
+        let merged = merge::<Context, SaidOfMatch>(alloc, &context, expansion)?;
+        Ok(InterpretationRepeats {
+            by_match: merged.records,
+        })
+    }
+
+    /// Whether the keys of an interpretation repeat.
+    pub(crate) fn repeats(&self, interpretation_match: InterpretationMatch) -> bool
+        ensures { result ≡ truth_recorded self.now.by_match interpretation_match }
+    {
+        match self.by_match.get(&interpretation_match) {
+            Some(key) => key.said.unwrap_or(false),
+            None => false,
+        }
+    }
+}

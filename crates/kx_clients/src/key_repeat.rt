@@ -1,0 +1,10 @@
+//! What a key says of its repeating.
+
+/// What a key says of its repeating.
+#[derive(Clone, Copy, Debug, PartialEq, Eq)]
+pub enum KeyRepeat {
+    Yes,
+    No,
+    /// What is so where it says nothing.
+    Default,
+}

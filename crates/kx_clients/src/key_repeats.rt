@@ -1,0 +1,349 @@
+//! What the statements of a keymap's symbols say of the repeating of keys.
+ghost use Rattle.std.specs.Prelude.{◌≡◌, [], ℕ, IfErr, IfOk, None, OnOk, Some, unwrap_or};
+ghost use Rattle.std.specs.Option.{option_map};
+ghost use Rattle.std.proofs.Common.{◌∙◌, ap, eqb-true, sym};
+ghost use Rattle.kx_lex.specs.declared.fault.Fault.TheVariants.{Memory};
+ghost use Rattle.kx_merge.specs.Last.{last_given};
+ghost use Rattle.kx_merge.specs.Moved.{moved_key, moved_value, moved_width};
+ghost use Rattle.kx_merge.specs.Offers.{merged_value, merged_width};
+ghost use Rattle.kx_merge.specs.Records.{AreOffered, mode_of};
+ghost use Rattle.kx_merge.specs.Words.{among, meaning_among};
+ghost use Rattle.kx_parse.specs.declared.tree.Mode.{Mode as ModeValue};
+ghost use Rattle.kx_symbols.specs.KeyFaults.{key_in};
+ghost use Rattle.kx_clients.specs.KeyRepeats.{default_repeat, field_repeat, is_repeat_word, item_offers, key_offers, named_repeat, next_default, next_said, own_repeat, repeat_in, repeat_moves, repeat_rules, repeat_words};
+ghost use Rattle.kx_clients.specs.Records.{repeat_cell, repeat_width};
+
+use crate::key_repeat::KeyRepeat;
+use ks_core::Notes;
+use kx_codes::Codes;
+use kx_include::{Expansion, Place};
+use kx_key_fields::is_key_word;
+use kx_lex::{Fault, KeyName, Name, SmallRow};
+use kx_merge::{Fields, lone_word, merge, merged_value, records_for};
+use kx_ordered::Ordered;
+use kx_parse::{Expression, Field, Item, KeyField, Mode, Setting, Statement, Value};
+use std::alloc::Global;
+
+// ---- Fields
+
+fn is_repeat_word(word: &[u8]) -> bool
+    ensures { result ≡ is_repeat_word word.now }
+{
+    word.eq_ignore_ascii_case(b"repeat")
+        || word.eq_ignore_ascii_case(b"repeats")
+        || word.eq_ignore_ascii_case(b"repeating")
+}
+
+fn repeat_named(word: &[u8]) -> Option<KeyRepeat>
+    ensures { result ≡ among repeat_words word.now }
+{
+    if word.eq_ignore_ascii_case(b"true") {
+        Some(KeyRepeat::Yes)
+    } else if word.eq_ignore_ascii_case(b"yes") {
+        Some(KeyRepeat::Yes)
+    } else if word.eq_ignore_ascii_case(b"on") {
+        Some(KeyRepeat::Yes)
+    } else if word.eq_ignore_ascii_case(b"false") {
+        Some(KeyRepeat::No)
+    } else if word.eq_ignore_ascii_case(b"no") {
+        Some(KeyRepeat::No)
+    } else if word.eq_ignore_ascii_case(b"off") {
+        Some(KeyRepeat::No)
+    } else if word.eq_ignore_ascii_case(b"default") {
+        Some(KeyRepeat::Default)
+    } else {
+        None
+    }
+}
+
+fn expression_repeat(expression: &Expression) -> Option<KeyRepeat>
+    ensures { result ≡ meaning_among repeat_words expression.now }
+{
+    match lone_word(expression) {
+        Some(word) => repeat_named(word.bytes.as_slice()),
+        None => None,
+    }
+}
+
+/// What a field is set to, where that says of repeating.
+fn repeat_in(setting: &Setting) -> Option<KeyRepeat>
+    ensures { result ≡ repeat_in setting.now }
+{
+    match setting {
+        Setting::To(Value::Expression(expression)) => expression_repeat(expression),
+        Setting::To(Value::Call(_)) => None,
+        Setting::To(Value::List(_)) => None,
+        Setting::Off | Setting::On => None,
+    }
+}
+
+/// What a field says whose word is this one.
+fn named_repeat(word: &Name, field: &Field) -> Option<KeyRepeat>
+    ensures { result ≡ named_repeat word.now field.now }
+{
+    if is_repeat_word(word.bytes.as_slice()) {
+        repeat_in(&field.setting)
+    } else {
+        None
+    }
+}
+
+fn own_repeat(field: &Field) -> Option<KeyRepeat>
+    ensures { result ≡ own_repeat field.now }
+{
+    if field.place.member.is_some() {
+        return None;
+    }
+    named_repeat(&field.place.word, field)
+}
+
+fn field_repeat(field: &KeyField) -> Option<KeyRepeat>
+    ensures { result ≡ field_repeat field.now }
+{
+    match field {
+        KeyField::Field(field) => own_repeat(field.get()),
+        KeyField::List(_) => None,
+    }
+}
+
+/// What the last of the fields says that says anything, else what there was before them.
+fn last_repeat(fields: &[KeyField], before: Option<KeyRepeat>) -> Option<KeyRepeat>
+    ensures { result ≡ last_given field_repeat before fields.now }
+{
+    fields
+        .iter()
+        .fold(before, |last, field| field_repeat(field).or(last))
+}
+
+/// What a field of a section gives keys as a default.
+fn default_repeat(field: &Field) -> Option<KeyRepeat>
+    ensures { result ≡ default_repeat field.now }
+{
+    if !is_key_word(field.place.word.bytes.as_slice()) {
+        return None;
+    }
+    match &field.place.member {
+        Some(member) => named_repeat(member.get(), field),
+        None => None,
+    }
+}
+
+// ---- Statements
+
+/// What statements and defaults say of a key's repeating.
+#[derive(Clone, Copy, Debug)]
+pub(crate) struct SaidOfKey {
+    said: Option<KeyRepeat>,
+}
+
+/// The name and the fields of a key statement.
+fn key_in(statement: &Statement) -> Option<(&KeyName, &SmallRow<KeyField>)>
+    ensures { option_map (λ k. (k.0.now, k.1.now)) result ≡ key_in statement.now }
+{
+    match statement {
+        Statement::Key { name, fields } => Some((name, fields)),
+        _ => None,
+    }
+}
+
+#[tactic(auto, using(kx_merge::proofs::Offered::nothing_offered))]
+fn no_records(alloc: Global) -> Vec<(u16, SaidOfKey)>
+    ensures { (mode : ModeValue) → AreOffered mode repeat_cell repeat_width result.items [] }
+{
+    Vec::new(alloc)
+}
+
+/// What a key statement gives its key.
+fn read_key(
+    alloc: Global,
+    codes: &Codes,
+    default: Option<KeyRepeat>,
+    name: &KeyName,
+    fields: &SmallRow<KeyField>,
+) -> Result<Vec<(u16, SaidOfKey)>, Fault>
+    ensures records { (mode : ModeValue)
+        → IfOk result (λ records. AreOffered mode repeat_cell repeat_width records.items
+        (key_offers codes.now default mode (Some (name.now, fields.now)))) }
+    ensures err { IfErr result (λ e. e ≡ Memory) }
+{
+    let said = last_repeat(fields.as_slice(), default);
+    records_for(alloc, codes.code_of(name.as_slice()), SaidOfKey { said })
+}
+
+/// The default after a statement that is about no key.
+fn behind(default: Option<KeyRepeat>, statement: &Statement) -> Option<KeyRepeat>
+    ensures { result ≡ next_said default statement.now }
+{
+    match statement {
+        Statement::Field(field) => default_repeat(field.get()).or(default),
+        _ => default,
+    }
+}
+
+/// What a statement gives, and the default after it.
+fn read_statement(
+    alloc: Global,
+    codes: &Codes,
+    default: Option<KeyRepeat>,
+    statement: &Statement,
+) -> Result<(Vec<(u16, SaidOfKey)>, Option<KeyRepeat>), Fault>
+    ensures records { (mode : ModeValue)
+        → IfOk result (λ said. AreOffered mode repeat_cell repeat_width said.0.items
+        (key_offers codes.now default mode (key_in statement.now))) }
+    ensures next { IfOk result (λ said. said.1 ≡ next_said default statement.now) }
+    ensures err { IfErr result (λ e. e ≡ Memory) }
+{
+    match key_in(statement) {
+        None => Ok((no_records(alloc), behind(default, statement))),
+        Some((name, fields)) => {
+            let records = read_key(alloc, codes, default, name, fields)?;
+            Ok((records, behind(default, statement)))
+        }
+    }
+}
+
+/// What an item of a symbols section gives, and the default after it.
+fn read_item(
+    alloc: Global,
+    codes: &Codes,
+    default: Option<KeyRepeat>,
+    item: &Item,
+) -> Result<(Vec<(u16, SaidOfKey)>, Option<KeyRepeat>), Fault>
+    ensures records { IfOk result (λ said.
+        AreOffered (mode_of item.now) repeat_cell repeat_width said.0.items
+        (item_offers codes.now default item.now)) }
+    ensures next { IfOk result (λ said. said.1 ≡ next_default default item.now) }
+    ensures err { IfErr result (λ e. e ≡ Memory) }
+{
+    match item {
+        Item::Include { .. } => Ok((no_records(alloc), default)),
+        Item::Statement { statement, .. } => read_statement(alloc, codes, default, statement),
+    }
+}
+
+impl<'l> Fields<Codes<'l>> for SaidOfKey {
+    type Key = u16;
+
+    type Cell = ();
+
+    type Value = KeyRepeat;
+
+    type Defaults = Option<KeyRepeat>;
+
+    ghost rules = { λ codes. repeat_rules codes };
+
+    ghost moves = { repeat_moves };
+
+    ghost cell = { repeat_cell };
+
+    ghost width = { repeat_width };
+
+    fn start(_alloc: Global, _codes: &Codes<'l>) -> Option<KeyRepeat> {
+        None
+    }
+
+    fn read(
+        alloc: Global,
+        codes: &Codes<'l>,
+        default: Option<KeyRepeat>,
+        _place: Place,
+        item: &Item,
+        _notes: &mut Notes,
+    ) -> Result<(Vec<(u16, SaidOfKey)>, Option<KeyRepeat>), Fault> {
+        read_item(alloc, codes, default, item)
+    }
+
+    fn merge(&mut self, _alloc: Global, other: SaidOfKey, mode: Mode) -> Result<(), Fault>
+        ensures cells { OnOk result ((c : Unit {0})
+            → repeat_cell self.new c ≡ merged_value mode (repeat_cell self.old c)
+            (repeat_cell other c)) }
+        ensures widths { OnOk result ((g : ℕ)
+            → repeat_width self.new g ≡ merged_width mode (repeat_width self.old g)
+            (repeat_width other g)) }
+        ensures err { IfErr result (λ e. e ≡ Memory) }
+    {
+        self.said = merged_value(mode, self.said, other.said);
+        Ok(())
+    }
+
+    fn none(_alloc: Global) -> SaidOfKey
+        ensures cells { (c : Unit {0}) → repeat_cell result c ≡ None }
+        ensures widths { (g : ℕ) → repeat_width result g ≡ 0 }
+    {
+        SaidOfKey { said: None }
+    }
+
+    fn merge_moved(
+        &mut self,
+        _alloc: Global,
+        other: &SaidOfKey,
+        _group: Option<u8>,
+        mode: Mode,
+    ) -> Result<(), Fault>
+        ensures cells { OnOk result ((c : Unit {0})
+            → repeat_cell self.new c ≡ merged_value mode (repeat_cell self.old c)
+            (moved_value repeat_moves _group (repeat_cell other.now) c)) }
+        ensures widths { OnOk result ((g : ℕ)
+            → repeat_width self.new g ≡ merged_width mode (repeat_width self.old g)
+            (moved_width repeat_moves _group (repeat_width other.now) g)) }
+        ensures err { IfErr result (λ e. e ≡ Memory) }
+    {
+        self.said = merged_value(mode, self.said, other.said);
+        Ok(())
+    }
+
+    fn key_in(key: &u16, _group: Option<u8>) -> Option<u16>
+        ensures { result ≡ moved_key repeat_moves _group key.now }
+    {
+        Some(*key)
+    }
+
+    ghost apart = { λ n j k to one two. ap (λ key. unwrap_or key 0) (one ∙ sym two) };
+
+    ghost same = { λ j k e. eqb-true j k e };
+}
+
+// ---- By code
+
+/// What the statements of a keymap's symbols say of the repeating of keys, by their codes.
+#[derive(Drop)]
+pub(crate) struct KeyRepeats {
+    by_code: Ordered<u16, SaidOfKey>,
+}
+
+impl KeyRepeats {
+    ghost use Rattle.std.specs.Prelude.{◌≡◌, ℕ, IfErr, IfOk};
+    ghost use Rattle.kx_include.specs.Shared.{expanded_body};
+    ghost use Rattle.kx_lex.specs.declared.fault.Fault.TheVariants.{Memory};
+    ghost use Rattle.kx_clients.specs.KeyRepeats.{said_repeat};
+    ghost use Rattle.kx_clients.specs.Records.{repeat_recorded};
+
+    /// Those of an expanded body, where the keys have these codes.
+    ///
+    /// # Errors
+    /// `Memory`.
+    pub(crate) fn of(
+        alloc: Global,
+        expansion: &Expansion,
+        codes: &Codes,
+    ) -> Result<KeyRepeats, Fault>
+        ensures said { IfOk result (λ said. (code : ℕ) → repeat_recorded said.by_code code
+            ≡ said_repeat codes.now (expanded_body expansion.now) code) }
+        ensures err { IfErr result (λ e. e ≡ Memory) }
+    {
+        let merged = merge::<Codes, SaidOfKey>(alloc, codes, expansion)?;
+        Ok(KeyRepeats {
+            by_code: merged.records,
+        })
+    }
+
+    /// What is said of the key of a code.
+    pub(crate) fn key(&self, code: u16) -> Option<KeyRepeat>
+        ensures { result ≡ repeat_recorded self.now.by_code code }
+    {
+        match self.by_code.get(&code) {
+            Some(key) => key.said,
+            None => None,
+        }
+    }
+}
