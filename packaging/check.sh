@@ -1,5 +1,5 @@
 #!/bin/bash
-# Tests of install.sh, over stand-ins for what is built, that the man page and the completions say all words of PROGRAM, and that
+# Tests of install.sh and release.sh, over stand-ins for what is built, that the man page and the completions say all words of PROGRAM, and that
 # the drawing of the house is that of crates.txt: packaging/check.sh PROGRAM. Each failure is a line, and the last line counts.
 set -u
 top=$(cd "$(dirname "$0")/.." && pwd)
@@ -64,6 +64,88 @@ holds_files "$work/stage/usr" "$with_library"
 holds 'xkc.pc has the prefix with DESTDIR' grep -qx 'prefix=/usr' "$work/stage/usr/lib/pkgconfig/xkc.pc"
 DESTDIR=$work/stage ends 0 --uninstall /usr
 holds_files "$work/stage" ''
+
+# What release.sh packs, of the commit of a tree of stand-ins, and what it refuses. A stand-in says what objdump says of them.
+packs() {
+    local wanted=$1 status=0
+    shift
+    PATH=$work/path:$PATH packaging/release.sh "$@" > "$work/out" 2> "$work/err" || status=$?
+    holds "release.sh $*: status $status, not $wanted: $(cat "$work/err")" [ "$status" -eq "$wanted" ]
+    [ "$wanted" -eq 0 ] || holds "release.sh $*: nothing is said on standard error" [ -s "$work/err" ]
+}
+refuses() {
+    packs 1 "$work/refused"
+    holds "release.sh says nothing of '$1': $(cat "$work/err")" grep -q -- "$1" "$work/err"
+}
+checked() {
+    mkdir -p out
+    { echo "tree $1"; echo 'rt ci: 1 passed, 0 failed'; sha256sum crates/xkc/out/xkc; } > out/checked
+}
+commits() { git add -A && git -c user.name=name -c user.email=name@example.org commit -q -m 'stand-ins'; }
+files_of() { dpkg-deb --fsys-tarfile "$work/packed/$1" | tar -t | grep -v '/$' | sort | tr '\n' ' '; }
+
+tries_release() {
+    mkdir -p "$work/path" "$work/release"
+    cp -R "$top/README.md" "$top/CHANGELOG.md" "$top/LICENSE" "$top/.gitignore" "$top/install.sh" "$top/packaging" "$top/include" "$work/release"
+    cd "$work/release" || exit 2
+    mkdir -p crates/xkc/out docs c
+    cp "$top/docs/c.md" "$top/docs/keyboard.svg" docs
+    cp "$top/c/compositor.c" "$top/c/client.c" c
+    printf '#!/bin/sh\nfor name in libxkc.a libxkc.so.0 libxkc-xkbcommon.so; do echo "$name" > "$1/$name"; done\n' > c/build.sh
+    printf '#!/bin/sh\n[ "$1" != -T ] || echo "(GLIBC_2.9) a (GLIBC_2.34) b"\n' > "$work/path/objdump"
+    printf '#!/bin/sh\necho xkc %s\n' "$(sed -n 's/^## //p' CHANGELOG.md | head -n 1)" > crates/xkc/out/xkc
+    chmod +x c/build.sh "$work/path/objdump" crates/xkc/out/xkc
+    git init -q . && commits
+    local version tree
+    version=$(crates/xkc/out/xkc | cut -d ' ' -f 2)
+    tree=$(git rev-parse 'HEAD^{tree}')
+    packs 2 --bogus
+    packs 2 one two
+    refuses 'no run of ./check has passed'
+    checked 0123456789abcdef0123456789abcdef01234567
+    refuses 'of another tree'
+    checked "$tree"
+    echo >> README.md
+    refuses 'has changed'
+    git checkout -q README.md
+    echo > docs/added.md
+    refuses 'was added'
+    rm docs/added.md
+    echo >> crates/xkc/out/xkc
+    refuses 'is not what ./check proved'
+    checked "$tree"
+    holds 'something is packed where release.sh refuses' [ ! -e "$work/refused" -o -z "$(ls "$work/refused")" ]
+    packs 0 "$work/packed"
+    holds_files "$work/packed" "./SHA256SUMS ./libxkc-dev_${version}_amd64.deb ./libxkc0_${version}_amd64.deb ./xkc-$version-linux-x86_64.tar.xz ./xkc_${version}_amd64.deb "
+    holds 'the sums are others' eval '(cd "$work/packed" && sha256sum -c --quiet SHA256SUMS)'
+    tar -C "$work" -xf "$work/packed/xkc-$version-linux-x86_64.tar.xz"
+    local own='./share/doc/xkc/CHANGELOG.md ./share/doc/xkc/LICENSE ./share/doc/xkc/README.md ./share/doc/xkc/c/client.c ./share/doc/xkc/c/compositor.c '
+    own="$own./share/doc/xkc/checked ./share/doc/xkc/docs/c.md ./share/doc/xkc/docs/keyboard.svg "
+    holds_files "$work/xkc-$version-linux-x86_64" "${with_library%./share/fish*}$own./share/fish${with_library#*./share/fish}"
+    local files="$(files_of "xkc_${version}_amd64.deb")" word
+    own=${own/LICENSE/copyright}
+    for word in ./usr/bin/xkc ./usr/lib/x86_64-linux-gnu/libxkc-xkbcommon.so ./usr/share/man/man1/xkc.1.gz ${own//.\/share/.\/usr\/share}; do
+        holds "the package xkc lacks $word: $files" eval '[[ " $files" == *" $word "* ]]'
+    done
+    files=$(files_of "libxkc0_${version}_amd64.deb")
+    holds "files of libxkc0: $files" [ "$files" = './usr/lib/x86_64-linux-gnu/libxkc.so.0 ./usr/share/doc/libxkc0/copyright ' ]
+    holds 'libxkc0 depends on another C library' [ "$(dpkg-deb -f "$work/packed/libxkc0_${version}_amd64.deb" Depends)" = 'libc6 (>= 2.34)' ]
+    # Another folder, at another time, by one whose files others can't read.
+    (umask 077 && cp -R "$work/release" "$work/again")
+    find "$work/again" -exec touch -h -d 2001-02-03 {} +
+    cd "$work/again" || exit 2
+    PATH=$work/path:$PATH bash -c 'umask 077; packaging/release.sh' > "$work/out" 2>&1
+    holds "two runs give other bytes: $(cat "$work/out")" cmp "$work/packed/SHA256SUMS" out/release/SHA256SUMS
+    sed -i "0,/^## /s/^## .*/## 9.$version/" CHANGELOG.md
+    commits
+    checked "$(git rev-parse 'HEAD^{tree}')"
+    refuses "says version 9.$version"
+}
+if command -v git > /dev/null && command -v dpkg-deb > /dev/null && command -v xz > /dev/null; then
+    tries_release
+else
+    echo 'packaging: there is no git, dpkg-deb or xz, so the tests of release.sh are left out'
+fi
 
 # Each command, and each option of it, as the program's help has them.
 compopt() { :; }
