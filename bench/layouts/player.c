@@ -83,6 +83,30 @@ static int has_syms(const char *word, const xkb_keysym_t *syms, int count)
     return at == count;
 }
 
+/* The lit indicators, as ` lit=A,B` at the end of a line names them: each by its name in the keymap. (No layout has a name with a
+ * comma or a byte that is written otherwise.) */
+static int has_lit(const char *line, struct xkb_keymap *keymap, struct xkb_state *state)
+{
+    const char *names = strstr(line, " lit=");
+    size_t told = 0, lit = 0;
+    if (names)
+        for (const char *at = names += strlen(" lit="); *at || at == names; at++)
+            told += at == names || *at == ',';
+    for (xkb_led_index_t led = 0; led < xkb_keymap_num_leds(keymap); led++) {
+        const char *name = xkb_keymap_led_get_name(keymap, led);
+        size_t size = name ? strlen(name) : 0;
+        if (!name || xkb_state_led_index_is_active(state, led) <= 0)
+            continue;
+        lit++;
+        const char *at = names;
+        while (at && !(!strncmp(at, name, size) && (at[size] == ',' || !at[size])))
+            at = (at = strchr(at, ',')) ? at + 1 : NULL;
+        if (!at)
+            return 0;
+    }
+    return lit == told;
+}
+
 static void tell(const char *field, unsigned code, const char *line)
 {
     printf("%s key %u: %s\n", field, code, line);
@@ -112,6 +136,8 @@ static void check(struct xkb_keymap *keymap, FILE *answers)
             mods_of(latched) != (xkb_state_serialize_mods(state, XKB_STATE_MODS_LATCHED) & 0xff) ? "latched" :
             mods_of(locked) != (xkb_state_serialize_mods(state, XKB_STATE_MODS_LOCKED) & 0xff) ? "locked" :
             group != xkb_state_serialize_layout(state, XKB_STATE_LAYOUT_EFFECTIVE) + 1 ? "group" : NULL;
+        if (!differs && !has_lit(line, keymap, state))
+            differs = "lit";
         if (differs) {
             tell(differs, code, line);
             break;
@@ -124,7 +150,8 @@ int main(int count, char **words)
 {
     struct xkb_context *context = xkb_context_new(XKB_CONTEXT_NO_FLAGS);
     FILE *file = count == 4 ? fopen(words[1], "r") : NULL;
-    xkb_context_set_log_level(context, XKB_LOG_LEVEL_CRITICAL);
+    if (!getenv("XKB_LOG_LEVEL"))
+        xkb_context_set_log_level(context, XKB_LOG_LEVEL_CRITICAL);
     struct xkb_keymap *keymap = file ? xkb_keymap_new_from_file(context, file, XKB_KEYMAP_FORMAT_TEXT_V1, XKB_KEYMAP_COMPILE_NO_FLAGS) : NULL;
     if (!keymap) {
         fprintf(stderr, "player: no keymap\n");
