@@ -4,6 +4,8 @@
 # second word names a repository in which `rt ci` has passed: then its libraries are taken as they stand there, and else
 # `rt lib` proves and builds what isn't. CC names the compiler, cc where it isn't set.
 set -eu
+# The same order of an archive's objects everywhere.
+export LC_ALL=C
 top=$(cd "$(dirname "$0")/.." && pwd)
 mkdir -p "$1"
 out=$(cd "$1" && pwd)
@@ -64,14 +66,16 @@ cd objects
 ar x "$archive"
 ar x "$kit/c/liblibc_c.a"
 rm -f "$out/libxkc.a"
-ar rcs "$out/libxkc.a" ./*.o
+ar rcsD "$out/libxkc.a" ./*.o
 echo '{ global: xkc_*; local: *; };' > exports
-"$compiler" -shared -Wl,-soname,libxkc.so.0 -Wl,--version-script=exports -Wl,--no-undefined -o "$out/libxkc.so.0" ./*.o
+hardened='-Wl,-z,relro,-z,now,-z,noexecstack'
+"$compiler" -shared $hardened -Wl,-soname,libxkc.so.0 -Wl,--version-script=exports -Wl,--no-undefined -o "$out/libxkc.so.0" ./*.o
 
 if ! flags=$(pkg-config --cflags xkbcommon 2> /dev/null); then
     echo 'c/build.sh: xkbcommon.h is not installed, so libxkc-xkbcommon.so is not built'
     exit 0
 fi
 # shellcheck disable=SC2086
-"$compiler" -std=c11 -O2 -Wall -Wextra -Werror -fPIC -shared -I"$top/include" $flags -o "$out/libxkc-xkbcommon.so" \
+"$compiler" -std=c11 -O2 -Wall -Wextra -Werror -fPIC -fstack-protector-strong -U_FORTIFY_SOURCE -D_FORTIFY_SOURCE=2 \
+    -ffile-prefix-map="$top=." -shared $hardened -I"$top/include" $flags -o "$out/libxkc-xkbcommon.so" \
     "$top/c/xkbcommon.c" "$out/libxkc.a" -Wl,--exclude-libs,ALL -ldl
