@@ -92,7 +92,8 @@ tries_release() {
     cp "$top/docs/c.md" "$top/docs/keyboard.svg" docs
     cp "$top/c/compositor.c" "$top/c/client.c" c
     printf '#!/bin/sh\nfor name in libxkc.a libxkc.so.0 libxkc-xkbcommon.so; do echo "$name" > "$1/$name"; done\n' > c/build.sh
-    printf '#!/bin/sh\n[ "$1" != -T ] || echo "(GLIBC_2.9) a (GLIBC_2.34) b"\n' > "$work/path/objdump"
+    printf '%s\n' '#!/bin/sh' 'case $1 in' '-T) echo "(GLIBC_2.9) a"; echo "(GLIBC_2.34) b" ;;' \
+        '-p) printf "%s\n" " RELRO off 0" " STACK off 0" " flags rw-" "  NEEDED  libc.so.6" "  FLAGS_1  0x8000001" ;;' esac > "$work/path/objdump"
     printf '#!/bin/sh\necho xkc %s\n' "$(sed -n 's/^## //p' CHANGELOG.md | head -n 1)" > crates/xkc/out/xkc
     chmod +x c/build.sh "$work/path/objdump" crates/xkc/out/xkc
     git init -q . && commits
