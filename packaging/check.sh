@@ -96,7 +96,29 @@ tries_release() {
         '-p) printf "%s\n" " RELRO off 0" " STACK off 0" " flags rw-" "  NEEDED  libc.so.6" "  FLAGS_1  0x8000001" ;;' esac > "$work/path/objdump"
     printf '#!/bin/sh\necho xkc %s\n' "$(sed -n 's/^## //p' CHANGELOG.md | head -n 1)" > crates/xkc/out/xkc
     chmod +x c/build.sh "$work/path/objdump" crates/xkc/out/xkc
+    # The record of ./check, whose parts are stand-ins too, and then records by hand.
+    mkdir -p tests crates/xkc_c/out crates/refused_calls/out
+    cp "$top/check" .
+    printf '#!/bin/sh\n[ "$1" = version ] && echo kit logic || echo "2 passed, 0 failed"\n' > "$work/path/rt"
+    for part in tests/program.sh tests/refused.sh tests/library.sh packaging/check.sh; do
+        printf '#!/bin/sh\necho "1 passed, 0 failed"\n' > "$part"
+        chmod +x "$part"
+    done
+    chmod +x "$work/path/rt"
+    echo > crates/xkc_c/out/libxkc_c.a
     git init -q . && commits
+    PATH=$work/path:$PATH ./check > "$work/out" 2>&1
+    holds "./check with stand-ins: $(cat "$work/out")" [ "$(tail -n 1 "$work/out")" = '6 passed, 0 failed' ]
+    holds "its record: $(cat out/checked)" [ "$(head -n 3 out/checked | tr '\n' ' ')" = "tree $(git rev-parse 'HEAD^{tree}') kit logic rt ci: 2 passed, 0 failed " ]
+    holds 'the record has other sums' sha256sum -c --quiet <(grep '  crates/' out/checked)
+    echo > added
+    PATH=$work/path:$PATH ./check > /dev/null 2>&1
+    holds 'a tree with a new file has a record' [ ! -e out/checked ]
+    rm added
+    sed -i 's/1 passed, 0 failed/1 passed, 1 failed/' tests/refused.sh
+    commits
+    PATH=$work/path:$PATH ./check > /dev/null 2>&1
+    holds 'a failure leaves a record' [ ! -e out/checked ]
     local version tree
     version=$(crates/xkc/out/xkc | cut -d ' ' -f 2)
     tree=$(git rev-parse 'HEAD^{tree}')
