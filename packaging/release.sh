@@ -63,8 +63,7 @@ c/build.sh out . > "$work/said" 2>&1 || { cat "$work/said" >&2; refuse 'the libr
 grep '^[0-9a-f]\{64\}  ' "$record" > "$work/sums" || refuse "$record has no sums"
 sha256sum -c --quiet "$work/sums" > "$work/said" 2>&1 || { cat "$work/said" >&2; refuse 'what is built is not what ./check proved'; }
 
-# They need the C library alone, and of it the greatest version that their symbols name; tables of addresses are bound at the start
-# and read-only from then on, and the stack holds no code.
+# They need the C library alone, tables of addresses are bound at the start and read-only from then on, and the stack holds no code.
 built='crates/xkc/out/xkc out/libxkc.so.0 out/libxkc-xkbcommon.so'
 for file in $built; do
     objdump -p "$file" > "$work/said"
@@ -74,9 +73,15 @@ for file in $built; do
     grep -q '^ *FLAGS_1 .*[13579bdf]$' "$work/said" || refuse "$file binds calls late"
     grep -A 1 '^ *STACK ' "$work/said" | grep -q 'flags rw-$' || refuse "$file can have code on its stack"
 done
-# shellcheck disable=SC2086
-libc=$(objdump -T $built | sed -n 's/.*GLIBC_\([0-9.]*\).*/\1/p' | sort -V | tail -n 1)
-[ "$libc" ] || refuse 'no version of the C library is named'
+
+# libc FILE..: the C library that files need, by the greatest version that their symbols name.
+libc() {
+    found=$(objdump -T "$@" | sed -n 's/.*GLIBC_\([0-9.]*\).*/\1/p' | sort -V | tail -n 1)
+    [ "$found" ] || refuse "$* name no version of the C library"
+    echo "libc6 (>= $found)"
+}
+needed=$(libc crates/xkc/out/xkc out/libxkc-xkbcommon.so)
+needed_by_library=$(libc out/libxkc.so.0)
 
 # documents FOLDER: what is there to be read, with the record of the proofs; a page's links to other pages hold.
 documents() {
@@ -165,13 +170,13 @@ rm "$work/xkc/usr/share/doc/xkc/LICENSE"
 
 packs libxkc0 libs 'XKB keymaps compiled, and keyboards run (library)' \
     'A library that compiles keymap text to an image and runs keyboards over it. What a keyboard answers is proved to be what the text means.' \
-    "Depends: libc6 (>= $libc)" 'Multi-Arch: same'
+    "Depends: $needed_by_library" 'Multi-Arch: same'
 packs libxkc-dev libdevel 'XKB keymaps compiled, and keyboards run (development files)' \
     'The header of libxkc, the library to be linked into a program, and its file for pkg-config. The package xkc has the documents.' \
     "Depends: libxkc0 (= $version)" 'Multi-Arch: same'
 packs xkc x11 'compiles keyboard layouts, and answers keys' \
     'A program that compiles keyboard layouts, shows them, finds keys and runs keyboards; what a keyboard answers is proved to be what the layout means. With it comes libxkc-xkbcommon.so, which gives programs of libxkbcommon its calls, to be preloaded.' \
-    "Depends: libc6 (>= $libc)" 'Recommends: xkb-data' 'Suggests: libxkbcommon0'
+    "Depends: $needed" 'Recommends: xkb-data' 'Suggests: libxkbcommon0'
 
 cd "$work/packed"
 sha256sum -- * > "$work/SHA256SUMS"
