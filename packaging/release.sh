@@ -84,12 +84,13 @@ libc() {
 needed=$(libc crates/xkc/out/xkc out/libxkc-xkbcommon.so)
 needed_by_library=$(libc out/libxkc.so.0)
 
-# documents FOLDER: what is there to be read, with the record of the proofs; a page's links to other pages hold.
+# documents FOLDER: what is there to be read, with the record of the proofs and the examples of c/; a page's links to others hold.
 documents() {
     mkdir -p "$1/docs" "$1/c"
     cp README.md CHANGELOG.md LICENSE "$record" "$1/"
     cp docs/*.md docs/*.svg "$1/docs/"
-    cp c/compositor.c c/client.c "$1/c/"
+    cp c/*.c "$1/c/"
+    rm -f "$1/c/xkbcommon.c"
 }
 
 # settled FOLDER: permissions and times are those of the commit's files, whoever packs and when.
