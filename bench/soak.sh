@@ -6,11 +6,11 @@ top=$(cd "$(dirname "$0")/.." && pwd)
 
 usage() {
     cat <<'END'
-usage: bench/soak.sh HOURS [--seconds N] [--seed N] [--program PATH] [--keep FOLDER]
+usage: bench/soak.sh HOURS [--seconds N] [--seed N] [--program PATH] [--library PATH] [--keep FOLDER]
 
-Tries case after case for so many hours (or seconds, which take the place of hours), each chosen by the seed and its number. What
-differs is cut down by lines and kept in a folder of FOLDER (bench/out/soak, where none is given). The last line counts; the status
-is 1 where something differs.
+Tries case after case for so many hours (or seconds, which take the place of hours), each chosen by the seed and its number. Where
+PATH, or out/libxkc.a, is the library for C, it has to answer as the program. What differs is cut down by lines and kept in a folder
+of FOLDER (bench/out/soak, where none is given). The last line counts; the status is 1 where something differs.
 END
     exit "$1"
 }
@@ -18,16 +18,18 @@ END
 seconds=
 seed=1
 program=
+library=$top/out/libxkc.a
 keep=$top/bench/out/soak
 while [ $# -gt 0 ]; do
     case $1 in
         --help | -h) usage 0 ;;
-        --seconds | --seed | --program | --keep)
+        --seconds | --seed | --program | --library | --keep)
             [ $# -gt 1 ] || usage 2 >&2
             case $1 in
                 --seconds) seconds=$2 ;;
                 --seed) seed=$2 ;;
                 --program) program=$(realpath "$2") ;;
+                --library) library=$(realpath "$2") ;;
                 --keep) keep=$2 ;;
             esac
             shift
@@ -52,6 +54,11 @@ fi
 cc -std=gnu11 -O2 -Wall -Wextra -o "$work/make" "$top/bench/soak/make.c" || exit 2
 # shellcheck disable=SC2046
 cc -O2 -o "$work/player" "$top/bench/layouts/player.c" $(pkg-config --cflags --libs xkbcommon) || exit 2
+if [ -f "$library" ]; then
+    cc -std=c99 -O2 -I"$top/include" -o "$work/compositor" "$top/c/compositor.c" "$library" || exit 2
+else
+    echo 'soak: the library for C is not built, so it is left out'
+fi
 # Layouts without a difference of their own (docs/meaning.md, "Layouts").
 apart='^(al veqilharxhi|se swl|tr otkf?|ca multix|de neo|de e1|de e2|de T3|cm qwerty|cm azerty|cm dvorak|cm mmuock|fr dvorak|lv apostrophe|lv tilde|lv fkey|lv modern|lv ergonomic|mm zawgyi|mm zgt|ie ogam_is434)$'
 awk -v apart="$apart" '/^!/ { part = $2; next }
@@ -88,6 +95,24 @@ run() {
     [ "$status" -le 1 ] || { echo "status-$status $*"; return 2; }
 }
 
+# by_library SOURCE IMAGE: the library for C makes this image of a source without includes, and answers the events as the answers say.
+# (Of the state it tells the modifiers of each part.)
+answers_of='
+    function mask(word,    names, count, i, sum) {
+        sub(/^.*=/, "", word)
+        count = split(word, names, "+")
+        for (i = 1; i <= count; i++) sum += bit[names[i]]
+        return sum + 0
+    }
+    BEGIN { count = split("Shift Lock Control Mod1 Mod2 Mod3 Mod4 Mod5", all, " "); for (i = 1; i <= count; i++) bit[all[i]] = 2 ^ (i - 1) }
+    { keysyms = $3 == "-" || $3 == "?" ? "" : $3 " "; gsub(/,/, " ", keysyms); print keysyms ":", mask($5), mask($6), mask($7) }'
+by_library() {
+    [ -x "$work/compositor" ] || return 0
+    "$work/compositor" "$1" library.image < events > library.answers 2> library.said || { echo "library-refuses $(head -1 library.said)"; return; }
+    cmp -s "$2" library.image || { echo 'library-image-otherwise'; return; }
+    [ ! -s events ] || [ "$(awk "$answers_of" answers)" = "$(sed 's/ [^ ]* [^ ]* [^ ]*$//' library.answers)" ] || echo 'library-otherwise'
+}
+
 # The image of what is printed of an image is its newest image. (Past 1 MiB of text nothing is promised.)
 prints_again() {
     run text print "$1" || return
@@ -96,7 +121,11 @@ prints_again() {
     [ "$(wc -c < text)" -le 1048576 ] || return 0
     run line compile --quiet text again || return
     [ "$status" -eq 0 ] || { echo "printed-refused $(cat line)"; return; }
-    cmp -s newest again || echo "printed-otherwise"
+    cmp -s newest again || { echo 'printed-otherwise'; return; }
+    # The image itself is opened, and the library compiles the text.
+    [ -s events ] || return 0
+    run answers replay "$1" < events || return
+    by_library text newest
 }
 
 # differs KIND: tries the case in this folder, and says in a line what differs, or nothing; `apart` where a difference is
@@ -107,10 +136,11 @@ differs() {
         image)
             run text print case.image || return
             if [ "$status" -eq 0 ]; then
+                awk "$keys_of" text > keys
+                [ -s events ] || "$work/make" events "$number" "$(chosen_order image)" < keys > events
                 prints_again case.image
             else
-                echo 'down 38' > events
-                "$program" replay case.image < events > answers 2> /dev/null
+                "$program" replay case.image < /dev/null > answers 2> /dev/null
                 if cmp -s text answers; then echo refused-by-both; else echo 'image-refused-otherwise'; fi
             fi
             return
@@ -130,9 +160,10 @@ differs() {
         fi
         return
     fi
-    prints_again image
+    run text print image || return
     awk "$keys_of" text > keys
     [ -s events ] || "$work/make" events "$number" "$(chosen_order "$1")" < keys > events
+    prints_again image
     run answers replay image < events || return
     if ! grep -qx '%%' source; then
         { cat source; echo '%%'; cat events; } | "$program" try --quiet -I "$data" > session 2> /dev/null
