@@ -68,7 +68,7 @@ ar x "$kit/c/liblibc_c.a"
 rm -f "$out/libxkc.a"
 ar rcsD "$out/libxkc.a" ./*.o
 echo '{ global: xkc_*; local: *; };' > exports
-hardened=-Wl,-z,relro,-z,noexecstack
+hardened=-Wl,-s,-z,relro,-z,noexecstack
 "$compiler" -shared "$hardened,-z,now" -Wl,-soname,libxkc.so.0 -Wl,--version-script=exports -Wl,--no-undefined -o "$out/libxkc.so.0" ./*.o
 
 if ! flags=$(pkg-config --cflags xkbcommon 2> /dev/null); then
@@ -78,5 +78,5 @@ fi
 # Its calls of libxkbcommon are bound late: it is also loaded into programs, started by the one that is meant, that have none.
 # shellcheck disable=SC2086
 "$compiler" -std=c11 -O2 -Wall -Wextra -Werror -fPIC -fstack-protector-strong -U_FORTIFY_SOURCE -D_FORTIFY_SOURCE=2 \
-    -ffile-prefix-map="$top=." -shared "$hardened" -I"$top/include" $flags -o "$out/libxkc-xkbcommon.so" \
+    -ffile-prefix-map="$top=." -shared "$hardened,-soname,libxkc-xkbcommon.so" -I"$top/include" $flags -o "$out/libxkc-xkbcommon.so" \
     "$top/c/xkbcommon.c" "$out/libxkc.a" -Wl,--exclude-libs,ALL -ldl

@@ -151,7 +151,8 @@ tries_release() {
         holds "the package xkc lacks $word: $files" eval '[[ " $files" == *" $word "* ]]'
     done
     files=$(files_of "libxkc0_${version}_amd64.deb")
-    holds "files of libxkc0: $files" [ "$files" = './usr/lib/x86_64-linux-gnu/libxkc.so.0 ./usr/share/doc/libxkc0/copyright ' ]
+    holds "files of libxkc0: $files" \
+        [ "$files" = './usr/lib/x86_64-linux-gnu/libxkc.so.0 ./usr/share/doc/libxkc0/changelog.gz ./usr/share/doc/libxkc0/copyright ' ]
     holds 'libxkc0 depends on another C library' [ "$(dpkg-deb -f "$work/packed/libxkc0_${version}_amd64.deb" Depends)" = 'libc6 (>= 2.34)' ]
     # Another folder, at another time, by one whose files others can't read.
     (umask 077 && cp -R "$work/release" "$work/again")

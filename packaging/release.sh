@@ -116,12 +116,15 @@ DESTDIR=$work/debian ./install.sh /usr > /dev/null
 cd "$work/debian"
 mkdir "$library"
 mv usr/lib/libxkc* usr/lib/pkgconfig "$library/"
+chmod 644 "$library/libxkc.so.0" "$library/libxkc-xkbcommon.so"
 # shellcheck disable=SC2016
 sed 's|^libdir=.*|libdir=${prefix}/lib/x86_64-linux-gnu|' "$library/pkgconfig/xkc.pc" > "$work/xkc.pc"
 cat "$work/xkc.pc" > "$library/pkgconfig/xkc.pc"
 mkdir -p usr/share/zsh/vendor-completions
 mv usr/share/zsh/site-functions/_xkc usr/share/zsh/vendor-completions/
 gzip -9n usr/share/man/man1/xkc.1
+
+maintainer=$(git -C "$top" log -1 --format='%an <%ae>')
 
 # takes PACKAGE FILE..: these files go into that package.
 takes() {
@@ -133,6 +136,8 @@ takes() {
     done
     mkdir -p "$work/$package/usr/share/doc/$package" "$work/$package/DEBIAN"
     cp "$top/LICENSE" "$work/$package/usr/share/doc/$package/copyright"
+    printf 'xkc (%s) unstable; urgency=medium\n\n  * CHANGELOG.md says what is new.\n\n -- %s  %s\n' "$version" "$maintainer" \
+        "$(date -R -d "@$epoch")" | gzip -9n > "$work/$package/usr/share/doc/$package/changelog.gz"
 }
 
 # packs PACKAGE SECTION SHORT LONG FIELD..: its control file has these fields beside those that all have.
@@ -144,9 +149,10 @@ packs() {
     size=$(find "$root/usr" -type f -printf '%s\n' | awk '{ all += int(($1 + 1023) / 1024) } END { print all }')
     {
         echo "Package: $package"
+        [ "$package" = xkc ] || echo 'Source: xkc'
         echo "Version: $version"
         echo 'Architecture: amd64'
-        echo "Maintainer: $(git -C "$top" log -1 --format='%an <%ae>')"
+        echo "Maintainer: $maintainer"
         echo "Installed-Size: $size"
         echo "Section: $section"
         echo 'Priority: optional'
