@@ -166,10 +166,10 @@ packs() {
 
 takes libxkc0 "$library/libxkc.so.0"
 echo "libxkc 0 libxkc0 (>= $version)" > "$work/libxkc0/DEBIAN/shlibs"
-echo 'activate-noawait ldconfig' > "$work/libxkc0/DEBIAN/triggers"
 takes libxkc-dev usr/include/xkc.h "$library/libxkc.a" "$library/libxkc.so" "$library/pkgconfig/xkc.pc"
 takes xkc usr/bin/xkc "$library/libxkc-xkbcommon.so" usr/share/man/man1/xkc.1.gz usr/share/bash-completion/completions/xkc \
     usr/share/zsh/vendor-completions/_xkc usr/share/fish/vendor_completions.d/xkc.fish
+for package in libxkc0 xkc; do echo 'activate-noawait ldconfig' > "$work/$package/DEBIAN/triggers"; done
 rm usr/share/licenses/xkc/LICENSE
 left=$(find . ! -type d)
 [ -z "$left" ] || refuse "in no package: $left"
