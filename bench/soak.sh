@@ -82,8 +82,9 @@ keys_of='
     END {
         print "order", last ? "last" : "free"
         if (several) print "several"
-        # Key 593 is that of XF86EmojiPicker, which is no name to libxkbcommon 1.5.
-        for (i = 1; i <= count; i++) if (code[names[i]] != 593) print code[names[i]], kind[names[i]] == "" ? "plain" : kind[names[i]]
+        # Key 593 is that of XF86EmojiPicker, which is no name to libxkbcommon 1.5, and key 50 the left Shift, which has clearLocks
+        # there by a default that holds in an include.
+        for (i = 1; i <= count; i++) if (code[names[i]] != 593 && code[names[i]] != 50) print code[names[i]], kind[names[i]] == "" ? "plain" : kind[names[i]]
     }'
 
 # run NAME WORD..: the program's output, in the file NAME; a status that isn't 0 or 1 is a difference of its own.
