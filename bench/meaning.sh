@@ -25,13 +25,13 @@ awk -v work="$work" '
     { take() }
     /^# libxkbcommon: / {
         folder = work "/" ++count
-        system("mkdir -p " folder "/symbols")
+        system("mkdir -p " folder "/symbols " folder "/compat")
         at = index(said["frame"], "@")
         put("keymap", substr(said["frame"], 1, at - 1) said["source"] substr(said["frame"], at + 1))
         put("events", said["events"])
         put("name", name)
         put("wanted", substr($0, length("# libxkbcommon: ") + 1) "\n")
-        for (kept in files) put("symbols/" kept, files[kept])
+        for (kept in files) put((kept ~ /\// ? "" : "symbols/") kept, files[kept])
         next
     }
     /^#/ { name = substr($0, 3); next }
