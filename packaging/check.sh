@@ -139,6 +139,7 @@ tries_release() {
     checked "$tree"
     holds 'something is packed where release.sh refuses' [ ! -e "$work/refused" -o -z "$(ls "$work/refused")" ]
     packs 0 "$work/packed"
+    packs 0 "$work/packed"
     holds_files "$work/packed" "./SHA256SUMS ./libxkc-dev_${version}_amd64.deb ./libxkc0_${version}_amd64.deb ./xkc-$version-linux-x86_64.tar.xz ./xkc_${version}_amd64.deb "
     holds 'the sums are others' eval '(cd "$work/packed" && sha256sum -c --quiet SHA256SUMS)'
     tar -C "$work" -xf "$work/packed/xkc-$version-linux-x86_64.tar.xz"
@@ -160,10 +161,17 @@ tries_release() {
     cd "$work/again" || exit 2
     PATH=$work/path:$PATH bash -c 'umask 077; packaging/release.sh' > "$work/out" 2>&1
     holds "two runs give other bytes: $(cat "$work/out")" cmp "$work/packed/SHA256SUMS" out/release/SHA256SUMS
-    sed -i "0,/^## /s/^## .*/## 9.$version/" CHANGELOG.md
+    sed -i "0,/^## /s/^## .*/## 9.1.0/" CHANGELOG.md
     commits
     checked "$(git rev-parse 'HEAD^{tree}')"
-    refuses "says version 9.$version"
+    refuses "says version 9.1.0"
+    sed -i "s/xkc $version/xkc 9.1.0/" crates/xkc/out/xkc packaging/xkc.1
+    sed -i "s/^Version: .*/Version: 9.1.0/" packaging/xkc.pc.in
+    sed -i 's/XKC_VERSION 0x.*/XKC_VERSION 0x090100u/' include/xkc.h
+    commits
+    checked "$(git rev-parse 'HEAD^{tree}')"
+    packs 0
+    holds 'an earlier version is left' [ "$(ls out/release | wc -l)" -eq 5 -a -f "out/release/xkc_9.1.0_amd64.deb" ]
 }
 if command -v git > /dev/null && command -v dpkg-deb > /dev/null && command -v xz > /dev/null; then
     tries_release

@@ -44,9 +44,7 @@ export SOURCE_DATE_EPOCH="$epoch"
 
 # The version is the first heading of CHANGELOG.md, and each other place says it too.
 version=$(sed -n 's/^## //p' CHANGELOG.md | head -n 1)
-case $version in
-    '' | *[!0-9.]*) refuse "the first heading of CHANGELOG.md is no version: $version" ;;
-esac
+echo "$version" | grep -Eq '^[0-9]+\.[0-9]+\.[0-9]+$' || refuse "the first heading of CHANGELOG.md is no version: $version"
 says() {
     grep -qF -- "$2" "$1" || refuse "CHANGELOG.md says version $version, and $1 doesn't say '$2'"
 }
@@ -189,5 +187,7 @@ packs xkc x11 'compiles keyboard layouts, and answers keys' \
 cd "$work/packed"
 sha256sum -- * > "$work/SHA256SUMS"
 mv "$work/SHA256SUMS" .
+# What an earlier run left there goes.
+[ ! -f "$folder/SHA256SUMS" ] || (cd "$folder" && cut -c 67- SHA256SUMS | xargs rm -f --)
 cp -- * "$folder/"
 echo "release.sh: xkc $version is packed in $folder"
