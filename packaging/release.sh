@@ -106,7 +106,8 @@ cat "$work/xkc.pc" > "$work/$name/lib/pkgconfig/xkc.pc"
 documents "$work/$name/share/doc/xkc"
 settled "$work/$name"
 mkdir "$work/packed"
-tar --create --sort=name --format=gnu --owner=0 --group=0 --numeric-owner -C "$work" "$name" | xz -T1 > "$work/packed/$name.tar.xz"
+tar --create --sort=name --format=gnu --owner=0 --group=0 --numeric-owner -C "$work" -f "$work/packed/$name.tar" "$name"
+xz -T1 "$work/packed/$name.tar"
 
 # Debian's packages: the files as install.sh puts them, in Debian's places.
 library=usr/lib/x86_64-linux-gnu
