@@ -10,7 +10,7 @@ usage: bench/soak.sh HOURS [--seconds N] [--seed N] [--program PATH] [--library 
 
 Tries case after case for so many hours (or seconds, which take the place of hours), each chosen by the seed and its number. Where
 PATH, or out/libxkc.a, is the library for C, it has to answer as the program. What differs is cut down by lines and kept in a folder
-of FOLDER (bench/out/soak, where none is given). The last line counts; the status is 1 where something differs.
+of FOLDER (bench/out/soak, where none is given), up to 100. The last line counts; the status is 1 where something differs.
 END
     exit "$1"
 }
@@ -224,6 +224,8 @@ cut_events() {
 keeps() {
     local kind=$1 said=$2 wanted=${2%% *} kept
     kept=$keep/$seed-$number-$wanted
+    mkdir -p "$keep"
+    [ "$(find "$keep" -mindepth 1 -maxdepth 1 | wc -l)" -lt 100 ] || { echo "soak: $number: $said"; return; }
     mkdir -p "$kept"
     for file in source events case.image names; do [ ! -f "$file" ] || cp "$file" "$kept/$file.whole"; done
     if [ "$kind" != image ]; then
