@@ -30,7 +30,7 @@ while [ $# -gt 0 ]; do
                 --seed) seed=$2 ;;
                 --program) program=$(realpath "$2") ;;
                 --library) library=$(realpath "$2") ;;
-                --keep) keep=$2 ;;
+                --keep) keep=$(realpath -m "$2") ;;
             esac
             shift
             ;;
@@ -46,6 +46,7 @@ else
     work=$(mktemp -d)
     trap 'rm -rf "$work"' EXIT
 fi
+[ -x "$program" ] || { echo "soak: there is no program $program" >&2; exit 2; }
 data=/usr/share/X11/xkb
 if ! pkg-config --exists xkbcommon || [ ! -d "$data" ]; then
     echo 'libxkbcommon-dev or xkb-data is not installed'
