@@ -4,7 +4,7 @@
 # Where Xvfb and xkbcomp are installed each text is loaded into an X server. Needs Debian's libxkbcommon-dev and xkb-data.
 set -eu
 . "$(dirname "$0")/program.sh"
-data=/usr/share/X11/xkb
+. "$(dirname "$0")/data.sh"
 if ! pkg-config --exists xkbcommon || [ ! -d "$data" ]; then
     echo 'libxkbcommon-dev or xkb-data is not installed'
     exit 0
@@ -21,18 +21,11 @@ if command -v Xvfb > /dev/null && command -v xkbcomp > /dev/null; then
     display=:$(cat "$work/display")
 fi
 
-# The layouts of xkb-data, each alone and with each of its variants.
-all_layouts() {
-    awk '/^!/ { part = $2; next }
-        part == "layout" && NF && $1 != "custom" { print $1 }
-        part == "variant" && NF { sub(/:$/, "", $2); print $2 "(" $1 ")" }' "$data/rules/evdev.lst"
-}
-
 [ $# -gt 0 ] || set -- $(all_layouts)
 tried=0 same=0 loaded=0
 for layout; do
     tried=$((tried + 1))
-    printf 'xkb_keymap {\nxkb_keycodes { include "evdev+aliases(qwerty)" };\nxkb_types { include "complete" };\nxkb_compat { include "complete" };\nxkb_symbols { include "pc+%s+inet(evdev)" };\n};\n' "$layout" > "$work/source"
+    source_of "$layout" > "$work/source"
     if ! "$program" print -I "$data" "$work/source" > "$work/text" 2> "$work/why"; then
         echo "$layout: refused: $(head -1 "$work/why")"
         continue

@@ -6,7 +6,7 @@
 set -eu
 . "$(dirname "$0")/program.sh"
 rounds=${ROUNDS:-100}
-data=/usr/share/X11/xkb
+. "$(dirname "$0")/data.sh"
 if ! command -v xkbcli > /dev/null || ! pkg-config --exists xkbcommon || [ ! -d "$data" ]; then
     echo 'libxkbcommon-tools, libxkbcommon-dev or xkb-data is not installed'
     exit 0
@@ -31,13 +31,6 @@ compare() {
     awk '!seen[$1, $3]++ && shown++ < 6 { print "    " $0 }' "$work/differences"
 }
 
-# The layouts of xkb-data, each alone and with each of its variants.
-all_layouts() {
-    awk '/^!/ { part = $2; next }
-        part == "layout" && NF && $1 != "custom" { print $1 }
-        part == "variant" && NF { sub(/:$/, "", $2); print $2 "(" $1 ")" }' "$data/rules/evdev.lst"
-}
-
 [ $# -gt 0 ] || set -- us de fr ru gr il jp ch br 'us(dvorak)'
 [ "$*" != all ] || set -- $(all_layouts)
 for layout; do
@@ -45,6 +38,6 @@ for layout; do
     variant=$(echo "$layout" | sed -n 's/.*(\(.*\))/\1/p')
     xkbcli compile-keymap --layout "$name" ${variant:+--variant "$variant"} > "$work/resolved"
     compare "$layout, resolved" "$work/resolved"
-    printf 'xkb_keymap {\nxkb_keycodes { include "evdev+aliases(qwerty)" };\nxkb_types { include "complete" };\nxkb_compat { include "complete" };\nxkb_symbols { include "pc+%s+inet(evdev)" };\n};\n' "$layout" > "$work/included"
+    source_of "$layout" > "$work/included"
     compare "$layout, by files" "$work/included" -I "$data"
 done

@@ -4,7 +4,7 @@
 # answers differ, with the first of them. Needs Debian's libxkbcommon-dev and xkb-data. Words: other layouts to take.
 set -eu
 . "$(dirname "$0")/program.sh"
-data=/usr/share/X11/xkb
+. "$(dirname "$0")/data.sh"
 if ! pkg-config --exists xkbcommon || [ ! -d "$data" ]; then
     echo 'libxkbcommon-dev or xkb-data is not installed'
     exit 0
@@ -22,7 +22,7 @@ cc -O2 -o "$work/player" "$top/bench/layouts/player.c" $(pkg-config --cflags --l
 
 [ $# -gt 0 ] || set -- ru ua bg rs gr il ara am ge us tr kz mk de fr cz pl
 for layout; do
-    printf 'xkb_keymap {\nxkb_keycodes { include "evdev+aliases(qwerty)" };\nxkb_types { include "complete" };\nxkb_compat { include "complete" };\nxkb_symbols { include "pc+%s+inet(evdev)" };\n};\n' "$layout" > "$work/keymap"
+    source_of "$layout" > "$work/keymap"
     "$program" compile --quiet -I "$data" "$work/keymap" "$work/image" > "$work/line"
     "$program" replay "$work/image" < "$work/events" > "$work/answers"
     "$work/player" "$work/keymap" check "$work/answers" > "$work/differences"
