@@ -24,7 +24,8 @@ pub fn write_indicators<T: Tables, O: Out>(tables: &T, buffered: &mut BufferedOu
     }
 }
 
-fn write_each_indicator<T: Tables, O: Out>(tables: &T, buffered: &mut BufferedOut, out: &mut O)
+/// Writes the blocks of all indicators.
+pub fn write_each_indicator<T: Tables, O: Out>(tables: &T, buffered: &mut BufferedOut, out: &mut O)
     ensures { Writes O.written O.failures out.old buffered.old out.new buffered.new
         (flat_map (indicator_block (T.content tables.now)) (T.content tables.now).indicators) }
 {

@@ -27,7 +27,8 @@ pub fn write_keycodes<T: Tables, O: Out>(tables: &T, buffered: &mut BufferedOut,
     buffered.write(out, b"};\n");
 }
 
-fn write_each_keycode<T: Tables, O: Out>(tables: &T, buffered: &mut BufferedOut, out: &mut O)
+/// Writes the lines of all keys with their codes.
+pub fn write_each_keycode<T: Tables, O: Out>(tables: &T, buffered: &mut BufferedOut, out: &mut O)
     ensures { Writes O.written O.failures out.old buffered.old out.new buffered.new
         (flat_map (keycode_line (T.content tables.now)) (T.content tables.now).keys) }
 {
@@ -48,7 +49,7 @@ fn write_keycode<O: Out>(buffered: &mut BufferedOut, out: &mut O, name: &[u8], c
 }
 
 /// Writes the name of a key as texts name keys.
-fn write_key_word<O: Out>(buffered: &mut BufferedOut, out: &mut O, name: &[u8])
+pub fn write_key_word<O: Out>(buffered: &mut BufferedOut, out: &mut O, name: &[u8])
     ensures { Writes O.written O.failures out.old buffered.old out.new buffered.new
         (bracketed name.now) }
 {
@@ -102,7 +103,8 @@ fn write_key<T: Tables, O: Out>(
     buffered.write(out, b"\n};\n");
 }
 
-fn write_modifier_maps<T: Tables, O: Out>(tables: &T, buffered: &mut BufferedOut, out: &mut O)
+/// Writes the lines of the modifiers that keys are mapped to.
+pub fn write_modifier_maps<T: Tables, O: Out>(tables: &T, buffered: &mut BufferedOut, out: &mut O)
     ensures { Writes O.written O.failures out.old buffered.old out.new buffered.new
         (flat_map (modifier_map_lines (T.content tables.now)) (T.content tables.now).keys) }
 {

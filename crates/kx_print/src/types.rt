@@ -86,7 +86,7 @@ fn write_entries<T: Tables, O: Out>(
 }
 
 /// Writes the level of an entry, and the modifiers that it preserves.
-fn write_entry<O: Out>(buffered: &mut BufferedOut, out: &mut O, entry: EntryRow)
+pub fn write_entry<O: Out>(buffered: &mut BufferedOut, out: &mut O, entry: EntryRow)
     ensures { Writes O.written O.failures out.old buffered.old out.new buffered.new
         (entry_lines entry) }
 {
@@ -113,7 +113,7 @@ fn write_preserved<O: Out>(buffered: &mut BufferedOut, out: &mut O, entry: Entry
 }
 
 /// Writes how many levels a type has, by the name of the last.
-fn write_levels<O: Out>(buffered: &mut BufferedOut, out: &mut O, levels: u8)
+pub fn write_levels<O: Out>(buffered: &mut BufferedOut, out: &mut O, levels: u8)
     ensures { Writes O.written O.failures out.old buffered.old out.new buffered.new
         (levels_line levels) }
 {
