@@ -14,5 +14,6 @@ mod table;
 mod walking;
 
 pub use laws::pairs_are_left;
+pub use name::AliasTarget;
 pub use reader::codes;
 pub use table::Codes;

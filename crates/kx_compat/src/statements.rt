@@ -61,7 +61,10 @@ fn match_with(
 }
 
 /// For which keys an interpretation is; for none, where no keysym has its name, which is noted.
-fn read_match(
+///
+/// # Errors
+/// A fault of the symbol or the predicate, with its place in the file of that number; `Memory`.
+pub fn read_match(
     table: &NameTable,
     names: &ModNames,
     file: u32,
