@@ -1,0 +1,4 @@
+pub mod CharacterTable
+pub mod Encoding
+pub mod Numbered
+pub mod Runs
