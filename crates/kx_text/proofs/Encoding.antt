@@ -1,5 +1,5 @@
 -- How many bytes characters take.
-use Rattle.std.proofs.Common.{◌≡◌, ℕ, ◌≤◌, Bool, true, false, nat_lt, cond, length, refl, arith, lit≤}
+use Rattle.std.proofs.Common.{ℕ, ◌≤◌, Bool, true, false, nat_lt, cond, length, arith, lit≤}
 use Rattle.std.proofs.lemmas.Str.{length-encode}
 use Rattle.std.specs.Char.{encode_utf8}
 

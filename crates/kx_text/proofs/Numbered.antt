@@ -1,5 +1,5 @@
 -- Rows by number: what is looked up among them is the first row's of rows in any order.
-use Rattle.std.proofs.Common.{◌≡◌, ℕ, ◌≤◌, ◌<◌, ◌+◌, zero, suc, Bool, true, false, ◌&&◌, nat_eq, nat_le, nat_lt, List, [], ◌∷◌, Option, None, Some, length, map, cond, refl, sym, ap, ◌∙◌, arith}
+use Rattle.std.proofs.Common.{◌≡◌, ℕ, ◌≤◌, ◌<◌, ◌+◌, zero, suc, Bool, true, false, ◌&&◌, nat_eq, nat_le, nat_lt, List, [], ◌∷◌, Option, Some, length, map, cond, refl, ap, ◌∙◌, arith}
 use Rattle.std.proofs.lemmas.Bool.{and_parts, leb-true}
 use Rattle.std.proofs.lemmas.Bool.Decides.{nat_tests}
 use Rattle.std.specs.Map.{lookup}
@@ -9,15 +9,15 @@ use Rattle.kx_text.proofs.CharacterTable.{Row, row_at}
 
 -- two rows of other numbers may change places
 swap : (a b : Bool) (x y rest : Option ℕ) → (a ≡ true → b ≡ true → ⊥) → cond b y (cond a x rest) ≡ cond a x (cond b y rest)
-swap true true x y rest no = absurd (no refl refl)
-swap true false x y rest no = refl
-swap false b x y rest no = refl
+swap true true x y rest never = absurd (never refl refl)
+swap true false x y rest never = refl
+swap false b x y rest never = refl
 
 -- a row behind one of its number is never looked up
 shadow : (a b : Bool) (x y rest : Option ℕ) → (a ≡ false → b ≡ true → ⊥) → cond a x rest ≡ cond a x (cond b y rest)
-shadow true b x y rest no = refl
-shadow false true x y rest no = absurd (no refl refl)
-shadow false false x y rest no = refl
+shadow true b x y rest never = refl
+shadow false true x y rest never = absurd (never refl refl)
+shadow false false x y rest never = refl
 
 look_put : (n : ℕ) (row : Row) (rows : List Row) → lookup (nat_eq n) (put row rows) ≡ cond (nat_eq n row.0) (Some row.1) (lookup (nat_eq n) rows)
 unfolding put

@@ -1,5 +1,5 @@
 -- Letters in upper and lower case, as keysyms.
-use Rattle.std.specs.Prelude.{◌≡◌, ℕ, ◌+◌, ◌-◌, ◌%◌, Bool, true, ◌&&◌, List, [], ◌∷◌, nat_le, nat_lt, Option, None, Some, cond, get_or}
+use Rattle.std.specs.Prelude.{◌≡◌, ℕ, ◌+◌, ◌-◌, ◌%◌, Bool, true, ◌&&◌, List, [], ◌∷◌, nat_le, nat_lt, Option, None, Some, cond}
 use Rattle.std.specs.Int.{is_in_range}
 use Rattle.kx_text.specs.CaseRuns.{alternating, to_lower, to_upper}
 

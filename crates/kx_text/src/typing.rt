@@ -2,7 +2,7 @@
 ghost use Rattle.std.specs.Prelude.{◌≡◌, ◌≤◌, length};
 ghost use Rattle.std.specs.Option.{option_map};
 ghost use Rattle.kx_mods.specs.Mods.{mask};
-ghost use Rattle.kx_text.specs.Typing.{capital, control, has, one_keysym, text_of, text_of_each, text_of_one};
+ghost use Rattle.kx_text.specs.Typing.{capital, control, has, one_keysym, text_of, text_of_each, text_of_one, typed};
 
 use crate::case::upper;
 use crate::characters::character_of;

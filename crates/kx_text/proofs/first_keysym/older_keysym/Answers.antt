@@ -38,8 +38,8 @@ place_in ns number place are rising is =
     let inside = within ns place are at.0 in
     (inside, sym (number_at (λ row. row.0) ns place are inside) ∙ at.1)
 
-pub bounds-result-place : goal.bounds-result-place
-bounds-result-place c =
+pub bounds-first_keysyms-place : goal.bounds-first_keysyms-place
+bounds-first_keysyms-place c =
     let at = place_in c.each_character.result.now c.args.code_point c.in-Ok.place c.each_character.ensures.members c.each_character.ensures.rising c.in-Ok.ensures.position in
     let same = ap length c.first_keysyms.ensures ∙ length-map by_character (λ (row : Row). row.1) in
     omega (arith, same, at.0)
