@@ -20,7 +20,7 @@ trap 'rm -f "$drawn" "$drawn.house"' EXIT
 stages() {
     cat << 'END'
 = Below all
-words kx_basics kx_ordered ks_core kx_mods
+words kx_basics kx_ordered ks_core kx_mods kx_text
 = A keymap's way
 text
 tokens kx_lex

@@ -270,6 +270,13 @@ uint32_t xkc_keyboard_lit(xkc_keyboard *keyboard, uint32_t *lit);
 
 void xkc_keyboard_end(xkc_keyboard *keyboard);
 
+/* ---- Keysyms and characters, by no handle. They answer as libxkbcommon's calls of the names at their right. */
+
+uint32_t xkc_keysym_character(uint32_t keysym);    /* its character, as a code point, or 0   (xkb_keysym_to_utf32) */
+uint32_t xkc_character_keysym(uint32_t character); /* the keysym of a code point, or 0       (xkb_utf32_to_keysym) */
+uint32_t xkc_keysym_upper(uint32_t keysym);        /* the letter in upper case, or the same  (xkb_keysym_to_upper) */
+uint32_t xkc_keysym_lower(uint32_t keysym);        /* the letter in lower case, or the same  (xkb_keysym_to_lower) */
+
 /* ---- Followers: what a client looks its keys up in */
 
 /* Starts a follower of a keyboard over a keymap, with nothing held, latched or locked. Answers as xkc_keyboard_start. Takes
@@ -281,6 +288,16 @@ uint32_t xkc_follower_set(xkc_follower *follower, const xkc_state *state);
 
 /* What the key of a code gives in that state: XKC_OK and writes `look`; XKC_MISSING for a code above 65,535; or XKC_EMPTY. */
 uint32_t xkc_follower_look(xkc_follower *follower, uint32_t code, xkc_look *look);
+
+/* The keysym of that key, where it gives one: in upper case where Lock is active and not consumed. 0 where it gives none or
+ * several. Answers as xkc_follower_look. */
+uint32_t xkc_follower_keysym(xkc_follower *follower, uint32_t code, uint32_t *keysym);
+
+/* The text that the key types, in UTF-8, of at most 32 bytes: the characters of its keysyms, or nothing where one has none. Of a
+ * key with one keysym Lock, where it is active and not consumed, makes upper case, and Control a control character, as the
+ * byte 3 of c; where the keysym isn't ASCII's, of the first group in which the key gives one that is. As
+ * xkb_state_key_get_utf8 of libxkbcommon. Answers as xkc_follower_look, or XKC_ROOM. */
+uint32_t xkc_follower_text(xkc_follower *follower, uint32_t code, uint8_t *out, size_t room, size_t *size);
 
 /* The indicators that are lit in that state. XKC_OK or XKC_EMPTY. */
 uint32_t xkc_follower_lit(xkc_follower *follower, uint32_t *lit);

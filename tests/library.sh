@@ -66,10 +66,12 @@ if [ "$failed" -ne 0 ]; then
     exit 1
 fi
 compiles calls c/tests/calls.c
+compiles characters c/tests/characters.c
 compiles growths c/tests/growths.c -Wl,--wrap=malloc -Wl,--wrap=realloc
 compiles compositor c/compositor.c
 compiles client c/client.c
 counts calls ./calls
+counts characters ./characters
 counts growths ./growths
 
 # The header by itself, also in C++.

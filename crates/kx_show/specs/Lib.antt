@@ -1,3 +1,1 @@
-pub mod Characters
 pub mod Finding
-pub mod OlderCharacters

@@ -1,10 +1,10 @@
 //! What stands on a key for a keysym.
-use crate::characters::character_of;
 use crate::levels::{Group, cell_at, keysym_at, shown_group};
 use crate::words::{Accent, accent_of, unseen_word_of, word_of};
 use arrayvec::ArrayString;
 use ks_core::{Keysym, NameTable};
 use kx_tables::{KeyRow, Rows};
+use kx_text::character_of;
 use std::alloc::{AllocError, Global};
 use unicode_width::UnicodeWidthChar;
 

@@ -3,8 +3,6 @@
 
 mod board;
 mod canvas;
-mod character_table;
-mod characters;
 mod drawing;
 mod finding;
 mod headers;
@@ -17,10 +15,10 @@ mod slots;
 mod terminal;
 mod words;
 
-pub use characters::{character_of, keysyms_of};
 pub use drawing::draw;
 pub use finding::{Spot, spots};
 pub use headers::write_names;
+pub use kx_text::{character_of, keysyms_of};
 pub use listing::group_count;
 pub use places::write_places;
 pub use terminal::picture;

@@ -22,6 +22,8 @@ mod lexing;
 mod parsing;
 #[cfg(test)]
 mod printing;
+#[cfg(test)]
+mod typing;
 
 /// Nothing is done but by the tests.
 fn main(_rt: HostRuntime) {}

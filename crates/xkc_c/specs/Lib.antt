@@ -4,3 +4,4 @@ pub mod InC
 pub mod NamesInC
 pub mod Out
 pub mod RowsInC
+pub mod Typed

@@ -6,11 +6,15 @@ ghost use Rattle.kx_run.specs.World.{opening};
 ghost use Rattle.kx_tables.specs.Content.{Content};
 ghost use Rattle.kx_tables.specs.Keymap.{keymap_of};
 ghost use Rattle.xkc_c.specs.InC.{IsLook, status};
+ghost use Rattle.xkc_c.specs.Out.{Copies};
+ghost use Rattle.xkc_c.specs.Typed.{keysym_in, text_in};
 ghost use Rattle.xkc_c.specs.declared.status.TheConstants.{EMPTY, MEMORY, MISSING, OK};
 
+use crate::out::copy;
 use crate::reply::XkcLook;
 use crate::state::XkcState;
 use crate::status::{EMPTY, MEMORY, MISSING, OK};
+use crate::typed::{keysym_of, text_of};
 use kx_handles::{FollowerHandle, KeymapHandle, SharedFollower, SharedTables};
 use std::alloc::Global;
 
@@ -87,6 +91,66 @@ pub extern "C" fn xkc_follower_look(
         return EMPTY;
     };
     let status = looked(&boxed, code, look);
+    follower.put(boxed);
+    status
+}
+
+/// The one keysym that the key of a code gives in the state that a follower was told last, in upper case where Lock is
+/// active and not consumed, or 0 where there is none or several.
+#[unsafe(no_mangle)]
+pub extern "C" fn xkc_follower_keysym(
+    alloc: Global,
+    follower: &mut FollowerHandle,
+    code: u32,
+    keysym: &mut u32,
+) -> u32
+    ensures follower { follower.new.value ≡ follower.old.value }
+    ensures empty { follower.old.value ≡ None → (result ≡ EMPTY) × (keysym.new ≡ keysym.old) }
+    ensures told { (followed : Followed) → follower.old.value ≡ Some followed → code < 65536
+        → (result ≡ OK) × (keysym.new
+        ≡ keysym_in (keymap_of followed.content) followed.status code) }
+    ensures missing { (followed : Followed) → follower.old.value ≡ Some followed → 65536 ≤ code
+        → (result ≡ MISSING) × (keysym.new ≡ keysym.old) }
+{
+    let Some(boxed) = follower.take(alloc) else {
+        return EMPTY;
+    };
+    let status = match u16::try_from(code) {
+        Ok(code) => {
+            *keysym = keysym_of(&boxed, code);
+            OK
+        }
+        Err(_) => MISSING,
+    };
+    follower.put(boxed);
+    status
+}
+
+/// The text that the key of a code types in the state that a follower was told last.
+#[unsafe(no_mangle)]
+pub extern "C" fn xkc_follower_text(
+    alloc: Global,
+    follower: &mut FollowerHandle,
+    code: u32,
+    out: &mut [u8],
+    size: &mut usize,
+) -> u32
+    ensures follower { follower.new.value ≡ follower.old.value }
+    ensures empty { follower.old.value ≡ None
+        → (result ≡ EMPTY) × (out.new ≡ out.old) × (size.new ≡ size.old) }
+    ensures copied { (followed : Followed) → follower.old.value ≡ Some followed → code < 65536
+        → Copies (text_in (keymap_of followed.content) followed.status code)
+        out.old out.new size.new result }
+    ensures missing { (followed : Followed) → follower.old.value ≡ Some followed → 65536 ≤ code
+        → (result ≡ MISSING) × (out.new ≡ out.old) × (size.new ≡ size.old) }
+{
+    let Some(mut boxed) = follower.take(alloc) else {
+        return EMPTY;
+    };
+    let status = match u16::try_from(code) {
+        Ok(code) => copy(text_of(&mut boxed, code).as_str().as_bytes(), out, size),
+        Err(_) => MISSING,
+    };
     follower.put(boxed);
     status
 }

@@ -1,6 +1,7 @@
 //! The calls of xkc for C, as `include/xkc.h` declares them.
 #![tactic(auto)]
 
+mod characters;
 mod compiling;
 mod fault;
 mod files;
@@ -15,3 +16,4 @@ mod rows;
 mod state;
 mod status;
 mod text;
+mod typed;

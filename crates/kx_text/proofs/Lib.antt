@@ -1,0 +1,5 @@
+pub mod CharacterTable
+pub mod Encoding
+pub mod Joined
+pub mod Numbered
+pub mod Runs

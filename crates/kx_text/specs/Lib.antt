@@ -1,0 +1,6 @@
+pub mod Case
+pub mod CaseRuns
+pub mod Characters
+pub mod FirstKeysym
+pub mod OlderCharacters
+pub mod Typing
