@@ -264,6 +264,11 @@ uint32_t xkc_keyboard_start(xkc_keyboard *keyboard, xkc_keymap *keymap);
  * 65,535, which changes nothing; or XKC_EMPTY. A code that the keymap doesn't have is answered with `known` 0. */
 uint32_t xkc_keyboard_event(xkc_keyboard *keyboard, uint32_t code, uint8_t down, xkc_reply *reply);
 
+/* Latches and locks what a state says, in the place of what is latched and locked; its groups are taken modulo the keymap's.
+ * The keys that are held stay so: the state's base modifiers, its base group and its effective group aren't read. XKC_OK or
+ * XKC_EMPTY. */
+uint32_t xkc_keyboard_set(xkc_keyboard *keyboard, const xkc_state *state);
+
 /* The modifiers and groups, and the indicators that are lit: bit i is indicator i. XKC_OK or XKC_EMPTY. */
 uint32_t xkc_keyboard_state(xkc_keyboard *keyboard, xkc_state *state);
 uint32_t xkc_keyboard_lit(xkc_keyboard *keyboard, uint32_t *lit);

@@ -168,9 +168,13 @@ static void keyboards(void)
     reply.known = 7;
     holds(xkc_keyboard_event(&keyboard, 65536 + 38, 1, &reply) == XKC_MISSING && reply.known == 7, "a code above 65,535");
     holds(!xkc_keyboard_event(&keyboard, 67, 1, &reply) && reply.keysyms[0] == 0x1234567, "a keysym of the line's name");
+    state = (xkc_state){.base = 1, .base_group = 1, .latched = 1, .locked = 0, .latched_group = 2, .locked_group = 5, .effective_group = 9};
+    holds(!xkc_keyboard_set(&keyboard, &state) && !xkc_keyboard_state(&keyboard, &state) && state.base == 2 && state.base_group == 0 && state.latched == 1 && state.locked == 0, "a keyboard that is told what is latched and locked keeps what is held");
+    holds(state.latched_group == 0 && state.locked_group == 1 && state.effective_group == 1 && !xkc_keyboard_lit(&keyboard, &lit) && lit == 1, "its groups are those of the keymap, and the key that is held lights the indicator");
+    holds(!xkc_keyboard_event(&keyboard, 38, 1, &reply) && reply.keysyms[0] == 'b' && reply.state.latched == 0 && reply.state.locked_group == 1, "and the next event goes on from there");
     xkc_keyboard_end(&keyboard);
     xkc_keyboard_end(&keyboard);
-    holds(!keyboard.at, "a keyboard is ended twice");
+    holds(!keyboard.at && xkc_keyboard_set(&keyboard, &state) == XKC_EMPTY, "a keyboard is ended twice");
 }
 
 static void followers(void)

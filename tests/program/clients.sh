@@ -122,6 +122,10 @@ gives 0 'xkb_keymap {
 xkb_keycodes {
 };
 xkb_types {
+type "ONE_LEVEL" {
+modifiers= none;
+level_name[1]= "";
+};
 };
 xkb_compat {
 interpret Any+AnyOf(all) {
@@ -137,6 +141,10 @@ xkb_keycodes {
 <A>= 38;
 };
 xkb_types {
+type "ONE_LEVEL" {
+modifiers= none;
+level_name[1]= "";
+};
 };
 xkb_compat {
 interpret Any+AnyOf(all) {

@@ -1,1 +1,2 @@
 pub mod ClientText
+pub mod Written

@@ -2,8 +2,11 @@
 #![tactic(auto)]
 
 mod alike;
+mod compat;
+mod keycodes;
+mod symbols;
 mod text;
-mod words;
+mod types;
 mod writing;
 
 pub use text::client_text;

@@ -12,6 +12,8 @@ use Rattle.kx_resolve.specs.ReadVmodmap.{read_keymap_of}
 use Rattle.kx_compat.specs.Interpretations.{Interpretation}
 use Rattle.kx_clients.specs.IndicatorNames.{AreIndicatorNames}
 use Rattle.kx_clients.specs.Aliases.{known_alias, known_aliases}
+use Rattle.kx_clients.specs.DeclaredTypes.{declared_types, defined_type}
+use Rattle.kx_clients.specs.VirtualModifiers.{mods_among}
 use Rattle.kx_clients.specs.KeyRepeats.{field_repeat, item_offers as repeat_item_offers, key_offers as repeat_offers, next_default, repeat_rules, said_repeat}
 use Rattle.kx_clients.specs.InterpretationRepeats.{match_repeats}
 use Rattle.kx_clients.specs.LeavesOut.{AreLeftOut}
@@ -33,7 +35,7 @@ use Rattle.kx_resolve.specs.Selecting.{RealSet}
 use Rattle.kx_lex.specs.declared.name.Name.{Name}
 use Rattle.kx_resolve.specs.Mapping.{modmap_of}
 use Rattle.kx_virtual_mods.specs.Declarations.{AreModNames, ModNames, declared_mask, modifier_bodies, virtual_names}
-use Rattle.kx_virtual_mods.specs.Sets.{any_below, has}
+use Rattle.kx_virtual_mods.specs.Sets.{any_below, has, real_of}
 use Rattle.kx_virtual_mods.specs.Standing.{stands_for}
 use Rattle.kx_merge.specs.Bodies.{no_moves, Rules, faults_of, offers_of}
 use Rattle.kx_merge.specs.Offers.{names_of, offers_to as offers_for, value_of, width_of}
@@ -46,7 +48,7 @@ use Rattle.kx_parse.specs.declared.tree.Entry.{Entry as MapEntry}
 use Rattle.kx_parse.specs.declared.tree.Entry.TheVariants.{KeyName, Symbol}
 use Rattle.kx_parse.specs.declared.tree.Item.{Item}
 use Rattle.kx_parse.specs.declared.tree.Item.TheVariants.{Include, Statement}
-use Rattle.kx_parse.specs.declared.tree.Kind.TheVariants.{Compat, Keycodes, Symbols}
+use Rattle.kx_parse.specs.declared.tree.Kind.TheVariants.{Compat, Keycodes, Symbols, Types}
 use Rattle.kx_parse.specs.declared.tree.KeyField.{KeyField}
 use Rattle.kx_parse.specs.declared.tree.Mode.{Mode}
 use Rattle.kx_source.specs.Meaning.{codes_in, codes_of, declared_in, declared_masks_of, interpretations_in, key_given, key_in, mapping_by, modifier_bodies_of, modifiers_of, modmap_in, read_keymap_in, typing_in}
@@ -57,7 +59,7 @@ use Rattle.kx_symbols.specs.Keys.{KeyContent, KeysShow, item_next, item_offers, 
 use Rattle.kx_symbols.specs.Known.{Defaults, Known, no_defaults}
 use Rattle.kx_symbols.specs.declared.cells.Cell.{Cell}
 use Rattle.kx_symbols.specs.declared.cells.CellValue.{CellValue}
-use Rattle.kx_types.specs.Types.{NamedTypes, TypesShow, declared_type, type_named}
+use Rattle.kx_types.specs.Types.{NamedTypes, TypesShow, declared_names, declared_type, names_in, type_named}
 use Rattle.kx_resolve.specs.Given.{KeyGiven, given_by, given_in}
 use Rattle.kx_resolve.specs.Typing.{typing_by}
 
@@ -160,6 +162,12 @@ module _ (library : Library) (bodies : Bodies) (are : AreBodies library bodies) 
       pub declared_same : type_named types ≡ declared_in library
       declared_same = fun_ext (λ name. types_show.definitions_are name ∙ (λ i. declared_type (modifiers_same i) (are.types i) name))
 
+      -- the types that are named are the library's
+      types_same : (real : ℕ → RealSet) → flat_map (defined_type real (type_named types)) (names_in types) ≡ declared_types real (modifiers_of library) (body_of library Types)
+      types_same real =
+          ap (λ definition. flat_map (defined_type real definition) (names_in types)) declared_same
+          ∙ ap (flat_map (defined_type real (declared_in library))) (types_show.names_are ∙ (λ i. declared_names (modifiers_same i) (are.types i)))
+
       -- ---- Keys, and all together
 
       module _ (c : Codes) (codes_show : CodesShow c (body_of library Keycodes)) (names : KeysymTable) where
@@ -235,8 +243,8 @@ module _ (library : Library) (bodies : Bodies) (are : AreBodies library bodies) 
                   ∙ ap (λ r. stands r n real) read_same
 
         -- what is told is what the source leaves out
-        pub left_out_are : (left : LeftOut) → left.aliases ≡ known_aliases c (expanded_body bodies.keycodes) → AreIndicatorNames left.indicators (expanded_body bodies.keycodes) → AreOfKeys names m (expanded_body bodies.compat) (expanded_body bodies.symbols) c types left.modifiers left.repeating → AreLeftOut names library left
-        left_out_are left aliases indicators told = record {
+        pub left_out_are : (left : LeftOut) → left.aliases ≡ known_aliases c (expanded_body bodies.keycodes) → AreIndicatorNames left.indicators (expanded_body bodies.keycodes) → AreOfKeys names m (expanded_body bodies.compat) (expanded_body bodies.symbols) c types left.modifiers left.repeating → left.types ≡ flat_map (defined_type (real_of (mods_among left.modifiers)) (type_named types)) (names_in types) → AreLeftOut names library left
+        left_out_are left aliases indicators told rows = record {
           aliases_are = aliases ∙ ap (known_aliases c) are.keycodes ∙ aliases_same c (body_of library Keycodes) codes_show;
           indicators_are = subst (AreIndicatorNames left.indicators) are.keycodes indicators;
           modifiers_are = record {
@@ -246,6 +254,8 @@ module _ (library : Library) (bodies : Bodies) (are : AreBodies library bodies) 
                 let few : number < 24 = omega (arith, within, shows.few) in
                 told.stand.mods_are number real few within ∙ stands_same told.keys told.keys_show told.modmaps told.mapped told.interpretations told.interpreted number real few;
           };
+          types_are = rows ∙ types_same (real_of (mods_among left.modifiers));
+          few_codes = told.few_codes;
           repeats_are = λ code less. told.repeat code less ∙ (λ i. key_repeats
               (match_repeats names (modifiers_same i) (are.compat i))
               (interpretations_same told.keys told.keys_show told.modmaps told.mapped told.interpretations told.interpreted i)

@@ -1,12 +1,14 @@
 -- Lists that grow by one at their end.
 use Rattle.std.proofs.Common.{◌≡◌, ◌<◌, ◌≤◌, ◌+◌, ◌++◌, ◌∷◌, [], ℕ, zero, suc, ◌⊎◌, inl, inr, Bool, false, List, None, Some, ap, arith, drop, get_or, length, refl, slice_get, sym, take, ◌∙◌}
 use Rattle.std.specs.Option.{option_map_or}
+use Rattle.std.proofs.Math.Path.{fun_ext}
 use Rattle.std.proofs.Math.Seq.{get_or-append_seam}
 use Rattle.std.proofs.lemmas.List.{get_or_append_left, get_or_past, map-append, take_more}
 use Rattle.std.proofs.lemmas.Option.{get_or_from_slice_get}
 use Rattle.kx_mods.specs.Mods.{mask}
 use Rattle.kx_virtual_mods.specs.Sets.{has}
-use Rattle.kx_clients.specs.VirtualModifiers.{mods_among, names_among}
+use Rattle.kx_virtual_mods.specs.Standing.{stands_for}
+use Rattle.kx_clients.specs.VirtualModifiers.{mods_among, names_among, stands_among}
 use Rattle.kx_clients.specs.declared.virtual_modifier.VirtualModifier.{VirtualModifier}
 use borrow.Author.Count.{below_more}
 
@@ -40,6 +42,15 @@ mods_more all stands n m count were is = λ k real less.
     (λ j below. ap (λ o. has (option_map_or (λ (v : VirtualModifier). mask v.mods) o 0) real) (at_front all (m ∷ []) j (omega (arith, below, count))) ∙ were j real below)
     (ap (λ j. has (option_map_or (λ (v : VirtualModifier). mask v.mods) (slice_get (all ++ m ∷ []) j) 0) real) (sym count) ∙ ap (λ o. has (option_map_or (λ (v : VirtualModifier). mask v.mods) o 0) real) (at_end all m) ∙ is real)
     k less
+
+-- what they stand for is the same as a list
+stands_at : (modifiers : List VirtualModifier) (number : ℕ) → stands_for (stands_among modifiers) number ≡ mods_among modifiers number
+stands_at [] number = refl
+stands_at (m ∷ modifiers) zero = refl
+stands_at (m ∷ modifiers) (suc number) = stands_at modifiers number
+
+pub stands_all : (modifiers : List VirtualModifier) → stands_for (stands_among modifiers) ≡ mods_among modifiers
+stands_all modifiers = fun_ext (stands_at modifiers)
 
 -- nothing is left behind the end
 pub none_left : {X : Type 0} (xs : List X) (k : ℕ) → length xs ≤ k → drop k xs ≡ []

@@ -42,8 +42,9 @@ abbrev pub name_at : List (List ℕ) → ℕ → List ℕ
 name_at names place = unwrap_or (slice_get names place) []
 
 -- names by number, of which the first is 1
-abbrev pub AreIndicatorNames : List (List ℕ) → Body → Type 0
-AreIndicatorNames names body = (place : ℕ) → place < INDICATORS → name_at names place ≡ indicator_name body (place + 1)
+pub record AreIndicatorNames (names : List (List ℕ)) (body : Body) : Type 0 where
+  pub all : length names ≡ INDICATORS
+  pub each : (place : ℕ) → place < INDICATORS → name_at names place ≡ indicator_name body (place + 1)
 
 -- ---- Under names, for clauses
 

@@ -1,4 +1,5 @@
 pub mod Aliases
+pub mod DeclaredTypes
 pub mod IndicatorNames
 pub mod InterpretationRepeats
 pub mod KeyRepeats

@@ -1,5 +1,5 @@
 -- That what clients are told of keys is made of what bodies say, step by step.
-use Rattle.std.specs.Prelude.{ℕ, ◌≡◌, ◌<◌, ◌++◌, Bool, List, false, get_or, length}
+use Rattle.std.specs.Prelude.{ℕ, ◌≡◌, ◌<◌, ◌≤◌, ◌++◌, Bool, List, false, get_or, length}
 use Rattle.ks_core.specs.Table.{KeysymTable}
 use Rattle.kx_basics.specs.declared.limits.TheConstants.{CODES}
 use Rattle.kx_codes.specs.Codes.{Codes, name_of}
@@ -46,6 +46,7 @@ pub record AreOfKeys (names : KeysymTable) (m : ModNames) (compat symbols : Body
   pub interpreted : interpretations ≡ interpretations_of names m.names compat
   pub stand : Stand names m compat symbols c types keys modmaps interpretations modifiers
   pub repeat : Repeat names m compat symbols c types keys modmaps interpretations repeating
+  pub few_codes : length repeating ≤ CODES
 
 -- of keys, modifier maps and interpretations
 abbrev pub told_faults : Codes → KeysymTable → List (List ℕ) → (compat symbols : Body) → List Fault

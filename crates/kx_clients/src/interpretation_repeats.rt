@@ -15,9 +15,8 @@ ghost use Rattle.kx_parse.specs.declared.tree.Mode.{Mode as ModeValue};
 ghost use Rattle.kx_clients.specs.InterpretationRepeats.{default_truth, field_truth, item_truths, match_faults, named_truth, next_said, next_truth, said_faults, truth_moves, truth_offers, truth_rules};
 ghost use Rattle.kx_clients.specs.Records.{truth_cell, truth_width};
 
-use crate::matches::read_match;
 use ks_core::{NameTable, Notes};
-use kx_compat::InterpretationMatch;
+use kx_compat::{InterpretationMatch, read_match};
 use kx_include::{Expansion, Place};
 use kx_lex::{Boxed, Fault, Name, Row};
 use kx_merge::{Fields, lone_word, merge, merged_value, records_for, truth_named};

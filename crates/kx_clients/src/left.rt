@@ -11,9 +11,8 @@ pub struct LeftOut {
     aliases: Vec<Alias>,
     indicators: Vec<IndicatorName>,
     modifiers: Vec<VirtualModifier>,
-    repeating: Vec<bool>,
-    /// Of these no clause speaks.
     types: Vec<DeclaredType>,
+    repeating: Vec<bool>,
 }
 
 impl Model for LeftOut {
@@ -25,25 +24,34 @@ impl Model for LeftOut {
       aliases = l.aliases.items;
       indicators = l.indicators.items;
       modifiers = l.modifiers.items;
+      types = l.types.items;
       repeating = l.repeating.items;
     } };
+
+    ghost use Rattle.std.specs.Prelude.{◌≡◌, length};
+    ghost use Rattle.kx_clients.specs.declared.indicators.TheConstants.{INDICATORS};
+
+    ghost invariant = { λ l. length l.indicators.items ≡ INDICATORS };
 }
 
 impl LeftOut {
-    ghost use Rattle.std.specs.Prelude.{◌≡◌};
+    ghost use Rattle.std.specs.Prelude.{◌≡◌, length};
     ghost use Rattle.kx_clients.specs.LeftOut.{repeats};
+    ghost use Rattle.kx_clients.specs.declared.indicators.TheConstants.{INDICATORS};
 
     pub(crate) fn of(
         aliases: Vec<Alias>,
         indicators: Vec<IndicatorName>,
         modifiers: Vec<VirtualModifier>,
-        repeating: Vec<bool>,
         types: Vec<DeclaredType>,
+        repeating: Vec<bool>,
     ) -> LeftOut
+        requires { length indicators.items ≡ INDICATORS }
         ensures { result ≡ record {
           aliases = aliases.items;
           indicators = indicators.items;
           modifiers = modifiers.items;
+          types = types.items;
           repeating = repeating.items;
         } }
     {
@@ -51,8 +59,8 @@ impl LeftOut {
             aliases,
             indicators,
             modifiers,
-            repeating,
             types,
+            repeating,
         }
     }
 
@@ -66,13 +74,16 @@ impl LeftOut {
     /// The names that keycodes sections give indicators, by their numbers, of which the first is 1; of no bytes where they give
     /// none.
     pub fn indicators(&self) -> &[IndicatorName]
-        ensures { result.now ≡ self.now.indicators }
+        ensures names { result.now ≡ self.now.indicators }
+        ensures all { length result.now ≡ INDICATORS }
     {
         self.indicators.as_slice()
     }
 
-    /// The key types by first appearance, those that keys have among them.
-    pub fn types(&self) -> &[DeclaredType] {
+    /// The key types that the source declares, by first appearance.
+    pub fn types(&self) -> &[DeclaredType]
+        ensures { result.now ≡ self.now.types }
+    {
         self.types.as_slice()
     }
 

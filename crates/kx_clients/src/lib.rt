@@ -10,7 +10,6 @@ mod interpretation_repeats;
 mod key_repeat;
 mod key_repeats;
 mod left;
-mod matches;
 mod reading;
 mod repeating;
 mod sections;

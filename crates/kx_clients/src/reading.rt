@@ -51,8 +51,8 @@ fn left_out_over(
         aliases,
         indicators,
         keys.modifiers,
-        keys.repeating,
         declared,
+        keys.repeating,
     ))
 }
 

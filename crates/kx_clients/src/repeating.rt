@@ -39,7 +39,7 @@ pub(crate) struct ReadKeys<'a, 'l> {
 }
 
 impl<'a, 'l> ReadKeys<'a, 'l> {
-    ghost use Rattle.std.specs.Prelude.{◌≡◌, ◌<◌, ℕ, IfOk, false, get_or};
+    ghost use Rattle.std.specs.Prelude.{◌≡◌, ◌<◌, ◌≤◌, ℕ, IfOk, false, get_or, length};
     ghost use Rattle.std.specs.Option.{option_map};
     ghost use Rattle.kx_basics.specs.declared.limits.TheConstants.{CODES};
     ghost use Rattle.kx_resolve.specs.Given.{given, given_in};
@@ -113,8 +113,9 @@ impl<'a, 'l> ReadKeys<'a, 'l> {
 
     /// Whether keys repeat, by code up to the last that has a name.
     pub(crate) fn repeating(self, alloc: Global) -> Result<Vec<bool>, AllocError>
-        ensures { IfOk result (λ all. (code : ℕ) → code < CODES
+        ensures repeats { IfOk result (λ all. (code : ℕ) → code < CODES
             → get_or all.items code false ≡ read_repeats self.entry code) }
+        ensures few { IfOk result (λ all. length all.items ≤ CODES) }
     {
         let mut all = Vec::new(alloc);
         'codes: for code in 0..self.codes.end() {

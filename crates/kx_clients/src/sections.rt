@@ -42,7 +42,8 @@ pub(crate) struct OfKeys {
 }
 
 impl<'a, 'l> Sections<'a, 'l> {
-    ghost use Rattle.std.specs.Prelude.{◌≡◌, ◌∷◌, ℕ, Contains, IfErr, IfOk};
+    ghost use Rattle.std.specs.Prelude.{◌≡◌, ◌≤◌, ◌∷◌, ℕ, Contains, IfErr, IfOk, length};
+    ghost use Rattle.kx_basics.specs.declared.limits.TheConstants.{CODES};
     ghost use Rattle.kx_codes.specs.Codes.{name_of};
     ghost use Rattle.kx_compat.specs.Meaning.{compat_faults};
     ghost use Rattle.kx_include.specs.Shared.{expanded_body};
@@ -127,6 +128,7 @@ impl<'a, 'l> Sections<'a, 'l> {
             (expanded_body self.entry.bodies.now.symbols) self.entry.codes.now
             self.entry.types.now mapped.now.keys (modmap_at mapped.now.modmaps)
             interpretations.now repeating.items) }
+        ensures few { IfOk result (λ repeating. length repeating.items ≤ CODES) }
         ensures err { IfErr result (λ e. Contains (Memory ∷ compat_faults self.entry.names.now
             self.entry.modifiers.now.names (expanded_body self.entry.bodies.now.compat)) e) }
     {

@@ -2,6 +2,7 @@
 ghost use Rattle.std.specs.Prelude.{◌≡◌, IfOk};
 ghost use Rattle.kx_tables.specs.Keymap.{keymap_of};
 ghost use Rattle.kx_run.specs.Laws.{IsBounded};
+ghost use Rattle.kx_run.specs.Player.{taken_over};
 ghost use Rattle.kx_run.specs.Replies.{answer, answered, lit_in, status_in, told};
 ghost use Rattle.kx_run.specs.World.{opening, step};
 
@@ -44,6 +45,16 @@ impl SharedKeyboard {
         ensures bounded { IsBounded self.new.world }
     {
         self.player.event(code, direction)
+    }
+
+    /// Latches and locks what a state says, in the place of what is latched and locked. What is held stays held.
+    pub fn take_over(&mut self, state: Components)
+        ensures { self.new ≡ record self.old {
+          world = taken_over
+              (keymap_of self.old.content).groups (told state) self.old.world;
+        } }
+    {
+        self.player.take_over(state);
     }
 
     /// The modifiers and groups of the state.

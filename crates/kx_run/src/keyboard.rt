@@ -8,10 +8,11 @@ ghost use Rattle.kx_run.specs.Laws.{IsBounded};
 ghost use Rattle.kx_run.specs.declared.direction.Direction.TheVariants.{Down};
 ghost use Rattle.kx_run.specs.World.{opening, effective_mods, effective_group, press_effect, release_effect, latch_mods, latch_group, recorded_mods, pressed, released, moved};
 ghost use Rattle.kx_run.specs.Replies.{status_of, told};
+ghost use Rattle.kx_run.specs.Player.{taken_over};
 ghost use Rattle.kx_basics.specs.declared.limits.TheConstants.{CODES, MOST_GROUPS};
 
 use crate::direction::Direction;
-use crate::group::{difference, effective, locked_after, number_of, sum};
+use crate::group::{difference, effective, locked_after, modulo, number_of, sum};
 use crate::held::{HeldKey, HeldKeys, acts};
 use crate::reply::Components;
 use kx_mods::Mods;
@@ -111,6 +112,19 @@ impl Keyboard {
         };
         self.bounds();
         changes
+    }
+
+    /// Latches and locks what a state says, in the place of what is latched and locked. What is held stays held.
+    pub fn take_over(&mut self, state: Components, groups: u8)
+        requires { 1 ≤ groups }
+        ensures world { self.new ≡ taken_over groups (told state) self.old }
+        ensures bounded { IsBounded self.new }
+    {
+        self.latched = state.latched;
+        self.locked = state.locked;
+        self.latched_group = modulo(i64::from(state.latched_group), groups);
+        self.locked_group = modulo(i64::from(state.locked_group), groups);
+        self.bounds();
     }
 
     /// No effect: what the keys that are held make sure of.

@@ -3,7 +3,7 @@ ghost use Rattle.std.specs.Prelude.{◌≡◌, ◌<◌, ◌≤◌, false, [], ma
 ghost use Rattle.kx_tables.specs.Keymap.{Keymap, keymap_of};
 ghost use Rattle.kx_run.specs.Held.{action_size};
 ghost use Rattle.kx_run.specs.Laws.{Agree, IsBounded, IsLetGo, ReleasesAll};
-ghost use Rattle.kx_run.specs.Player.{IsShownAs};
+ghost use Rattle.kx_run.specs.Player.{IsShownAs, taken_over};
 ghost use Rattle.kx_run.specs.Replies.{answer, answered, lit_in, run, status_in, told, unknown, world_after};
 ghost use Rattle.kx_run.specs.World.{moved, opening, step};
 ghost use Rattle.kx_basics.specs.declared.limits.TheConstants.{CODES, MOST_GROUPS};
@@ -119,6 +119,19 @@ impl<T: Tables + Drop> Player<T> {
             replies.push_reserved(self.event(event.code, event.direction));
         }
         Ok(replies)
+    }
+
+    /// Latches and locks what a state says, in the place of what is latched and locked, with its groups modulo those of
+    /// the tables. The keys that are held stay so, and with them the base modifiers and the base group.
+    pub fn take_over(&mut self, state: Components)
+        ensures { self.new ≡ record self.old {
+          world = taken_over
+              (keymap_of self.old.content).groups (told state) self.old.world;
+        } }
+    {
+        self.keyboard.take_over(state, self.groups);
+        self.state = self.keyboard.components(self.groups);
+        self.lit = lit(&self.tables, self.state, self.groups);
     }
 
     /// The tables that the keyboard runs on.

@@ -1,6 +1,6 @@
 //! Keyboards: what a compositor runs.
 ghost use Rattle.std.specs.Prelude.{◌≡◌, ◌≢◌, ◌⊎◌, ◌<◌, ◌≤◌, IfSome, None, Some};
-ghost use Rattle.kx_run.specs.Player.{Played};
+ghost use Rattle.kx_run.specs.Player.{Played, taken_over};
 ghost use Rattle.kx_run.specs.Replies.{lit_in, status_in};
 ghost use Rattle.kx_run.specs.World.{opening};
 ghost use Rattle.kx_tables.specs.Content.{Content};
@@ -68,6 +68,28 @@ pub extern "C" fn xkc_keyboard_event(
     let status = told(&mut boxed, code, down, reply);
     keyboard.put(boxed);
     status
+}
+
+/// Latches and locks what a state says, in the place of what is latched and locked. The keys that are held stay so.
+#[unsafe(no_mangle)]
+pub extern "C" fn xkc_keyboard_set(
+    alloc: Global,
+    keyboard: &mut KeyboardHandle,
+    state: &XkcState,
+) -> u32
+    ensures empty { keyboard.old.value ≡ None → (result ≡ EMPTY) × (keyboard.new.value ≡ None) }
+    ensures taken { (played : Played) → keyboard.old.value ≡ Some played
+        → (result ≡ OK) × (keyboard.new.value ≡ Some (record played {
+          world = taken_over
+              (keymap_of played.content).groups (status state.now) played.world;
+        })) }
+{
+    let Some(mut boxed) = keyboard.take(alloc) else {
+        return EMPTY;
+    };
+    boxed.take_over(state.components());
+    keyboard.put(boxed);
+    OK
 }
 
 /// The modifiers and groups of a keyboard.

@@ -5,7 +5,11 @@ use Rattle.kx_include.specs.Shared.{expanded_body}
 use Rattle.kx_lex.specs.declared.fault.Fault.{Fault}
 use Rattle.kx_lex.specs.declared.fault.Fault.TheVariants.{Memory}
 use Rattle.kx_source.specs.Source.{HasFaultIn}
-use Rattle.kx_types.specs.Types.{types_faults}
+use Rattle.kx_types.specs.Types.{names_in, type_named, types_faults}
+use Rattle.kx_virtual_mods.specs.Sets.{real_of}
+use Rattle.std.specs.List.{flat_map}
+use Rattle.kx_clients.specs.DeclaredTypes.{defined_type}
+use Rattle.kx_clients.specs.VirtualModifiers.{mods_among}
 use Rattle.kx_clients.specs.Aliases.{alias_faults}
 use Rattle.kx_clients.specs.LeavesOut.{AreLeftOut}
 use Rattle.kx_clients.specs.LeftOut.{LeftOut}
@@ -56,6 +60,8 @@ returns-clause-are c =
     let are = c.requires.bodies in
     let codes_show = subst (CodesShow c.in_ok-codes.codes) are.keycodes c.in_ok-codes.ensures.shows in
     let keys = c.in_ok-keys.keys in
-    let left : LeftOut = record { aliases = c.in_ok-aliases.aliases.items; indicators = c.in_ok-indicators.indicators.items; modifiers = keys.modifiers.items; repeating = keys.repeating.items } in
+    let left : LeftOut = record { aliases = c.in_ok-aliases.aliases.items; indicators = c.in_ok-indicators.indicators.items; modifiers = keys.modifiers.items; types = c.in_ok-declared.declared.items; repeating = keys.repeating.items } in
+    let types = c.in_ok-types.types in
+    let rows = subst (λ modifiers. c.in_ok-declared.declared.items ≡ flat_map (defined_type (real_of (mods_among modifiers)) (type_named types)) (names_in types)) c.as_slice.ensures.value c.in_ok-declared.ensures in
     subst (AreLeftOut c.args.names.now c.args.library.now) (sym c.of.ensures)
-    (left_out_are c.args.library.now c.args.bodies.now are c.args.modifiers.now c.requires.names c.in_ok-types.types c.in_ok-types.ensures.shows c.in_ok-codes.codes codes_show c.args.names.now left c.in_ok-aliases.ensures.aliases c.in_ok-indicators.ensures.names c.in_ok-keys.ensures.are)
+    (left_out_are c.args.library.now c.args.bodies.now are c.args.modifiers.now c.requires.names c.in_ok-types.types c.in_ok-types.ensures.shows c.in_ok-codes.codes codes_show c.args.names.now left c.in_ok-aliases.ensures.aliases c.in_ok-indicators.ensures.names c.in_ok-keys.ensures.are rows)

@@ -19,8 +19,8 @@ codes-preserved c =
       are = λ k less. ap (λ xs. get_or xs k false) c.in_ok-push.ensures.items ∙ truths_more all (read_repeats c.args.self) c.codes.code b were.count were.are c.repeats.ensures k less;
     }
 
-pub returns : goal.returns
-returns c =
+pub returns-clause-repeats : goal.returns-clause-repeats
+returns-clause-repeats c =
     let r = c.args.self in
     let were = c.codes.invariant in
     truths_all c.codes.all.items (read_repeats r) c.codes.code CODES were.count were.are

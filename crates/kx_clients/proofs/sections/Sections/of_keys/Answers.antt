@@ -54,4 +54,5 @@ returns-clause-are c = record {
   interpreted = c.in_ok-interpretations.ensures.shows;
   stand = c.in_ok-modifiers.ensures.stand;
   repeat = c.in_ok-repeating.ensures.repeat;
+  few_codes = c.in_ok-repeating.ensures.few;
 }

@@ -29,5 +29,5 @@ pub returns-clause-repeat : goal.returns-clause-repeat
 returns-clause-repeat c = λ code less.
     let s = c.args.self in
     let mapped = c.args.mapped.now in
-    c.in_ok-repeating.ensures code less
+    c.in_ok-repeating.ensures.repeats code less
     ∙ (λ i. key_repeats (fun_ext c.in_ok-interpreted.ensures.repeats i) c.args.interpretations.now (name_of s.codes.now code) (c.in_ok-said.ensures.said code i) (modmap_at mapped.modmaps code) (given_in (key_at mapped.keys code)))
