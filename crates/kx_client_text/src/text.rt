@@ -35,6 +35,13 @@ fn text_of(alloc: Global, image: &[u8], left: &LeftOut) -> Result<Vec<u8>, Alloc
     }
 }
 
+fn is_memory(fault: Fault) -> bool
+    ensures memory { result ≡ true → fault ≡ Memory }
+    ensures other { result ≡ false → fault ≡ Memory → ⊥ }
+{
+    matches!(fault, Fault::Memory)
+}
+
 /// Whether a text by itself is compiled to an image.
 fn compiles_to(alloc: Global, text: &[u8], names: &NameTable, image: &[u8]) -> Result<bool, Fault>
     ensures same { IfOk result (λ is_same. is_same ≡ true
@@ -46,8 +53,12 @@ fn compiles_to(alloc: Global, text: &[u8], names: &NameTable, image: &[u8]) -> R
     let alone = Files::new(alloc);
     match compile(alloc, text, &alone, names) {
         Ok((again, _)) => Ok(again.as_slice() == image),
-        Err(Fault::Memory) => Err(Fault::Memory),
-        Err(_) => Ok(false),
+        Err(fault) => {
+            if is_memory(fault) {
+                return Err(fault);
+            }
+            Ok(false)
+        }
     }
 }
 
@@ -63,8 +74,12 @@ fn leaves_out(alloc: Global, text: &[u8], names: &NameTable, left: &LeftOut) -> 
     let alone = Files::new(alloc);
     match left_out(alloc, text, &alone, names) {
         Ok(again) => Ok(say_the_same(left, &again)),
-        Err(Fault::Memory) => Err(Fault::Memory),
-        Err(_) => Ok(false),
+        Err(fault) => {
+            if is_memory(fault) {
+                return Err(fault);
+            }
+            Ok(false)
+        }
     }
 }
 

@@ -1,6 +1,6 @@
 -- Whether the keys of an interpretation repeat: the field `repeat` of the statements of a compat body, and its default
 -- `interpret.repeat`.
-use Rattle.std.specs.Prelude.{ℕ, Bool, false, List, [], ◌∷◌, ◌++◌, Option, None, Some, is_some, unwrap_or, if◌then◌else◌, codes}
+use Rattle.std.specs.Prelude.{ℕ, Bool, false, List, [], ◌++◌, Option, None, is_some, unwrap_or, if◌then◌else◌, codes}
 use Rattle.std.specs.Option.{option_and_then, option_map_or, option_or}
 use Rattle.std.specs.Str.{str_eq_ignore_ascii_case}
 use Rattle.ks_core.specs.Table.{KeysymTable}

@@ -1,4 +1,4 @@
-use Rattle.std.proofs.Common.{◌≡◌, ◌<◌, ℕ, List, get_or, length}
+use Rattle.std.proofs.Common.{◌≡◌, ◌<◌, ℕ, get_or, length}
 use Rattle.kx_clients.specs.declared.alias.Alias.{Alias}
 use Rattle.kx_client_text.proofs.alike.are_same_aliases.Given as goal
 

@@ -1,4 +1,4 @@
-use Rattle.std.proofs.Common.{◌≡◌, ◌<◌, ℕ, List, get_or, length}
+use Rattle.std.proofs.Common.{◌≡◌, ◌<◌, ℕ, get_or, length}
 use Rattle.kx_clients.specs.declared.virtual_modifier.VirtualModifier.{VirtualModifier}
 use Rattle.kx_client_text.proofs.alike.are_same_modifiers.Given as goal
 

@@ -1,9 +1,9 @@
-use Rattle.std.proofs.Common.{◌≡◌, ◌∙◌, ◌++◌, ap, codes, map, length}
+use Rattle.std.proofs.Common.{◌∙◌, ◌++◌, ap, codes, map}
 use Rattle.kx_print.specs.Phrases.{joined}
-use Rattle.kx_print.specs.Printed.{bracketed, fields_of, groups_of, on_new_line}
+use Rattle.kx_print.specs.Printed.{bracketed, fields_of, on_new_line}
 use Rattle.kx_print.proofs.Rows.{length-part}
 use Rattle.kx_print.proofs.Writing.{◌⨟◌, rewritten}
-use Rattle.kx_client_text.specs.Written.{comma_before, repeat_field}
+use Rattle.kx_client_text.specs.Written.{repeat_field}
 use Rattle.kx_client_text.proofs.Fields.{behind_first, comma_leads}
 use Rattle.kx_client_text.proofs.symbols.write_key.Goals as goal
 

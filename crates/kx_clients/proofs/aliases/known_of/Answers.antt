@@ -1,4 +1,4 @@
-use Rattle.std.proofs.Common.{◌≡◌, ◌++◌, ◌+◌, [], ap, append_assoc, append-nil, drop, sym, ◌∙◌}
+use Rattle.std.proofs.Common.{◌++◌, ◌+◌, ap, append_assoc, append-nil, drop, sym, ◌∙◌}
 use Rattle.std.specs.List.{flat_map}
 use Rattle.kx_merge.proofs.Going.{drop_next}
 use Rattle.kx_clients.specs.Aliases.{known_alias, names_in}

@@ -1,4 +1,4 @@
-use Rattle.std.proofs.Common.{◌≡◌, ◌≤◌, ◌+◌, ◌∷◌, [], ℕ, Bool, List, None, Option, ap, arith, false, get_or, length, length-append, ◌∙◌}
+use Rattle.std.proofs.Common.{◌≤◌, ◌+◌, ◌∷◌, [], ℕ, List, Option, ap, arith, false, get_or, length, length-append, ◌∙◌}
 use Rattle.kx_basics.specs.declared.limits.TheConstants.{CODES}
 use Rattle.kx_clients.specs.Read.{read_repeats}
 use Rattle.kx_clients.specs.Records.{repeat_recorded, truth_recorded}
