@@ -157,3 +157,14 @@ repeat= no
 };
 };
 };' print bare
+
+# A type more than there may be, since ONE_LEVEL isn't declared: the image's text is printed, and that it isn't for clients is said.
+awk 'BEGIN {
+    printf "xkb_keymap { xkb_keycodes { <A>= 38; }; xkb_types { "
+    for (i = 0; i < 4096; i++) printf "type \"T%d\" { modifiers= none; }; ", i
+    print "}; xkb_symbols { key <A> { [ a ] }; }; };"
+}' > many
+"$program" compile --quiet many many_image > ../out
+"$program" print many_image > printed_image 2> ../err
+gives 0 "$(cat printed_image)" print many
+holds 'that a text is not for clients is said' grep -qF "aren't printed" ../err

@@ -104,8 +104,8 @@ fn means_the_same(
 }
 
 /// The text that clients read of a source: what the printed text of its image says, with the names of indicators, aliases, virtual
-/// modifiers, all declared types, and which keys repeat. None where this text, read by itself, would mean anything else: no source
-/// is known of which that is so.
+/// modifiers, all declared types, and which keys repeat. None where this text, read by itself, would mean anything else, as where
+/// 4,096 types are declared and none is `ONE_LEVEL`, which is one too many.
 ///
 /// # Errors
 /// A fault of the source with its place, or `Memory`.
