@@ -1,5 +1,3 @@
-pub mod RawBoxes
-pub mod Slots
 pub mod KeymapHandleValues
 pub mod KeyboardHandleValues
 pub mod FollowerHandleValues

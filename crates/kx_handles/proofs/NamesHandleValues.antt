@@ -1,24 +1,12 @@
 -- The machine values of a `NamesHandle`. Assumes `Logic`.
 --     handle_out, handle_in    what it owns is its slot, and the allocator's handle
-use Rattle.std.proofs.Common.{◌≡◌, List, [], ◌∷◌, ◌++◌, refl, ap, ◌∙◌}
-use seplogic.Ra.Ura.{Ura}
-use denote.Builtin.{RawPtr}
-use denote.Param.{layout}
-use denote.RattleType.{RattleType, Valss}
-use denote.RawPtr.{Ptr, ptr_val}
-use denote.Steps.{nothing}
-use denote.Struct.Owning.{shape}
-use denote.Struct.Struct.{within}
-use mir.Val.{Val, of_list, vstruct}
-use types.Kit.{Goal, Item, Seq, Step, ‵, ◌$◌, drop, feq_i, feq_l, fjoin, fpack, fpick, fsplit, move, step}
-use types.Logic.{Logic}
-use Rattle.core.proofs.alloc.Calls.{handle_tells}
-use Rattle.core.proofs.cell.Inside.{Good}
+use Rattle.kx_slots.proofs.Walk.{◌≡◌, List, [], ◌∷◌, ◌++◌, refl, ap, ◌∙◌, Ura, RawPtr, layout, RattleType, Valss, Ptr, ptr_val, nothing, shape}
+use Rattle.kx_slots.proofs.Walk.{within, Val, of_list, vstruct, Goal, Item, Seq, Step, ‵, ◌$◌, drop, feq_i, feq_l, fjoin, fpack, fpick, fsplit, move}
+use Rattle.kx_slots.proofs.Walk.{step, Logic, handle_tells, Good, Option}
 use Rattle.std.specs.contracts.alloc.Global as heap
-use Rattle.std.specs.declared.option.Option.{Option}
-use Rattle.kx_handles.proofs.RawBoxes.{two}
-use Rattle.kx_handles.proofs.Slots.{Heap, allocator}
-use Rattle.kx_handles.specs.Slot.{slot}
+use Rattle.kx_slots.proofs.RawBoxes.{two}
+use Rattle.kx_slots.proofs.Slots.{Heap, allocator}
+use Rattle.kx_slots.specs.Slot.{slot}
 use Rattle.kx_handles.specs.contracts.names.NamesHandle as handle
 use Rattle.ks_core.specs.contracts.names.NameTable as held
 

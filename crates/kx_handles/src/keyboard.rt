@@ -2,10 +2,10 @@
 ghost use Rattle.std.specs.Prelude.{◌≡◌, MatchOption, None, Option, Some};
 ghost use Rattle.kx_run.specs.Player.{Played};
 ghost use Rattle.kx_handles.specs.contracts.shared_keyboard.SharedKeyboard.{the_row};
-ghost use Rattle.kx_handles.specs.Slot.{slot};
+ghost use Rattle.kx_slots.specs.Slot.{slot};
 
-use crate::raw_box::RawBox;
 use crate::shared_keyboard::SharedKeyboard;
+use kx_slots::RawBox;
 use std::alloc::Global;
 use std::marker::Model;
 use std::mem::replace;

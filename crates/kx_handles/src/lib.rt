@@ -6,7 +6,6 @@ mod follower;
 mod keyboard;
 mod keymap;
 mod names;
-mod raw_box;
 mod shared_follower;
 mod shared_keyboard;
 mod tables;

@@ -2,10 +2,10 @@
 ghost use Rattle.std.specs.Prelude.{◌≡◌, List, MatchOption, None, Option, Some};
 ghost use Rattle.ks_core.specs.Table.{KeysymTable};
 ghost use Rattle.ks_core.specs.contracts.names.NameTable.{the_row};
-ghost use Rattle.kx_handles.specs.Slot.{slot};
+ghost use Rattle.kx_slots.specs.Slot.{slot};
 
-use crate::raw_box::RawBox;
 use ks_core::NameTable;
+use kx_slots::RawBox;
 use std::alloc::Global;
 use std::marker::Model;
 use std::mem::replace;

@@ -1,27 +1,11 @@
 -- `empty` owns nothing.
-use Rattle.std.proofs.Common.{◌≡◌, List, [], ◌∷◌, ◌++◌, refl, sym, subst}
-use base.Fml.{ftrue}
-use base.Logic.{SProp, emp, ent, id⊢}
-use contract.Monad.{fact, fact_i}
-use contract.Running.{tables}
-use denote.Exit.{yes}
-use denote.RattleType.{owns}
-use denote.RawPtr.{Ptr, null_ptr, ptr_val}
-use denote.Signature.{plain, types_at}
-use denote.Steps.{nothing}
-use denote.Triple.Walked.{Goes-dropped, Stays, stay_dropped, walk_of}
-use mir.Val.{Val}
-use prog.Wp.{WpFn}
-use types.ByLocal.{alloc_all, free_all, get, look_at, pass_all, sets}
-use types.Kit.{‵, raw, ◌⊛◌, ◌$◌, ◌∵◌, !, by, feq_i, fjoin, fsplit, keep, move, qed, split, suffices, use0}
-use types.Part.{agg}
-use types.Run.{and_then, enter, lit, no_more, returns}
-use Rattle.core.proofs.alloc.Calls.{handle_tells}
-use Rattle.std.proofs.raw_atomic.Walks.{leaves, proved_at}
-use Rattle.std.specs.declared.option.Option.{Option}
+use Rattle.kx_slots.proofs.Walk.{◌≡◌, List, [], ◌∷◌, ◌++◌, refl, sym, subst, ftrue, SProp, emp, ent, id⊢, fact, fact_i, tables, yes, owns, Ptr}
+use Rattle.kx_slots.proofs.Walk.{null_ptr, ptr_val, plain, types_at, nothing, Goes-dropped, Stays, stay_dropped, walk_of, Val, WpFn, alloc_all}
+use Rattle.kx_slots.proofs.Walk.{free_all, get, look_at, pass_all, sets, ‵, raw, ◌⊛◌, ◌$◌, ◌∵◌, !, by, feq_i, fjoin, fsplit, keep, move, qed, split}
+use Rattle.kx_slots.proofs.Walk.{suffices, use0, agg, and_then, enter, lit, no_more, returns, handle_tells, leaves, proved_at, Option}
 use Rattle.std.specs.declared.option.Option.TheVariants.{None}
-use Rattle.kx_handles.proofs.RawBoxes.{two}
-use Rattle.kx_handles.proofs.Slots.{Heap, allocator, null_fits}
+use Rattle.kx_slots.proofs.RawBoxes.{two}
+use Rattle.kx_slots.proofs.Slots.{Heap, allocator, null_fits}
 use Rattle.kx_handles.proofs.FollowerHandleValues.{R, handle_in}
 use Rattle.kx_handles.proofs.follower.FollowerHandle.empty.Code as code
 use Rattle.kx_handles.proofs.follower.FollowerHandle.empty.Statement.{statement}

@@ -1,34 +1,14 @@
 -- `into_raw` tests the pointer, and gives what the slot has.
-use Rattle.std.proofs.Common.{◌≡◌, List, [], ◌∷◌, ◌++◌, refl, sym, subst, lit<}
-use base.Fml.{ftrue}
-use base.Logic.{SProp, emp, ent, id⊢}
-use contract.Monad.{fact, fact_i}
-use contract.Running.{tables}
-use denote.Exit.{yes}
-use denote.Param.{layout}
-use denote.RattleType.{RattleType, owns}
-use denote.RawPtr.{Ptr, block_ptr, null_ptr, ptr_val, tests_null}
-use denote.Signature.{plain, type_at, types_at}
-use denote.Steps.{nothing}
-use denote.Triple.Walked.{Goes-dropped, Stays, stay_dropped, walk_of}
-use mir.Val.{Val, vcons, vnil, vptr}
-use prog.Wp.{WpFn}
-use types.ByLocal.{alloc_all, env, free_all, get, get_in, look_at, pass_all, sets, sets_last}
-use types.Kit.{‵, raw, ◌⊛◌, ◌$◌, ◌∵◌, !, at_ret, by, fjoin, fsplit, keep, move, qed, split, suffices, use0, use1}
-use types.Match.{live}
-use types.Part.{agg, sub, whole}
-use types.Run.{and_then, bin, branches, enter, exec, first, fld, lit, no_more, of_opd, returns, stop}
-use Rattle.core.proofs.alloc.Shapes.{after}
-use Rattle.core.proofs.atomic.Steps.{Ptr-Good}
-use Rattle.core.proofs.cell.Inside.{Good}
-use Rattle.core.proofs.option.Made.{Some-of, none_of}
+use Rattle.kx_slots.proofs.Walk.{◌≡◌, List, [], ◌∷◌, ◌++◌, refl, sym, subst, lit<, ftrue, SProp, emp, ent, id⊢, fact, fact_i, tables, yes, layout}
+use Rattle.kx_slots.proofs.Walk.{RattleType, owns, Ptr, block_ptr, null_ptr, ptr_val, tests_null, plain, type_at, types_at, nothing, Goes-dropped}
+use Rattle.kx_slots.proofs.Walk.{Stays, stay_dropped, walk_of, Val, vcons, vnil, vptr, WpFn, alloc_all, env, free_all, get, get_in, look_at, pass_all}
+use Rattle.kx_slots.proofs.Walk.{sets, sets_last, ‵, raw, ◌⊛◌, ◌$◌, ◌∵◌, !, at_ret, by, fjoin, fsplit, keep, move, qed, split, suffices, use0, use1}
+use Rattle.kx_slots.proofs.Walk.{live, agg, sub, whole, and_then, bin, branches, enter, exec, first, fld, lit, no_more, of_opd, returns, stop, after}
+use Rattle.kx_slots.proofs.Walk.{Ptr-Good, Good, Some-of, none_of, leaves, proved_at, ghosts, and_tt}
 use Rattle.core.specs.declared.option.Option.TheVariants.{None, Some}
 use Rattle.std.proofs.alloc.Global.TheLaws as heap_laws
-use Rattle.std.proofs.raw_atomic.Walks.{leaves, proved_at}
-use Rattle.std.specs.contracts.impls.GlobalAllocator.TheImpl.{ghosts}
-use Rattle.std_alloc.proofs.ResultValues.{and_tt}
-use Rattle.kx_handles.proofs.RawBoxes.{Raw, raw_fits, raw_in, two}
-use Rattle.kx_handles.proofs.Slots.{Heap, either_slot, null_fits}
+use Rattle.kx_slots.proofs.RawBoxes.{Raw, raw_fits, raw_in, two}
+use Rattle.kx_slots.proofs.Slots.{Heap, either_slot, null_fits}
 use Rattle.kx_handles.proofs.KeymapHandleValues.{Handle, R, handle_out}
 use Rattle.kx_handles.proofs.keymap.KeymapHandle.into_raw.Code as code
 use Rattle.kx_handles.proofs.keymap.KeymapHandle.into_raw.Statement.{statement}

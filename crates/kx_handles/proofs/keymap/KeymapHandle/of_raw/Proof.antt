@@ -1,27 +1,12 @@
 -- `of_raw` keeps what the box owned, at the same pointer.
-use Rattle.std.proofs.Common.{◌≡◌, List, [], ◌∷◌, ◌++◌, refl, sym, subst}
-use base.Fml.{ftrue}
-use base.Logic.{SProp, emp, ent, id⊢}
-use contract.Monad.{fact, fact_i}
-use contract.Running.{tables}
-use denote.Exit.{yes}
-use denote.RattleType.{owns}
-use denote.RawPtr.{block_ptr}
-use denote.Signature.{plain, types_at}
-use denote.Steps.{nothing}
-use denote.Triple.Walked.{Goes-dropped, Stays, stay_dropped, walk_of}
-use mir.Val.{Val, vptr}
-use prog.Wp.{WpFn}
-use types.ByLocal.{alloc_all, free_all, get, get_in, look_at, pass_all, sets}
-use types.Kit.{‵, raw, ◌⊛◌, ◌$◌, ◌∵◌, !, by, fjoin, fsplit, keep, move, qed, split, suffices, use0}
-use types.Part.{agg, sub, whole}
-use types.Run.{and_then, enter, fld, no_more, of_opd, returns, stop}
+use Rattle.kx_slots.proofs.Walk.{◌≡◌, List, [], ◌∷◌, ◌++◌, refl, sym, subst, ftrue, SProp, emp, ent, id⊢, fact, fact_i, tables, yes, owns, block_ptr}
+use Rattle.kx_slots.proofs.Walk.{plain, types_at, nothing, Goes-dropped, Stays, stay_dropped, walk_of, Val, vptr, WpFn, alloc_all, free_all, get}
+use Rattle.kx_slots.proofs.Walk.{get_in, look_at, pass_all, sets, ‵, raw, ◌⊛◌, ◌$◌, ◌∵◌, !, by, fjoin, fsplit, keep, move, qed, split, suffices, use0}
+use Rattle.kx_slots.proofs.Walk.{agg, sub, whole, and_then, enter, fld, no_more, of_opd, returns, stop, leaves, proved_at, ghosts}
 use Rattle.std.proofs.alloc.Global.TheLaws as heap_laws
-use Rattle.std.proofs.raw_atomic.Walks.{leaves, proved_at}
-use Rattle.std.specs.contracts.impls.GlobalAllocator.TheImpl.{ghosts}
 use Rattle.std.specs.declared.option.Option.TheVariants.{Some}
-use Rattle.kx_handles.proofs.RawBoxes.{Raw, raw_fits, raw_out, two}
-use Rattle.kx_handles.proofs.Slots.{Heap}
+use Rattle.kx_slots.proofs.RawBoxes.{Raw, raw_fits, raw_out, two}
+use Rattle.kx_slots.proofs.Slots.{Heap}
 use Rattle.kx_handles.proofs.KeymapHandleValues.{R, handle_in}
 use Rattle.kx_handles.proofs.keymap.KeymapHandle.of_raw.Code as code
 use Rattle.kx_handles.proofs.keymap.KeymapHandle.of_raw.Statement.{statement}

@@ -1,43 +1,19 @@
 -- `into_box` hands the pointer and the allocator to `from_raw`.
-use Rattle.std.proofs.Common.{◌≡◌, List, [], ◌∷◌, ◌++◌, refl, sym, ap, subst}
-use base.Fml.{ftrue, flft}
-use base.Logic.{SProp, ent, id⊢}
-use contract.BorrowLft.{◌⊑◌}
-use contract.Monad.{fact}
-use contract.Running.{tables}
-use denote.Exit.{no}
-use denote.Param.{bounded, layout, param}
-use denote.Param.Laws.{param_laws}
-use denote.RattleType.{RattleType, owns}
-use denote.RawPtr.{block_ptr}
-use denote.Signature.{plain, types_at}
-use denote.Steps.{nothing, only}
-use denote.Triple.Call.{calls_at_last}
-use denote.Triple.Clauses.{Lasts, lasts}
-use denote.Triple.Spec.{triple_of}
-use denote.Triple.Walked.{Stays, stay_dropped, walk_of}
-use mir.MapTy.{inst_fn}
-use mir.Syntax.{a_type, dcons, dnil}
-use mir.Val.{Val, vptr}
-use prog.Wp.{WpFn}
-use types.ByLocal.{alloc_all, env, free_all, get, get_in, lands_last, look_at, pass_all, sets}
-use types.Kit.{‵, raw, ◌⊛◌, ◌$◌, ◌∵◌, !, at_ret, await, by, drop, feq_i, fjoin, fsplit, join, keep, later, move, pick, qed, rewrite, some, split, split3, suffices, use1}
-use types.Part.{sub, whole}
-use types.Run.{and_then, blocks, enter, exec, first, fld, no_more, of_opd, returns, stop}
-use Rattle.core.proofs.alloc.Calls.{Goes-blank}
-use Rattle.core.proofs.alloc.Shapes.{after}
-use Rattle.core.proofs.atomic.Steps.{fm}
-use Rattle.core.proofs.cell.Inside.{Good}
-use Rattle.std.proofs.raw_atomic.Walks.{leaves, proved_at}
+use Rattle.kx_slots.proofs.Walk.{◌≡◌, List, [], ◌∷◌, ◌++◌, refl, sym, ap, subst, ftrue, flft, SProp, ent, id⊢, ◌⊑◌, fact, tables, no, bounded, layout}
+use Rattle.kx_slots.proofs.Walk.{param, param_laws, RattleType, owns, block_ptr, plain, types_at, nothing, only, calls_at_last, Lasts, lasts}
+use Rattle.kx_slots.proofs.Walk.{triple_of, Stays, stay_dropped, walk_of, inst_fn, a_type, dcons, dnil, Val, vptr, WpFn, alloc_all, env, free_all}
+use Rattle.kx_slots.proofs.Walk.{get, get_in, lands_last, look_at, pass_all, sets, ‵, raw, ◌⊛◌, ◌$◌, ◌∵◌, !, at_ret, await, by, drop, feq_i, fjoin}
+use Rattle.kx_slots.proofs.Walk.{fsplit, join, keep, later, move, pick, qed, rewrite, some, split, split3, suffices, use1, sub, whole, and_then}
+use Rattle.kx_slots.proofs.Walk.{blocks, enter, exec, first, fld, no_more, of_opd, returns, stop, Goes-blank, after, fm, Good, leaves, proved_at}
+use Rattle.kx_slots.proofs.Walk.{box_in, box_out}
 use Rattle.std_alloc.proofs.BoxSteps.Form as box
-use Rattle.std_alloc.proofs.BoxSteps.Steps.{box_in, box_out}
 use Rattle.std_alloc.proofs.boxed.Box.from_raw.Met.{met}
 use Rattle.std_alloc.specs.contracts.boxed.Box.from_raw as from_raw
-use Rattle.kx_handles.proofs.RawBoxes.{Raw, raw_fits, raw_out, two}
-use Rattle.kx_handles.proofs.raw_box.RawBox.into_box.Code as code
-use Rattle.kx_handles.proofs.raw_box.RawBox.into_box.Statement.{statement}
-use Rattle.kx_handles.specs.contracts.raw_box.RawBox.into_box.{clauses, ended}
-use Rattle.kx_handles.specs.contracts.raw_box.RawBox.into_box.Key.{name as #into_box}
+use Rattle.kx_slots.proofs.RawBoxes.{Raw, raw_fits, raw_out, two}
+use Rattle.kx_slots.proofs.raw_box.RawBox.into_box.Code as code
+use Rattle.kx_slots.proofs.raw_box.RawBox.into_box.Statement.{statement}
+use Rattle.kx_slots.specs.contracts.raw_box.RawBox.into_box.{clauses, ended}
+use Rattle.kx_slots.specs.contracts.raw_box.RawBox.into_box.Key.{name as #into_box}
 
 pub into_box_spec : {M : Type 1} → statement M
 into_box_spec 𝓤 𝓛 𝓜 𝓡 wired T A T-laws A-laws g d T-drops A-drops allocates T-let_go A-let_go =

@@ -2,35 +2,16 @@
 --     boxed          what a box of the C library's heap owns, at a pointer
 --     either_slot    a slot is empty at null, or has a block's value
 --     null_fits      a handle at null has its type
-use Rattle.std.proofs.Common.{◌≡◌, ℕ, List, [], ◌∷◌, refl}
-use mathlib.Core.Bool.{true, ◌&&◌}
-use lib.Dec.{T, lit<}
-use seplogic.Ra.Ura.{Ura}
-use base.Logic.{ent, fst∗, guard, guard_i, never, snd∗, via}
-use base.Fraction.{full_share}
-use contract.Monad.{fact_use}
-use denote.Memory.{lone}
-use denote.Param.{layout}
-use denote.RattleType.{RattleType}
-use denote.RawPtr.{Ptr, Testable, block_ptr, in_a_block, lies_at, null_ptr, ptr_val}
+use Rattle.kx_slots.proofs.Walk.{◌≡◌, ℕ, List, [], ◌∷◌, refl, true, ◌&&◌, T, lit<, Ura, ent, fst∗, guard, guard_i, never, snd∗, via, full_share}
+use Rattle.kx_slots.proofs.Walk.{fact_use, lone, layout, RattleType, Ptr, Testable, block_ptr, in_a_block, lies_at, null_ptr, ptr_val, impl, dnil}
+use Rattle.kx_slots.proofs.Walk.{tnil, Val, WT, has_ty, Goal, Item, Seq, ‵, ◌$◌, feq_l, given, learn, use1, Logic, sem, Al, Good}
+use Rattle.kx_slots.proofs.Walk.{dealloc_token-Testable, ghosts, Global, Option, and_tt, box_owns}
 use mir.Raw.{raw as bare}
-use mir.Syntax.{impl, dnil, tnil}
-use mir.Val.{Val, WT, has_ty}
-use types.Kit.{Goal, Item, Seq, ‵, ◌$◌, feq_l, given, learn, use1}
-use types.Logic.{Logic, sem}
-use Rattle.core.proofs.alloc.Calls.{Al}
-use Rattle.core.proofs.cell.Inside.{Good}
-use Rattle.std.proofs.GlobalToken.{dealloc_token-Testable}
 use Rattle.std.proofs.alloc.Global.TheLaws as heap_laws
 use Rattle.std.specs.contracts.alloc.Global as heap
-use Rattle.std.specs.contracts.impls.GlobalAllocator.TheImpl.{ghosts}
-use Rattle.std.specs.declared.alloc.Global.{Global}
-use Rattle.std.specs.declared.option.Option.{Option}
 use Rattle.std.specs.declared.option.Option.TheVariants.{None, Some}
-use Rattle.std_alloc.proofs.ResultValues.{and_tt}
-use Rattle.std_alloc.specs.Box.Ownership.{box_owns}
-use Rattle.kx_handles.specs.Slot.{slot}
-use Rattle.kx_handles.proofs.RawBoxes.{two}
+use Rattle.kx_slots.specs.Slot.{slot}
+use Rattle.kx_slots.proofs.RawBoxes.{two}
 
 abbrev pub Heap : RattleType
 Heap = heap.the_row

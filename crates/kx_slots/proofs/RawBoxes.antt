@@ -3,31 +3,12 @@
 --     raw_fits             it has the struct's type
 --     at_block             what a box owns lies in a block
 --     raw_out, raw_in      what a `RawBox` owns is what the box owns, and the handle
-use Rattle.std.proofs.Common.{◌≡◌, ℕ, List, [], ◌∷◌, ◌++◌, refl, ap, ◌∙◌}
-use mathlib.Core.Bool.{true, ◌&&◌}
-use lib.Dec.{T}
-use seplogic.Ra.Ura.{Ura}
-use base.Logic.{fst∗, never}
-use denote.Builtin.{RawPtr}
-use denote.Memory.{lone}
-use denote.Param.{layout}
-use denote.Param.Laws.{Laws}
-use denote.RattleType.{RattleType, Valss}
-use denote.RawPtr.{Ptr, block_ptr, in_a_block, null_ptr, ptr_val}
-use denote.Steps.{nothing}
-use denote.Struct.Owning.{shape}
-use denote.Struct.Struct.{within}
+use Rattle.kx_slots.proofs.Walk.{◌≡◌, ℕ, List, [], ◌∷◌, ◌++◌, refl, ap, ◌∙◌, true, ◌&&◌, T, Ura, fst∗, never, RawPtr, lone, layout, Laws, RattleType}
+use Rattle.kx_slots.proofs.Walk.{Valss, Ptr, block_ptr, in_a_block, null_ptr, ptr_val, nothing, shape, within, impl, dnil, tnil, Val, WT, has_ty}
+use Rattle.kx_slots.proofs.Walk.{of_list, vcons, vnil, vptr, vstruct, Goal, Item, Seq, Step, ‵, ◌$◌, drop, feq_i, feq_l, fjoin, fpack, fpick, fsplit}
+use Rattle.kx_slots.proofs.Walk.{move, step, Logic, sem, Al, handle_tells, Good, Ghosts, and_tt, box_owns}
 use mir.Raw.{raw as bare}
-use mir.Syntax.{impl, dnil, tnil}
-use mir.Val.{Val, WT, has_ty, of_list, vcons, vnil, vptr, vstruct}
-use types.Kit.{Goal, Item, Seq, Step, ‵, ◌$◌, drop, feq_i, feq_l, fjoin, fpack, fpick, fsplit, move, step}
-use types.Logic.{Logic, sem}
-use Rattle.core.proofs.alloc.Calls.{Al, handle_tells}
-use Rattle.core.proofs.cell.Inside.{Good}
-use Rattle.core.specs.declared.alloc.Allocator.{Ghosts}
-use Rattle.std_alloc.proofs.ResultValues.{and_tt}
-use Rattle.std_alloc.specs.Box.Ownership.{box_owns}
-use Rattle.kx_handles.specs.contracts.raw_box.RawBox as raw_box
+use Rattle.kx_slots.specs.contracts.raw_box.RawBox as raw_box
 
 abbrev pub two : Val → Val → Val
 two v w = vstruct (vcons v (vcons w vnil))

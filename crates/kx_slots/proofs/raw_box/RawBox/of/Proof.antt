@@ -1,41 +1,19 @@
 -- `of` takes the box apart, by `into_raw_with_allocator`, and puts the two parts together.
-use Rattle.std.proofs.Common.{◌≡◌, List, [], ◌∷◌, ◌++◌, refl, sym, ap, ◌∙◌, subst}
-use base.Fml.{flft, fsep, ftrue}
-use base.Logic.{SProp, emp, ent, id⊢}
-use contract.Monad.{fact, fact_i}
-use contract.Running.{tables}
-use denote.Builtin.{RawPtr}
-use denote.Exit.{no}
-use denote.Param.{bounded, param}
-use denote.Param.Laws.{param_laws}
-use denote.RattleType.{RattleType, owns}
-use denote.RawPtr.{Ptr, block_ptr, ptr_val}
-use denote.Signature.{plain, types_at}
-use denote.Steps.{heard, nothing, only}
-use denote.Struct.Tuple.{Tuple}
-use denote.Triple.Call.{calls_at}
-use denote.Triple.Spec.{triple_of}
-use denote.Triple.Walked.{Stays, stay_dropped, walk_of}
-use mir.MapTy.{inst_fn}
-use mir.Syntax.{a_type, dcons, dnil}
-use mir.Val.{Val, of_list, vptr, vstruct}
-use prog.Wp.{WpFn}
-use types.ByLocal.{alloc_all, free_all, get, get_in, lands_as, look_at, pass_all, sets}
-use types.Kit.{‵, raw, ◌⊛◌, ◌$◌, ◌∵◌, !, await, by, drop, feq_l, fjoin, fpick, fsplit, join, keep, later, move, pick, qed, rewrite, some, split, split3, suffices, use0, use1}
-use types.Part.{agg, sub, whole}
-use types.Run.{and_then, enter, fld, no_more, of_opd, returns, stop}
-use Rattle.core.proofs.alloc.Calls.{Goes-blank, handle_tells}
-use Rattle.core.proofs.atomic.Steps.{fm}
-use Rattle.std.proofs.raw_atomic.Walks.{leaves, proved_at}
+use Rattle.kx_slots.proofs.Walk.{◌≡◌, List, [], ◌∷◌, ◌++◌, refl, sym, ap, ◌∙◌, subst, flft, fsep, ftrue, SProp, emp, ent, id⊢, fact, fact_i, tables}
+use Rattle.kx_slots.proofs.Walk.{RawPtr, no, bounded, param, param_laws, RattleType, owns, Ptr, block_ptr, ptr_val, plain, types_at, heard, nothing}
+use Rattle.kx_slots.proofs.Walk.{only, Tuple, calls_at, triple_of, Stays, stay_dropped, walk_of, inst_fn, a_type, dcons, dnil, Val, of_list, vptr}
+use Rattle.kx_slots.proofs.Walk.{vstruct, WpFn, alloc_all, free_all, get, get_in, lands_as, look_at, pass_all, sets, ‵, raw, ◌⊛◌, ◌$◌, ◌∵◌, !, await}
+use Rattle.kx_slots.proofs.Walk.{by, drop, feq_l, fjoin, fpick, fsplit, join, keep, later, move, pick, qed, rewrite, some, split, split3, suffices}
+use Rattle.kx_slots.proofs.Walk.{use0, use1, agg, sub, whole, and_then, enter, fld, no_more, of_opd, returns, stop, Goes-blank, handle_tells, fm}
+use Rattle.kx_slots.proofs.Walk.{leaves, proved_at, box_in, box_out}
 use Rattle.std_alloc.proofs.BoxSteps.Form as box
-use Rattle.std_alloc.proofs.BoxSteps.Steps.{box_in, box_out}
 use Rattle.std_alloc.proofs.boxed.Box.into_raw_with_allocator.Met.{met}
 use Rattle.std_alloc.specs.contracts.boxed.Box.into_raw_with_allocator as into_raw
-use Rattle.kx_handles.proofs.RawBoxes.{at_block, boxed, raw_fits, raw_in, two}
-use Rattle.kx_handles.proofs.raw_box.RawBox.of.Code as code
-use Rattle.kx_handles.proofs.raw_box.RawBox.of.Statement.{statement}
-use Rattle.kx_handles.specs.contracts.raw_box.RawBox.of.{clauses, ended}
-use Rattle.kx_handles.specs.contracts.raw_box.RawBox.of.Key.{name as #of}
+use Rattle.kx_slots.proofs.RawBoxes.{at_block, boxed, raw_fits, raw_in, two}
+use Rattle.kx_slots.proofs.raw_box.RawBox.of.Code as code
+use Rattle.kx_slots.proofs.raw_box.RawBox.of.Statement.{statement}
+use Rattle.kx_slots.specs.contracts.raw_box.RawBox.of.{clauses, ended}
+use Rattle.kx_slots.specs.contracts.raw_box.RawBox.of.Key.{name as #of}
 
 pub of_spec : {M : Type 1} → statement M
 of_spec 𝓤 𝓛 𝓜 𝓡 wired T A T-laws A-laws g d T-drops A-drops allocates T-let_go A-let_go =

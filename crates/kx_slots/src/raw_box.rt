@@ -6,10 +6,10 @@ use std::alloc::Allocator;
 use std::marker::Model;
 
 /// What a box owns, at its pointer.
-pub(crate) struct RawBox<T, A: Allocator> {
-    pub(crate) at: *mut T,
-    pub(crate) alloc: A,
-    pub(crate) ghost value: { T },
+pub struct RawBox<T, A: Allocator> {
+    pub at: *mut T,
+    pub alloc: A,
+    pub ghost value: { T },
 }
 
 impl<T, A: Allocator> Model for RawBox<T, A> {
@@ -18,7 +18,7 @@ impl<T, A: Allocator> Model for RawBox<T, A> {
 
 impl<T: Drop, A: Allocator> RawBox<T, A> {
     /// Takes a box apart.
-    pub(crate) fn of(value: Box<T, A>) -> RawBox<T, A>
+    pub fn of(value: Box<T, A>) -> RawBox<T, A>
         ensures { result.value ≡ value.value }
     {
         let (at, alloc) = Box::into_raw_with_allocator(value);
@@ -26,7 +26,7 @@ impl<T: Drop, A: Allocator> RawBox<T, A> {
     }
 
     /// The box again.
-    pub(crate) fn into_box(self) -> Box<T, A>
+    pub fn into_box(self) -> Box<T, A>
         ensures { result.value ≡ self.value }
     {
         let RawBox { at, alloc } = self;

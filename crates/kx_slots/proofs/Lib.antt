@@ -1,0 +1,3 @@
+pub mod RawBoxes
+pub mod Slots
+pub mod Walk
