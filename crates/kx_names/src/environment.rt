@@ -2,7 +2,7 @@
 use std::alloc::{AllocError, Global};
 use std::env::{Env, VarError};
 use std::rt::Files;
-use std::{env, fs};
+use std::{env, fs, io};
 
 /// A variable of the environment that is asked for.
 #[derive(Clone, Copy, Debug, PartialEq, Eq)]
@@ -16,6 +16,20 @@ pub(crate) enum Variable {
     Home,
     Extra,
     Root,
+}
+
+impl Variable {
+    /// Whether it gives a name by which a keymap is asked for.
+    fn is_name(self) -> bool {
+        matches!(
+            self,
+            Variable::Rules
+                | Variable::Model
+                | Variable::Layout
+                | Variable::Variant
+                | Variable::Options
+        )
+    }
 }
 
 /// The variables with their names.
@@ -49,6 +63,8 @@ struct Setting {
 pub struct Environment {
     settings: Vec<Setting>,
     folders: Vec<String>,
+    /// Whether it gives the names by which a keymap is asked for.
+    gives_names: bool,
 }
 
 impl Environment {
@@ -57,10 +73,22 @@ impl Environment {
         Environment {
             settings: Vec::new(alloc),
             folders: Vec::new(alloc),
+            gives_names: true,
+        }
+    }
+
+    /// The same folders, and no names.
+    pub fn without_names(self) -> Environment {
+        Environment {
+            gives_names: false,
+            ..self
         }
     }
 
     pub(crate) fn value(&self, variable: Variable) -> Option<&str> {
+        if variable.is_name() && !self.gives_names {
+            return None;
+        }
         for setting in self.settings.as_slice() {
             if setting.variable == variable {
                 return Some(setting.value.as_str());
@@ -106,10 +134,11 @@ fn read_settings(rt: &(impl Env + AllocGlobal)) -> Result<Vec<Setting>, AllocErr
 }
 
 /// Whether a folder is at a path.
-fn is_folder(rt: &impl Files, path: &str) -> bool {
+fn is_folder(rt: &impl Files, path: &str) -> Result<bool, AllocError> {
     match fs::metadata(rt, path) {
-        Ok(found) => found.is_dir(),
-        Err(_) => false,
+        Ok(found) => Ok(found.is_dir()),
+        Err(fault) if fault.kind() == io::ErrorKind::OutOfMemory => Err(AllocError),
+        Err(_) => Ok(false),
     }
 }
 
@@ -121,7 +150,7 @@ fn add_folder(
     behind: &str,
 ) -> Result<(), AllocError> {
     let path = format!(in rt.alloc(); "{path}{behind}")?;
-    if is_folder(rt, path.as_str()) {
+    if is_folder(rt, path.as_str())? {
         folders.push(path)?;
     }
     Ok(())
@@ -155,6 +184,7 @@ pub fn read_environment(rt: &(impl Env + Files + AllocGlobal)) -> Result<Environ
     let mut environment = Environment {
         settings: read_settings(rt)?,
         folders: Vec::new(rt.alloc()),
+        gives_names: true,
     };
     add_own_folders(rt, &mut environment)?;
     Ok(environment)

@@ -30,6 +30,25 @@ fn read_in(
     }
 }
 
+/// The bytes of the first file among folders that has a path below them. So many folders were tried before, and aren't again.
+///
+/// # Errors
+/// Where none has it, or it can't be read, or no memory is left.
+pub(crate) fn read_next(
+    rt: &(impl Files + AllocGlobal),
+    folders: &[Folder],
+    name: &str,
+    tried: &mut usize,
+) -> Result<Vec<u8>, NamesFault> {
+    for folder in folders.iter().skip(*tried) {
+        if let Some(bytes) = read_in(rt, folder, name)? {
+            return Ok(bytes);
+        }
+        *tried = tried.saturating_add(1);
+    }
+    Err(NamesFault::Missing(String::from_str(rt.alloc(), name)?))
+}
+
 /// The bytes of the first file among folders that has a path below them.
 ///
 /// # Errors
@@ -39,10 +58,5 @@ pub(crate) fn read_first(
     folders: &[Folder],
     name: &str,
 ) -> Result<Vec<u8>, NamesFault> {
-    for folder in folders {
-        if let Some(bytes) = read_in(rt, folder, name)? {
-            return Ok(bytes);
-        }
-    }
-    Err(NamesFault::Missing(String::from_str(rt.alloc(), name)?))
+    read_next(rt, folders, name, &mut 0)
 }

@@ -1,5 +1,6 @@
 //! What is said of names that no rule takes, and of those that aren't listed.
 use crate::asked::Asked;
+use crate::fault::NamesFault;
 use crate::list::{Entry, Kind, entries_in, read_list};
 use crate::near::{is_of, nearest};
 use kx_explain::quoted;
@@ -23,6 +24,7 @@ fn list_or_none(
 ) -> Result<String, AllocError> {
     match read_list(rt, folders, rules) {
         Ok(text) => Ok(text),
+        Err(NamesFault::Memory) => Err(AllocError),
         Err(_) => Ok(String::new(rt.alloc())),
     }
 }

@@ -1,5 +1,6 @@
 //! The texts that rules include.
 use crate::asked::Asked;
+use crate::fault::NamesFault;
 use kx_reach::read_file;
 use kx_rules::Texts;
 use memchr::memchr_iter;
@@ -92,19 +93,30 @@ fn path_named(
     }
 }
 
+/// The kind of a fault that is to be tried again.
+const LATER: io::ErrorKind = io::ErrorKind::WouldBlock;
+
+/// Nothing, where a file can't be read; a fault, where it is to be tried again.
+fn unread<T>(alloc: Global, path: &str, fault: &io::Error) -> Result<Option<T>, NamesFault> {
+    match fault.kind() {
+        io::ErrorKind::OutOfMemory => Err(NamesFault::Memory),
+        LATER => Err(NamesFault::File(String::from_str(alloc, path)?)),
+        _ => Ok(None),
+    }
+}
+
 /// The bytes of the plain file at a path; none where there is none that can be read.
-fn read_plain(rt: &(impl Files + AllocGlobal), path: &str) -> Result<Option<Vec<u8>>, AllocError> {
+fn read_plain(rt: &(impl Files + AllocGlobal), path: &str) -> Result<Option<Vec<u8>>, NamesFault> {
     let is_plain = match fs::metadata(rt, path) {
         Ok(found) => found.is_file(),
-        Err(_) => false,
+        Err(fault) => return unread(rt.alloc(), path, &fault),
     };
     if !is_plain {
         return Ok(None);
     }
     match read_file(rt, path) {
         Ok(bytes) => Ok(Some(bytes)),
-        Err(fault) if fault.kind() == io::ErrorKind::OutOfMemory => Err(AllocError),
-        Err(_) => Ok(None),
+        Err(fault) => unread(rt.alloc(), path, &fault),
     }
 }
 
@@ -113,7 +125,7 @@ fn included(
     rt: &(impl Files + AllocGlobal),
     asked: &Asked,
     word: &[u8],
-) -> Result<Option<Vec<u8>>, AllocError> {
+) -> Result<Option<Vec<u8>>, NamesFault> {
     let Some(path) = path_named(rt, asked, word)? else {
         return Ok(None);
     };
@@ -123,9 +135,10 @@ fn included(
     }
 }
 
-/// The texts that were found, and those that are still to be looked for.
+/// The texts that rules include, and those that these include, by their words: those that were found, and those that are still
+/// to be looked for. One that isn't there is left out. Where one is to be tried again it stays as it was, and may go on.
 #[derive(Drop)]
-struct Search {
+pub(crate) struct Search {
     texts: Texts,
     waiting: Vec<Vec<u8>>,
     known: BTreeMap<Vec<u8>, ()>,
@@ -134,21 +147,37 @@ struct Search {
 }
 
 impl Search {
-    fn new(alloc: Global) -> Search {
-        Search {
+    /// The search for what rules include.
+    ///
+    /// # Errors
+    /// Where a growth is refused.
+    pub(crate) fn of(alloc: Global, rules: &[u8]) -> Result<Search, AllocError> {
+        let mut search = Search {
             texts: Texts::new(alloc),
             waiting: Vec::new(alloc),
             known: BTreeMap::new(alloc),
             left: MOST_INCLUDED_BYTES,
-        }
+        };
+        search.meet_all(alloc, rules)?;
+        Ok(search)
+    }
+
+    /// The texts that were found.
+    pub(crate) fn texts(&self) -> &Texts {
+        &self.texts
     }
 
     /// Lets a word wait, the first time that it is met.
     fn meet(&mut self, alloc: Global, word: &[u8]) -> Result<(), AllocError> {
         if self.known.get(word).is_none() {
             self.known.insert(Vec::from_slice(alloc, word)?, ())?;
-            self.waiting.push(Vec::from_slice(alloc, word)?)?;
+            self.wait(Vec::from_slice(alloc, word)?)?;
         }
+        Ok(())
+    }
+
+    fn wait(&mut self, word: Vec<u8>) -> Result<(), AllocError> {
+        self.waiting.push(word)?;
         Ok(())
     }
 
@@ -167,29 +196,42 @@ impl Search {
         self.meet_all(alloc, text.as_slice())?;
         self.texts.insert(word, text)
     }
-}
 
-/// The texts that rules include, and those that these include, by their words. One that isn't there is left out.
-///
-/// # Errors
-/// Where a growth is refused.
-pub(crate) fn included_texts(
-    rt: &(impl Files + AllocGlobal),
-    asked: &Asked,
-    rules: &[u8],
-) -> Result<Texts, AllocError> {
-    let mut search = Search::new(rt.alloc());
-    search.meet_all(rt.alloc(), rules)?;
-    for _ in 0..u64::MAX {
-        let Some(word) = search.waiting.pop() else {
-            break;
-        };
-        if let Some(text) = included(rt, asked, word.as_slice())? {
-            search.add(rt.alloc(), word, text)?;
-        }
-        if search.left == 0 {
-            break;
+    /// Looks for the text of a word, which waits on where it is to be tried again.
+    fn look(
+        &mut self,
+        rt: &(impl Files + AllocGlobal),
+        asked: &Asked,
+        word: Vec<u8>,
+    ) -> Result<(), NamesFault> {
+        match included(rt, asked, word.as_slice()) {
+            Ok(Some(text)) => Ok(self.add(rt.alloc(), word, text)?),
+            Ok(None) => Ok(()),
+            Err(fault) => {
+                self.wait(word)?;
+                Err(fault)
+            }
         }
     }
-    Ok(search.texts)
+
+    /// Goes on to the end.
+    ///
+    /// # Errors
+    /// Where a text is to be tried again, or no memory is left.
+    pub(crate) fn go_on(
+        &mut self,
+        rt: &(impl Files + AllocGlobal),
+        asked: &Asked,
+    ) -> Result<(), NamesFault> {
+        for _ in 0..u64::MAX {
+            if self.left == 0 {
+                break;
+            }
+            let Some(word) = self.waiting.pop() else {
+                break;
+            };
+            self.look(rt, asked, word)?;
+        }
+        Ok(())
+    }
 }

@@ -21,4 +21,4 @@ pub use files::open_folder;
 pub use hints::{hints_of, warnings_of};
 pub use lines::{Wanted, list_lines};
 pub use list::Kind;
-pub use making::{Made, make_source};
+pub use making::{Made, Making, make_source};

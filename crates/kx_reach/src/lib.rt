@@ -4,6 +4,7 @@
 mod ahead;
 mod chain;
 mod folder;
+mod handing;
 mod kinds;
 mod maps;
 mod pieces;
@@ -17,8 +18,9 @@ mod words;
 pub use ahead::{Ahead, source_in};
 pub use chain::{chain_to, is_in};
 pub use folder::{Folder, read_file, read_opened};
+pub use handing::{add_found, hand_in};
 pub use kinds::kind_name;
-pub use search::{FindFault, Found, find_files};
+pub use search::{FindFault, Finding, Found, find_files};
 pub use text::{Text, Texts, bytes_in, is_within};
 pub use trees::{Trees, holds, item_at, item_span};
 pub use walk::{MOST_PARTS, Origin, Reached, place_named, reached_from, reached_maps};

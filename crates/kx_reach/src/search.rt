@@ -55,13 +55,16 @@ struct Place {
 
 /// What is known of files: those handed in by name, and after them those that were found.
 #[derive(Drop)]
-struct Search<'t> {
-    handed: Texts<'t>,
+struct Search {
+    /// How many files were handed in.
+    handed: usize,
     /// The numbers of the files by name, counted from 1.
     numbers: BTreeMap<Vec<u8>, usize>,
     /// The maps of the source and of the files, each as far as it was read.
     texts: Vec<Maps>,
     found: Vec<Found>,
+    /// So many paths of the file that is looked for were looked at in vain.
+    tried: usize,
 }
 
 /// The file of a name under the folder of its kind.
@@ -116,9 +119,9 @@ fn text_at<'f, 't: 'f>(handed: Texts<'t>, found: &'f [Found], number: usize) -> 
     }
 }
 
-impl<'t> Search<'t> {
+impl Search {
     /// The source is read whole, and a file as far as an include asks.
-    fn of(alloc: Global, handed: Texts<'t>) -> Result<Search<'t>, AllocError> {
+    fn of(alloc: Global, handed: Texts) -> Result<Search, AllocError> {
         let mut numbers = BTreeMap::new(alloc);
         let mut texts = Vec::new(alloc);
         let mut own = Maps::new(alloc);
@@ -129,10 +132,11 @@ impl<'t> Search<'t> {
             texts.push(Maps::new(alloc))?;
         }
         Ok(Search {
-            handed,
+            handed: handed.files.len(),
             numbers,
             texts,
             found: Vec::new(alloc),
+            tried: 0,
         })
     }
 
@@ -140,7 +144,7 @@ impl<'t> Search<'t> {
     fn known(&self, full: &[u8], name: &[u8]) -> Option<usize> {
         let found = self.numbers.get(full).copied();
         let bare = self.numbers.get(name).copied();
-        found.or(bare.filter(|number| *number <= self.handed.files.len()))
+        found.or(bare.filter(|number| *number <= self.handed))
     }
 
     fn map_at(&self, place: Place) -> Option<&Map> {
@@ -151,6 +155,7 @@ impl<'t> Search<'t> {
     fn place_in(
         &mut self,
         alloc: Global,
+        handed: Texts,
         text: usize,
         wanted: &Wanted,
     ) -> Result<Option<Place>, AllocError> {
@@ -158,7 +163,7 @@ impl<'t> Search<'t> {
             Some(name) => Some(name.as_slice()),
             None => None,
         };
-        let bytes = text_at(self.handed, self.found.as_slice(), text);
+        let bytes = text_at(handed, self.found.as_slice(), text);
         let Some(maps) = self.texts.get_mut(text) else {
             return Ok(None);
         };
@@ -200,24 +205,41 @@ fn found_in(
     }
 }
 
-/// The first file among folders that a name means for a kind: in each below the folder of the kind, then without it.
+/// The path at a place among those that a name may have: in each folder below the one of the kind, then without it.
+fn path_at<'a>(
+    folders: &'a [Folder],
+    full: &'a str,
+    name: &'a str,
+    place: usize,
+) -> Option<(&'a Folder, &'a str)> {
+    let folder = folders.get(place / 2)?;
+    match place % 2 {
+        0 => Some((folder, full)),
+        _ => Some((folder, name)),
+    }
+}
+
+/// The first file among folders that a name means for a kind. What was tried before isn't tried again.
 fn find(
     rt: &(impl Files + AllocGlobal),
     folders: &[Folder],
     full: &str,
     name: &str,
+    tried: &mut usize,
 ) -> Result<Option<Found>, FindFault> {
-    for folder in folders {
-        for path in [full, name] {
-            if let Some(bytes) = found_in(rt, folder, path)? {
-                return Ok(Some(Found {
-                    name: String::from_str(rt.alloc(), full)?,
-                    path: String::from_str(rt.alloc(), path)?,
-                    is_installed: folder.is_installed(),
-                    bytes,
-                }));
-            }
+    for _ in *tried..folders.len().saturating_mul(2) {
+        let Some((folder, path)) = path_at(folders, full, name, *tried) else {
+            break;
+        };
+        if let Some(bytes) = found_in(rt, folder, path)? {
+            return Ok(Some(Found {
+                name: String::from_str(rt.alloc(), full)?,
+                path: String::from_str(rt.alloc(), path)?,
+                is_installed: folder.is_installed(),
+                bytes,
+            }));
         }
+        *tried = tried.saturating_add(1);
     }
     Ok(None)
 }
@@ -237,7 +259,9 @@ fn reach(
     let (Ok(full_text), Ok(text)) = (str::from_utf8(full.as_slice()), str::from_utf8(name)) else {
         return Ok(None);
     };
-    match find(rt, folders, full_text, text)? {
+    let found = find(rt, folders, full_text, text, &mut search.tried)?;
+    search.tried = 0;
+    match found {
         Some(file) => Ok(Some(search.add(rt.alloc(), full, file)?)),
         None => Ok(None),
     }
@@ -248,10 +272,11 @@ fn place_of(
     rt: &(impl Files + AllocGlobal),
     folders: &[Folder],
     search: &mut Search,
+    texts: Texts,
     wanted: &Wanted,
 ) -> Result<Option<Place>, FindFault> {
     match reach(rt, folders, search, wanted)? {
-        Some(text) => Ok(search.place_in(rt.alloc(), text, wanted)?),
+        Some(text) => Ok(search.place_in(rt.alloc(), texts, text, wanted)?),
         None => Ok(None),
     }
 }
@@ -287,6 +312,89 @@ fn wanted_at(
     }
 }
 
+/// The walk over the includes of a source that finds files. Where a file can't be read it stays as it was, and may go on.
+#[derive(Drop)]
+pub struct Finding {
+    search: Search,
+    waiting: Vec<Place>,
+    /// How many parts of includes are left to look up.
+    left: usize,
+    /// The maps that the includes of one map name, and the next of them.
+    wanted: Vec<Wanted>,
+    next: usize,
+    misses: bool,
+}
+
+impl Finding {
+    /// The walk over a source and the files that are handed in with it.
+    ///
+    /// # Errors
+    /// Where a growth is refused.
+    pub fn of(alloc: Global, texts: Texts) -> Result<Finding, AllocError> {
+        let search = Search::of(alloc, texts)?;
+        let waiting = own_places(alloc, &search)?;
+        Ok(Finding {
+            search,
+            waiting,
+            left: MOST_PARTS,
+            wanted: Vec::new(alloc),
+            next: 0,
+            misses: false,
+        })
+    }
+
+    /// Finds the maps that are still wanted.
+    fn find_wanted(
+        &mut self,
+        rt: &(impl Files + AllocGlobal),
+        folders: &[Folder],
+        texts: Texts,
+    ) -> Result<(), FindFault> {
+        for _ in self.next..self.wanted.len() {
+            let Some(wanted) = self.wanted.get(self.next) else {
+                break;
+            };
+            match place_of(rt, folders, &mut self.search, texts, wanted)? {
+                Some(place) => meet(&mut self.search, &mut self.waiting, place)?,
+                None => self.misses = true,
+            }
+            self.next = self.next.saturating_add(1);
+        }
+        Ok(())
+    }
+
+    /// Goes on to the end, over the same texts.
+    ///
+    /// # Errors
+    /// Where a file can't be read, or no memory is left.
+    pub fn go_on(
+        &mut self,
+        rt: &(impl Files + AllocGlobal),
+        folders: &[Folder],
+        texts: Texts,
+    ) -> Result<(), FindFault> {
+        for _ in 0..self.waiting.len().saturating_add(MOST_PARTS) {
+            self.find_wanted(rt, folders, texts)?;
+            let Some(next) = self.waiting.pop() else {
+                break;
+            };
+            self.wanted = wanted_at(rt.alloc(), &self.search, next, &mut self.left)?;
+            self.next = 0;
+        }
+        self.find_wanted(rt, folders, texts)
+    }
+
+    /// Whether an include named a file or a map that isn't there.
+    pub fn misses(&self) -> bool {
+        self.misses
+    }
+
+    /// The files in the order in which they were found.
+    pub fn found(self) -> Vec<Found> {
+        self.search.found
+    }
+}
+
 /// The files that the includes of a source reach and that aren't handed in with it, in the order in which they are found.
 ///
 /// # Errors
@@ -296,19 +404,7 @@ pub fn find_files(
     folders: &[Folder],
     texts: Texts,
 ) -> Result<Vec<Found>, FindFault> {
-    let mut search = Search::of(rt.alloc(), texts)?;
-    let mut waiting = own_places(rt.alloc(), &search)?;
-    let mut left = MOST_PARTS;
-    for _ in 0..waiting.len().saturating_add(MOST_PARTS) {
-        let Some(next) = waiting.pop() else {
-            break;
-        };
-        let all = wanted_at(rt.alloc(), &search, next, &mut left)?;
-        for wanted in all.as_slice() {
-            if let Some(place) = place_of(rt, folders, &mut search, wanted)? {
-                meet(&mut search, &mut waiting, place)?;
-            }
-        }
-    }
-    Ok(search.found)
+    let mut finding = Finding::of(rt.alloc(), texts)?;
+    finding.go_on(rt, folders, texts)?;
+    Ok(finding.found())
 }
