@@ -16,6 +16,7 @@ mod usage;
 mod writing;
 
 pub use kx_failure::Failure;
-pub use showing::{Shown, Warned};
+pub use kx_shown::Shown;
+pub use showing::Warned;
 pub use tasks::{run, run_words};
 pub use usage::{awaited, out_of_memory, word_that_is_not_text};

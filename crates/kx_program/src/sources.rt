@@ -4,13 +4,13 @@ use crate::named::source_named;
 use ks_core::NameTable;
 use kx_explain::{Text, Texts};
 use kx_failure::Failure;
-use kx_reach::{FindFault, Folder, Found, find_files, read_file};
+use kx_reach::{FindFault, Folder, Found, add_found, find_files, hand_in, read_file};
 use kx_tool::{Files, ReplayFault};
 use kx_words::{INPUT, Included, Includes, Source};
 use std::alloc::{AllocError, Global};
+use std::io;
 use std::io::Read;
 use std::rt::Files as FileSystem;
-use std::{io, mem};
 
 /// Reads a file.
 pub(crate) fn read<'a>(
@@ -74,14 +74,6 @@ pub(crate) fn read_included<'a>(
     Ok(bytes)
 }
 
-fn hand_in(files: &mut Files, name: &str, bytes: Vec<u8>) -> Result<(), AllocError> {
-    let name = Vec::from_slice(*bytes.allocator(), name.as_bytes())?;
-    match files.insert(name, bytes) {
-        Ok(()) => Ok(()),
-        Err(_) => Err(AllocError),
-    }
-}
-
 /// The files that are handed in.
 pub(crate) fn handed_in(
     alloc: Global,
@@ -93,16 +85,6 @@ pub(crate) fn handed_in(
         hand_in(&mut files, file.name, bytes)?;
     }
     Ok(files)
-}
-
-/// Adds the files that were found after those that are handed in; none of them keeps its bytes.
-pub(crate) fn add_found(files: &mut Files, found: &mut [Found]) -> Result<(), AllocError> {
-    for file in found {
-        let none = Vec::new(*file.bytes.allocator());
-        let bytes = mem::replace(&mut file.bytes, none);
-        hand_in(files, file.name.as_str(), bytes)?;
-    }
-    Ok(())
 }
 
 /// The files that a source may include, as texts: those that are handed in, and after them those that were found.

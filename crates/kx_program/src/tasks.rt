@@ -8,8 +8,8 @@ use crate::printing::print_keymap;
 use crate::putting::{Put, is_output, put_image};
 use crate::showing::{Warned, show_fault};
 use crate::sources::{
-    add_found, all_handed, find, gather, handed_in, read_included, read_names, read_or_input,
-    read_source, texts_of,
+    all_handed, find, gather, handed_in, read_included, read_names, read_or_input, read_source,
+    texts_of,
 };
 use crate::usage::{explain, out_of_memory};
 use ks_core::{Feed, Lent, NameTable, Notes};
@@ -19,7 +19,7 @@ use kx_image::{UpgradeFault, View, upgrade};
 use kx_lex::Fault;
 use kx_names::{Environment, read_environment};
 use kx_noted::{Noted, Telling};
-use kx_reach::Ahead;
+use kx_reach::{Ahead, add_found};
 use kx_tool::{Files, ReplayFault, SessionFault, compile_once, dump, replay, session};
 use kx_words::{Compile, INPUT, Includes, Keymap, Source, Task, ask_environment, task_in};
 use std::alloc::{AllocError, Global};
