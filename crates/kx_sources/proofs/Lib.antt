@@ -1,0 +1,4 @@
+pub mod GatheringHandleValues
+pub mod LeftHandleValues
+pub mod SourceHandleValues
+pub mod WordsHandleValues
