@@ -59,15 +59,18 @@ else
     (cd "$crates/xkc_c" && rt lib)
 fi
 
-# The toolchain's archive has the calls of malloc that the library makes.
+# The toolchain's archive has the calls of malloc that the library makes, and c/folders.c reads files for it.
 cd "$work"
 mkdir objects
 cd objects
 ar x "$archive"
 ar x "$kit/c/liblibc_c.a"
+"$compiler" -std=c11 -O2 -Wall -Wextra -Werror -fPIC -fstack-protector-strong -U_FORTIFY_SOURCE -D_FORTIFY_SOURCE=2 \
+    -ffile-prefix-map="$top=." -I"$top/include" -c -o folders.o "$top/c/folders.c"
 rm -f "$out/libxkc.a"
 ar rcsD "$out/libxkc.a" ./*.o
-echo '{ global: xkc_*; local: *; };' > exports
+# The steps of a source are the library's own.
+echo '{ global: xkc_*; local: xkc_gathering_*; *; };' > exports
 hardened=-Wl,-s,-z,relro,-z,noexecstack
 "$compiler" -shared "$hardened,-z,now" -Wl,-soname,libxkc.so.0 -Wl,--version-script=exports -Wl,--no-undefined -o "$out/libxkc.so.0" ./*.o
 
@@ -75,8 +78,11 @@ if ! flags=$(pkg-config --cflags xkbcommon 2> /dev/null); then
     echo 'c/build.sh: xkbcommon.h is not installed, so libxkc-xkbcommon.so is not built'
     exit 0
 fi
-# Its calls of libxkbcommon are bound late: it is also loaded into programs, started by the one that is meant, that have none.
+# The real library is opened where it is needed, and not linked with. The versions of the calls are libxkbcommon's, so that the
+# library may also stand in its place, as libxkbcommon.so.0.
+"$top/c/xkbcommon/names.sh" > folded_names.h
 # shellcheck disable=SC2086
 "$compiler" -std=c11 -O2 -Wall -Wextra -Werror -fPIC -fstack-protector-strong -U_FORTIFY_SOURCE -D_FORTIFY_SOURCE=2 \
-    -ffile-prefix-map="$top=." -shared "$hardened,-soname,libxkc-xkbcommon.so" -I"$top/include" $flags -o "$out/libxkc-xkbcommon.so" \
-    "$top/c/xkbcommon.c" "$out/libxkc.a" -Wl,--exclude-libs,ALL -ldl
+    -ffile-prefix-map="$top=." -shared "$hardened,-z,now,-soname,libxkc-xkbcommon.so,-Bsymbolic-functions,--no-undefined" \
+    -Wl,--version-script="$top/c/xkbcommon/exports.map" -I"$top/include" -I. $flags -o "$out/libxkc-xkbcommon.so" \
+    "$top"/c/xkbcommon/*.c "$out/libxkc.a" -Wl,--exclude-libs,ALL -ldl -pthread

@@ -14,6 +14,7 @@
  * - The arguments of a call don't overlap, and no other call uses them meanwhile. An xkc_file's bytes may be those of another.
  * - A handle is {0}, or what a call left in it.
  * - A keymap, and all keyboards and followers that were started over it, stay in one thread. So does each names handle.
+ * - While xkc_source_named runs, no other thread changes the environment.
  * - malloc, realloc and free are of one allocator. A thread has 8 MB of stack, the usual size.
  *
  * Memory. Calls that make something take memory, as their comments say; the others take none. No call keeps a pointer to
@@ -31,13 +32,16 @@
 extern "C" {
 #endif
 
-/* The version of this header, as xkc_version tells that of the library: 0.1.0. */
-#define XKC_VERSION 0x000100u
+/* The version of this header, as xkc_version tells that of the library: 1.0.0. */
+#define XKC_VERSION 0x010000u
 
 typedef struct xkc_names { void *at; } xkc_names;
 typedef struct xkc_keymap { void *at; } xkc_keymap;
 typedef struct xkc_keyboard { void *at; } xkc_keyboard;
 typedef struct xkc_follower { void *at; } xkc_follower;
+typedef struct xkc_source { void *at; } xkc_source;
+typedef struct xkc_left { void *at; } xkc_left;
+typedef struct xkc_words { void *at; } xkc_words;
 
 /* What a call answers. */
 enum {
@@ -48,7 +52,9 @@ enum {
     XKC_NAMES = 4,   /* a line of names has a fault */
     XKC_SOURCE = 5,  /* the source has a fault */
     XKC_MISSING = 6, /* there is no row of that index, no keysym of that name, or no key can have so great a code */
-    XKC_ROOM = 7     /* there is no room for the bytes: the size says how much there must be */
+    XKC_ROOM = 7,    /* there is no room for the bytes: the size says how much there must be */
+    XKC_RULES = 8,   /* there are no rules of that name, or they are refused: the words say why */
+    XKC_FILE = 9     /* a file or folder can't be read, or its path is no text: the words say which */
 };
 
 /* What xkc_keymap_name names. */
@@ -190,6 +196,46 @@ typedef struct xkc_indicator {
     uint8_t group_states;
 } xkc_indicator;
 
+/* A folder in which files are looked for: its path, in UTF-8. */
+typedef struct xkc_folder {
+    const uint8_t *path;
+    size_t path_size;
+} xkc_folder;
+
+/* The names by which a keymap is asked for, in UTF-8, as "de,us" of layouts. An empty name isn't asked for, and so are empty
+ * options, but where `has_options` is 1. For what isn't asked for stands the default: rules evdev, model pc105, layout us, no
+ * variant and no options; or, where `environment` is 1, what XKB_DEFAULT_RULES, _MODEL, _LAYOUT, _VARIANT and _OPTIONS say. */
+typedef struct xkc_asked {
+    const uint8_t *rules;
+    size_t rules_size;
+    const uint8_t *model;
+    size_t model_size;
+    const uint8_t *layouts;
+    size_t layouts_size;
+    const uint8_t *variants;
+    size_t variants_size;
+    const uint8_t *options;
+    size_t options_size;
+    uint8_t has_options;
+    uint8_t environment;
+} xkc_asked;
+
+/* How much of a source had no effect, as `xkc compile` counts it. */
+typedef struct xkc_notes {
+    uint32_t keysyms;
+    uint32_t keys;
+    uint32_t types;
+    uint32_t levels;
+    uint32_t actions;
+} xkc_notes;
+
+/* How many aliases of keys, virtual modifiers and names of indicators there are. */
+typedef struct xkc_left_counts {
+    uint32_t aliases;
+    uint32_t modifiers;
+    uint32_t indicators;
+} xkc_left_counts;
+
 /* The version of the library. */
 uint32_t xkc_version(void);
 
@@ -253,6 +299,64 @@ uint32_t xkc_keymap_key_of(xkc_keymap *keymap, uint32_t code, uint32_t *index);
 /* The name of a row: of a key, a key type, an indicator, or of the keymap's group of that index, which may be empty. Writes
  * `size`, and answers XKC_OK with the name in `out`, or XKC_ROOM; XKC_MISSING and XKC_EMPTY write nothing. */
 uint32_t xkc_keymap_name(xkc_keymap *keymap, uint32_t kind, uint32_t index, uint8_t *out, size_t room, size_t *size);
+
+/* ---- Sources: what a keymap is compiled from, with the files that its includes reach. These alone read files and the
+ * environment. */
+
+/* Takes a source by its text, and finds the files that its includes reach in the folders, of which the first that has a file
+ * gives it; with no folder nothing is looked for. Answers XKC_OK, XKC_MEMORY, or XKC_FILE and makes `words`. Takes memory. */
+uint32_t xkc_source_read(xkc_source *source, const uint8_t *text, size_t text_size, const xkc_folder *folders,
+                         size_t folder_count, xkc_words *words);
+
+/* Takes the source that rules make of names, and finds its files in the same way. With no folder those of the program are
+ * looked in, as far as they are there: $XDG_CONFIG_HOME/xkb or ~/.config/xkb, ~/.xkb, /etc/xkb or $XKB_CONFIG_EXTRA_PATH,
+ * /usr/share/X11/xkb or $XKB_CONFIG_ROOT. Answers XKC_OK, XKC_MEMORY, XKC_FILE or XKC_RULES, and makes `words` but for
+ * XKC_MEMORY: of XKC_OK they are the names that no rule takes, or none. Takes memory. */
+uint32_t xkc_source_named(xkc_source *source, const xkc_asked *asked, const xkc_folder *folders, size_t folder_count,
+                          xkc_words *words);
+
+/* Its text. Writes `size`, and answers XKC_OK with the bytes in `out`, or XKC_ROOM; XKC_EMPTY writes nothing. */
+uint32_t xkc_source_bytes(xkc_source *source, uint8_t *out, size_t room, size_t *size);
+
+/* Compiles it. Answers XKC_OK, makes `keymap` and writes `notes`; XKC_SOURCE, writes `fault` and makes `words`, which show it
+ * as the program does; XKC_MEMORY or XKC_EMPTY. The n-th file of a fault is the n-th that was found. Takes memory. */
+uint32_t xkc_source_compile(xkc_source *source, xkc_names *names, xkc_keymap *keymap, xkc_notes *notes, xkc_fault *fault,
+                            xkc_words *words);
+
+/* The text of its keymap for clients, which needs no files: all that the image has, with what it leaves out. Writes `size`,
+ * and answers XKC_OK with the bytes in `out`, or XKC_ROOM; XKC_SOURCE, XKC_MEMORY and XKC_EMPTY write nothing, nor does
+ * XKC_MISSING, where no text means the same: no such source is known. Takes memory while it runs. */
+uint32_t xkc_source_text(xkc_source *source, xkc_names *names, uint8_t *out, size_t room, size_t *size);
+
+/* What its keymap's image leaves out. Answers XKC_OK and makes `left`; XKC_SOURCE, XKC_MEMORY or XKC_EMPTY. Takes memory. */
+uint32_t xkc_source_left(xkc_source *source, xkc_names *names, xkc_left *left);
+
+void xkc_source_end(xkc_source *source);
+
+/* ---- What an image leaves out. These calls take no memory. */
+
+/* XKC_OK and writes `counts`, or XKC_EMPTY. */
+uint32_t xkc_left_counts_of(xkc_left *left, xkc_left_counts *counts);
+
+/* Whether the key of a code repeats while it is held: XKC_OK and writes `repeats`, or XKC_EMPTY. */
+uint32_t xkc_left_repeats(xkc_left *left, uint32_t code, uint8_t *repeats);
+
+/* By index: an alias, the name of the alias's key, the name of a virtual modifier, and the name that keycodes give indicator
+ * `index`, which may be empty. Each writes `size`, and answers XKC_OK with the name in `out`, or XKC_ROOM; XKC_MISSING and
+ * XKC_EMPTY write nothing. Of a virtual modifier that is there `mods` are the real ones for which it stands. */
+uint32_t xkc_left_alias(xkc_left *left, uint32_t index, uint8_t *out, size_t room, size_t *size);
+uint32_t xkc_left_alias_key(xkc_left *left, uint32_t index, uint8_t *out, size_t room, size_t *size);
+uint32_t xkc_left_modifier(xkc_left *left, uint32_t index, uint8_t *mods, uint8_t *out, size_t room, size_t *size);
+uint32_t xkc_left_indicator(xkc_left *left, uint32_t index, uint8_t *out, size_t room, size_t *size);
+
+void xkc_left_end(xkc_left *left);
+
+/* ---- Words: lines in UTF-8 that a person reads of something that went wrong. */
+
+/* Writes `size`, and answers XKC_OK with the lines in `out`, or XKC_ROOM; XKC_EMPTY writes nothing. Takes no memory. */
+uint32_t xkc_words_text(xkc_words *words, uint8_t *out, size_t room, size_t *size);
+
+void xkc_words_end(xkc_words *words);
 
 /* ---- Keyboards: what a compositor runs */
 

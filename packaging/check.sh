@@ -90,7 +90,7 @@ tries_release() {
     cd "$work/release" || exit 2
     mkdir -p crates/xkc/out docs c
     cp "$top/docs/c.md" "$top/docs/keyboard.svg" docs
-    cp "$top/c/compositor.c" "$top/c/client.c" "$top/c/xkbcommon.c" c
+    cp "$top/c/compositor.c" "$top/c/client.c" c
     printf '#!/bin/sh\nfor name in libxkc.a libxkc.so.0 libxkc-xkbcommon.so; do echo "$name" > "$1/$name"; done\n' > c/build.sh
     printf '%s\n' '#!/bin/sh' 'case $1 in' '-T) echo "(GLIBC_2.9) a"; echo "(GLIBC_2.34) b" ;;' \
         '-p) printf "%s\n" " RELRO off 0" " STACK off 0" " flags rw-" "  NEEDED  libc.so.6" "  FLAGS_1  0x8000001" ;;' esac > "$work/path/objdump"

@@ -61,15 +61,15 @@ c/build.sh out . > "$work/said" 2>&1 || { cat "$work/said" >&2; refuse 'the libr
 grep '^[0-9a-f]\{64\}  ' "$record" > "$work/sums" || refuse "$record has no sums"
 sha256sum -c --quiet "$work/sums" > "$work/said" 2>&1 || { cat "$work/said" >&2; refuse 'what is built is not what ./check proved'; }
 
-# They need the C library alone, tables of addresses are bound at the start and read-only from then on (but for calls of
-# libxkbcommon, which a program may not have), and the stack holds no code.
+# They need the C library alone, tables of addresses are bound at the start and read-only from then on, and the stack holds no
+# code.
 built='crates/xkc/out/xkc out/libxkc.so.0 out/libxkc-xkbcommon.so'
 for file in $built; do
     objdump -p "$file" > "$work/said"
     others=$(sed -n 's/^ *NEEDED *//p' "$work/said" | grep -vE '^(libc\.so\.6|ld-linux-x86-64\.so\.2)$' | tr '\n' ' ')
     [ -z "$others" ] || refuse "$file needs $others"
     grep -q '^ *RELRO ' "$work/said" || refuse "$file has no tables to be read alone"
-    [ "$file" = out/libxkc-xkbcommon.so ] || grep -q '^ *FLAGS_1 .*[13579bdf]$' "$work/said" || refuse "$file binds calls late"
+    grep -q '^ *FLAGS_1 .*[13579bdf]$' "$work/said" || refuse "$file binds calls late"
     grep -A 1 '^ *STACK ' "$work/said" | grep -q 'flags rw-$' || refuse "$file can have code on its stack"
 done
 
@@ -88,7 +88,6 @@ documents() {
     cp README.md CHANGELOG.md LICENSE "$record" "$1/"
     cp docs/*.md docs/*.svg "$1/docs/"
     cp c/*.c "$1/c/"
-    rm -f "$1/c/xkbcommon.c"
 }
 
 # settled FOLDER: permissions and times are those of the commit's files, whoever packs and when.

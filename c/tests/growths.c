@@ -8,6 +8,9 @@ void *__real_realloc(void *old, size_t size);
 /* No call asks so often. */
 enum { MOST = 100000 };
 
+/* A source that includes files of the folder. */
+static const char REACHING[] = "xkb_keymap { xkb_keycodes { include \"evdev\" }; xkb_symbols { include \"us\" }; };";
+
 static long left = -1; /* how many growths are granted; -1 is all */
 static long asked;
 
@@ -34,6 +37,10 @@ static xkc_names names;
 static xkc_keymap keymap;
 static xkc_keyboard keyboard;
 static xkc_follower follower;
+static xkc_source source;
+static xkc_left out;
+static xkc_words words;
+static xkc_folder folder;
 static uint8_t image[4096], text[4096];
 static size_t image_size;
 
@@ -83,6 +90,38 @@ static uint32_t follow(void)
     return xkc_follower_start(&follower, &keymap);
 }
 
+static uint32_t read_source(void)
+{
+    return xkc_source_read(&source, TEXT(REACHING), &folder, 1, &words);
+}
+
+static uint32_t named_source(void)
+{
+    xkc_asked asked = {0};
+    asked.rules = asked.model = asked.layouts = asked.variants = (const uint8_t *)"";
+    asked.options = (const uint8_t *)"no:such";
+    asked.options_size = 7;
+    return xkc_source_named(&source, &asked, &folder, 1, &words);
+}
+
+static uint32_t compile_source(void)
+{
+    xkc_notes notes;
+    xkc_fault fault;
+    return xkc_source_compile(&source, &names, &keymap, &notes, &fault, &words);
+}
+
+static uint32_t text_of_source(void)
+{
+    size_t size;
+    return xkc_source_text(&source, &names, text, sizeof text, &size);
+}
+
+static uint32_t left_of_source(void)
+{
+    return xkc_source_left(&source, &names, &out);
+}
+
 /* Makes a call with 0, 1, 2 .. growths granted until it does what it is to do. */
 static void refused_in_turn(const char *what, uint32_t (*call)(void), void **handle)
 {
@@ -108,13 +147,15 @@ static void refused_in_turn(const char *what, uint32_t (*call)(void), void **han
 /* Calls that take no memory. */
 static void without_memory(void)
 {
-    static uint8_t out[4096];
+    static uint8_t bytes[4096];
     xkc_reply reply;
     xkc_look look;
     xkc_state state;
     xkc_counts counts;
     xkc_key key;
+    xkc_left_counts left_counts;
     uint32_t number;
+    uint8_t byte;
     size_t size;
     int all = 1;
     asked = 0;
@@ -125,14 +166,20 @@ static void without_memory(void)
         all &= !xkc_follower_set(&follower, &state) && !xkc_follower_look(&follower, code, &look) && !xkc_follower_lit(&follower, &number);
     }
     all &= !xkc_keymap_counts(&keymap, &counts) && !xkc_keymap_key(&keymap, 0, &key) && !xkc_keymap_key_of(&keymap, 38, &number);
-    all &= !xkc_keymap_name(&keymap, XKC_KEY_NAME, 0, out, sizeof out, &size) && !xkc_keymap_image(&keymap, out, sizeof out, &size);
-    all &= !xkc_names_keysym(&names, TEXT("Mine"), &number) && !xkc_names_name(&names, number, out, sizeof out, &size);
+    all &= !xkc_keymap_name(&keymap, XKC_KEY_NAME, 0, bytes, sizeof bytes, &size) && !xkc_keymap_image(&keymap, bytes, sizeof bytes, &size);
+    all &= !xkc_names_keysym(&names, TEXT("Mine"), &number) && !xkc_names_name(&names, number, bytes, sizeof bytes, &size);
+    all &= !xkc_source_bytes(&source, bytes, sizeof bytes, &size) && !xkc_words_text(&words, bytes, sizeof bytes, &size) && !xkc_left_counts_of(&out, &left_counts);
+    all &= !xkc_left_repeats(&out, 38, &byte) && !xkc_left_alias(&out, 0, bytes, sizeof bytes, &size) && !xkc_left_indicator(&out, 0, bytes, sizeof bytes, &size);
     left = -1;
     holds(all && asked == 0, "no call takes memory behind the start of a keyboard");
 }
 
-int main(void)
+/* growths FOLDER: one in which files are found, as tests/library.sh makes it. */
+int main(int count, char **given)
 {
+    if (count != 2) return 2;
+    folder.path = (const uint8_t *)given[1];
+    folder.path_size = strlen(given[1]);
     refused_in_turn("names of X11", x11_names, &names.at);
     refused_in_turn("names", read_names, &names.at);
     refused_in_turn("compile", compile, &keymap.at);
@@ -142,10 +189,18 @@ int main(void)
     refused_in_turn("print", print, &keymap.at);
     refused_in_turn("start of a keyboard", start, &keyboard.at);
     refused_in_turn("start of a follower", follow, &follower.at);
+    refused_in_turn("a source of text", read_source, &source.at);
+    refused_in_turn("a source of names", named_source, &source.at);
+    refused_in_turn("compile a source", compile_source, &keymap.at);
+    refused_in_turn("the text for clients", text_of_source, &source.at);
+    refused_in_turn("what is left out", left_of_source, &out.at);
     without_memory();
     xkc_keyboard_end(&keyboard);
     xkc_follower_end(&follower);
     xkc_keymap_end(&keymap);
+    xkc_source_end(&source);
+    xkc_left_end(&out);
+    xkc_words_end(&words);
     xkc_names_end(&names);
     return counted();
 }

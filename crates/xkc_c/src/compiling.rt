@@ -1,5 +1,5 @@
 //! Keymaps from sources.
-ghost use Rattle.std.specs.Prelude.{◌≡◌, ◌≢◌, ◌⊎◌, [], IfErr, IfOk, IfSome};
+ghost use Rattle.std.specs.Prelude.{◌≡◌, ◌≢◌, ◌⊎◌, [], IfErr, IfOk, IsSomeAnd};
 ghost use Rattle.kx_lex.specs.declared.fault.Fault.{Fault};
 ghost use Rattle.kx_lex.specs.declared.fault.Fault.TheVariants.{Memory};
 ghost use Rattle.kx_source.specs.Source.{HasFault, Means};
@@ -31,10 +31,10 @@ pub extern "C" fn xkc_keymap_compile(
     fault: &mut XkcFault,
 ) -> u32
     ensures compiled { result ≡ OK
-        → IfSome keymap.new.value (λ content.
+        → IsSomeAnd keymap.new.value (λ content.
         IsCompiled source.now (handed [] files.now) (names_in names.old.value)
         (keymap_of content)) }
-    ensures means { result ≡ OK → IfSome keymap.new.value
+    ensures means { result ≡ OK → IsSomeAnd keymap.new.value
         (Means source.now (handed [] files.now) (names_in names.old.value)) }
     ensures refused { result ≢ OK → keymap.new ≡ keymap.old }
     ensures fault { result ≡ SOURCE

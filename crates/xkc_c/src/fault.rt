@@ -1,8 +1,10 @@
 //! Why a source is refused, as C has it.
-ghost use Rattle.std.specs.Prelude.{◌≡◌, ◌≢◌, MatchOption};
+ghost use Rattle.std.specs.Prelude.{◌≡◌, ◌≢◌, ◌⊎◌, MatchOption};
 ghost use Rattle.kx_lex.specs.declared.fault.Fault.TheVariants.{Memory};
 ghost use Rattle.xkc_c.specs.FaultInC.{fault_in_c};
+ghost use Rattle.xkc_c.specs.declared.status.TheConstants.{MEMORY, SOURCE};
 
+use crate::status::{MEMORY, SOURCE};
 use kx_lex::{At, Fault};
 
 /// Why a source is refused: the number n of its fault Fn, the text in which it stands (0 is the source, n the n-th
@@ -60,5 +62,15 @@ impl XkcFault {
             Fault::CodeRange(place) => at(18, place),
         };
         Some(told)
+    }
+}
+
+/// The status of a fault.
+pub fn refusal(fault: Fault) -> u32
+    ensures { ((result ≡ MEMORY) × (fault ≡ Memory)) ⊎ ((result ≡ SOURCE) × (fault ≢ Memory)) }
+{
+    match XkcFault::of(fault) {
+        None => MEMORY,
+        Some(_) => SOURCE,
     }
 }

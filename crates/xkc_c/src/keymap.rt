@@ -1,5 +1,5 @@
 //! Keymaps from images, and back.
-ghost use Rattle.std.specs.Prelude.{◌≡◌, ◌≢◌, ◌⊎◌, ℕ, List, IfErr, IfOk, IfSome, None, Some};
+ghost use Rattle.std.specs.Prelude.{◌≡◌, ◌≢◌, ◌⊎◌, ℕ, List, IfErr, IfOk, IsSomeAnd, None, Some};
 ghost use Rattle.kx_image.specs.Image.{IsImage};
 ghost use Rattle.kx_print.specs.Printed.{printed};
 ghost use Rattle.kx_handles.specs.Open.{IsRefused};
@@ -17,7 +17,8 @@ use std::alloc::Global;
 /// Opens an image, whose bytes are copied, and puts the keymap in the place of what the handle has.
 #[unsafe(no_mangle)]
 pub extern "C" fn xkc_keymap_open(alloc: Global, keymap: &mut KeymapHandle, image: &[u8]) -> u32
-    ensures opened { result ≡ OK → IfSome keymap.new.value (λ content. IsImage content image.now) }
+    ensures opened { result ≡ OK
+        → IsSomeAnd keymap.new.value (λ content. IsImage content image.now) }
     ensures refused { result ≢ OK → keymap.new ≡ keymap.old }
     ensures none { result ≡ IMAGE → (content : Content) → IsImage content image.now → ⊥ }
     ensures statuses { (result ≡ OK) ⊎ ((result ≡ MEMORY) ⊎ (result ≡ IMAGE)) }

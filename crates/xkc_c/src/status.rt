@@ -16,3 +16,9 @@ pub const SOURCE: u32 = 5;
 pub const MISSING: u32 = 6;
 /// There is no room for the bytes.
 pub const ROOM: u32 = 7;
+/// There are no rules of that name, or they are refused.
+pub const RULES: u32 = 8;
+/// A file or folder is there and can't be read.
+pub const FILE: u32 = 9;
+/// A path is looked for.
+pub const ASKS: u32 = 10;

@@ -28,7 +28,7 @@ pub extern "C" fn xkc_locate(text: &[u8], place: usize, position: &mut XkcPositi
 /// The library's version: 65,536 times the first number, 256 times the second, and the third.
 #[unsafe(no_mangle)]
 pub extern "C" fn xkc_version() -> u32
-    ensures { result ≡ 256 }
+    ensures { result ≡ 65536 }
 {
-    0x0000_0100
+    0x0001_0000
 }
