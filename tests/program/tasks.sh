@@ -11,7 +11,7 @@ for image in one two; do
     holds "the image of version $image upgraded" cmp -s newer two
 done
 gives 0 "$(echo "$two" | tr -d ' \n' | fold -w 64)" dump two
-gives 0 'xkc 0.1.0' --version
+gives 0 'xkc 1.0.0' --version
 printf 'mine 0x61\n' > names
 echo 'xkb_symbols { key <A> {[mine]}; };' > map
 echo 'xkb_keymap { xkb_keycodes { <A>=38; }; xkb_symbols { include "map" }; };' > including

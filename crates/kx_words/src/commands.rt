@@ -3,7 +3,7 @@ use crate::naming::{rules, with_names};
 use clap::{Arg, ArgAction, Command};
 use std::alloc::{AllocError, Global};
 
-const VERSION: &str = "0.1.0";
+const VERSION: &str = "1.0.0";
 
 /// Which words a command has that reads a keymap.
 #[derive(Clone, Copy, Debug, PartialEq, Eq)]
