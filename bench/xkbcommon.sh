@@ -59,7 +59,7 @@ cat > "$work/config.h" <<'END'
 END
 
 # A server for the calls of x11, that ends with this run.
-programs='keyseq state keymap stringcomp buffercomp filecomp rulescomp keysym context compose'
+programs='keyseq state keymap stringcomp buffercomp filecomp rulescomp rules-file keysym context compose'
 if command -v Xvfb > /dev/null && pkg-config --exists xcb; then
     Xvfb -noreset -displayfd 3 3> "$work/display" > /dev/null 2>&1 &
     server=$!
@@ -72,9 +72,14 @@ fi
 
 passed=0 failed=0
 for name in $programs; do
-    # shellcheck disable=SC2046
+    case $name in
+        rules-file) own="$top/bench/xkbcommon/components.c $library/libxkc.a" ;;
+        x11) own=$(pkg-config --libs xcb) ;;
+        *) own= ;;
+    esac
+    # shellcheck disable=SC2086
     "$compiler" -std=c11 -w -I"$work" -I"$source/include" -I"$source/src" -I"$work/test" -o "$work/programs/$name" "$work/test/$name.c" \
-        "$work/test/common.c" "$source/src/utils.c" "$work/cases.c" "$library/libxkc-xkbcommon.so" $([ "$name" != x11 ] || pkg-config --libs xcb)
+        "$work/test/common.c" "$source/src/utils.c" "$work/cases.c" "$library/libxkc-xkbcommon.so" -I"$top/include" $own
     status=0
     (cd "$work" && LD_LIBRARY_PATH=$library timeout 120 "programs/$name") > "$work/said" 2>&1 || status=$?
     if [ "$status" -eq 0 ]; then

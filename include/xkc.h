@@ -325,7 +325,8 @@ uint32_t xkc_source_compile(xkc_source *source, xkc_names *names, xkc_keymap *ke
 
 /* The text of its keymap for clients, which needs no files: all that the image has, with what it leaves out. Writes `size`,
  * and answers XKC_OK with the bytes in `out`, or XKC_ROOM; XKC_SOURCE, XKC_MEMORY and XKC_EMPTY write nothing, nor does
- * XKC_MISSING, where no text means the same: no such source is known. Takes memory while it runs. */
+ * XKC_MISSING, where no text means the same: a source of 4,096 key types of which none is ONE_LEVEL is known. Takes memory while
+ * it runs. */
 uint32_t xkc_source_text(xkc_source *source, xkc_names *names, uint8_t *out, size_t room, size_t *size);
 
 /* What its keymap's image leaves out. Answers XKC_OK and makes `left`; XKC_SOURCE, XKC_MEMORY or XKC_EMPTY. Takes memory. */
