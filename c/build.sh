@@ -69,8 +69,9 @@ ar x "$kit/c/liblibc_c.a"
     -ffile-prefix-map="$top=." -I"$top/include" -c -o folders.o "$top/c/folders.c"
 rm -f "$out/libxkc.a"
 ar rcsD "$out/libxkc.a" ./*.o
-# The steps of a source are the library's own.
-echo '{ global: xkc_*; local: xkc_gathering_*; *; };' > exports
+# The steps of a source are the library's own: whole names, which come before patterns.
+steps='xkc_gathering_text; xkc_gathering_names; xkc_gathering_step; xkc_gathering_tell; xkc_gathering_end'
+echo "{ global: xkc_*; local: $steps; *; };" > exports
 hardened=-Wl,-s,-z,relro,-z,noexecstack
 "$compiler" -shared "$hardened,-z,now" -Wl,-soname,libxkc.so.0 -Wl,--version-script=exports -Wl,--no-undefined -o "$out/libxkc.so.0" ./*.o
 
