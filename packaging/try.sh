@@ -2,8 +2,8 @@
 # Tries what release.sh packed in a root of Debian that has xkb-data and a C compiler, and neither the toolchain nor libxkbcommon.
 #   packaging/try.sh [FOLDER [ROOT]]      FOLDER is release.sh's; without ROOT debootstrap makes a root of Debian 12
 # The archive is unpacked and the packages are installed. Either way a layout is compiled by its names, shown and replayed, and the
-# compositor of c/ is compiled and run; then all is removed, and nothing may be left. It takes the rights of root. Each failure is a
-# line, and the last line counts.
+# compositor and the terminal of c/ are compiled and run; then all is removed, and nothing may be left. It takes the rights of
+# root. Each failure is a line, and the last line counts.
 set -u
 top=$(cd "$(dirname "$0")/.." && pwd) || exit 2
 folder=$(cd "${1:-$top/out/release}" && pwd) || exit 2
@@ -50,6 +50,8 @@ used() {
     holds "$1: the compositor is compiled" within "cc -o compositor $2/c/compositor.c \$(pkg-config --cflags --libs xkc)"
     holds "$1: the compositor runs" within 'printf "down 50\ndown 38\n" | ./compositor text client.image | tail -n 1 | grep -qx "A : 1 0 0 0 0 0"'
     holds "$1: its image is the program's" within 'cmp client.image desk.image'
+    holds "$1: the terminal is compiled" within "cc -o terminal $2/c/terminal.c \$(pkg-config --cflags --libs xkc)"
+    holds "$1: the terminal runs" within 'printf "down 50\ndown 38\nup 38\nup 50\ndown 34\n" | ./terminal de | grep -qx Aü'
     holds "$1: the archive is linked" within "cc -static -o alone $2/c/compositor.c \$(pkg-config --cflags --libs xkc) && ! ./alone"
 }
 
