@@ -196,6 +196,13 @@ typedef struct xkc_indicator {
     uint8_t group_states;
 } xkc_indicator;
 
+/* Where a keysym is given: the index of a key, and a group and a level of it, counted from 0. */
+typedef struct xkc_spot {
+    uint32_t key;
+    uint32_t group;
+    uint32_t level;
+} xkc_spot;
+
 /* A folder in which files are looked for: its path, in UTF-8. */
 typedef struct xkc_folder {
     const uint8_t *path;
@@ -299,6 +306,10 @@ uint32_t xkc_keymap_key_of(xkc_keymap *keymap, uint32_t code, uint32_t *index);
 /* The name of a row: of a key, a key type, an indicator, or of the keymap's group of that index, which may be empty. Writes
  * `size`, and answers XKC_OK with the name in `out`, or XKC_ROOM; XKC_MISSING and XKC_EMPTY write nothing. */
 uint32_t xkc_keymap_name(xkc_keymap *keymap, uint32_t kind, uint32_t index, uint8_t *out, size_t room, size_t *size);
+
+/* All places at which a keysym is given, alone or with others. Writes how many they are in `count`, and answers XKC_OK with them
+ * in `spots`, or XKC_ROOM where there is no room for all; XKC_MEMORY and XKC_EMPTY write nothing. Takes memory while it runs. */
+uint32_t xkc_keymap_spots(xkc_keymap *keymap, uint32_t keysym, xkc_spot *spots, size_t room, size_t *count);
 
 /* ---- Sources: what a keymap is compiled from, with the files that its includes reach. These alone read files and the
  * environment. */

@@ -103,13 +103,15 @@ static void rows_of_empty(void)
     xkc_group group;
     xkc_level level;
     xkc_indicator indicator;
+    xkc_spot spot;
     uint32_t number = 7;
     size_t size = 7;
     uint8_t byte;
     holds(xkc_keymap_counts(&empty, &counts) == XKC_EMPTY && xkc_keymap_key(&empty, 0, &key) == XKC_EMPTY && xkc_keymap_type(&empty, 0, &type) == XKC_EMPTY
               && xkc_keymap_entry(&empty, 0, &entry) == XKC_EMPTY && xkc_keymap_group(&empty, 0, &group) == XKC_EMPTY && xkc_keymap_level(&empty, 0, &level) == XKC_EMPTY
               && xkc_keymap_keysym(&empty, 0, &number) == XKC_EMPTY && xkc_keymap_indicator(&empty, 0, &indicator) == XKC_EMPTY
-              && xkc_keymap_key_of(&empty, 38, &number) == XKC_EMPTY && xkc_keymap_name(&empty, XKC_KEY_NAME, 0, &byte, 1, &size) == XKC_EMPTY,
+              && xkc_keymap_key_of(&empty, 38, &number) == XKC_EMPTY && xkc_keymap_name(&empty, XKC_KEY_NAME, 0, &byte, 1, &size) == XKC_EMPTY
+              && xkc_keymap_spots(&empty, 'a', &spot, 1, &size) == XKC_EMPTY,
         "an empty handle has no rows");
     holds(number == 7 && size == 7, "and writes nothing");
 }
@@ -145,6 +147,17 @@ static void rows(void)
     holds(!xkc_keymap_name(&keymap, XKC_GROUP_NAME, 1, name, sizeof name, &size) && is(name, size, "Second"), "the name of a group");
     holds(xkc_keymap_name(&keymap, XKC_GROUP_NAME, 1, name, 5, &size) == XKC_ROOM && size == 6, "no room for a name");
     holds(xkc_keymap_name(&keymap, XKC_GROUP_NAME, 2, name, sizeof name, &size) == XKC_MISSING && xkc_keymap_name(&keymap, 4, 0, name, sizeof name, &size) == XKC_MISSING && size == 6, "rows without a name, and no kind of rows");
+}
+
+static void spots(void)
+{
+    xkc_spot found[2] = {{9, 9, 9}, {9, 9, 9}};
+    size_t count = 7;
+    holds(xkc_keymap_spots(&keymap, 'B', found, 2, &count) == XKC_OK && count == 1 && found[0].key == 0 && found[0].group == 1 && found[0].level == 1, "where a keysym is given");
+    holds(found[1].key == 9 && found[1].group == 9 && found[1].level == 9, "what is behind stays");
+    found[0].key = 9;
+    holds(xkc_keymap_spots(&keymap, 'B', found, 0, &count) == XKC_ROOM && count == 1 && found[0].key == 9, "no room for a spot");
+    holds(xkc_keymap_spots(&keymap, 0x1234568, found, 2, &count) == XKC_OK && count == 0 && found[0].key == 9, "no key gives it");
 }
 
 static void keyboards(void)
@@ -209,6 +222,7 @@ int main(void)
     images();
     rows_of_empty();
     rows();
+    spots();
     keyboards();
     followers();
     xkc_keymap_end(&keymap);

@@ -5,4 +5,5 @@ pub mod LeftInC
 pub mod NamesInC
 pub mod Out
 pub mod RowsInC
+pub mod SpotsInC
 pub mod Typed

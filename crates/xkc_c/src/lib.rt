@@ -19,6 +19,7 @@ mod row;
 mod rows;
 mod source;
 mod source_compiling;
+mod spots;
 mod state;
 mod status;
 mod text;
