@@ -26,11 +26,11 @@ all_prefix p (b ∷ bs) = by (p b) refl (all_prefix p bs)
         ap (λ n. list_all p (take n (b ∷ bs))) on ∙ ap (λ t. t && list_all p (take (prefix_len p bs) bs)) is ∙ rest
     by false is rest = refl
 
-no_string : (e : Extent) (n : ℕ) → string_piece e ≡ Lexeme KeyName n → ⊥
+pub no_string : (e : Extent) (n : ℕ) → string_piece e ≡ Lexeme KeyName n → ⊥
 no_string (Closed k) n h = cc
 no_string (Open k) n h = cc
 
-no_number : (bs : List ℕ) (n : ℕ) → number_piece bs ≡ Lexeme KeyName n → ⊥
+pub no_number : (bs : List ℕ) (n : ℕ) → number_piece bs ≡ Lexeme KeyName n → ⊥
 unfolding number_piece
 no_number bs n h = by (begins_hex bs) (slice_index bs (prefix_len is_ascii_digit bs) == 46) h
   where
@@ -79,7 +79,7 @@ taken_name text offset n (b ∷ bs) here h =
     let rest : drop (offset + 1) text ≡ bs = sym (left text offset 1 (b ∷ bs) here) in
     ap₂ (λ k xs. list_all is_key_byte (take k xs)) count rest ∙ all_prefix is_key_byte bs
 
-one_token : (text : List ℕ) (kind : TokenKind) (offset n : ℕ) (bs : List ℕ) → bs ≡ drop offset text → piece bs ≡ Lexeme kind n → ghosts.eq kind KeyName ≡ true → list_all is_key_byte (inner_of text (token_of kind offset n)) ≡ true
+pub one_token : (text : List ℕ) (kind : TokenKind) (offset n : ℕ) (bs : List ℕ) → bs ≡ drop offset text → piece bs ≡ Lexeme kind n → ghosts.eq kind KeyName ≡ true → list_all is_key_byte (inner_of text (token_of kind offset n)) ≡ true
 one_token text KeyName offset n bs here h key = taken_name text offset n bs here h
 one_token text (Word k) offset n bs here h key = cc
 one_token text Number offset n bs here h key = cc

@@ -12,3 +12,4 @@ pub mod Others
 pub mod Lawful
 pub mod TokenLaws
 pub mod Shorter
+pub mod PassedOver

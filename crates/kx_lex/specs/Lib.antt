@@ -14,3 +14,4 @@ pub mod Spelling
 pub mod Tokens
 pub mod Gives
 pub mod Lists
+pub mod Passing

@@ -6,6 +6,7 @@ pub mod fault;
 pub mod kept;
 pub mod keyword;
 pub mod name;
+pub mod passing;
 pub mod repeated;
 pub mod scan;
 mod start;

@@ -43,7 +43,7 @@ pub enum Piece {
 }
 
 /// A kind of bytes that stand one after another in a text.
-trait Run {
+pub(crate) trait Run {
     ghost has: { ℕ → Bool };
 
     fn has(byte: u8) -> bool
@@ -51,7 +51,7 @@ trait Run {
 }
 
 /// Those of a word.
-struct InWord;
+pub(crate) struct InWord;
 
 impl Run for InWord {
     ghost has = { is_word_byte };
@@ -63,7 +63,7 @@ impl Run for InWord {
 }
 
 /// Blanks.
-struct Blanks;
+pub(crate) struct Blanks;
 
 impl Run for Blanks {
     ghost has = { is_blank };
@@ -75,7 +75,7 @@ impl Run for Blanks {
 }
 
 /// Those of a line.
-struct InLine;
+pub(crate) struct InLine;
 
 impl Run for InLine {
     ghost has = { is_not_line_feed };
@@ -96,7 +96,7 @@ fn short_run_len<R: Run>(bytes: &[u8]) -> usize
 /// How many bytes of a kind stand at the front. Four bytes a turn, since most bytes of a text stand in words, comments and
 /// blanks.
 #[inline(always)]
-fn run_len<R: Run>(bytes: &[u8]) -> usize
+pub(crate) fn run_len<R: Run>(bytes: &[u8]) -> usize
     ensures exact { result ≡ prefix_len R.has bytes.now }
     ensures within { result ≤ length bytes.now }
 {
@@ -121,21 +121,21 @@ fn run_len<R: Run>(bytes: &[u8]) -> usize
     len + short_run_len::<R>(rest)
 }
 
-fn digit_len(bytes: &[u8]) -> usize
+pub(crate) fn digit_len(bytes: &[u8]) -> usize
     ensures exact { result ≡ prefix_len is_ascii_digit bytes.now }
     ensures within { result ≤ length bytes.now }
 {
     bytes.iter().take_while(|b| b.is_ascii_digit()).count()
 }
 
-fn hex_len(bytes: &[u8]) -> usize
+pub(crate) fn hex_len(bytes: &[u8]) -> usize
     ensures exact { result ≡ prefix_len is_ascii_hexdigit bytes.now }
     ensures within { result ≤ length bytes.now }
 {
     bytes.iter().take_while(|b| b.is_ascii_hexdigit()).count()
 }
 
-fn key_len(bytes: &[u8]) -> usize
+pub(crate) fn key_len(bytes: &[u8]) -> usize
     ensures exact { result ≡ prefix_len is_key_byte bytes.now }
     ensures within { result ≤ length bytes.now }
 {
@@ -157,7 +157,7 @@ pub enum Extent {
     Open(usize),
 }
 
-fn text_extent(bytes: &[u8]) -> Extent
+pub(crate) fn text_extent(bytes: &[u8]) -> Extent
     ensures exact { result ≡ extent false bytes.now }
     ensures within { extent_len result ≤ length bytes.now }
 {
@@ -174,7 +174,7 @@ fn text_extent(bytes: &[u8]) -> Extent
     Extent::Open(bytes.len())
 }
 
-fn byte_at(bytes: &[u8], i: usize) -> u8
+pub(crate) fn byte_at(bytes: &[u8], i: usize) -> u8
     ensures { result ≡ slice_index bytes.now i }
 {
     bytes.get(i).copied().unwrap_or(0)
@@ -210,7 +210,7 @@ fn number_piece(bytes: &[u8]) -> Piece
     Piece::Lexeme(TokenKind::Decimal, whole + 1 + fraction)
 }
 
-fn after(bytes: &[u8], n: usize) -> &[u8]
+pub(crate) fn after(bytes: &[u8], n: usize) -> &[u8]
     ensures { result.now ≡ drop n bytes.now }
 {
     bytes.get(n..).unwrap_or(&[])
@@ -218,7 +218,7 @@ fn after(bytes: &[u8], n: usize) -> &[u8]
 
 /// The same where so many bytes stand there, which costs no test.
 #[inline(always)]
-fn past(bytes: &[u8], n: usize) -> &[u8]
+pub(crate) fn past(bytes: &[u8], n: usize) -> &[u8]
     requires { n ≤ length bytes.now }
     ensures { result.now ≡ drop n bytes.now }
 {
@@ -262,7 +262,7 @@ fn word_of(bytes: &[u8], len: usize) -> Piece
 }
 
 #[tactic(auto, using(crate::proofs::Pieces::pieces))]
-fn piece_at(bytes: &[u8]) -> Piece
+pub(crate) fn piece_at(bytes: &[u8]) -> Piece
     requires { length bytes.now ≤ MOST_TEXT_BYTES }
     ensures exact { result ≡ piece bytes.now }
     ensures within { piece_len result ≤ length bytes.now }
@@ -284,7 +284,7 @@ fn piece_at(bytes: &[u8]) -> Piece
     }
 }
 
-fn mark_len(text: &[u8]) -> usize
+pub(crate) fn mark_len(text: &[u8]) -> usize
     ensures { result ≡ mark_len text.now }
 {
     if byte_at(text, 0) == 0xef && byte_at(text, 1) == 0xbb && byte_at(text, 2) == 0xbf {

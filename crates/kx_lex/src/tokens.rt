@@ -216,7 +216,7 @@ pub fn read_key_name<'a>(alloc: Global, text: &[u8], tokens: &'a [Token]) -> Par
 
 /// What text between quotes stands for.
 #[tactic(auto, using(crate::proofs::Strings::plain_texts))]
-fn unescaped(alloc: Global, text: &[u8]) -> Result<Bytes, AllocError>
+pub(crate) fn unescaped(alloc: Global, text: &[u8]) -> Result<Bytes, AllocError>
     ensures { IfOk result (λ bytes. bytes ≡ text_value Plain text.now) }
 {
     if !text.contains(&b'\\') {
@@ -257,7 +257,7 @@ fn measured(value: u64, span: Span) -> Result<Number, Fault>
 /// The value of a number's bytes, or 2^32 where it is greater.
 #[inline(always)]
 #[tactic(auto, unfolding(crate::specs::Kinds::number_value))]
-fn number_value(digits: &[u8]) -> u64
+pub(crate) fn number_value(digits: &[u8]) -> u64
     ensures exact { result < 2 ^ 32 → result ≡ number_value digits.now }
     ensures great { 2 ^ 32 ≤ result → 2 ^ 32 ≤ number_value digits.now }
 {

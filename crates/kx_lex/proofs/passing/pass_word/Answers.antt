@@ -1,0 +1,5 @@
+use Rattle.kx_lex.proofs.PassedOver.{word-passes}
+use Rattle.kx_lex.proofs.passing.pass_word.Goals as goal
+
+pub returns-clause-passes : goal.returns-clause-passes
+returns-clause-passes c = word-passes c.in_ok-len.ensures.exact c.in_ok-len.ensures.within c.past_token.ensures.skips
