@@ -1,10 +1,8 @@
 -- Records for tests: a keycode statement gives its number to the first group of the record of its name's first byte, and
 -- 0 gives nothing.
 use Rattle.std.specs.Prelude.{ℕ, ◌+◌, ◌==◌, ◌&&◌, nat_le, List, [], ◌∷◌, slice_index, Option, None, Some, if◌then◌else◌}
-use Rattle.kx_parse.specs.declared.tree.Item.{Item}
-use Rattle.kx_parse.specs.declared.tree.Item.TheVariants.{Include, Statement}
 use Rattle.kx_parse.specs.declared.tree.Mode.{Mode}
-use Rattle.kx_parse.specs.declared.tree.Statement.{Statement as StatementValue}
+use Rattle.kx_parse.specs.declared.tree.Statement.{Statement}
 use Rattle.kx_parse.specs.declared.tree.Statement.TheVariants.{Keycode}
 use Rattle.kx_merge.specs.Bodies.{Rules, Moves}
 use Rattle.kx_merge.specs.Offers.{Offer}
@@ -19,7 +17,7 @@ abbrev pub sheet_offer : Mode → ℕ → ℕ → Offer ℕ ℕ ℕ
 sheet_offer mode key number = record { mode = mode; name = key; value = sheet_cell (sheet_value number) None; width = λ g. 0 }
 
 -- the first byte of the name and the number of a keycode statement
-abbrev pub keycode_in : StatementValue → Option (ℕ × ℕ)
+abbrev pub keycode_in : Statement → Option (ℕ × ℕ)
 keycode_in (Keycode name code) = Some (slice_index name.bytes 0, code.value)
 keycode_in _ = None
 
@@ -27,12 +25,8 @@ abbrev pub sheet_offers : Mode → Option (ℕ × ℕ) → List (Offer ℕ ℕ �
 sheet_offers mode (Some given) = sheet_offer mode given.0 given.1 ∷ []
 sheet_offers mode None = []
 
-abbrev pub item_sheet : Item → List (Offer ℕ ℕ ℕ)
-item_sheet (Include mode text span) = []
-item_sheet (Statement mode statement first span) = sheet_offers mode (keycode_in statement)
-
 abbrev pub sheet_rules : Rules ℕ ℕ ℕ (Unit {0})
-sheet_rules = record { start = tt; next = λ d item. tt; offers = λ d place item. item_sheet item; faults = λ d place item. [] }
+sheet_rules = record { start = tt; next = λ d stated. tt; offers = λ d place stated. sheet_offers stated.mode (keycode_in stated.statement); faults = λ d place stated. [] }
 
 abbrev pub first_of : ℕ → ℕ → Option ℕ
 first_of n cell = if nat_le n 2 && (cell + 1 == n) then Some 0 else None

@@ -5,7 +5,7 @@ use kx_actions::{ActionDefaults, KeyAction, read, real_action};
 use kx_include::Place;
 use kx_lex::Fault;
 use kx_mods::Mods;
-use kx_parse::{Call, Field, Item, Setting, Statement, Value};
+use kx_parse::{Call, Field, Item, Setting, Stated, Statement, Value};
 use kx_virtual_mods::ModNames;
 use std::alloc::Global;
 
@@ -23,7 +23,7 @@ fn call_in(field: &Field) -> Option<&Call> {
 }
 
 /// The defaults and the action after a field: one without a call is a default.
-fn behind(
+fn after(
     names: &ModNames,
     field: &Field,
     defaults: ActionDefaults,
@@ -31,7 +31,7 @@ fn behind(
 ) -> Result<(ActionDefaults, KeyAction), Fault> {
     match call_in(field) {
         Some(call) => Ok((defaults, read(names, 0, call, &defaults)?)),
-        None => Ok((defaults.behind(names, 0, field)?, action)),
+        None => Ok((defaults.after(names, 0, field)?, action)),
     }
 }
 
@@ -39,12 +39,14 @@ fn behind(
 fn last_action(names: &ModNames, items: &[Item]) -> Result<KeyAction, Fault> {
     let mut so_far = (ActionDefaults::none(), KeyAction::NoAction);
     for item in items {
-        if let Item::Statement {
-            statement: Statement::Field(field),
-            ..
-        } = item
+        if let Item::Statement(
+            Stated {
+                statement: Statement::Field(field),
+                ..
+            },
+        ) = item
         {
-            so_far = behind(names, field.get(), so_far.0, so_far.1)?;
+            so_far = after(names, field.get(), so_far.0, so_far.1)?;
         }
     }
     Ok(so_far.1)

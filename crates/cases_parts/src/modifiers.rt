@@ -2,7 +2,7 @@
 use crate::sources::{bodies_of, library_of, modifiers_of, text_of, tree_of};
 use cases_kit::{Case, Trouble};
 use kx_lex::Fault;
-use kx_parse::{Expression, Item, Setting, Statement, Value};
+use kx_parse::{Expression, Item, Setting, Stated, Statement, Value};
 use kx_virtual_mods::{MOST_VIRTUAL_MODIFIERS, ModNames};
 use std::alloc::Global;
 use std::fmt::Write;
@@ -29,10 +29,12 @@ pub fn declared(alloc: Global, case: &Case) -> Result<String, Trouble> {
 
 /// The expression that an item sets a field to.
 fn field_value(item: &Item) -> Option<&Expression> {
-    let Item::Statement {
-        statement: Statement::Field(field),
-        ..
-    } = item
+    let Item::Statement(
+        Stated {
+            statement: Statement::Field(field),
+            ..
+        },
+    ) = item
     else {
         return None;
     };

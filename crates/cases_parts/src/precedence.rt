@@ -15,7 +15,7 @@ use ks_core::{Note, Notes};
 use kx_include::{Expansion, Place};
 use kx_lex::Fault;
 use kx_merge::{Fields, Merged, merge, merged_value};
-use kx_parse::{Item, Mode, Statement};
+use kx_parse::{Mode, Stated, Statement};
 use std::alloc::Global;
 use std::fmt::Write;
 
@@ -107,16 +107,13 @@ impl Fields<()> for Sheet {
         _context: &(),
         _defaults: (),
         _place: Place,
-        item: &Item,
+        stated: &Stated,
         notes: &mut Notes,
     ) -> Result<(Vec<(u8, Sheet)>, ()), Fault> {
         notes.count(Note::UnknownKey);
-        let sheets = match item {
-            Item::Include { .. } => no_sheets(alloc),
-            Item::Statement { statement, .. } => match keycode_in(statement) {
-                None => no_sheets(alloc),
-                Some((key, number)) => one_sheet(alloc, key, number)?,
-            },
+        let sheets = match keycode_in(&stated.statement) {
+            None => no_sheets(alloc),
+            Some((key, number)) => one_sheet(alloc, key, number)?,
         };
         Ok((sheets, ()))
     }

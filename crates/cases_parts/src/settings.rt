@@ -4,7 +4,7 @@ use cases_kit::{Case, Trouble};
 use kx_include::Place;
 use kx_key_fields::{KeyAttributes, KeyDefaults, read_settings};
 use kx_lex::Fault;
-use kx_parse::{Item, Statement};
+use kx_parse::{Item, Stated, Statement};
 use kx_virtual_mods::ModNames;
 use std::alloc::Global;
 use std::fmt::Write;
@@ -52,11 +52,13 @@ fn join_said(
     defaults: &KeyDefaults,
     settings: &mut KeyAttributes,
 ) -> Result<(), Fault> {
-    if let Item::Statement {
-        mode,
-        statement: Statement::Key { fields, .. },
-        ..
-    } = item
+    if let Item::Statement(
+        Stated {
+            mode,
+            statement: Statement::Key { fields, .. },
+            ..
+        },
+    ) = item
     {
         let said = read_settings(alloc, names, 0, fields.as_slice(), defaults)?;
         settings.merge(said, *mode)?;
@@ -65,17 +67,19 @@ fn join_said(
 }
 
 /// The defaults after an item.
-fn defaults_behind(
+fn defaults_after(
     alloc: Global,
     names: &ModNames,
     item: &Item,
     defaults: KeyDefaults,
 ) -> Result<KeyDefaults, Fault> {
     match item {
-        Item::Statement {
-            statement: Statement::Field(field),
-            ..
-        } => { defaults.behind(alloc, names, 0, field.get()) }
+        Item::Statement(
+            Stated {
+                statement: Statement::Field(field),
+                ..
+            },
+        ) => { defaults.after(alloc, names, 0, field.get()) }
         _ => Ok(defaults),
     }
 }
@@ -86,7 +90,7 @@ fn said_by(alloc: Global, names: &ModNames, items: &[Item]) -> Result<KeyAttribu
     let mut defaults = KeyDefaults::none(alloc);
     for item in items {
         join_said(alloc, names, item, &defaults, &mut settings)?;
-        defaults = defaults_behind(alloc, names, item, defaults)?;
+        defaults = defaults_after(alloc, names, item, defaults)?;
     }
     Ok(settings)
 }

@@ -4,7 +4,7 @@ use cases_kit::{Case, Trouble};
 use kx_include::{Library, Place};
 use kx_lex::Fault;
 use kx_merge::{Counted, expression_of, lone_word, unknown_field};
-use kx_parse::{Expression, Field, Item, Statement};
+use kx_parse::{Expression, Field, Item, Stated, Statement};
 use std::alloc::Global;
 
 const SYMBOLS: Place = Place {
@@ -16,10 +16,12 @@ const SYMBOLS: Place = Place {
 fn field_in<'l>(library: &'l Library) -> Option<&'l Field> {
     match library.items_in(SYMBOLS) {
         [
-            Item::Statement {
-                statement: Statement::Field(field),
-                ..
-            },
+            Item::Statement(
+                Stated {
+                    statement: Statement::Field(field),
+                    ..
+                },
+            ),
             ..
         ] => Some(field.get()),
         _ => None,

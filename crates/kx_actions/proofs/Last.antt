@@ -6,7 +6,7 @@ use Rattle.kx_parse.specs.declared.tree.Field.{Field}
 use Rattle.kx_parse.specs.declared.tree.Index.{Index}
 use Rattle.kx_parse.specs.declared.tree.Setting.{Setting}
 use Rattle.kx_tables.specs.declared.rows.GroupChange.{GroupChange}
-use Rattle.kx_actions.specs.Defaults.{default_for, default_given, defaulted, defaults_behind, given_as, is_same, kind_of, next_defaults, next_for, no_defaults, settings_for, taken_up}
+use Rattle.kx_actions.specs.Defaults.{default_for, default_given, defaulted, defaults_after, given_as, is_same, kind_of, next_defaults, next_for, no_defaults, settings_for, taken_up}
 use Rattle.kx_actions.specs.Settings.{given_affect, given_clear_locks, given_group, given_latch_to_lock, given_modifiers, last_settings, no_settings, with_given}
 use Rattle.kx_actions.specs.Values.{member_given, setting_given}
 use Rattle.kx_merge.specs.Words.{among}
@@ -100,5 +100,5 @@ module _ (names : List (List ℕ)) where
   none_for _ = refl
 
   -- of default statements the last counts
-  pub last_defaults : (statements : List Field) (kind : ActionKind) → settings_for (defaults_behind names statements) kind ≡ defaulted names statements kind
+  pub last_defaults : (statements : List Field) (kind : ActionKind) → settings_for (defaults_after names statements) kind ≡ defaulted names statements kind
   last_defaults statements kind = go no_defaults kind statements ∙ ap (λ s. last_settings (default_given names kind) s statements) (none_for kind)

@@ -72,8 +72,8 @@ module _ (names : List (List ℕ)) where
   next_defaults d field = option_map_or (λ kind. option_map_or (λ g. with_settings d kind (with_given (settings_for d kind) g)) (default_for kind field) d) (kind_of field) d
 
   -- those after statements, from the start of a section
-  abbrev pub defaults_behind : List Field → ActionDefaults
-  defaults_behind statements = fold next_defaults no_defaults statements
+  abbrev pub defaults_after : List Field → ActionDefaults
+  defaults_after statements = fold next_defaults no_defaults statements
 
 module _ (file : ℕ) (names : List (List ℕ)) (field : Field) where
   abbrev pub unknown_faults : List Fault

@@ -56,7 +56,7 @@ fn read_member(
 impl ActionDefaults {
     ghost use Rattle.std.specs.Prelude.{◌≡◌, List, IfOk};
     ghost use Rattle.kx_parse.specs.declared.tree.Field.{Field as FieldValue};
-    ghost use Rattle.kx_actions.specs.Defaults.{default_faults, defaulted, defaults_behind, next_defaults, no_defaults, settings_for, with_settings};
+    ghost use Rattle.kx_actions.specs.Defaults.{default_faults, defaulted, defaults_after, next_defaults, no_defaults, settings_for, with_settings};
     ghost use Rattle.kx_actions.specs.declared.kinds.ActionKind.{ActionKind as Kind};
     ghost use Rattle.kx_merge.specs.Reports.{Reports};
 
@@ -112,10 +112,10 @@ impl ActionDefaults {
     /// word after it where the action has no such argument, or where it has an index; else the faults of the argument:
     /// `BadValue` or `GroupRange` at the value, or at the field where a value is needed and none is written, and
     /// `UnknownModifier` in a mask.
-    pub fn behind(self, names: &ModNames, file: u32, field: &Field) -> Result<ActionDefaults, Fault>
+    pub fn after(self, names: &ModNames, file: u32, field: &Field) -> Result<ActionDefaults, Fault>
         ensures value { IfOk result (λ d. d ≡ next_defaults names.now.names self field.now) }
         ensures last { (statements : List FieldValue) (kind : Kind)
-            → settings_for (defaults_behind names.now.names statements) kind
+            → settings_for (defaults_after names.now.names statements) kind
             ≡ defaulted names.now.names statements kind }
         ensures faults { Reports result (default_faults file names.now.names field.now) }
     {

@@ -8,25 +8,25 @@ use Rattle.ks_core.specs.Table.{KeysymTable}
 use Rattle.kx_compat.specs.Matches.{predicate_faults}
 use Rattle.kx_compat.specs.Meaning.{compat_faults, compat_rules}
 use Rattle.kx_compat.specs.SameMatch.{same_match}
-use Rattle.kx_compat.specs.Sections.{Interpreted, interpretation_faults, interpretation_in, item_faults, no_defaults, next_default, own_faults}
+use Rattle.kx_compat.specs.Sections.{Interpreted, interpretation_faults, interpretation_in, no_defaults, next_default, own_faults, stated_faults}
 use Rattle.kx_compat.specs.declared.defaults.CompatDefaults.{CompatDefaults}
 use Rattle.kx_include.specs.Expansion.{Body, End, Begin, Own, Inc}
 use Rattle.kx_include.specs.declared.place.Place.{Place}
 use Rattle.kx_lex.specs.declared.fault.Fault.{Fault}
 use Rattle.kx_lex.specs.declared.fault.Fault.TheVariants.{Memory}
 use Rattle.kx_merge.specs.Bodies.{Moves, Rules, faults, no_moves}
-use Rattle.kx_parse.specs.declared.tree.Item.{Item}
-use Rattle.kx_parse.specs.declared.tree.Item.TheVariants.{Include, Statement}
+use Rattle.kx_parse.specs.declared.tree.Stated.{Stated}
+use Rattle.kx_symbols.specs.Keys.{field_in}
 use Rattle.kx_symbols.specs.KeyFaults.{symbol_faults}
-use Rattle.kx_clients.specs.InterpretationRepeats.{all_match_faults, match_faults, next_truth, said_faults, truth_rules}
+use Rattle.kx_clients.specs.InterpretationRepeats.{all_match_faults, next_truth, said_faults, truth_rules}
 
 -- ---- Of keys
 
-module _ {K C V D : Type 0} (eq : K → K → Bool) (rules : Rules K C V D) (moves : Moves K C) (none : (d : D) (place : Place) (item : Item) → rules.faults d place item ≡ []) where
+module _ {K C V D : Type 0} (eq : K → K → Bool) (rules : Rules K C V D) (moves : Moves K C) (none : (d : D) (place : Place) (stated : Stated) → rules.faults d place stated ≡ []) where
   pub no_faults : (d : D) (body : Body) → faults eq rules moves d body ≡ []
   no_faults d End = refl
   no_faults d (Begin rest) = no_faults rules.start rest
-  no_faults d (Own place item rest) = ap (λ fs. fs ++ faults eq rules moves (rules.next d item) rest) (none d place item) ∙ no_faults (rules.next d item) rest
+  no_faults d (Own place stated rest) = ap (λ fs. fs ++ faults eq rules moves (rules.next d stated) rest) (none d place stated) ∙ no_faults (rules.next d stated) rest
   no_faults d (Inc mode group body rest) = ap (λ fs. fs ++ faults eq rules moves d rest) (no_faults rules.start body) ∙ no_faults d rest
 
 -- ---- Of interpretations
@@ -36,18 +36,17 @@ module _ (file : ℕ) (names : List (List ℕ)) (e : Fault) where
   said_within None others has = absurd (omega (arith, has.1))
   said_within (Some i) others has = Contains-append_left (symbol_faults file i.0 ++ predicate_faults file names i.1) (flat_map (own_faults file names) i.2) e has
 
-  item_within : (item : Item) → Contains (match_faults names file item) e → Contains (item_faults file names item) e
-  item_within (Statement mode statement first whole) has = said_within (interpretation_in statement) _ has
-  item_within (Include mode text span) has = has
-
 module _ (table : KeysymTable) (names : List (List ℕ)) (e : Fault) where
   within : (d : Option Bool) (k : CompatDefaults) (body : Body) → Contains (faults same_match (truth_rules table names) no_moves d body) e → Contains (faults same_match (compat_rules table names) no_moves k body) e
   within d k End has = has
   within d k (Begin rest) has = within None no_defaults rest has
-  within d k (Own place item rest) has =
-      elim (Contains-append_cases (match_faults names place.file item) (faults same_match (truth_rules table names) no_moves (next_truth d item) rest) e has) [
-        | inl own ↦ Contains-append_left (item_faults place.file names item) (faults same_match (compat_rules table names) no_moves (next_default names k item) rest) e (item_within place.file names e item own)
-        | inr more ↦ Contains-append_right (item_faults place.file names item) (faults same_match (compat_rules table names) no_moves (next_default names k item) rest) e (within (next_truth d item) (next_default names k item) rest more)
+  within d k (Own place stated rest) has =
+      let i = interpretation_in stated.statement in
+      let next = next_default names k (field_in stated.statement) in
+      let said = stated_faults place.file names stated in
+      elim (Contains-append_cases (said_faults names place.file i) (faults same_match (truth_rules table names) no_moves (next_truth d stated.statement) rest) e has) [
+        | inl own ↦ Contains-append_left said (faults same_match (compat_rules table names) no_moves next rest) e (said_within place.file names e i _ own)
+        | inr more ↦ Contains-append_right said (faults same_match (compat_rules table names) no_moves next rest) e (within (next_truth d stated.statement) next rest more)
       ]
   within d k (Inc mode group body rest) has =
       elim (Contains-append_cases (faults same_match (truth_rules table names) no_moves None body) (faults same_match (truth_rules table names) no_moves d rest) e has) [

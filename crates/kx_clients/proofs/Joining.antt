@@ -14,7 +14,7 @@ use Rattle.kx_clients.specs.IndicatorNames.{AreIndicatorNames}
 use Rattle.kx_clients.specs.Aliases.{known_alias, known_aliases}
 use Rattle.kx_clients.specs.DeclaredTypes.{declared_types, defined_type}
 use Rattle.kx_clients.specs.VirtualModifiers.{mods_among}
-use Rattle.kx_clients.specs.KeyRepeats.{field_repeat, item_offers as repeat_item_offers, key_offers as repeat_offers, next_default, repeat_rules, said_repeat}
+use Rattle.kx_clients.specs.KeyRepeats.{field_repeat, key_offers as repeat_offers, next_default, repeat_rules, said_repeat}
 use Rattle.kx_clients.specs.InterpretationRepeats.{match_repeats}
 use Rattle.kx_clients.specs.LeavesOut.{AreLeftOut}
 use Rattle.kx_clients.specs.LeftOut.{LeftOut}
@@ -39,23 +39,21 @@ use Rattle.kx_virtual_mods.specs.Sets.{any_below, has, real_of}
 use Rattle.kx_virtual_mods.specs.Standing.{stands_for}
 use Rattle.kx_merge.specs.Bodies.{no_moves, Rules, faults_of, offers_of}
 use Rattle.kx_merge.specs.Offers.{names_of, offers_to as offers_for, value_of, width_of}
-use Rattle.kx_modmaps.specs.Entries.{entry_target, item_faults as map_item_faults, map_in, targets_of, with_target, word_mask}
-use Rattle.kx_modmaps.specs.Maps.{item_offers as map_item_offers, map_moves, map_offers, map_offers_of, map_rules, offers_to}
+use Rattle.kx_modmaps.specs.Entries.{entry_target, map_in, stated_faults as map_faults, targets_of, with_target, word_mask}
+use Rattle.kx_modmaps.specs.Maps.{map_moves, map_offers, map_offers_of, map_rules, offers_to}
 use Rattle.kx_modmaps.specs.declared.target.Target.{Target}
 use Rattle.kx_modmaps.specs.declared.target.Target.TheVariants.{Key as KeyTarget}
 use Rattle.kx_mods.specs.declared.mods.Mods.{Mods}
 use Rattle.kx_parse.specs.declared.tree.Entry.{Entry as MapEntry}
 use Rattle.kx_parse.specs.declared.tree.Entry.TheVariants.{KeyName, Symbol}
-use Rattle.kx_parse.specs.declared.tree.Item.{Item}
-use Rattle.kx_parse.specs.declared.tree.Item.TheVariants.{Include, Statement}
 use Rattle.kx_parse.specs.declared.tree.Kind.TheVariants.{Compat, Keycodes, Symbols, Types}
 use Rattle.kx_parse.specs.declared.tree.KeyField.{KeyField}
 use Rattle.kx_parse.specs.declared.tree.Mode.{Mode}
 use Rattle.kx_source.specs.Meaning.{codes_in, codes_of, declared_in, declared_masks_of, interpretations_in, key_given, key_in, mapping_by, modifier_bodies_of, modifiers_of, modmap_in, read_keymap_in, typing_in}
 use Rattle.kx_clients.specs.Made.{told_faults}
 use Rattle.kx_source.specs.Source.{keys_faults, maps_faults}
-use Rattle.kx_symbols.specs.KeyFaults.{item_faults, key_in as key_said}
-use Rattle.kx_symbols.specs.Keys.{KeyContent, KeysShow, item_next, item_offers, key_at, key_moves, key_rules, known_under, offered, said_offers}
+use Rattle.kx_symbols.specs.KeyFaults.{key_in as key_said, stated_faults}
+use Rattle.kx_symbols.specs.Keys.{KeyContent, KeysShow, field_in, key_at, key_moves, key_rules, known_under, offered, said_next, said_offers}
 use Rattle.kx_symbols.specs.Known.{Defaults, Known, no_defaults}
 use Rattle.kx_symbols.specs.declared.cells.Cell.{Cell}
 use Rattle.kx_symbols.specs.declared.cells.CellValue.{CellValue}
@@ -90,16 +88,12 @@ module _ (c : Codes) (body : Body) (shows : CodesShow c body) where
     said_same known mode None = refl
     said_same known mode (Some key) = ap (offered known key.1 mode) (code_same key.0.bytes)
 
-    offers_same : (known : Known) (item : Item) → item_offers c known item ≡ item_offers (codes_of body) known item
-    offers_same known (Statement mode statement first span) = said_same known mode (key_said statement)
-    offers_same known (Include mode text span) = refl
-
     pub rules_same : key_rules c names modifiers ≡ key_rules (codes_of body) names modifiers
     rules_same = λ i. record {
       start = no_defaults;
-      next = item_next modifiers;
-      offers = λ d place item. offers_same (known_under c names modifiers d) item i;
-      faults = λ d place item. item_faults place.file (known_under c names modifiers d) item;
+      next = λ d stated. said_next modifiers d (field_in stated.statement);
+      offers = λ d place stated. said_same (known_under c names modifiers d) stated.mode (key_said stated.statement) i;
+      faults = λ d place stated. stated_faults place.file (known_under c names modifiers d) stated;
     }
 
     -- ---- Repeating
@@ -108,16 +102,12 @@ module _ (c : Codes) (body : Body) (shows : CodesShow c body) where
     repeats_same d mode None = refl
     repeats_same d mode (Some key) = ap (offers_for (λ said (cell : Unit {0}). said) mode (last_given field_repeat d key.1)) (code_same key.0.bytes)
 
-    repeat_items_same : (d : Option KeyRepeat) (item : Item) → repeat_item_offers c d item ≡ repeat_item_offers (codes_of body) d item
-    repeat_items_same d (Statement mode statement first span) = repeats_same d mode (key_said statement)
-    repeat_items_same d (Include mode text span) = refl
-
     pub repeat_rules_same : repeat_rules c ≡ repeat_rules (codes_of body)
     repeat_rules_same = λ i. record {
       start = None;
-      next = next_default;
-      offers = λ d place item. repeat_items_same d item i;
-      faults = λ d place item. [];
+      next = λ d stated. next_default d stated.statement;
+      offers = λ d place stated. repeats_same d stated.mode (key_said stated.statement) i;
+      faults = λ d place stated. [];
     }
 
     -- ---- Modifier maps
@@ -133,16 +123,12 @@ module _ (c : Codes) (body : Body) (shows : CodesShow c body) where
     map_same mode None = refl
     map_same mode (Some map) = ap (offers_to mode (word_mask map.0.bytes)) (targets_same map.1)
 
-    map_items_same : (item : Item) → map_item_offers c names item ≡ map_item_offers (codes_of body) names item
-    map_items_same (Statement mode statement first span) = map_same mode (map_in statement)
-    map_items_same (Include mode text span) = refl
-
     pub map_rules_same : map_rules c names modifiers ≡ map_rules (codes_of body) names modifiers
     map_rules_same = λ i. record {
       start = tt;
-      next = λ d item. tt;
-      offers = λ d place item. map_items_same item i;
-      faults = λ d place item. map_item_faults place.file modifiers item;
+      next = λ d stated. tt;
+      offers = λ d place stated. map_same stated.mode (map_in stated.statement) i;
+      faults = λ d place stated. map_faults place.file modifiers stated;
     }
 
 -- ---- What is read

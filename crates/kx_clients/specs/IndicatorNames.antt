@@ -9,24 +9,21 @@ use Rattle.kx_merge.specs.Offers.{Offer, plain_offer, value_of}
 use Rattle.kx_merge.specs.Records.{cell_in}
 use Rattle.kx_merge.specs.Single.{single_cell, single_moves, single_rules}
 use Rattle.kx_merge.specs.declared.single.Single.{Single}
-use Rattle.kx_parse.specs.declared.tree.Item.{Item}
 use Rattle.kx_parse.specs.declared.tree.Mode.{Mode}
-use Rattle.kx_parse.specs.declared.tree.Item.TheVariants.{Include, Statement}
-use Rattle.kx_parse.specs.declared.tree.Statement.{Statement as Said}
-use Rattle.kx_parse.specs.declared.tree.Statement.TheVariants as said
+use Rattle.kx_parse.specs.declared.tree.Statement.{Statement}
+use Rattle.kx_parse.specs.declared.tree.Statement.TheVariants as statements
 use Rattle.kx_clients.specs.declared.indicators.TheConstants.{INDICATORS}
 
 -- a number from 1 to 32, and a name of at most 255 bytes
-abbrev pub named_indicator : Said → Option (ℕ × List ℕ)
-named_indicator (said.IndicatorName number name) = if nat_le 1 number.value && (nat_le number.value INDICATORS && nat_le (length name.bytes) MOST_NAME_BYTES) then Some (number.value, name.bytes) else None
+abbrev pub named_indicator : Statement → Option (ℕ × List ℕ)
+named_indicator (statements.IndicatorName number name) = if nat_le 1 number.value && (nat_le number.value INDICATORS && nat_le (length name.bytes) MOST_NAME_BYTES) then Some (number.value, name.bytes) else None
 named_indicator _ = None
 
-abbrev pub item_offers : Item → List (Offer ℕ (Unit {0}) (List ℕ))
-item_offers (Statement mode statement first span) = option_map_or (λ named. plain_offer mode named.0 (λ _. Some named.1) ∷ []) (named_indicator statement) []
-item_offers (Include mode text span) = []
+abbrev pub named_offers : Mode → Option (ℕ × List ℕ) → List (Offer ℕ (Unit {0}) (List ℕ))
+named_offers mode named = option_map_or (λ n. plain_offer mode n.0 (λ _. Some n.1) ∷ []) named []
 
 abbrev pub indicator_rules : Rules ℕ (Unit {0}) (List ℕ) (Unit {0})
-indicator_rules = single_rules (λ place item. item_offers item) (λ place item. [])
+indicator_rules = single_rules (λ place stated. named_offers stated.mode (named_indicator stated.statement)) (λ place stated. [])
 
 abbrev pub kept_number : ℕ → ℕ → Option ℕ
 kept_number n number = Some number
@@ -50,9 +47,6 @@ pub record AreIndicatorNames (names : List (List ℕ)) (body : Body) : Type 0 wh
 
 abbrev pub name_offer : Mode → ℕ → List ℕ → Offer ℕ (Unit {0}) (List ℕ)
 name_offer mode number name = plain_offer mode number (λ _. Some name)
-
-abbrev pub named_offers : Mode → Option (ℕ × List ℕ) → List (Offer ℕ (Unit {0}) (List ℕ))
-named_offers mode named = option_map_or (λ n. plain_offer mode n.0 (λ _. Some n.1) ∷ []) named []
 
 abbrev pub name_recorded : {S : Type 0} → IndexMap ℕ (Single (List ℕ)) S → ℕ → List ℕ
 name_recorded records number = unwrap_or (cell_in single_cell (get nat_eq records number) tt) []

@@ -17,10 +17,8 @@ use Rattle.kx_merge.specs.Bodies.{Moves, Rules, faults_of, no_moves, offers_of}
 use Rattle.kx_merge.specs.Last.{last_given}
 use Rattle.kx_merge.specs.Offers.{Offer, offers_to, value_of}
 use Rattle.kx_parse.specs.declared.tree.Field.{Field}
-use Rattle.kx_parse.specs.declared.tree.Item.{Item}
-use Rattle.kx_parse.specs.declared.tree.Item.TheVariants.{Include, Statement}
 use Rattle.kx_parse.specs.declared.tree.Mode.{Mode}
-use Rattle.kx_parse.specs.declared.tree.Statement.{Statement as Said}
+use Rattle.kx_parse.specs.declared.tree.Statement.{Statement}
 use Rattle.kx_symbols.specs.KeyFaults.{symbol_faults}
 
 -- what a field says whose word is this one; with an index it says nothing
@@ -34,13 +32,9 @@ field_truth field = if is_some field.place.member then None else named_truth fie
 abbrev pub default_truth : Field → Option Bool
 default_truth field = if is_interpret field.place.word.bytes then option_and_then (λ member. named_truth member field) field.place.member else None
 
-abbrev pub next_said : Option Bool → Said → Option Bool
-next_said d statement = option_or (option_and_then default_truth (field_in statement)) d
-
 -- the default after a statement
-abbrev pub next_truth : Option Bool → Item → Option Bool
-next_truth d (Statement mode statement first span) = next_said d statement
-next_truth d (Include mode text span) = d
+abbrev pub next_truth : Option Bool → Statement → Option Bool
+next_truth d statement = option_or (option_and_then default_truth (field_in statement)) d
 
 abbrev pub TruthOffer : Type 0
 TruthOffer = Offer InterpretationMatch (Unit {0}) Bool
@@ -51,22 +45,19 @@ module _ (names : List (List ℕ)) where
   abbrev pub said_faults : ℕ → Option Interpreted → List Fault
   said_faults file i = option_map_or (λ i. symbol_faults file i.0 ++ predicate_faults file names i.1) i []
 
-  abbrev pub match_faults : ℕ → Item → List Fault
-  match_faults file (Statement mode statement first span) = said_faults file (interpretation_in statement)
-  match_faults file (Include mode text span) = []
-
 -- `table` are the names of keysyms, `names` the virtual modifiers by number
 module _ (table : KeysymTable) (names : List (List ℕ)) where
   -- an interpretation gives what its last such field says, else the default before it
   abbrev pub truth_offers : Option Bool → Mode → Option Interpreted → List TruthOffer
   truth_offers d mode i = option_map_or (λ i. offers_to (λ said (cell : Unit {0}). said) mode (last_given field_truth d i.2) (match_of table i.0 i.1)) i []
 
-  abbrev pub item_truths : Option Bool → Item → List TruthOffer
-  item_truths d (Statement mode statement first span) = truth_offers d mode (interpretation_in statement)
-  item_truths d (Include mode text span) = []
-
   abbrev pub truth_rules : Rules InterpretationMatch (Unit {0}) Bool (Option Bool)
-  truth_rules = record { start = None; next = next_truth; offers = λ d place item. item_truths d item; faults = λ d place item. match_faults names place.file item }
+  truth_rules = record {
+    start = None;
+    next = λ d stated. next_truth d stated.statement;
+    offers = λ d place stated. truth_offers d stated.mode (interpretation_in stated.statement);
+    faults = λ d place stated. said_faults names place.file (interpretation_in stated.statement);
+  }
 
   -- whether the keys of an interpretation repeat, by precedence; where a compat body doesn't say so, they don't
   abbrev pub match_repeats : Body → InterpretationMatch → Bool

@@ -13,13 +13,11 @@ use Rattle.kx_merge.specs.Last.{last_given}
 use Rattle.kx_merge.specs.Offers.{Offer, offers_to, value_of}
 use Rattle.kx_merge.specs.Words.{meaning_among}
 use Rattle.kx_parse.specs.declared.tree.Field.{Field}
-use Rattle.kx_parse.specs.declared.tree.Item.{Item}
-use Rattle.kx_parse.specs.declared.tree.Item.TheVariants.{Include, Statement}
 use Rattle.kx_parse.specs.declared.tree.KeyField.{KeyField}
 use Rattle.kx_parse.specs.declared.tree.KeyField.TheVariants as fields
 use Rattle.kx_parse.specs.declared.tree.Mode.{Mode}
 use Rattle.kx_parse.specs.declared.tree.Setting.{Setting}
-use Rattle.kx_parse.specs.declared.tree.Statement.{Statement as Said}
+use Rattle.kx_parse.specs.declared.tree.Statement.{Statement}
 use Rattle.kx_symbols.specs.KeyFaults.{key_in}
 use Rattle.kx_symbols.specs.Keys.{field_in}
 use Rattle.kx_clients.specs.declared.key_repeat.KeyRepeat.{KeyRepeat}
@@ -51,13 +49,9 @@ field_repeat (fields.List list) = None
 abbrev pub default_repeat : Field → Option KeyRepeat
 default_repeat field = if is_key_word field.place.word.bytes then option_and_then (λ member. named_repeat member field) field.place.member else None
 
-abbrev pub next_said : Option KeyRepeat → Said → Option KeyRepeat
-next_said d statement = option_or (option_and_then default_repeat (field_in statement)) d
-
 -- the default after a statement
-abbrev pub next_default : Option KeyRepeat → Item → Option KeyRepeat
-next_default d (Statement mode statement first span) = next_said d statement
-next_default d (Include mode text span) = d
+abbrev pub next_default : Option KeyRepeat → Statement → Option KeyRepeat
+next_default d statement = option_or (option_and_then default_repeat (field_in statement)) d
 
 abbrev pub RepeatOffer : Type 0
 RepeatOffer = Offer ℕ (Unit {0}) KeyRepeat
@@ -67,12 +61,13 @@ module _ (codes : Codes) where
   abbrev pub key_offers : Option KeyRepeat → Mode → Option (Name × List KeyField) → List RepeatOffer
   key_offers d mode key = option_map_or (λ k. offers_to (λ said (cell : Unit {0}). said) mode (last_given field_repeat d k.1) (code_of codes k.0.bytes)) key []
 
-  abbrev pub item_offers : Option KeyRepeat → Item → List RepeatOffer
-  item_offers d (Statement mode statement first span) = key_offers d mode (key_in statement)
-  item_offers d (Include mode text span) = []
-
   abbrev pub repeat_rules : Rules ℕ (Unit {0}) KeyRepeat (Option KeyRepeat)
-  repeat_rules = record { start = None; next = next_default; offers = λ d place item. item_offers d item; faults = λ d place item. [] }
+  repeat_rules = record {
+    start = None;
+    next = λ d stated. next_default d stated.statement;
+    offers = λ d place stated. key_offers d stated.mode (key_in stated.statement);
+    faults = λ d place stated. [];
+  }
 
   -- what a symbols body says of the key of a code, by precedence
   abbrev pub said_repeat : Body → ℕ → Option KeyRepeat

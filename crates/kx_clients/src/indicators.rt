@@ -5,18 +5,18 @@ ghost use Rattle.std.proofs.Common.{◌∙◌, ap, eqb-true, sym};
 ghost use Rattle.kx_include.specs.Shared.{expanded_body};
 ghost use Rattle.kx_lex.specs.declared.fault.Fault.TheVariants.{Memory};
 ghost use Rattle.kx_merge.specs.Moved.{moved_key};
-ghost use Rattle.kx_merge.specs.Records.{AreOffered, mode_of};
+ghost use Rattle.kx_merge.specs.Records.{AreOffered};
 ghost use Rattle.kx_merge.specs.Reports.{ReportsOrRunsOut};
 ghost use Rattle.kx_merge.specs.Single.{single_cell, single_moves, single_width};
 ghost use Rattle.kx_parse.specs.declared.tree.Mode.{Mode as ModeValue};
-ghost use Rattle.kx_clients.specs.IndicatorNames.{AreIndicatorNames, item_offers, kept_number, name_at, name_recorded, name_offer, named_indicator, named_offers};
+ghost use Rattle.kx_clients.specs.IndicatorNames.{AreIndicatorNames, kept_number, name_at, name_recorded, name_offer, named_indicator, named_offers};
 
 use kx_basics::MOST_NAME_BYTES;
 use kx_include::{Expansion, Place};
 use kx_lex::{Bytes, Fault};
 use kx_merge::{Single, SingleValue, merge, none_given, one_given};
 use kx_ordered::Ordered;
-use kx_parse::{Item, Statement};
+use kx_parse::{Stated, Statement};
 use std::alloc::{AllocError, Global};
 use std::marker::Model;
 
@@ -105,25 +105,13 @@ fn read_statement(
     }
 }
 
-/// The name that an item gives an indicator.
-fn read_item(alloc: Global, item: &Item) -> Result<Vec<(u8, Single<IndicatorName>)>, Fault>
-    ensures records { IfOk result (λ records.
-        AreOffered (mode_of item.now) single_cell single_width records.items
-        (item_offers item.now)) }
-    ensures faults { ReportsOrRunsOut result [] }
-{
-    match item {
-        Item::Include { .. } => Ok(none_given(alloc)),
-        Item::Statement { statement, .. } => read_statement(alloc, statement),
-    }
-}
-
 impl SingleValue<()> for IndicatorName {
     type Key = u8;
 
-    ghost offers = { λ context place item. item_offers item };
+    ghost offers = { λ context place stated.
+        named_offers stated.mode (named_indicator stated.statement) };
 
-    ghost faults = { λ context place item. [] };
+    ghost faults = { λ context place stated. [] };
 
     ghost moved = { kept_number };
 
@@ -131,9 +119,9 @@ impl SingleValue<()> for IndicatorName {
         alloc: Global,
         _context: &(),
         _place: Place,
-        item: &Item,
+        stated: &Stated,
     ) -> Result<Vec<(u8, Single<IndicatorName>)>, Fault> {
-        read_item(alloc, item)
+        read_statement(alloc, &stated.statement)
     }
 
     fn try_clone(&self, alloc: Global) -> Result<IndicatorName, Fault> {

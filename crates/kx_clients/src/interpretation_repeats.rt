@@ -8,11 +8,11 @@ ghost use Rattle.kx_lex.specs.declared.fault.Fault.TheVariants.{Memory};
 ghost use Rattle.kx_merge.specs.Last.{last_given};
 ghost use Rattle.kx_merge.specs.Moved.{moved_key, moved_value, moved_width};
 ghost use Rattle.kx_merge.specs.Offers.{merged_value, merged_width};
-ghost use Rattle.kx_merge.specs.Records.{AreOffered, mode_of};
+ghost use Rattle.kx_merge.specs.Records.{AreOffered};
 ghost use Rattle.kx_merge.specs.Reports.{ReportsOrRunsOut};
 ghost use Rattle.kx_merge.specs.Words.{meaning_among, truth_words};
 ghost use Rattle.kx_parse.specs.declared.tree.Mode.{Mode as ModeValue};
-ghost use Rattle.kx_clients.specs.InterpretationRepeats.{default_truth, field_truth, item_truths, match_faults, named_truth, next_said, next_truth, said_faults, truth_moves, truth_offers, truth_rules};
+ghost use Rattle.kx_clients.specs.InterpretationRepeats.{default_truth, field_truth, named_truth, next_truth, said_faults, truth_moves, truth_offers, truth_rules};
 ghost use Rattle.kx_clients.specs.Records.{truth_cell, truth_width};
 
 use ks_core::{NameTable, Notes};
@@ -21,7 +21,7 @@ use kx_include::{Expansion, Place};
 use kx_lex::{Boxed, Fault, Name, Row};
 use kx_merge::{Fields, lone_word, merge, merged_value, records_for, truth_named};
 use kx_ordered::Ordered;
-use kx_parse::{Expression, Field, Item, Mode, Predicate, Setting, Statement, Symbol, Value};
+use kx_parse::{Expression, Field, Mode, Predicate, Setting, Stated, Statement, Symbol, Value};
 use kx_virtual_mods::ModNames;
 use std::alloc::Global;
 
@@ -172,8 +172,8 @@ fn read_interpretation(
 }
 
 /// The default after a statement that is no interpretation.
-fn behind(default: Option<bool>, statement: &Statement) -> Option<bool>
-    ensures { result ≡ next_said default statement.now }
+fn default_after(default: Option<bool>, statement: &Statement) -> Option<bool>
+    ensures { result ≡ next_truth default statement.now }
 {
     match statement {
         Statement::Field(field) => default_truth(field.get()).or(default),
@@ -193,38 +193,15 @@ fn read_statement(
         → IfOk result (λ said. AreOffered mode truth_cell truth_width said.0.items
         (truth_offers context.now.table.now context.now.names.now.names default mode
         (interpretation_in statement.now))) }
-    ensures next { IfOk result (λ said. said.1 ≡ next_said default statement.now) }
+    ensures next { IfOk result (λ said. said.1 ≡ next_truth default statement.now) }
     ensures faults { ReportsOrRunsOut result
         (said_faults context.now.names.now.names file (interpretation_in statement.now)) }
 {
     match interpretation_in(statement) {
-        None => Ok((no_records(alloc), behind(default, statement))),
+        None => Ok((no_records(alloc), default_after(default, statement))),
         Some(interpretation) => {
             let records = read_interpretation(alloc, context, file, default, interpretation)?;
-            Ok((records, behind(default, statement)))
-        }
-    }
-}
-
-/// What an item of a compat section gives, and the default after it.
-fn read_item(
-    alloc: Global,
-    context: &Context,
-    file: u32,
-    default: Option<bool>,
-    item: &Item,
-) -> Result<(Vec<(InterpretationMatch, SaidOfMatch)>, Option<bool>), Fault>
-    ensures records { IfOk result (λ said.
-        AreOffered (mode_of item.now) truth_cell truth_width said.0.items
-        (item_truths context.now.table.now context.now.names.now.names default item.now)) }
-    ensures next { IfOk result (λ said. said.1 ≡ next_truth default item.now) }
-    ensures faults { ReportsOrRunsOut result
-        (match_faults context.now.names.now.names file item.now) }
-{
-    match item {
-        Item::Include { .. } => Ok((no_records(alloc), default)),
-        Item::Statement { statement, .. } => {
-            read_statement(alloc, context, file, default, statement)
+            Ok((records, default_after(default, statement)))
         }
     }
 }
@@ -255,10 +232,10 @@ impl<'a> Fields<Context<'a>> for SaidOfMatch {
         context: &Context<'a>,
         default: Option<bool>,
         place: Place,
-        item: &Item,
+        stated: &Stated,
         _notes: &mut Notes,
     ) -> Result<(Vec<(InterpretationMatch, SaidOfMatch)>, Option<bool>), Fault> {
-        read_item(alloc, context, place.file, default, item)
+        read_statement(alloc, context, place.file, default, &stated.statement)
     }
 
     fn merge(&mut self, _alloc: Global, other: SaidOfMatch, mode: Mode) -> Result<(), Fault>

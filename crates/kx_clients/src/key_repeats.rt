@@ -6,11 +6,11 @@ ghost use Rattle.kx_lex.specs.declared.fault.Fault.TheVariants.{Memory};
 ghost use Rattle.kx_merge.specs.Last.{last_given};
 ghost use Rattle.kx_merge.specs.Moved.{moved_key, moved_value, moved_width};
 ghost use Rattle.kx_merge.specs.Offers.{merged_value, merged_width};
-ghost use Rattle.kx_merge.specs.Records.{AreOffered, mode_of};
+ghost use Rattle.kx_merge.specs.Records.{AreOffered};
 ghost use Rattle.kx_merge.specs.Words.{among, meaning_among};
 ghost use Rattle.kx_parse.specs.declared.tree.Mode.{Mode as ModeValue};
 ghost use Rattle.kx_symbols.specs.KeyFaults.{key_in};
-ghost use Rattle.kx_clients.specs.KeyRepeats.{default_repeat, field_repeat, is_repeat_word, item_offers, key_offers, named_repeat, next_default, next_said, own_repeat, repeat_in, repeat_moves, repeat_rules, repeat_words};
+ghost use Rattle.kx_clients.specs.KeyRepeats.{default_repeat, field_repeat, is_repeat_word, key_offers, named_repeat, next_default, own_repeat, repeat_in, repeat_moves, repeat_rules, repeat_words};
 ghost use Rattle.kx_clients.specs.Records.{repeat_cell, repeat_width};
 
 use crate::key_repeat::KeyRepeat;
@@ -21,7 +21,7 @@ use kx_key_fields::is_key_word;
 use kx_lex::{Fault, KeyName, Name, SmallRow};
 use kx_merge::{Fields, lone_word, merge, merged_value, records_for};
 use kx_ordered::Ordered;
-use kx_parse::{Expression, Field, Item, KeyField, Mode, Setting, Statement, Value};
+use kx_parse::{Expression, Field, KeyField, Mode, Setting, Stated, Statement, Value};
 use std::alloc::Global;
 
 // ---- Fields
@@ -171,8 +171,8 @@ fn read_key(
 }
 
 /// The default after a statement that is about no key.
-fn behind(default: Option<KeyRepeat>, statement: &Statement) -> Option<KeyRepeat>
-    ensures { result ≡ next_said default statement.now }
+fn default_after(default: Option<KeyRepeat>, statement: &Statement) -> Option<KeyRepeat>
+    ensures { result ≡ next_default default statement.now }
 {
     match statement {
         Statement::Field(field) => default_repeat(field.get()).or(default),
@@ -190,34 +190,15 @@ fn read_statement(
     ensures records { (mode : ModeValue)
         → IfOk result (λ said. AreOffered mode repeat_cell repeat_width said.0.items
         (key_offers codes.now default mode (key_in statement.now))) }
-    ensures next { IfOk result (λ said. said.1 ≡ next_said default statement.now) }
+    ensures next { IfOk result (λ said. said.1 ≡ next_default default statement.now) }
     ensures err { IfErr result (λ e. e ≡ Memory) }
 {
     match key_in(statement) {
-        None => Ok((no_records(alloc), behind(default, statement))),
+        None => Ok((no_records(alloc), default_after(default, statement))),
         Some((name, fields)) => {
             let records = read_key(alloc, codes, default, name, fields)?;
-            Ok((records, behind(default, statement)))
+            Ok((records, default_after(default, statement)))
         }
-    }
-}
-
-/// What an item of a symbols section gives, and the default after it.
-fn read_item(
-    alloc: Global,
-    codes: &Codes,
-    default: Option<KeyRepeat>,
-    item: &Item,
-) -> Result<(Vec<(u16, SaidOfKey)>, Option<KeyRepeat>), Fault>
-    ensures records { IfOk result (λ said.
-        AreOffered (mode_of item.now) repeat_cell repeat_width said.0.items
-        (item_offers codes.now default item.now)) }
-    ensures next { IfOk result (λ said. said.1 ≡ next_default default item.now) }
-    ensures err { IfErr result (λ e. e ≡ Memory) }
-{
-    match item {
-        Item::Include { .. } => Ok((no_records(alloc), default)),
-        Item::Statement { statement, .. } => read_statement(alloc, codes, default, statement),
     }
 }
 
@@ -247,10 +228,10 @@ impl<'l> Fields<Codes<'l>> for SaidOfKey {
         codes: &Codes<'l>,
         default: Option<KeyRepeat>,
         _place: Place,
-        item: &Item,
+        stated: &Stated,
         _notes: &mut Notes,
     ) -> Result<(Vec<(u16, SaidOfKey)>, Option<KeyRepeat>), Fault> {
-        read_item(alloc, codes, default, item)
+        read_statement(alloc, codes, default, &stated.statement)
     }
 
     fn merge(&mut self, _alloc: Global, other: SaidOfKey, mode: Mode) -> Result<(), Fault>

@@ -18,7 +18,7 @@ use Rattle.kx_codes.proofs.Distinct.{all_distinct, from_distinct}
 use Rattle.kx_codes.proofs.Numbering.{none_stand, same_distinct, stands_alike, stands_grow, took_others}
 use Rattle.kx_codes.specs.Numbers.{Grows, IsOnce, StandsIn}
 use Rattle.kx_codes.proofs.Standing.{once_stands}
-use Rattle.kx_codes.specs.CodeFaults.{faults_of, own_faults}
+use Rattle.kx_codes.specs.CodeFaults.{faults_of, said_faults}
 use Rattle.kx_codes.specs.Gathering.{AreGathered, Blames, IsFound, IsGathered, Leaves, Took}
 use Rattle.kx_codes.specs.Indexed.{Indexed, Stands, distinct}
 use Rattle.kx_codes.specs.Pairs.{Pair, all_taken, pairs_from, pairs_of}
@@ -58,7 +58,7 @@ going_new names g whole left s p f = record {
 
 module _ (bodies : List Body) where
   split-entry : (place : Place) (x : Entry) (xs : List Entry) → Splits (entries_body bodies place (x ∷ xs) End) (entries_body bodies place (x ∷ []) End) (entries_body bodies place xs End)
-  split-entry place (entry.Own item) xs = record { pairs_split = λ ps. refl; faults_split = ap (λ fs. fs ++ faults_of (entries_body bodies place xs End)) (sym (append-nil _)) }
+  split-entry place (entry.Own stated) xs = record { pairs_split = λ ps. refl; faults_split = ap (λ fs. fs ++ faults_of (entries_body bodies place xs End)) (sym (append-nil _)) }
   split-entry place (entry.Include mode links) xs = record { pairs_split = λ ps. refl; faults_split = ap (λ fs. fs ++ faults_of (entries_body bodies place xs End)) (sym (append-nil _)) }
 
   pub split_entry : (place : Place) (es : List Entry) (i : ℕ) (x : Entry) → i < length es → x ≡ get_or es i x → Splits (entries_body bodies place (drop i es) End) (entries_body bodies place (x ∷ []) End) (entries_body bodies place (drop (i + 1) es) End)
@@ -70,12 +70,14 @@ module _ (bodies : List Body) where
 
   pairs-behind : (place : Place) (xs : List Entry) (rest : Body) (ps : List Pair) → pairs_from ps (entries_body bodies place xs rest) ≡ pairs_from (pairs_from ps (entries_body bodies place xs End)) rest
   pairs-behind place [] rest ps = refl
-  pairs-behind place (entry.Own item ∷ xs) rest ps = pairs-behind place xs rest (pairs_from ps (Own place item.now End))
+  pairs-behind place (entry.Own stated ∷ xs) rest ps = pairs-behind place xs rest (pairs_from ps (Own place stated.now End))
   pairs-behind place (entry.Include mode links ∷ xs) rest ps = pairs-behind place xs rest (pairs_from ps (Inc mode None (links_body bodies links.items) End))
 
   faults-behind : (place : Place) (xs : List Entry) (rest : Body) → faults_of (entries_body bodies place xs rest) ≡ faults_of (entries_body bodies place xs End) ++ faults_of rest
   faults-behind place [] rest = refl
-  faults-behind place (entry.Own item ∷ xs) rest = ap (λ gs. own_faults place.file item.now ++ gs) (faults-behind place xs rest) ∙ sym (append_assoc (own_faults place.file item.now) (faults_of (entries_body bodies place xs End)) (faults_of rest))
+  faults-behind place (entry.Own stated ∷ xs) rest =
+      (let said = said_faults place.file stated.now.statement stated.now.first stated.now.span in
+      ap (λ gs. said ++ gs) (faults-behind place xs rest) ∙ sym (append_assoc said (faults_of (entries_body bodies place xs End)) (faults_of rest)))
   faults-behind place (entry.Include mode links ∷ xs) rest = ap (λ gs. faults_of (links_body bodies links.items) ++ gs) (faults-behind place xs rest) ∙ sym (append_assoc (faults_of (links_body bodies links.items)) (faults_of (entries_body bodies place xs End)) (faults_of rest))
 
   pub split_section : (ms : List Map) (i : ℕ) (m : Map) → i < length ms → m ≡ get_or ms i m → Splits (shared_sections bodies (drop i ms)) (shared_body bodies m End) (shared_sections bodies (drop (i + 1) ms))

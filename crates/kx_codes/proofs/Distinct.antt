@@ -6,15 +6,13 @@ use Rattle.std.specs.Str.{bytes_eq}
 use Rattle.std.proofs.lemmas.Bool.{false≢true, or_from, or_right}
 use Rattle.std.proofs.lemmas.List.Folds.{list_any-append}
 use Rattle.std.proofs.lemmas.Slice.Eq.{bytes_eq-Decides}
-use Rattle.kx_parse.specs.declared.tree.Item.{Item}
-use Rattle.kx_parse.specs.declared.tree.Item.TheVariants.{Include, Statement}
 use Rattle.kx_parse.specs.declared.tree.Mode.{Mode}
 use Rattle.kx_parse.specs.declared.tree.Mode.TheVariants.{Augment, Override, Replace}
 use Rattle.kx_parse.specs.declared.tree.Statement.{Statement as Said}
 use Rattle.kx_parse.specs.declared.tree.Statement.TheVariants as said
 use Rattle.kx_include.specs.Expansion.{Body, End, Begin, Own, Inc}
 use Rattle.kx_codes.specs.Indexed.{distinct}
-use Rattle.kx_codes.specs.Pairs.{Pair, shares, without, taken, all_taken, said_pairs, own_pairs, pairs_from, code_in, name_in}
+use Rattle.kx_codes.specs.Pairs.{Pair, shares, without, taken, all_taken, said_pairs, pairs_from, code_in, name_in}
 use Rattle.kx_merge.proofs.OnePart.{or-first, or-last}
 
 either-way : (a b c d : Bool) → (c ≡ true → a ≡ true) → (d ≡ true → b ≡ true) → (a || b) ≡ false → (c || d) ≡ false
@@ -90,14 +88,10 @@ said-distinct : (mode : Mode) (s : Said) (ps : List Pair) → distinct ps ≡ tr
 said-distinct mode (said.Keycode name code) ps h = taken_distinct mode ps (record { name = name.bytes; code = code.value }) h
 said-distinct mode _ ps h = h
 
-own-distinct : (item : Item) (ps : List Pair) → distinct ps ≡ true → distinct (own_pairs item ps) ≡ true
-own-distinct (Statement mode statement first span) ps h = said-distinct mode statement ps h
-own-distinct (Include mode text span) ps h = h
-
 pub from_distinct : (ps : List Pair) (body : Body) → distinct ps ≡ true → distinct (pairs_from ps body) ≡ true
 from_distinct ps End h = h
 from_distinct ps (Begin rest) h = from_distinct ps rest h
-from_distinct ps (Own place item rest) h = from_distinct (own_pairs item ps) rest (own-distinct item ps h)
+from_distinct ps (Own place stated rest) h = from_distinct (said_pairs stated.mode stated.statement ps) rest (said-distinct stated.mode stated.statement ps h)
 from_distinct ps (Inc mode group body rest) h = from_distinct (all_taken mode ps (pairs_from [] body)) rest (all_distinct mode ps (pairs_from [] body) h)
 
 or-left : (a b r : Bool) → a ≡ true → ((a || b) || r) ≡ true

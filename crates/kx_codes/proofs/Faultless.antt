@@ -7,14 +7,12 @@ use Rattle.kx_lex.specs.declared.fault.Fault.{Fault}
 use Rattle.kx_lex.specs.declared.fault.Fault.TheVariants.{Memory}
 use Rattle.kx_lex.specs.declared.token.Span.{Span}
 use Rattle.kx_merge.specs.Bodies.{faults, no_moves}
-use Rattle.kx_parse.specs.declared.tree.Item.{Item}
-use Rattle.kx_parse.specs.declared.tree.Item.TheVariants.{Include, Statement}
 use Rattle.kx_parse.specs.declared.tree.Statement.{Statement as Said}
 use Rattle.kx_parse.specs.declared.tree.Statement.TheVariants as said
 use Rattle.kx_merge.specs.Reports.{ReportsOrRunsOut}
 use Rattle.kx_merge.proofs.Going.{reported_or_out}
-use Rattle.kx_codes.specs.Aliases.{alias_in, alias_rules, item_name_faults, said_name_faults}
-use Rattle.kx_codes.specs.CodeFaults.{faults_of, own_faults, said_faults}
+use Rattle.kx_codes.specs.Aliases.{alias_faults, alias_in, alias_rules}
+use Rattle.kx_codes.specs.CodeFaults.{faults_of, said_faults}
 
 none-left : (fs gs : List Fault) → fs ++ gs ≡ [] → fs ≡ []
 none-left [] gs none = refl
@@ -27,18 +25,16 @@ none-right (f ∷ fs) gs none = Prim.search rules
 none-both : (fs gs : List Fault) → fs ≡ [] → gs ≡ [] → fs ++ gs ≡ []
 none-both fs gs left right = ap (λ xs. xs ++ gs) left ∙ right
 
-said-faultless : (file : ℕ) (statement : Said) (first whole : Span) → said_faults file statement first whole ≡ [] → said_name_faults file whole (alias_in statement) ≡ []
+said-faultless : (file : ℕ) (statement : Said) (first whole : Span) → said_faults file statement first whole ≡ [] → alias_faults file whole (alias_in statement) ≡ []
 said-faultless file (said.Alias name target) first whole none = none
 said-faultless file _ first whole none = refl
-
-own-faultless : (file : ℕ) (item : Item) → own_faults file item ≡ [] → item_name_faults file item ≡ []
-own-faultless file (Statement mode statement first span) none = said-faultless file statement first span none
-own-faultless file (Include mode text span) none = refl
 
 pub aliases_faultless : (body : Body) → faults_of body ≡ [] → faults bytes_eq alias_rules no_moves tt body ≡ []
 aliases_faultless End none = refl
 aliases_faultless (Begin rest) none = aliases_faultless rest none
-aliases_faultless (Own place item rest) none = none-both (item_name_faults place.file item) (faults bytes_eq alias_rules no_moves tt rest) (own-faultless place.file item (none-left (own_faults place.file item) (faults_of rest) none)) (aliases_faultless rest (none-right (own_faults place.file item) (faults_of rest) none))
+aliases_faultless (Own place stated rest) none =
+    let said = said_faults place.file stated.statement stated.first stated.span in
+    none-both (alias_faults place.file stated.span (alias_in stated.statement)) (faults bytes_eq alias_rules no_moves tt rest) (said-faultless place.file stated.statement stated.first stated.span (none-left said (faults_of rest) none)) (aliases_faultless rest (none-right said (faults_of rest) none))
 aliases_faultless (Inc mode group body rest) none = none-both (faults bytes_eq alias_rules no_moves tt body) (faults bytes_eq alias_rules no_moves tt rest) (aliases_faultless body (none-left (faults_of body) (faults_of rest) none)) (aliases_faultless rest (none-right (faults_of body) (faults_of rest) none))
 
 -- what aliases are refused for is lack of memory there

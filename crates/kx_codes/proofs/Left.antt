@@ -7,12 +7,10 @@ use Rattle.std.proofs.lemmas.List.{append_assoc, append-nil, reverse-append}
 use Rattle.std.proofs.lemmas.List.Sums.{fold-append}
 use Rattle.std.proofs.lemmas.Slice.Eq.{bytes_eq-Decides}
 use Rattle.kx_codes.specs.Indexed.{distinct}
-use Rattle.kx_codes.specs.Pairs.{Pair, shares, without, taken, all_taken, said_pairs, own_pairs, pairs_from, pairs_of, code_in, name_in}
+use Rattle.kx_codes.specs.Pairs.{Pair, shares, without, taken, all_taken, said_pairs, pairs_from, pairs_of, code_in, name_in}
 use Rattle.kx_codes.proofs.Distinct.{no_first, no_second, from_distinct, code_of_name, name_of_code}
-use Rattle.kx_codes.specs.Left.{PairOffer, said_offers, own_offers, offers_of, IsTaken, IsLeft}
+use Rattle.kx_codes.specs.Left.{PairOffer, said_offers, offers_of, IsTaken, IsLeft}
 use Rattle.kx_include.specs.Expansion.{Body, End, Begin, Own, Inc}
-use Rattle.kx_parse.specs.declared.tree.Item.{Item}
-use Rattle.kx_parse.specs.declared.tree.Item.TheVariants.{Include, Statement}
 use Rattle.kx_parse.specs.declared.tree.Mode.{Mode}
 use Rattle.kx_parse.specs.declared.tree.Mode.TheVariants.{Augment, Override, Replace}
 use Rattle.kx_parse.specs.declared.tree.Statement.{Statement as Said}
@@ -139,15 +137,11 @@ spoken : (mode : Mode) (s : Said) (ps : List Pair) → said_pairs mode s ps ≡ 
 spoken mode (said.Keycode name code) ps = refl
 spoken mode _ ps = refl
 
-own : (item : Item) (ps : List Pair) → own_pairs item ps ≡ fold take ps (own_offers item)
-own (Statement mode statement first span) ps = spoken mode statement ps
-own (Include mode text span) ps = refl
-
 folded : (ps : List Pair) (body : Body) → pairs_from ps body ≡ fold take ps (offers_of body)
 folded ps End = refl
 folded ps (Begin rest) = folded ps rest
-folded ps (Own place item rest) =
-    folded (own_pairs item ps) rest ∙ ap (λ qs. fold take qs (offers_of rest)) (own item ps) ∙ sym (fold-append take ps (own_offers item) (offers_of rest))
+folded ps (Own place stated rest) =
+    folded (said_pairs stated.mode stated.statement ps) rest ∙ ap (λ qs. fold take qs (offers_of rest)) (spoken stated.mode stated.statement ps) ∙ sym (fold-append take ps (said_offers stated.mode stated.statement) (offers_of rest))
 folded ps (Inc mode group body rest) =
     let qs : List Pair = pairs_from [] body in
     folded (all_taken mode ps qs) rest ∙ ap (λ rs. fold take rs (offers_of rest)) (included mode ps qs) ∙ sym (fold-append take ps (map {A = Pair} {B = PairOffer} (offer mode) qs) (offers_of rest))

@@ -10,10 +10,9 @@ use Rattle.kx_lex.specs.declared.token.Span.{Span}
 use Rattle.kx_merge.specs.Bodies.{Rules, offers_of, no_moves}
 use Rattle.kx_merge.specs.Offers.{Offer, value_of, plain_offer}
 use Rattle.kx_merge.specs.Single.{single_rules}
-use Rattle.kx_parse.specs.declared.tree.Item.{Item}
-use Rattle.kx_parse.specs.declared.tree.Item.TheVariants.{Include, Statement}
 use Rattle.kx_parse.specs.declared.tree.Mode.{Mode}
-use Rattle.kx_parse.specs.declared.tree.Statement.{Statement as Said}
+use Rattle.kx_parse.specs.declared.tree.Stated.{Stated}
+use Rattle.kx_parse.specs.declared.tree.Statement.{Statement}
 use Rattle.kx_parse.specs.declared.tree.Statement.TheVariants.{Alias}
 use Rattle.kx_merge.specs.Faults.{name_faults}
 
@@ -25,21 +24,19 @@ abbrev pub alias_offer : Mode → List ℕ → List ℕ → AliasOffer
 alias_offer mode name target = plain_offer mode name (λ _. Some target)
 
 -- the name and the target of an alias statement
-abbrev pub alias_in : Said → Option (Name × Name)
+abbrev pub alias_in : Statement → Option (Name × Name)
 alias_in (Alias name target) = Some (name, target)
 alias_in _ = None
 
-abbrev pub item_offers : Item → List AliasOffer
-item_offers (Statement mode statement first span) = option_map_or (λ a. alias_offer mode a.0.bytes a.1.bytes ∷ []) (alias_in statement) []
-item_offers (Include mode text span) = []
+abbrev pub stated_offers : Stated → List AliasOffer
+stated_offers stated = option_map_or (λ a. alias_offer stated.mode a.0.bytes a.1.bytes ∷ []) (alias_in stated.statement) []
 
--- the faults of an alias' two names
-abbrev pub item_name_faults : ℕ → Item → List Fault
-item_name_faults file (Statement mode statement first span) = option_map_or (λ a. name_faults file span a.0 ++ name_faults file span a.1) (alias_in statement) []
-item_name_faults file (Include mode text span) = []
+-- the faults of an alias' two names, in a statement
+abbrev pub alias_faults : ℕ → Span → Option (Name × Name) → List Fault
+alias_faults file whole alias = option_map_or (λ a. name_faults file whole a.0 ++ name_faults file whole a.1) alias []
 
 abbrev pub alias_rules : Rules (List ℕ) (Unit {0}) (List ℕ) (Unit {0})
-alias_rules = single_rules (λ place item. item_offers item) (λ place item. item_name_faults place.file item)
+alias_rules = single_rules (λ place stated. stated_offers stated) (λ place stated. alias_faults place.file stated.span (alias_in stated.statement))
 
 abbrev pub alias_offers : Body → List AliasOffer
 alias_offers body = offers_of bytes_eq alias_rules no_moves body
@@ -55,10 +52,7 @@ target_in aliases name = option_and_then (λ target. target) (lookup (bytes_eq n
 abbrev pub aliases_of : Body → Aliases
 aliases_of body = map (λ (o : AliasOffer). (o.name, value_of bytes_eq (alias_offers body) o.name tt)) (alias_offers body)
 
--- ---- Under names, for clauses and proofs
-
-abbrev pub said_name_faults : ℕ → Span → Option (Name × Name) → List Fault
-said_name_faults file whole a = option_map_or (λ a. name_faults file whole a.0 ++ name_faults file whole a.1) a []
+-- ---- Under a name, for clauses and proofs
 
 abbrev pub target_of : Body → List ℕ → Option (List ℕ)
 target_of body name = value_of bytes_eq (alias_offers body) name tt

@@ -2,30 +2,24 @@
 use Rattle.std.specs.Prelude.{◌≡◌, ◌⊎◌, false, List, [], ◌∷◌, ◌++◌, map}
 use Rattle.kx_codes.specs.Pairs.{Pair, pairs_of, shares}
 use Rattle.kx_include.specs.Expansion.{Body, End, Begin, Own, Inc}
-use Rattle.kx_parse.specs.declared.tree.Item.{Item}
-use Rattle.kx_parse.specs.declared.tree.Item.TheVariants.{Include, Statement}
 use Rattle.kx_parse.specs.declared.tree.Mode.{Mode}
 use Rattle.kx_parse.specs.declared.tree.Mode.TheVariants.{Augment}
-use Rattle.kx_parse.specs.declared.tree.Statement.{Statement as Said}
+use Rattle.kx_parse.specs.declared.tree.Statement.{Statement}
 use Rattle.kx_parse.specs.declared.tree.Statement.TheVariants.{Keycode}
 
 pub record PairOffer : Type 0 where
   pub mode : Mode
   pub pair : Pair
 
-abbrev pub said_offers : Mode → Said → List PairOffer
+abbrev pub said_offers : Mode → Statement → List PairOffer
 said_offers mode (Keycode name code) = record { mode = mode; pair = record { name = name.bytes; code = code.value } } ∷ []
 said_offers mode _ = []
-
-abbrev pub own_offers : Item → List PairOffer
-own_offers (Statement mode statement first span) = said_offers mode statement
-own_offers (Include mode text span) = []
 
 -- a body's offers, in order: a statement offers its pair, an include those that its body leaves
 abbrev pub offers_of : Body → List PairOffer
 offers_of End = []
 offers_of (Begin rest) = offers_of rest
-offers_of (Own place item rest) = own_offers item ++ offers_of rest
+offers_of (Own place stated rest) = said_offers stated.mode stated.statement ++ offers_of rest
 offers_of (Inc mode group body rest) = map {A = Pair} {B = PairOffer} (λ p. record { mode = mode; pair = p }) (pairs_of body) ++ offers_of rest
 
 -- an offer is taken, unless it augments and a pair is left that shares its name or its code

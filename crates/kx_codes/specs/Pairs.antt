@@ -2,11 +2,9 @@
 use Rattle.std.specs.Prelude.{◌≡◌, ◌↔◌, ℕ, Bool, not, ◌==◌, ◌||◌, List, [], ◌∷◌, ◌++◌, Option, None, Some, if◌then◌else◌, filter, fold}
 use Rattle.std.specs.List.{list_any}
 use Rattle.std.specs.Str.{bytes_eq}
-use Rattle.kx_parse.specs.declared.tree.Item.{Item}
-use Rattle.kx_parse.specs.declared.tree.Item.TheVariants.{Include, Statement}
 use Rattle.kx_parse.specs.declared.tree.Mode.{Mode}
 use Rattle.kx_parse.specs.declared.tree.Mode.TheVariants.{Augment, Override, Replace}
-use Rattle.kx_parse.specs.declared.tree.Statement.{Statement as Said}
+use Rattle.kx_parse.specs.declared.tree.Statement.{Statement}
 use Rattle.kx_parse.specs.declared.tree.Statement.TheVariants.{Keycode}
 use Rattle.kx_include.specs.Expansion.{Body, End, Begin, Own, Inc}
 
@@ -26,20 +24,16 @@ taken Augment ps p = if list_any (shares p) ps then ps else ps ++ p ∷ []
 taken Override ps p = without p ps ++ p ∷ []
 taken Replace ps p = without p ps ++ p ∷ []
 
-abbrev pub said_pairs : Mode → Said → List Pair → List Pair
+-- what a statement leaves of pairs
+abbrev pub said_pairs : Mode → Statement → List Pair → List Pair
 said_pairs mode (Keycode name code) ps = taken mode ps (record { name = name.bytes; code = code.value })
 said_pairs mode _ ps = ps
-
--- what a statement leaves of pairs
-abbrev pub own_pairs : Item → List Pair → List Pair
-own_pairs (Statement mode statement first span) ps = said_pairs mode statement ps
-own_pairs (Include mode text span) ps = ps
 
 -- what a body leaves of pairs; an include offers each pair of its body, in order
 abbrev pub pairs_from : List Pair → Body → List Pair
 pairs_from ps End = ps
 pairs_from ps (Begin rest) = pairs_from ps rest
-pairs_from ps (Own place item rest) = pairs_from (own_pairs item ps) rest
+pairs_from ps (Own place stated rest) = pairs_from (said_pairs stated.mode stated.statement ps) rest
 pairs_from ps (Inc mode group body rest) = pairs_from (fold (taken mode) ps (pairs_from [] body)) rest
 
 abbrev pub pairs_of : Body → List Pair

@@ -5,10 +5,10 @@ ghost use Rattle.std.specs.Option.{option_map};
 ghost use Rattle.std.proofs.Common.{◌∙◌, ap, sym};
 ghost use Rattle.kx_basics.specs.KeyNames.{IsKeyName};
 ghost use Rattle.kx_lex.specs.declared.fault.Fault.TheVariants.{Memory};
-ghost use Rattle.kx_merge.specs.Records.{AreOffered, mode_of};
+ghost use Rattle.kx_merge.specs.Records.{AreOffered};
 ghost use Rattle.kx_merge.specs.Single.{single_cell, single_width};
 ghost use Rattle.kx_parse.specs.declared.tree.Mode.{Mode as ModeValue};
-ghost use Rattle.kx_codes.specs.Aliases.{alias_in, alias_offer, item_name_faults, item_offers};
+ghost use Rattle.kx_codes.specs.Aliases.{alias_faults, alias_in, alias_offer, stated_offers};
 ghost use Rattle.kx_merge.specs.Reports.{ReportsOrRunsOut};
 
 use crate::checks::check_name;
@@ -17,7 +17,7 @@ use kx_include::Place;
 use kx_lex::Fault;
 use kx_merge::{Single, SingleValue, none_given, one_given};
 use kx_ordered::ShortName;
-use kx_parse::{Item, KeyName, Statement};
+use kx_parse::{KeyName, Stated, Statement};
 use std::alloc::Global;
 
 /// The name and the target of an alias statement.
@@ -46,40 +46,13 @@ fn one_record(
     one_given(alloc, ShortName::of(name), target)
 }
 
-/// The alias that an item of a keycodes section gives.
-fn read_item(
-    alloc: Global,
-    file: u32,
-    item: &Item,
-) -> Result<Vec<(ShortName, Single<AliasTarget>)>, Fault>
-    ensures records { IfOk result (λ records.
-        AreOffered (mode_of item.now) single_cell single_width records.items
-        (item_offers item.now)) }
-    ensures faults { ReportsOrRunsOut result (item_name_faults file item.now) }
-{
-    match item {
-        Item::Include { .. } => Ok(none_given(alloc)),
-        Item::Statement {
-            statement,
-            span,
-            ..
-        } => match alias_in(statement) {
-            None => Ok(none_given(alloc)),
-            Some((name, target)) => {
-                let name = check_name(file, *span, name)?;
-                let target = check_name(file, *span, target)?;
-                one_record(alloc, name, target)
-            }
-        },
-    }
-}
-
 impl SingleValue<()> for AliasTarget {
     type Key = ShortName;
 
-    ghost offers = { λ context place item. item_offers item };
+    ghost offers = { λ context place stated. stated_offers stated };
 
-    ghost faults = { λ context place item. item_name_faults place.file item };
+    ghost faults = { λ context place stated.
+        alias_faults place.file stated.span (alias_in stated.statement) };
 
     ghost moved = { λ n name. Some name };
 
@@ -87,9 +60,16 @@ impl SingleValue<()> for AliasTarget {
         alloc: Global,
         _context: &(),
         place: Place,
-        item: &Item,
+        stated: &Stated,
     ) -> Result<Vec<(ShortName, Single<AliasTarget>)>, Fault> {
-        read_item(alloc, place.file, item)
+        match alias_in(&stated.statement) {
+            None => Ok(none_given(alloc)),
+            Some((name, target)) => {
+                let name = check_name(place.file, stated.span, name)?;
+                let target = check_name(place.file, stated.span, target)?;
+                one_record(alloc, name, target)
+            }
+        }
     }
 
     fn try_clone(&self, alloc: Global) -> Result<AliasTarget, Fault> {

@@ -7,7 +7,7 @@ ghost use Rattle.kx_codes.specs.Numbers.{Grows, IsOnce};
 
 use crate::numbers::Names;
 use crate::pairs::Pairs;
-use crate::statements::take_item;
+use crate::statements::take_said;
 use kx_include::{Entry, Expansion, Link, Map, Place};
 use kx_lex::Fault;
 use kx_parse::Mode;
@@ -104,7 +104,7 @@ fn gather_entry<'l>(
     ensures grows { IsOnce names.old → Grows names.old names.new }
 {
     match entry {
-        Entry::Own(item) => take_item(names, gathered, place, item),
+        Entry::Own(stated) => take_said(names, gathered, place.file, stated),
         Entry::Include { mode, links } => {
             gather_include(alloc, done, *mode, links.as_slice(), gathered)
         }

@@ -3,7 +3,6 @@ use Rattle.std.proofs.Common.{ℕ, List, Option, None, Some, map}
 use Rattle.std.specs.List.{IsDistinct}
 use Rattle.ks_core.specs.Table.{KeysymTable}
 use Rattle.kx_virtual_mods.specs.Once.{OffersOnce}
-use Rattle.kx_parse.specs.declared.tree.Item.TheVariants.{Include, Statement}
 use Rattle.kx_parse.specs.declared.tree.Mode.{Mode}
 use Rattle.kx_compat.specs.SameMatch.{same_match}
 use Rattle.kx_compat.specs.declared.interpretation_match.InterpretationMatch.{InterpretationMatch}
@@ -31,5 +30,4 @@ module _ (table : KeysymTable) (names : List (List ℕ)) where
 
   pub interpretations_once : OffersOnce same_match (compat_rules table names)
   unfolding IsDistinct
-  interpretations_once d place (Statement mode statement first whole) = one_said d mode (interpretation_in statement)
-  interpretations_once d place (Include mode text span) = tt
+  interpretations_once d place stated = one_said d stated.mode (interpretation_in stated.statement)

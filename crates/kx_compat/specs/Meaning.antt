@@ -6,13 +6,12 @@ use Rattle.kx_include.specs.Expansion.{Body}
 use Rattle.kx_lex.specs.declared.fault.Fault.{Fault}
 use Rattle.kx_merge.specs.Bodies.{Moves, Rules, faults_of, offers_of, no_moves}
 use Rattle.kx_merge.specs.Offers.{Offer, names_of, offers_to, value_of}
-use Rattle.kx_parse.specs.declared.tree.Item.{Item}
-use Rattle.kx_parse.specs.declared.tree.Item.TheVariants.{Include, Statement}
 use Rattle.kx_parse.specs.declared.tree.Mode.{Mode}
 use Rattle.kx_compat.specs.Interpretations.{Interpretation}
 use Rattle.kx_compat.specs.SameMatch.{same_match}
 use Rattle.kx_compat.specs.declared.interpretation_match.InterpretationMatch.{InterpretationMatch}
-use Rattle.kx_compat.specs.Sections.{Interpreted, interpretation_in, item_faults, next_default, no_defaults, values_of}
+use Rattle.kx_compat.specs.Sections.{Interpreted, interpretation_in, next_default, no_defaults, stated_faults, values_of}
+use Rattle.kx_symbols.specs.Keys.{field_in}
 use Rattle.kx_compat.specs.Matches.{match_of}
 use Rattle.kx_compat.specs.Giving.{values_cell, only}
 use Rattle.kx_compat.specs.declared.defaults.CompatDefaults.{CompatDefaults}
@@ -29,12 +28,13 @@ module _ (table : KeysymTable) (names : List (List ℕ)) where
   abbrev pub said_offers : CompatDefaults → Mode → Option Interpreted → List InterpretationOffer
   said_offers d mode i = option_map_or (λ i. offers_to values_cell mode (values_of names d i.2) (match_of table i.0 i.1)) i []
 
-  abbrev pub item_offers : CompatDefaults → Item → List InterpretationOffer
-  item_offers d (Statement mode statement first whole) = said_offers d mode (interpretation_in statement)
-  item_offers d (Include mode text span) = []
-
   abbrev pub compat_rules : Rules InterpretationMatch Cell FieldValue CompatDefaults
-  compat_rules = record { start = no_defaults; next = next_default names; offers = λ d place item. item_offers d item; faults = λ d place item. item_faults place.file names item }
+  compat_rules = record {
+    start = no_defaults;
+    next = λ d stated. next_default names d (field_in stated.statement);
+    offers = λ d place stated. said_offers d stated.mode (interpretation_in stated.statement);
+    faults = λ d place stated. stated_faults place.file names stated;
+  }
 
 -- what offers make of an interpretation, each field by precedence; without `useModMapMods` it sees the modifiers of its key at any level
 abbrev pub interpretation_by : List InterpretationOffer → InterpretationMatch → Interpretation

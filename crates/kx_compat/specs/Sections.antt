@@ -4,7 +4,7 @@ use Rattle.std.specs.Prelude.{◌≡◌, ℕ, fold, option_to_list, Bool, true, 
 use Rattle.std.specs.List.{flat_map}
 use Rattle.std.specs.Str.{str_eq_ignore_ascii_case}
 use Rattle.std.specs.Option.{option_and_then, option_map_or}
-use Rattle.kx_actions.specs.Defaults.{default_faults, defaults_behind, next_defaults, no_defaults as no_action_defaults}
+use Rattle.kx_actions.specs.Defaults.{default_faults, defaults_after, next_defaults, no_defaults as no_action_defaults}
 use Rattle.kx_actions.specs.declared.defaults.ActionDefaults.{ActionDefaults}
 use Rattle.kx_include.specs.IncludeFaults.{at}
 use Rattle.kx_lex.specs.declared.fault.Fault.{Fault}
@@ -13,11 +13,10 @@ use Rattle.kx_lex.specs.declared.name.Name.{Name}
 use Rattle.kx_lex.specs.declared.token.Span.{Span}
 use Rattle.kx_parse.specs.Sections.{word_span}
 use Rattle.kx_parse.specs.declared.tree.Field.{Field}
-use Rattle.kx_parse.specs.declared.tree.Item.{Item}
-use Rattle.kx_parse.specs.declared.tree.Item.TheVariants.{Include, Statement}
 use Rattle.kx_parse.specs.declared.tree.Predicate.{Predicate}
-use Rattle.kx_parse.specs.declared.tree.Statement.{Statement as Said}
-use Rattle.kx_parse.specs.declared.tree.Statement.TheVariants as said
+use Rattle.kx_parse.specs.declared.tree.Stated.{Stated}
+use Rattle.kx_parse.specs.declared.tree.Statement.{Statement}
+use Rattle.kx_parse.specs.declared.tree.Statement.TheVariants as statements
 use Rattle.kx_parse.specs.declared.tree.Symbol.{Symbol}
 use Rattle.kx_symbols.specs.KeyFaults.{symbol_faults}
 use Rattle.kx_compat.specs.FieldWords.{field_faults, field_value}
@@ -33,19 +32,15 @@ use Rattle.kx_symbols.specs.Keys.{field_in}
 abbrev pub Interpreted : Type 0
 Interpreted = Symbol × Option Predicate × List Field
 
-abbrev pub interpretation_in : Said → Option Interpreted
-interpretation_in (said.Interpretation symbol predicate fields) = Some (symbol, predicate, fields)
+abbrev pub interpretation_in : Statement → Option Interpreted
+interpretation_in (statements.Interpretation symbol predicate fields) = Some (symbol, predicate, fields)
 interpretation_in _ = None
 
-abbrev pub item_field : Item → Option Field
-item_field (Statement mode statement first whole) = field_in statement
-item_field (Include mode text span) = None
-
 -- statements but fields that say nothing of interpretations
-abbrev pub is_other : Said → Bool
-is_other (said.VirtualModifiers declarations) = true
-is_other (said.Indicator name fields) = true
-is_other (said.Group number mask) = true
+abbrev pub is_other : Statement → Bool
+is_other (statements.VirtualModifiers declarations) = true
+is_other (statements.Indicator name fields) = true
+is_other (statements.Group number mask) = true
 is_other _ = false
 
 abbrev pub is_interpret : List ℕ → Bool
@@ -62,20 +57,20 @@ module _ (names : List (List ℕ)) where
   abbrev pub given_value : ActionDefaults → Option Field → Option FieldValue
   given_value actions field = option_and_then (λ f. if is_interpret f.place.word.bytes then option_and_then (λ m. field_value names actions m f) f.place.member else None) field
 
-  -- the defaults after one more statement
-  abbrev pub next_default : CompatDefaults → Item → CompatDefaults
-  next_default d item = record { actions = option_map_or (next_defaults names d.actions) (item_field item) d.actions; values = with_value d.values (given_value d.actions (item_field item)) }
+  -- the defaults after one more statement, where it is a field
+  abbrev pub next_default : CompatDefaults → Option Field → CompatDefaults
+  next_default d field = record { actions = option_map_or (next_defaults names d.actions) field d.actions; values = with_value d.values (given_value d.actions field) }
 
   -- statements, each with the defaults for actions before it
-  abbrev pub standing : ActionDefaults → List Item → List (ActionDefaults × Item)
+  abbrev pub standing : ActionDefaults → List Statement → List (ActionDefaults × Statement)
   standing actions [] = []
-  standing actions (item ∷ items) = (actions, item) ∷ standing (option_map_or (next_defaults names actions) (item_field item) actions) items
+  standing actions (s ∷ ss) = (actions, s) ∷ standing (option_map_or (next_defaults names actions) (field_in s) actions) ss
 
   -- a law, a clause of `interpretations`: the defaults after the statements of a section are what the last of them gives that gives a
   -- field anything
   pub record DefaultsAreLast : Type 0 where
-    pub actions_are : (statements : List Item) → (fold next_default no_defaults statements).actions ≡ defaults_behind names (flat_map (λ item. option_to_list (item_field item)) statements)
-    pub values_are : (statements : List Item) → (fold next_default no_defaults statements).values ≡ last_values (λ s. given_value s.0 (item_field s.1)) no_values (standing no_action_defaults statements)
+    pub actions_are : (ss : List Statement) → (fold (λ d s. next_default d (field_in s)) no_defaults ss).actions ≡ defaults_after names (flat_map (λ s. option_to_list (field_in s)) ss)
+    pub values_are : (ss : List Statement) → (fold (λ d s. next_default d (field_in s)) no_defaults ss).values ≡ last_values (λ s. given_value s.0 (field_in s.1)) no_values (standing no_action_defaults ss)
 
   -- what is written last in an interpretation, else the default before it
   abbrev pub values_of : CompatDefaults → List Field → FieldValues
@@ -101,24 +96,18 @@ module _ (file : ℕ) (names : List (List ℕ)) where
       else (if str_eq_ignore_ascii_case field.place.word.bytes (codes "indicator") then if is_some field.place.member then [] else unknown_word field.place.word
       else default_faults file names field)
 
-  -- those of a statement in a file; of an include's text there are none here
-  abbrev pub item_faults : Item → List Fault
-  item_faults (Statement mode statement first whole) = option_map_or interpretation_faults (interpretation_in statement) (option_map_or lone_faults (field_in statement) (if is_other statement then [] else UnknownField (at file (word_span (Statement mode statement first whole))) ∷ []))
-  item_faults (Include mode text span) = []
+  -- of a statement that is no interpretation; `word` is what a fault of an unknown one names
+  abbrev pub alone_faults : Statement → Span → Option Field → List Fault
+  alone_faults statement word field = option_map_or lone_faults field (if is_other statement then [] else UnknownField (at file word) ∷ [])
 
--- ---- Under a name, for proofs
+  -- those of a statement in a file
+  abbrev pub stated_faults : Stated → List Fault
+  stated_faults stated = option_map_or interpretation_faults (interpretation_in stated.statement) (alone_faults stated.statement (word_span stated) (field_in stated.statement))
+
+-- ---- Under names, for clauses and proofs
 
 abbrev pub given_actions : List (List ℕ) → ActionDefaults → Option Field → ActionDefaults
 given_actions names actions field = option_map_or (next_defaults names actions) field actions
-
-abbrev pub alone_faults : (file : ℕ) → (names : List (List ℕ)) → Said → Span → Option Field → List Fault
-alone_faults file names statement word field = option_map_or (lone_faults file names) field (if is_other statement then [] else UnknownField (at file word) ∷ [])
-
-abbrev pub said_faults : (file : ℕ) → (names : List (List ℕ)) → Said → Span → Option Interpreted → List Fault
-said_faults file names statement word i = option_map_or (interpretation_faults file names) i (option_map_or (lone_faults file names) (field_in statement) (if is_other statement then [] else UnknownField (at file word) ∷ []))
-
-abbrev pub next_said : (names : List (List ℕ)) → CompatDefaults → Option Field → CompatDefaults
-next_said names d field = record { actions = option_map_or (next_defaults names d.actions) field d.actions; values = with_value d.values (given_value names d.actions field) }
 
 abbrev pub is_indicator : List ℕ → Bool
 is_indicator word = str_eq_ignore_ascii_case word (codes "indicator")

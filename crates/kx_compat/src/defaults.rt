@@ -1,7 +1,8 @@
 //! The defaults of a compat section.
 ghost use Rattle.std.specs.Prelude.{◌≡◌, IfOk, Some, true};
 ghost use Rattle.std.specs.Option.{option_map};
-ghost use Rattle.kx_compat.specs.Sections.{alone_faults, is_indicator, is_interpret, is_other, lone_faults, member_faults, next_said};
+ghost use Rattle.kx_compat.specs.Sections.{alone_faults, is_indicator, is_interpret, is_other, lone_faults, member_faults, next_default};
+ghost use Rattle.kx_parse.specs.Sections.{word_span};
 ghost use Rattle.kx_symbols.specs.Keys.{field_in};
 ghost use Rattle.kx_merge.specs.Reports.{Reports};
 
@@ -9,9 +10,9 @@ use crate::fields::read_field;
 use crate::values::FieldValues;
 use ks_core::Notes;
 use kx_actions::ActionDefaults;
-use kx_lex::{At, Fault, Span};
+use kx_lex::{At, Fault};
 use kx_merge::unknown_field;
-use kx_parse::{Field, Statement};
+use kx_parse::{Field, Stated, Statement};
 use kx_virtual_mods::ModNames;
 
 /// What the default statements of a section give.
@@ -73,7 +74,7 @@ impl CompatDefaults {
     }
 
     /// Those after a default for a field of interpretations.
-    fn behind_member(
+    fn after_member(
         self,
         names: &ModNames,
         file: u32,
@@ -81,7 +82,7 @@ impl CompatDefaults {
         notes: &mut Notes,
     ) -> Result<CompatDefaults, Fault>
         requires { is_interpret field.now.place.word.bytes ≡ true }
-        ensures next { IfOk result (λ d. d ≡ next_said names.now.names self (Some field.now)) }
+        ensures next { IfOk result (λ d. d ≡ next_default names.now.names self (Some field.now)) }
         ensures faults { Reports result
             (member_faults file names.now.names field.now field.now.place.member) }
     {
@@ -96,19 +97,19 @@ impl CompatDefaults {
     }
 
     /// Those after a field that stands alone.
-    fn behind(
+    fn after_field(
         self,
         names: &ModNames,
         file: u32,
         field: &Field,
         notes: &mut Notes,
     ) -> Result<CompatDefaults, Fault>
-        ensures next { IfOk result (λ d. d ≡ next_said names.now.names self (Some field.now)) }
+        ensures next { IfOk result (λ d. d ≡ next_default names.now.names self (Some field.now)) }
         ensures faults { Reports result (lone_faults file names.now.names field.now) }
     {
         let word = field.place.word.bytes.as_slice();
         if is_interpret(word) {
-            return self.behind_member(names, file, field, notes);
+            return self.after_member(names, file, field, notes);
         }
         if is_indicator(word) {
             if field.place.member.is_none() {
@@ -116,34 +117,37 @@ impl CompatDefaults {
             }
             return Ok(self);
         }
-        let actions = self.actions.behind(names, file, field)?;
+        let actions = self.actions.after(names, file, field)?;
         Ok(CompatDefaults {
             actions,
             values: self.values,
         })
     }
 
-    /// Those after a statement that is no interpretation; `word` is what a fault of an unknown statement names.
+    /// Those after a statement that is no interpretation.
     pub(crate) fn after(
         self,
         names: &ModNames,
         file: u32,
-        word: Span,
-        statement: &Statement,
+        stated: &Stated,
         notes: &mut Notes,
     ) -> Result<CompatDefaults, Fault>
         ensures next { IfOk result (λ d.
-            d ≡ next_said names.now.names self (field_in statement.now)) }
+            d ≡ next_default names.now.names self (field_in stated.now.statement)) }
         ensures faults { Reports result
-            (alone_faults file names.now.names statement.now word (field_in statement.now)) }
+            (alone_faults file names.now.names stated.now.statement (word_span stated.now)
+            (field_in stated.now.statement)) }
     {
-        match field_in(statement) {
-            Some(field) => self.behind(names, file, field, notes),
+        match field_in(&stated.statement) {
+            Some(field) => self.after_field(names, file, field, notes),
             None => {
-                if is_other(statement) {
+                if is_other(&stated.statement) {
                     return Ok(self);
                 }
-                Err(Fault::UnknownField(At { file, span: word }))
+                Err(Fault::UnknownField(At {
+                    file,
+                    span: stated.word_span(),
+                }))
             }
         }
     }

@@ -14,7 +14,7 @@ ghost use Rattle.kx_merge.specs.Reports.{ReportsOrRunsOut};
 use crate::index::Interpretations;
 use crate::interpretation::Interpretation;
 use crate::interpretation_match::InterpretationMatch;
-use crate::record::Context;
+use crate::statements::Context;
 use crate::values::FieldValues;
 use ks_core::{NameTable, Notes};
 use kx_include::Expansion;
@@ -91,7 +91,10 @@ pub fn interpretations(
     ensures faults { ReportsOrRunsOut result
         (compat_faults table.now names.now.names (expanded_body expansion.now)) }
 {
-    let context = Context { table, names };
+    let context = Context {
+        keysyms: table,
+        modifiers: names,
+    };
     let merged = merge::<Context, FieldValues>(alloc, &context, expansion)?;
     let all = listed(alloc, &merged.records)?;
     let interpretations = Interpretations::of(alloc, all)?;

@@ -9,22 +9,14 @@ ghost use Rattle.kx_compat.specs.Giving.{values_cell, values_width};
 
 use crate::defaults::CompatDefaults;
 use crate::interpretation_match::InterpretationMatch;
-use crate::statements::read_item;
+use crate::statements::{Context, read_statement};
 use crate::values::{Cell, FieldValue, FieldValues};
-use ks_core::{NameTable, Notes};
+use ks_core::Notes;
 use kx_include::Place;
 use kx_lex::Fault;
 use kx_merge::Fields;
-use kx_parse::{Item, Mode};
-use kx_virtual_mods::ModNames;
+use kx_parse::{Mode, Stated};
 use std::alloc::Global;
-
-/// What the statements of a compat section are read against.
-#[derive(Clone, Copy)]
-pub struct Context<'a> {
-    pub table: &'a NameTable,
-    pub names: &'a ModNames,
-}
 
 impl<'a> Fields<Context<'a>> for FieldValues {
     type Key = InterpretationMatch;
@@ -35,7 +27,7 @@ impl<'a> Fields<Context<'a>> for FieldValues {
 
     type Defaults = CompatDefaults;
 
-    ghost rules = { λ context. compat_rules context.table.now context.names.now.names };
+    ghost rules = { λ context. compat_rules context.keysyms.now context.modifiers.now.names };
 
     ghost moves = { compat_moves };
 
@@ -52,18 +44,10 @@ impl<'a> Fields<Context<'a>> for FieldValues {
         context: &Context<'a>,
         defaults: CompatDefaults,
         place: Place,
-        item: &Item,
+        stated: &Stated,
         notes: &mut Notes,
     ) -> Result<(Vec<(InterpretationMatch, FieldValues)>, CompatDefaults), Fault> {
-        read_item(
-            alloc,
-            context.table,
-            context.names,
-            place.file,
-            defaults,
-            item,
-            notes,
-        )
+        read_statement(alloc, context, place.file, defaults, stated, notes)
     }
 
     fn merge(&mut self, _alloc: Global, other: FieldValues, mode: Mode) -> Result<(), Fault>

@@ -3,10 +3,10 @@ ghost use Rattle.std.specs.Prelude.{◌≡◌, ◌++◌, [], IfOk, Some};
 ghost use Rattle.std.specs.List.{flat_map};
 ghost use Rattle.std.specs.Option.{option_map};
 ghost use Rattle.kx_parse.specs.declared.tree.Mode.{Mode as ModeValue};
-ghost use Rattle.kx_merge.specs.Records.{AreOffered, mode_of};
+ghost use Rattle.kx_merge.specs.Records.{AreOffered};
 ghost use Rattle.kx_symbols.specs.KeyFaults.{symbol_faults};
-ghost use Rattle.kx_compat.specs.Meaning.{item_offers, said_offers};
-ghost use Rattle.kx_compat.specs.Sections.{interpretation_faults, interpretation_in, item_faults, next_default, next_said, own_faults, own_value, said_faults, values_of};
+ghost use Rattle.kx_compat.specs.Meaning.{said_offers};
+ghost use Rattle.kx_compat.specs.Sections.{interpretation_faults, interpretation_in, next_default, own_faults, own_value, stated_faults, values_of};
 ghost use Rattle.kx_symbols.specs.Keys.{field_in};
 ghost use Rattle.kx_compat.specs.Matches.{predicate_faults, match_of, match_with};
 ghost use Rattle.kx_compat.specs.Giving.{values_cell, values_width};
@@ -19,12 +19,19 @@ use crate::interpretation_match::{Condition, InterpretationMatch, WantedKeysym};
 use crate::predicates::{read_keysym, read_predicate};
 use crate::values::{FieldValue, FieldValues};
 use ks_core::{NameTable, Notes};
-use kx_lex::{Boxed, Fault, Row, Span};
+use kx_lex::{Boxed, Fault, Row};
 use kx_merge::{records_for, unknown_field};
 use kx_mods::Mods;
-use kx_parse::{Field, Item, Predicate, Statement, Symbol};
+use kx_parse::{Field, Predicate, Stated, Statement, Symbol};
 use kx_virtual_mods::ModNames;
 use std::alloc::Global;
+
+/// What the statements of a compat section are read against.
+#[derive(Clone, Copy)]
+pub struct Context<'a> {
+    pub keysyms: &'a NameTable,
+    pub modifiers: &'a ModNames,
+}
 
 /// The symbol, the predicate and the fields of an interpretation.
 fn interpretation_in(
@@ -130,8 +137,7 @@ fn no_records(alloc: Global) -> Vec<(InterpretationMatch, FieldValues)>
 /// What an interpretation gives.
 fn read_interpretation(
     alloc: Global,
-    table: &NameTable,
-    names: &ModNames,
+    context: &Context,
     file: u32,
     defaults: &CompatDefaults,
     symbol: &Symbol,
@@ -141,41 +147,49 @@ fn read_interpretation(
 ) -> Result<Vec<(InterpretationMatch, FieldValues)>, Fault>
     ensures records { (mode : ModeValue)
         → IfOk result (λ records. AreOffered mode (values_cell) (values_width) records.items
-        (said_offers table.now names.now.names defaults.now mode
+        (said_offers context.now.keysyms.now context.now.modifiers.now.names defaults.now mode
         (Some (symbol.now, predicate.now, fields.now)))) }
     ensures faults { ReportsOrRunsOut result
-        (interpretation_faults file names.now.names (symbol.now, predicate.now, fields.now)) }
+        (interpretation_faults file context.now.modifiers.now.names
+        (symbol.now, predicate.now, fields.now)) }
 {
-    let interpretation_match = read_match(table, names, file, symbol, predicate, notes)?;
-    let values = read_values(names, file, defaults, fields, notes)?;
+    let modifiers = context.modifiers;
+    let interpretation_match = read_match(
+        context.keysyms,
+        modifiers,
+        file,
+        symbol,
+        predicate,
+        notes,
+    )?;
+    let values = read_values(modifiers, file, defaults, fields, notes)?;
     records_for(alloc, interpretation_match, values)
 }
 
-/// What a statement gives, and the defaults after it; `word` is what a fault of an unknown statement names.
-fn read_statement(
+/// What a statement gives, under the defaults before it in its section, and the defaults after it.
+pub(crate) fn read_statement(
     alloc: Global,
-    table: &NameTable,
-    names: &ModNames,
+    context: &Context,
     file: u32,
     defaults: CompatDefaults,
-    word: Span,
-    statement: &Statement,
+    stated: &Stated,
     notes: &mut Notes,
 ) -> Result<(Vec<(InterpretationMatch, FieldValues)>, CompatDefaults), Fault>
     ensures records { (mode : ModeValue)
         → IfOk result (λ said. AreOffered mode (values_cell) (values_width) said.0.items
-        (said_offers table.now names.now.names defaults mode (interpretation_in statement.now))) }
+        (said_offers context.now.keysyms.now context.now.modifiers.now.names defaults mode
+        (interpretation_in stated.now.statement))) }
     ensures next { IfOk result (λ said.
-        said.1 ≡ next_said names.now.names defaults (field_in statement.now)) }
+        said.1 ≡ next_default context.now.modifiers.now.names defaults
+        (field_in stated.now.statement)) }
     ensures faults { ReportsOrRunsOut result
-        (said_faults file names.now.names statement.now word (interpretation_in statement.now)) }
+        (stated_faults file context.now.modifiers.now.names stated.now) }
 {
-    match interpretation_in(statement) {
+    match interpretation_in(&stated.statement) {
         Some((symbol, predicate, fields)) => {
             let records = read_interpretation(
                 alloc,
-                table,
-                names,
+                context,
                 file,
                 &defaults,
                 symbol,
@@ -186,34 +200,8 @@ fn read_statement(
             Ok((records, defaults))
         }
         None => {
-            let next = defaults.after(names, file, word, statement, notes)?;
+            let next = defaults.after(context.modifiers, file, stated, notes)?;
             Ok((no_records(alloc), next))
         }
-    }
-}
-
-/// What an item gives, under the defaults before it in its section, and the defaults after it.
-pub(crate) fn read_item(
-    alloc: Global,
-    table: &NameTable,
-    names: &ModNames,
-    file: u32,
-    defaults: CompatDefaults,
-    item: &Item,
-    notes: &mut Notes,
-) -> Result<(Vec<(InterpretationMatch, FieldValues)>, CompatDefaults), Fault>
-    ensures records { IfOk result (λ said.
-        AreOffered (mode_of item.now) (values_cell) (values_width) said.0.items
-        (item_offers table.now names.now.names defaults item.now)) }
-    ensures next { IfOk result (λ said.
-        said.1 ≡ next_default names.now.names defaults item.now) }
-    ensures faults { ReportsOrRunsOut result (item_faults file names.now.names item.now) }
-{
-    let word = item.word_span();
-    match item {
-        Item::Include { .. } => Ok((no_records(alloc), defaults)),
-        Item::Statement { statement, .. } => read_statement(
-            alloc, table, names, file, defaults, word, statement, notes,
-        ),
     }
 }

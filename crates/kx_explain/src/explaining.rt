@@ -41,7 +41,7 @@ struct Context<'a> {
 fn statement_of<'a>(context: &Context<'a>) -> Option<(Kind, &'a Statement)> {
     let at = context.at;
     match item_at(context.trees.sections_in(at.file), at.span)? {
-        (kind, Item::Statement { statement, .. }) => Some((kind, statement)),
+        (kind, Item::Statement(stated)) => Some((kind, &stated.statement)),
         (_, Item::Include { .. }) => None,
     }
 }

@@ -96,6 +96,6 @@ pub(crate) fn limit_passed(sections: &[Section], span: Span) -> Option<&'static 
     match item_at(sections, span) {
         None => Some("more than 65,535 files are handed in"),
         Some((_, Item::Include { .. })) => Some("more than 4,096 includes"),
-        Some((_, Item::Statement { statement, .. })) => limit_of_statement(statement),
+        Some((_, Item::Statement(stated))) => limit_of_statement(&stated.statement),
     }
 }

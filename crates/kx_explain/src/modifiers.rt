@@ -2,7 +2,7 @@
 use crate::near::letters_apart;
 use crate::quotes::quoted;
 use kx_mods::Mods;
-use kx_parse::{Declaration, Item, Section, Statement};
+use kx_parse::{Declaration, Item, Section, Stated, Statement};
 use kx_reach::{Reached, Trees};
 use std::alloc::AllocError;
 
@@ -35,10 +35,12 @@ fn near_to<'a>(word: &[u8], name: &'a [u8], is_real: bool) -> Option<Near<'a>> {
 
 fn declarations_of(item: &Item) -> &[Declaration] {
     match item {
-        Item::Statement {
-            statement: Statement::VirtualModifiers(declarations),
-            ..
-        } => declarations.as_slice(),
+        Item::Statement(
+            Stated {
+                statement: Statement::VirtualModifiers(declarations),
+                ..
+            },
+        ) => declarations.as_slice(),
         _ => &[],
     }
 }

@@ -10,19 +10,18 @@ use Rattle.kx_lex.specs.declared.token.Span.{Span}
 use Rattle.kx_parse.specs.declared.tree.Expression.{Expression}
 use Rattle.kx_parse.specs.declared.tree.Field.{Field}
 use Rattle.kx_parse.specs.declared.tree.Index.{Index}
-use Rattle.kx_parse.specs.declared.tree.Item.{Item}
-use Rattle.kx_parse.specs.declared.tree.Item.TheVariants.{Include, Statement}
 use Rattle.kx_parse.specs.declared.tree.Setting.{Setting}
-use Rattle.kx_parse.specs.declared.tree.Statement.{Statement as Said}
-use Rattle.kx_parse.specs.declared.tree.Statement.TheVariants as said
+use Rattle.kx_parse.specs.declared.tree.Stated.{Stated}
+use Rattle.kx_parse.specs.declared.tree.Statement.{Statement}
+use Rattle.kx_parse.specs.declared.tree.Statement.TheVariants as statements
 use Rattle.kx_key_fields.specs.Words.{is_group_name}
 use Rattle.kx_merge.specs.Faults.{expression_in, value_faults}
 use Rattle.kx_merge.specs.Numbers.{number_at, number_faults}
 use Rattle.kx_merge.specs.Words.{lone_text}
 use Rattle.kx_merge.specs.declared.numbers.Counted.TheVariants.{Group}
 
-abbrev pub name_in : Said → Option Field
-name_in (said.Field field) = if is_group_name field.place then Some field else None
+abbrev pub name_in : Statement → Option Field
+name_in (statements.Field field) = if is_group_name field.place then Some field else None
 name_in _ = None
 
 -- a group is counted from 1
@@ -44,9 +43,8 @@ module _ (file : ℕ) where
   field_faults whole field = index_faults field.place.word field.place.index ++ value_faults file (expression_faults whole) field.span field.setting
 
   -- those of a field that names a group; those of other statements are none of these
-  abbrev pub item_faults : Item → List Fault
-  item_faults (Statement mode statement first whole) = option_map_or (field_faults whole) (name_in statement) []
-  item_faults (Include mode text span) = []
+  abbrev pub stated_faults : Stated → List Fault
+  stated_faults stated = option_map_or (field_faults stated.span) (name_in stated.statement) []
 
 -- ---- Under a name, for clauses
 

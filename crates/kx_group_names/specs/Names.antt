@@ -10,22 +10,20 @@ use Rattle.kx_merge.specs.Records.{cell_in}
 use Rattle.kx_merge.specs.Single.{single_cell, single_moves, single_rules}
 use Rattle.kx_merge.specs.declared.single.Single.{Single}
 use Rattle.kx_parse.specs.declared.tree.Field.{Field}
-use Rattle.kx_parse.specs.declared.tree.Item.{Item}
-use Rattle.kx_parse.specs.declared.tree.Item.TheVariants.{Include, Statement}
 use Rattle.kx_parse.specs.declared.tree.Mode.{Mode}
-use Rattle.kx_group_names.specs.Fields.{indexed_group, item_faults, name_in, set_text}
+use Rattle.kx_parse.specs.declared.tree.Stated.{Stated}
+use Rattle.kx_group_names.specs.Fields.{indexed_group, name_in, set_text, stated_faults}
 
 -- a group, counted from 1, has one cell, its name
 abbrev pub offered : Mode → Option ℕ → Option (List ℕ) → List (Offer ℕ (Unit {0}) (List ℕ))
 offered mode (Some group) (Some text) = plain_offer mode group (λ _. Some text) ∷ []
 offered mode _ _ = []
 
-abbrev pub item_offers : Item → List (Offer ℕ (Unit {0}) (List ℕ))
-item_offers (Statement mode statement first whole) = option_map_or (λ field. offered mode (indexed_group field.place.index) (set_text field.setting)) (name_in statement) []
-item_offers (Include mode text span) = []
+abbrev pub stated_offers : Stated → List (Offer ℕ (Unit {0}) (List ℕ))
+stated_offers stated = option_map_or (λ field. offered stated.mode (indexed_group field.place.index) (set_text field.setting)) (name_in stated.statement) []
 
 abbrev pub name_rules : Rules ℕ (Unit {0}) (List ℕ) (Unit {0})
-name_rules = single_rules (λ place item. item_offers item) (λ place item. item_faults place.file item)
+name_rules = single_rules (λ place stated. stated_offers stated) (λ place stated. stated_faults place.file stated)
 
 -- the name of group 1 becomes that of the group of the move, and the others go
 abbrev pub moved_group : ℕ → ℕ → Option ℕ

@@ -6,10 +6,10 @@ ghost use Rattle.kx_basics.specs.declared.limits.TheConstants.{MOST_NAME_BYTES};
 ghost use Rattle.kx_lex.specs.declared.fault.Fault.TheVariants.{Memory};
 ghost use Rattle.kx_parse.specs.declared.tree.Mode.{Mode as ModeValue};
 ghost use Rattle.kx_merge.specs.Moved.{moved_key};
-ghost use Rattle.kx_merge.specs.Records.{AreOffered, mode_of};
+ghost use Rattle.kx_merge.specs.Records.{AreOffered};
 ghost use Rattle.kx_merge.specs.Single.{single_cell, single_moves, single_width};
-ghost use Rattle.kx_group_names.specs.Fields.{field_faults, item_faults};
-ghost use Rattle.kx_group_names.specs.Names.{item_offers, moved_group, name_offer, named_offers};
+ghost use Rattle.kx_group_names.specs.Fields.{field_faults, stated_faults};
+ghost use Rattle.kx_group_names.specs.Names.{moved_group, name_offer, named_offers, stated_offers};
 ghost use Rattle.kx_merge.specs.Reports.{ReportsOrRunsOut};
 
 use crate::fields::{name_in, read_name};
@@ -17,7 +17,7 @@ use crate::text::NameText;
 use kx_include::Place;
 use kx_lex::{Fault, Span};
 use kx_merge::{Single, SingleValue, none_given, one_given};
-use kx_parse::{Field, Item};
+use kx_parse::{Field, Stated};
 use std::alloc::Global;
 
 fn one_record(alloc: Global, group: u8, text: &[u8]) -> Result<Vec<(u8, Single<NameText>)>, Fault>
@@ -47,32 +47,12 @@ fn read_field(
     one_record(alloc, group, text)
 }
 
-/// The name that an item gives a group.
-fn read_item(alloc: Global, file: u32, item: &Item) -> Result<Vec<(u8, Single<NameText>)>, Fault>
-    ensures records { IfOk result (λ records.
-        AreOffered (mode_of item.now) single_cell single_width records.items
-        (item_offers item.now)) }
-    ensures faults { ReportsOrRunsOut result (item_faults file item.now) }
-{
-    match item {
-        Item::Include { .. } => Ok(none_given(alloc)),
-        Item::Statement {
-            statement,
-            span,
-            ..
-        } => match name_in(statement) {
-            None => Ok(none_given(alloc)),
-            Some(field) => read_field(alloc, file, *span, field),
-        },
-    }
-}
-
 impl SingleValue<()> for NameText {
     type Key = u8;
 
-    ghost offers = { λ context place item. item_offers item };
+    ghost offers = { λ context place stated. stated_offers stated };
 
-    ghost faults = { λ context place item. item_faults place.file item };
+    ghost faults = { λ context place stated. stated_faults place.file stated };
 
     ghost moved = { moved_group };
 
@@ -80,9 +60,12 @@ impl SingleValue<()> for NameText {
         alloc: Global,
         _context: &(),
         place: Place,
-        item: &Item,
+        stated: &Stated,
     ) -> Result<Vec<(u8, Single<NameText>)>, Fault> {
-        read_item(alloc, place.file, item)
+        match name_in(&stated.statement) {
+            None => Ok(none_given(alloc)),
+            Some(field) => read_field(alloc, place.file, stated.span, field),
+        }
     }
 
     fn try_clone(&self, alloc: Global) -> Result<NameText, Fault> {

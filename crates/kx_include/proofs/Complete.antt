@@ -130,7 +130,7 @@ module _ (library : Library) (kind : Kind) (more : ℕ) where
 
   items_same : (d : ℕ) → SameParts d → (place : Place) (is : List Item) (rest : Body) → (all_of (in_item (in_depth d library kind) place.file) is).faults ≡ [] → items_body (part_body (d + more) library kind) place is rest ≡ items_body (part_body d library kind) place is rest
   items_same d same place [] rest none = refl
-  items_same d same place (Statement mode statement first span ∷ is) rest none = ap (Own place (Statement mode statement first span)) (items_same d same place is rest none)
+  items_same d same place (Statement stated ∷ is) rest none = ap (Own place stated) (items_same d same place is rest none)
   items_same d same place (Include mode text span ∷ is) rest none =
       let found = in_item (in_depth d library kind) place.file (Include mode text span) in
       let others = all_of (in_item (in_depth d library kind) place.file) is in

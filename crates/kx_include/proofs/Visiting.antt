@@ -46,12 +46,12 @@ pub no_entries : (library : Library) (kind : Kind) (place : Place) (d : ℕ) (bo
 no_entries library kind place d bodies rest = refl
 
 entries-first : (bodies : List Body) (place : Place) (e : Entry) (es : List Entry) (rest : Body) → entries_body bodies place (e ∷ es) rest ≡ entries_body bodies place (e ∷ []) (entries_body bodies place es rest)
-entries-first bodies place (entry.Own item) es rest = refl
+entries-first bodies place (entry.Own stated) es rest = refl
 entries-first bodies place (entry.Include mode links) es rest = refl
 
 items-first : (inner : Part → Body) (place : Place) (x : Item) (xs : List Item) (rest : Body) → items_body inner place (x ∷ xs) rest ≡ items_body inner place (x ∷ []) (items_body inner place xs rest)
 items-first inner place (Include mode text span) xs rest = refl
-items-first inner place (Statement mode statement first span) xs rest = refl
+items-first inner place (Statement stated) xs rest = refl
 
 pub one_entry : (library : Library) (kind : Kind) (place : Place) (d : ℕ) (bodies : List Body) (x : Item) (e : Entry) (xs : List Item) (es : List Entry) → IsEntry library kind place d bodies x e → AreEntries library kind place d bodies xs es → AreEntries library kind place d bodies (x ∷ xs) (e ∷ es)
 one_entry library kind place d bodies x e xs es is are rest =

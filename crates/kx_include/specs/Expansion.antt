@@ -6,16 +6,17 @@ use Rattle.kx_parse.specs.declared.tree.Item.TheVariants.{Include, Statement}
 use Rattle.kx_parse.specs.declared.tree.Kind.{Kind}
 use Rattle.kx_parse.specs.declared.tree.Mode.{Mode}
 use Rattle.kx_parse.specs.declared.tree.Section.{Section}
+use Rattle.kx_parse.specs.declared.tree.Stated.{Stated}
 use Rattle.kx_include.specs.IncludeText.{Part, parts_of}
 use Rattle.kx_include.specs.Library.{Library, items_in, sections_in, place_of, is_of}
 use Rattle.kx_include.specs.declared.expanding.TheConstants.{MOST_DEPTH}
 use Rattle.kx_include.specs.declared.place.Place.{Place}
 
--- items in order, from where each section begins: its own, or what an include brings under a mode, moved to a group where one is named
+-- items in order, from where each section begins: its own statement, or what an include brings under a mode, moved to a group where one is named
 pub data Body : Type 0 where
   End : Body
   Begin : Body → Body
-  Own : Place → Item → Body → Body
+  Own : Place → Stated → Body → Body
   Inc : Mode → Option ℕ → Body → Body → Body
 
 -- the include of a text is one item, and has one for each part
@@ -27,7 +28,7 @@ parts_body inner (p ∷ ps) = Inc p.mode p.group (inner p) (parts_body inner ps)
 abbrev pub items_body : (Part → Body) → Place → List Item → Body → Body
 items_body inner place [] rest = rest
 items_body inner place (Include mode text span ∷ is) rest = Inc mode None (option_map_or (parts_body inner) (parts_of text.bytes) End) (items_body inner place is rest)
-items_body inner place (Statement mode statement first span ∷ is) rest = Own place (Statement mode statement first span) (items_body inner place is rest)
+items_body inner place (Statement stated ∷ is) rest = Own place stated (items_body inner place is rest)
 
 -- the body of a map, in which includes are nested less deep than a number
 abbrev pub map_body : ℕ → Library → Kind → Place → Body → Body

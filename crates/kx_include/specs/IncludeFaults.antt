@@ -52,7 +52,7 @@ all_of f (x ∷ xs) = both (f x) (all_of f xs)
 -- an item of a section of a file; a fault is at the text, and a place is that of the word and the text
 abbrev pub in_item : (At → Part → Findings) → ℕ → Item → Findings
 in_item inner file (Include mode text span) = option_map_or (all_of (λ p. after (at file span) ((inner (at file text.span)) p))) (parts_of text.bytes) (only (fault.BadInclude (at file text.span)))
-in_item inner file (Statement mode statement first span) = nothing
+in_item inner file (Statement stated) = nothing
 
 -- a part in a text at a place, in which includes may be nested as deep as a number
 abbrev pub in_depth : ℕ → Library → Kind → At → Part → Findings

@@ -24,7 +24,7 @@ links_body bodies (l ∷ ls) = Inc l.mode l.group (body_at bodies l.map) (links_
 -- a section's items, and the rest after them
 abbrev pub entries_body : List Body → Place → List Entry → Body → Body
 entries_body bodies place [] rest = rest
-entries_body bodies place (entry.Own item ∷ es) rest = Own place item.now (entries_body bodies place es rest)
+entries_body bodies place (entry.Own stated ∷ es) rest = Own place stated.now (entries_body bodies place es rest)
 entries_body bodies place (entry.Include mode links ∷ es) rest = Inc mode None (links_body bodies links.items) (entries_body bodies place es rest)
 
 abbrev pub shared_body : List Body → Map → Body → Body

@@ -215,8 +215,8 @@ impl<'a> Library<'a> {
             Blames seen (in_item (in_depth depth self.now kind) place.file item.now) e) }
     {
         match item {
-            Item::Statement { .. } => Ok((
-                Entry::Own(item),
+            Item::Statement(stated) => Ok((
+                Entry::Own(stated),
                 Reach {
                     depth: 0,
                     count: seen,

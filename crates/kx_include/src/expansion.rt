@@ -3,7 +3,7 @@ ghost use Rattle.std.specs.Prelude.{◌≡◌, []};
 ghost use Rattle.kx_parse.specs.declared.tree.Kind.{Kind};
 
 use crate::place::Place;
-use kx_parse::{Item, Mode};
+use kx_parse::{Mode, Stated};
 use std::alloc::Global;
 
 /// A part of an include's text.
@@ -21,7 +21,7 @@ pub struct Link {
 #[derive(Drop)]
 pub enum Entry<'l> {
     /// A statement.
-    Own(&'l Item),
+    Own(&'l Stated),
     /// An include, with the parts of its text in order.
     Include { mode: Mode, links: Vec<Link> },
 }

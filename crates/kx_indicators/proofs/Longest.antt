@@ -16,10 +16,8 @@ use Rattle.kx_virtual_mods.specs.Counted.{Said, names_behind, names_of, statemen
 use Rattle.kx_merge.specs.Bodies.{faults, faults_of}
 use Rattle.kx_merge.specs.Offers.{with_name}
 use Rattle.kx_parse.specs.declared.tree.Field.{Field}
-use Rattle.kx_parse.specs.declared.tree.Item.{Item}
-use Rattle.kx_parse.specs.declared.tree.Item.TheVariants.{Include, Statement}
-use Rattle.kx_parse.specs.declared.tree.Statement.{Statement as StatementValue}
-use Rattle.kx_indicators.specs.Blocks.{indicator_in, item_faults, indicator_map_names, next_default, own_faults, said_faults, written_name}
+use Rattle.kx_parse.specs.declared.tree.Statement.{Statement}
+use Rattle.kx_indicators.specs.Blocks.{indicator_in, indicator_map_names, next_default, own_faults, said_faults, written_name}
 use Rattle.kx_indicators.specs.Bounds.{NamesAreValid}
 use Rattle.kx_indicators.specs.declared.limits.TheConstants.{MOST_INDICATORS}
 use Rattle.kx_indicators.specs.Given.{IndicatorMapValues}
@@ -43,17 +41,13 @@ not_long : (n : ℕ) (b : Bool) (file : ℕ) (whole : Span) → nat_lt MOST_NAME
 not_long n true file whole is h = cc
 not_long n false file whole is h = grind (arith, nat_tests, is)
 
-said_short : (file : ℕ) (names : List (List ℕ)) (statement : StatementValue) (whole : Span) (o : Option (Name × List Field)) → said_faults file names statement whole o ≡ [] → All IsShort (written_name o)
+said_short : (file : ℕ) (names : List (List ℕ)) (statement : Statement) (whole : Span) (o : Option (Name × List Field)) → said_faults file names statement whole o ≡ [] → All IsShort (written_name o)
 said_short file names statement whole None h = All-nil IsShort
 said_short file names statement whole (Some i) h = All-push IsShort [] i.0.bytes (All-nil IsShort) (not_long (length i.0.bytes) (nat_lt MOST_NAME_BYTES (length i.0.bytes)) file whole refl (none_left (cond (nat_lt MOST_NAME_BYTES (length i.0.bytes)) (TooMany (at file whole) ∷ []) []) (flat_map (own_faults file names) i.1) h))
 
-item_short : (file : ℕ) (names : List (List ℕ)) (item : Item) → item_faults file names item ≡ [] → All IsShort (indicator_map_names item)
-item_short file names (Statement mode statement first whole) h = said_short file names statement whole (indicator_in statement) h
-item_short file names (Include mode text span) h = All-nil IsShort
-
 abbrev EachShort : List Said → Type 0
 EachShort [] = Unit {0}
-EachShort (s ∷ ss) = All IsShort (indicator_map_names s.1) × EachShort ss
+EachShort (s ∷ ss) = All IsShort (indicator_map_names s.1.statement) × EachShort ss
 
 each_append : (ss ts : List Said) → EachShort ss → EachShort ts → EachShort (ss ++ ts)
 each_append [] ts h g = g
@@ -63,10 +57,10 @@ module _ (indicator_maps names : List (List ℕ)) where
   body_short : (body : Body) (d : IndicatorMapValues) → faults nat_eq (indicator_map_rules indicator_maps names) indicator_map_moves d body ≡ [] → EachShort (statements_of body)
   body_short End d h = tt
   body_short (Begin rest) d h = body_short rest no_values h
-  body_short (Own place item rest) d h =
-      let own = item_faults place.file names item in
-      let more = faults nat_eq (indicator_map_rules indicator_maps names) indicator_map_moves (next_default names d item) rest in
-      (item_short place.file names item (none_left own more h), body_short rest (next_default names d item) (none_right own more h))
+  body_short (Own place stated rest) d h =
+      let own = said_faults place.file names stated.statement stated.span (indicator_in stated.statement) in
+      let more = faults nat_eq (indicator_map_rules indicator_maps names) indicator_map_moves (next_default names d stated.statement) rest in
+      (said_short place.file names stated.statement stated.span (indicator_in stated.statement) (none_left own more h), body_short rest (next_default names d stated.statement) (none_right own more h))
   body_short (Inc mode group body rest) d h =
       let inner = faults nat_eq (indicator_map_rules indicator_maps names) indicator_map_moves no_values body in
       let more = faults nat_eq (indicator_map_rules indicator_maps names) indicator_map_moves d rest in
@@ -88,7 +82,7 @@ with_all ks (k ∷ more) all h = with_all (with_name bytes_eq ks k) more (with_o
 
 behind_short : (ks : List (List ℕ)) (saids : List Said) → All IsShort ks → EachShort saids → All IsShort (names_behind indicator_map_names ks saids)
 behind_short ks [] all h = all
-behind_short ks (s ∷ ss) all h = behind_short (with_names ks (indicator_map_names s.1)) ss (with_all ks (indicator_map_names s.1) all h.0) h.1
+behind_short ks (s ∷ ss) all h = behind_short (with_names ks (indicator_map_names s.1.statement)) ss (with_all ks (indicator_map_names s.1.statement) all h.0) h.1
 
 pub names_short : (indicator_maps names : List (List ℕ)) (body : Body) → faults_of nat_eq (indicator_map_rules indicator_maps names) indicator_map_moves body ≡ [] → All IsShort (names_of indicator_map_names (statements_of body))
 names_short indicator_maps names body h = behind_short [] (statements_of body) (All-nil IsShort) (body_short indicator_maps names body no_values h)
@@ -124,7 +118,7 @@ distinct-fold ks (k ∷ more) d = distinct-fold (with_name bytes_eq ks k) more (
 
 distinct-behind : (ks : List (List ℕ)) (saids : List Said) → IsDistinct bytes_eq ks → IsDistinct bytes_eq (names_behind indicator_map_names ks saids)
 distinct-behind ks [] d = d
-distinct-behind ks (s ∷ ss) d = distinct-behind (with_names ks (indicator_map_names s.1)) ss (distinct-fold ks (indicator_map_names s.1) d)
+distinct-behind ks (s ∷ ss) d = distinct-behind (with_names ks (indicator_map_names s.1.statement)) ss (distinct-fold ks (indicator_map_names s.1.statement) d)
 
 pub names_apart : (saids : List Said) → IsDistinct bytes_eq (names_of indicator_map_names saids)
 unfolding IsDistinct

@@ -5,7 +5,6 @@ use Rattle.std.specs.Str.{bytes_eq}
 use Rattle.kx_lex.specs.declared.name.Name.{Name}
 use Rattle.kx_virtual_mods.specs.Once.{OffersOnce}
 use Rattle.kx_parse.specs.declared.tree.Field.{Field}
-use Rattle.kx_parse.specs.declared.tree.Item.TheVariants.{Include, Statement}
 use Rattle.kx_parse.specs.declared.tree.Mode.{Mode}
 use Rattle.kx_indicators.specs.Blocks.{indicator_in, values_of}
 use Rattle.kx_indicators.specs.Given.{IndicatorMapValues}
@@ -29,5 +28,4 @@ module _ (indicator_maps names : List (List ℕ)) where
 
   pub indicators_once : OffersOnce nat_eq (indicator_map_rules indicator_maps names)
   unfolding IsDistinct
-  indicators_once d place (Statement mode statement first whole) = one_said d mode (indicator_in statement)
-  indicators_once d place (Include mode text span) = tt
+  indicators_once d place stated = one_said d stated.mode (indicator_in stated.statement)

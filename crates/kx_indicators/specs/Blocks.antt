@@ -7,10 +7,8 @@ use Rattle.kx_lex.specs.declared.fault.Fault.{Fault}
 use Rattle.kx_lex.specs.declared.name.Name.{Name}
 use Rattle.kx_lex.specs.declared.token.Span.{Span}
 use Rattle.kx_parse.specs.declared.tree.Field.{Field}
-use Rattle.kx_parse.specs.declared.tree.Item.{Item}
-use Rattle.kx_parse.specs.declared.tree.Item.TheVariants.{Include, Statement}
-use Rattle.kx_parse.specs.declared.tree.Statement.{Statement as Said}
-use Rattle.kx_parse.specs.declared.tree.Statement.TheVariants as said
+use Rattle.kx_parse.specs.declared.tree.Statement.{Statement}
+use Rattle.kx_parse.specs.declared.tree.Statement.TheVariants.{Field as FieldStatement, Indicator}
 use Rattle.kx_indicators.specs.Given.{IndicatorMapValues}
 use Rattle.kx_indicators.specs.Giving.{last_values, no_values, with_value}
 use Rattle.kx_indicators.specs.IndicatorMapFields.{field_faults, field_value}
@@ -18,36 +16,31 @@ use Rattle.kx_indicators.specs.declared.values.IndicatorMapValue.{IndicatorMapVa
 use Rattle.kx_merge.specs.Faults.{name_faults}
 
 -- the name and the fields of an indicator
-abbrev pub indicator_in : Said → Option (Name × List Field)
-indicator_in (said.Indicator name fields) = Some (name, fields)
+abbrev pub indicator_in : Statement → Option (Name × List Field)
+indicator_in (Indicator name fields) = Some (name, fields)
 indicator_in _ = None
 
 -- the word and the field of a default for indicators, as `indicator.groups = all;`
-abbrev pub default_in : Said → Option (Name × Field)
-default_in (said.Field field) = option_map (λ member. (member, field)) (if str_eq_ignore_ascii_case field.place.word.bytes (codes "indicator") then field.place.member else None)
+abbrev pub default_in : Statement → Option (Name × Field)
+default_in (FieldStatement field) = option_map (λ member. (member, field)) (if str_eq_ignore_ascii_case field.place.word.bytes (codes "indicator") then field.place.member else None)
 default_in _ = None
 
-abbrev pub item_default : Item → Option (Name × Field)
-item_default (Statement mode statement first whole) = default_in statement
-item_default (Include mode text span) = None
-
 -- the name of the indicator that a statement is about
-abbrev pub indicator_map_names : Item → List (List ℕ)
-indicator_map_names (Statement mode statement first whole) = option_map_or (λ i. i.0.bytes ∷ []) (indicator_in statement) []
-indicator_map_names (Include mode text span) = []
+abbrev pub indicator_map_names : Statement → List (List ℕ)
+indicator_map_names statement = option_map_or (λ i. i.0.bytes ∷ []) (indicator_in statement) []
 
 -- ---- Defaults
 
 -- `names` are the virtual modifiers by number
 module _ (names : List (List ℕ)) where
   -- the defaults after one more statement
-  abbrev pub next_default : IndicatorMapValues → Item → IndicatorMapValues
-  next_default d item = with_value d (option_and_then (λ given. field_value names given.0 given.1) (item_default item))
+  abbrev pub next_default : IndicatorMapValues → Statement → IndicatorMapValues
+  next_default d statement = with_value d (option_and_then (λ given. field_value names given.0 given.1) (default_in statement))
 
   -- a law, the clause `defaults` of `indicators`: the defaults after the statements of a section are what the last of them gives that gives a field
   -- anything
   abbrev pub DefaultsAreLast : Type 0
-  DefaultsAreLast = (statements : List Item) → fold next_default no_values statements ≡ last_values (λ item. option_and_then (λ given. field_value names given.0 given.1) (item_default item)) no_values statements
+  DefaultsAreLast = (statements : List Statement) → fold next_default no_values statements ≡ last_values (λ s. option_and_then (λ given. field_value names given.0 given.1) (default_in s)) no_values statements
 
   -- what is written last in an indicator, else the default before it; a field of two words is read and not used
   abbrev pub values_of : IndicatorMapValues → List Field → IndicatorMapValues
@@ -59,13 +52,9 @@ module _ (file : ℕ) (names : List (List ℕ)) where
   abbrev pub own_faults : Field → List Fault
   own_faults field = if is_some field.place.member then [] else field_faults file names field.place.word field
 
-  abbrev pub said_faults : Said → Span → Option (Name × List Field) → List Fault
-  said_faults statement whole i = option_map_or (λ i. name_faults file whole i.0 ++ flat_map own_faults i.1) i (option_map_or (λ g. field_faults file names g.0 g.1) (default_in statement) [])
-
   -- of an indicator or of a default for indicators; another statement has none here
-  abbrev pub item_faults : Item → List Fault
-  item_faults (Statement mode statement first whole) = said_faults statement whole (indicator_in statement)
-  item_faults (Include mode text span) = []
+  abbrev pub said_faults : Statement → Span → Option (Name × List Field) → List Fault
+  said_faults statement whole i = option_map_or (λ i. name_faults file whole i.0 ++ flat_map own_faults i.1) i (option_map_or (λ g. field_faults file names g.0 g.1) (default_in statement) [])
 
 -- ---- Under names, for clauses and proofs
 

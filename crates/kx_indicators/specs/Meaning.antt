@@ -9,10 +9,8 @@ use Rattle.kx_virtual_mods.specs.Counted.{count_faults, names_of, statements_of}
 use Rattle.kx_merge.specs.Bodies.{Moves, Rules, faults_of, offers_of, no_moves}
 use Rattle.kx_merge.specs.Offers.{Offer, offers_to, value_of}
 use Rattle.kx_parse.specs.declared.tree.Field.{Field}
-use Rattle.kx_parse.specs.declared.tree.Item.{Item}
-use Rattle.kx_parse.specs.declared.tree.Item.TheVariants.{Include, Statement}
 use Rattle.kx_parse.specs.declared.tree.Mode.{Mode}
-use Rattle.kx_indicators.specs.Blocks.{indicator_in, item_faults, indicator_map_names, next_default, values_of}
+use Rattle.kx_indicators.specs.Blocks.{indicator_in, indicator_map_names, next_default, said_faults, values_of}
 use Rattle.kx_indicators.specs.Given.{IndicatorMapValues}
 use Rattle.kx_indicators.specs.IndicatorMaps.{IndicatorMap, indicator_map_with}
 use Rattle.kx_indicators.specs.Giving.{no_values, values_cell, only}
@@ -27,12 +25,16 @@ IndicatorMapOffer = Offer ℕ IndicatorMapField IndicatorMapValue
 
 -- `indicator_maps` are the names of indicators, `names` the virtual modifiers, both by number
 module _ (indicator_maps names : List (List ℕ)) where
-  abbrev pub item_offers : IndicatorMapValues → Item → List IndicatorMapOffer
-  item_offers d (Statement mode statement first whole) = option_map_or (λ i. offers_to values_cell mode (values_of names d i.1) (position (bytes_eq i.0.bytes) indicator_maps)) (indicator_in statement) []
-  item_offers d (Include mode text span) = []
+  abbrev pub said_offers : IndicatorMapValues → Mode → Option (Name × List Field) → List IndicatorMapOffer
+  said_offers d mode i = option_map_or (λ i. offers_to values_cell mode (values_of names d i.1) (position (bytes_eq i.0.bytes) indicator_maps)) i []
 
   abbrev pub indicator_map_rules : Rules ℕ IndicatorMapField IndicatorMapValue IndicatorMapValues
-  indicator_map_rules = record { start = no_values; next = next_default names; offers = λ d place item. item_offers d item; faults = λ d place item. item_faults place.file names item }
+  indicator_map_rules = record {
+    start = no_values;
+    next = λ d stated. next_default names d stated.statement;
+    offers = λ d place stated. said_offers d stated.mode (indicator_in stated.statement);
+    faults = λ d place stated. said_faults place.file names stated.statement stated.span (indicator_in stated.statement);
+  }
 
 -- the names in the order of first appearance, hidden or not
 abbrev pub indicator_names : Body → List (List ℕ)
@@ -67,10 +69,7 @@ pub record AreIndicators (is : Indicators) (names : List (List ℕ)) (body : Bod
   pub as_many : length is.indicator_maps ≡ length is.names
   pub indicator_maps_are : (number : ℕ) → number < length is.names → slice_get is.indicator_maps number ≡ Some (indicator_map_of names body number)
 
--- ---- Under names, for clauses and proofs
-
-abbrev pub said_offers : List (List ℕ) → List (List ℕ) → IndicatorMapValues → Mode → Option (Name × List Field) → List IndicatorMapOffer
-said_offers indicator_maps names d mode i = option_map_or (λ i. offers_to values_cell mode (values_of names d i.1) (position (bytes_eq i.0.bytes) indicator_maps)) i []
+-- ---- Under a name, for clauses and proofs
 
 abbrev pub indicator_map_moves : Moves ℕ IndicatorMapField
 indicator_map_moves = no_moves

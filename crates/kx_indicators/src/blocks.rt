@@ -2,10 +2,10 @@
 ghost use Rattle.std.specs.Prelude.{◌≡◌, ◌++◌, [], IfOk, Some};
 ghost use Rattle.std.specs.List.{flat_map};
 ghost use Rattle.kx_parse.specs.declared.tree.Mode.{Mode as ModeValue};
-ghost use Rattle.kx_merge.specs.Records.{AreOffered, mode_of};
-ghost use Rattle.kx_indicators.specs.Blocks.{default_faults, default_in, given_value, indicator_in, item_faults, next_default, own_faults, own_value, said_faults, values_of};
+ghost use Rattle.kx_merge.specs.Records.{AreOffered};
+ghost use Rattle.kx_indicators.specs.Blocks.{default_faults, default_in, given_value, indicator_in, next_default, own_faults, own_value, said_faults, values_of};
 ghost use Rattle.kx_indicators.specs.Giving.{values_cell, values_width, with_value};
-ghost use Rattle.kx_indicators.specs.Meaning.{item_offers, said_offers};
+ghost use Rattle.kx_indicators.specs.Meaning.{said_offers};
 ghost use Rattle.kx_merge.specs.Faults.{name_faults};
 ghost use Rattle.kx_merge.specs.Reports.{Reports, ReportsOrRunsOut};
 
@@ -14,11 +14,19 @@ use crate::fields::read_field;
 use crate::naming::indicator_in;
 use crate::values::{IndicatorMapValue, IndicatorMapValues};
 use kx_basics::MOST_NAME_BYTES;
-use kx_lex::{At, Fault, Name, Span};
+use kx_lex::{At, Fault, Name};
 use kx_merge::records_for;
-use kx_parse::{Field, Item, Statement};
+use kx_parse::{Field, Stated, Statement};
 use kx_virtual_mods::{ModNames, Names};
 use std::alloc::Global;
+
+/// What the statements of indicators are read against.
+#[derive(Clone, Copy)]
+pub struct Context<'a> {
+    /// The names of indicators.
+    pub indicators: &'a Names,
+    pub modifiers: &'a ModNames,
+}
 
 /// What a field in an indicator gives it.
 fn read_own(names: &ModNames, file: u32, field: &Field) -> Result<Option<IndicatorMapValue>, Fault>
@@ -58,27 +66,26 @@ fn no_records(alloc: Global) -> Vec<(usize, IndicatorMapValues)>
 /// What an indicator gives; `whole` is the statement.
 fn read_indicator(
     alloc: Global,
-    indicator_maps: &Names,
-    names: &ModNames,
-    file: u32,
+    context: &Context,
     defaults: IndicatorMapValues,
-    whole: Span,
+    whole: At,
     name: &Name,
     fields: &[Field],
 ) -> Result<Vec<(usize, IndicatorMapValues)>, Fault>
     ensures records { (mode : ModeValue)
         → IfOk result (λ records. AreOffered mode (values_cell) (values_width) records.items
-        (said_offers indicator_maps.now names.now.names defaults mode
+        (said_offers context.now.indicators.now context.now.modifiers.now.names defaults mode
         (Some (name.now, fields.now)))) }
     ensures faults { ReportsOrRunsOut result
-        (name_faults file whole name.now ++ flat_map (own_faults file names.now.names) fields.now) }
+        (name_faults whole.file whole.span name.now
+        ++ flat_map (own_faults whole.file context.now.modifiers.now.names) fields.now) }
 {
     let bytes = name.bytes.as_slice();
     if bytes.len() > MOST_NAME_BYTES {
-        return Err(Fault::TooMany(At { file, span: whole }));
+        return Err(Fault::TooMany(whole));
     }
-    let values = read_values(names, file, defaults, fields)?;
-    records_for(alloc, indicator_maps.number_of(bytes), values)
+    let values = read_values(context.modifiers, whole.file, defaults, fields)?;
+    records_for(alloc, context.indicators.number_of(bytes), values)
 }
 
 /// The defaults after a statement that is no indicator.
@@ -99,76 +106,36 @@ fn read_default(
     }
 }
 
-/// What a statement gives, and the defaults after it; `whole` is all of it.
-fn read_statement(
+/// What a statement gives, under the defaults before it in its section, and the defaults after it.
+pub(crate) fn read_statement(
     alloc: Global,
-    indicator_maps: &Names,
-    names: &ModNames,
+    context: &Context,
     file: u32,
     defaults: IndicatorMapValues,
-    whole: Span,
-    statement: &Statement,
+    stated: &Stated,
 ) -> Result<(Vec<(usize, IndicatorMapValues)>, IndicatorMapValues), Fault>
     ensures records { (mode : ModeValue)
         → IfOk result (λ said. AreOffered mode (values_cell) (values_width) said.0.items
-        (said_offers indicator_maps.now names.now.names defaults mode
-        (indicator_in statement.now))) }
+        (said_offers context.now.indicators.now context.now.modifiers.now.names defaults mode
+        (indicator_in stated.now.statement))) }
     ensures next { IfOk result (λ said.
-        said.1 ≡ with_value defaults (given_value names.now.names (default_in statement.now))) }
+        said.1 ≡ next_default context.now.modifiers.now.names defaults stated.now.statement) }
     ensures faults { ReportsOrRunsOut result
-        (said_faults file names.now.names statement.now whole (indicator_in statement.now)) }
+        (said_faults file context.now.modifiers.now.names stated.now.statement stated.now.span
+        (indicator_in stated.now.statement)) }
 {
-    match indicator_in(statement) {
+    match indicator_in(&stated.statement) {
         Some((name, fields)) => {
-            let records = read_indicator(
-                alloc,
-                indicator_maps,
-                names,
+            let whole = At {
                 file,
-                defaults,
-                whole,
-                name,
-                fields.as_slice(),
-            )?;
+                span: stated.span,
+            };
+            let records = read_indicator(alloc, context, defaults, whole, name, fields.as_slice())?;
             Ok((records, defaults))
         }
         None => {
-            let next = read_default(names, file, defaults, statement)?;
+            let next = read_default(context.modifiers, file, defaults, &stated.statement)?;
             Ok((no_records(alloc), next))
         }
-    }
-}
-
-/// What an item gives, under the defaults before it in its section, and the defaults after it.
-pub(crate) fn read_item(
-    alloc: Global,
-    indicator_maps: &Names,
-    names: &ModNames,
-    file: u32,
-    defaults: IndicatorMapValues,
-    item: &Item,
-) -> Result<(Vec<(usize, IndicatorMapValues)>, IndicatorMapValues), Fault>
-    ensures records { IfOk result (λ said.
-        AreOffered (mode_of item.now) (values_cell) (values_width) said.0.items
-        (item_offers indicator_maps.now names.now.names defaults item.now)) }
-    ensures next { IfOk result (λ said.
-        said.1 ≡ next_default names.now.names defaults item.now) }
-    ensures faults { ReportsOrRunsOut result (item_faults file names.now.names item.now) }
-{
-    match item {
-        Item::Include { .. } => Ok((no_records(alloc), defaults)),
-        Item::Statement {
-            statement,
-            span,
-            ..
-        } => read_statement(
-            alloc,
-            indicator_maps,
-            names,
-            file,
-            defaults,
-            *span,
-            statement,
-        ),
     }
 }

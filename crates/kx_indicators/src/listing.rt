@@ -10,10 +10,10 @@ ghost use Rattle.kx_indicators.specs.Meaning.{AreIndicators, indicator_map_rules
 ghost use Rattle.kx_indicators.specs.Shown.{indicator_map_recorded};
 ghost use Rattle.kx_merge.specs.Reports.{ReportsOrRunsOut};
 
+use crate::blocks::Context;
 use crate::indicator_map::IndicatorMap;
 use crate::limits::MOST_INDICATORS;
 use crate::naming::IndicatorMapNaming;
-use crate::record::Context;
 use crate::table::Indicators;
 use crate::values::IndicatorMapValues;
 use kx_include::Expansion;
@@ -94,8 +94,8 @@ fn list_indicators(
         expansion,
     )?;
     let context = Context {
-        indicator_maps: &indicator_maps,
-        names,
+        indicators: &indicator_maps,
+        modifiers: names,
     };
     let merged = merge::<Context, IndicatorMapValues>(alloc, &context, expansion)?;
     let shown = indicator_maps_below(alloc, &merged.records, indicator_maps.len())?;

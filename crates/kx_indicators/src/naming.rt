@@ -6,7 +6,7 @@ ghost use Rattle.kx_lex.specs.declared.fault.Fault.TheVariants.{Memory};
 ghost use Rattle.kx_virtual_mods.specs.Counted.{with_names};
 
 use kx_lex::{Fault, Name, Row};
-use kx_parse::{Field, Item, Statement};
+use kx_parse::{Field, Statement};
 use kx_virtual_mods::{Names, Naming};
 use std::alloc::Global;
 
@@ -21,15 +21,12 @@ pub(crate) fn indicator_in(statement: &Statement) -> Option<(&Name, &Row<Field>)
 }
 
 /// The name of the indicator that a statement is about.
-fn written_name(item: &Item) -> Option<&[u8]>
-    ensures { option_to_list (option_map (λ n. n.now) result) ≡ indicator_map_names item.now }
+fn written_name(statement: &Statement) -> Option<&[u8]>
+    ensures { option_to_list (option_map (λ n. n.now) result) ≡ indicator_map_names statement.now }
 {
-    match item {
-        Item::Include { .. } => None,
-        Item::Statement { statement, .. } => match indicator_in(statement) {
-            None => None,
-            Some((name, _)) => Some(name.bytes.as_slice()),
-        },
+    match indicator_in(statement) {
+        None => None,
+        Some((name, _)) => Some(name.bytes.as_slice()),
     }
 }
 
@@ -39,12 +36,12 @@ pub struct IndicatorMapNaming;
 impl Naming for IndicatorMapNaming {
     ghost names = { indicator_map_names };
 
-    fn add(alloc: Global, others: &mut Names, item: &Item) -> Result<(), Fault>
+    fn add(alloc: Global, others: &mut Names, statement: &Statement) -> Result<(), Fault>
         ensures added { OnOk result (others.new
-            ≡ with_names others.old (indicator_map_names item.now)) }
+            ≡ with_names others.old (indicator_map_names statement.now)) }
         ensures err { IfErr result (λ e. e ≡ Memory) }
     {
-        match written_name(item) {
+        match written_name(statement) {
             None => Ok(()),
             Some(name) => others.add(alloc, name),
         }

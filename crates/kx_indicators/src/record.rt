@@ -7,23 +7,14 @@ ghost use Rattle.kx_merge.specs.Offers.{merged_value, merged_width};
 ghost use Rattle.kx_indicators.specs.Giving.{values_cell, values_width};
 ghost use Rattle.kx_indicators.specs.Meaning.{indicator_map_moves, indicator_map_rules};
 
-use crate::blocks::read_item;
+use crate::blocks::{Context, read_statement};
 use crate::values::{IndicatorMapField, IndicatorMapValue, IndicatorMapValues};
 use ks_core::Notes;
 use kx_include::Place;
 use kx_lex::Fault;
 use kx_merge::Fields;
-use kx_parse::{Item, Mode};
-use kx_virtual_mods::{ModNames, Names};
+use kx_parse::{Mode, Stated};
 use std::alloc::Global;
-
-/// What the statements of indicators are read against.
-#[derive(Clone, Copy)]
-pub struct Context<'a> {
-    /// The names of indicators.
-    pub indicator_maps: &'a Names,
-    pub names: &'a ModNames,
-}
 
 impl<'a> Fields<Context<'a>> for IndicatorMapValues {
     type Key = usize;
@@ -34,8 +25,8 @@ impl<'a> Fields<Context<'a>> for IndicatorMapValues {
 
     type Defaults = IndicatorMapValues;
 
-    ghost rules = { λ context. indicator_map_rules context.indicator_maps.now
-        context.names.now.names };
+    ghost rules = { λ context. indicator_map_rules context.indicators.now
+        context.modifiers.now.names };
 
     ghost moves = { indicator_map_moves };
 
@@ -52,17 +43,10 @@ impl<'a> Fields<Context<'a>> for IndicatorMapValues {
         context: &Context<'a>,
         defaults: IndicatorMapValues,
         place: Place,
-        item: &Item,
+        stated: &Stated,
         _notes: &mut Notes,
     ) -> Result<(Vec<(usize, IndicatorMapValues)>, IndicatorMapValues), Fault> {
-        read_item(
-            alloc,
-            context.indicator_maps,
-            context.names,
-            place.file,
-            defaults,
-            item,
-        )
+        read_statement(alloc, context, place.file, defaults, stated)
     }
 
     fn merge(&mut self, _alloc: Global, other: IndicatorMapValues, mode: Mode) -> Result<(), Fault>

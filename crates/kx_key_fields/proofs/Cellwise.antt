@@ -3,7 +3,7 @@ use Rattle.std.proofs.Common.{◌≡◌, ℕ, ◌+◌, ◌==◌, ◌<◌, Bool, 
 use Rattle.std.specs.Option.{option_and_then, option_map, option_or}
 use Rattle.kx_parse.specs.declared.tree.Field.{Field}
 use Rattle.kx_parse.specs.declared.tree.KeyField.{KeyField}
-use Rattle.kx_key_fields.specs.KeyFields.{cell_default, cell_given, default_given, defaults_behind, effective, key_given, next_defaults}
+use Rattle.kx_key_fields.specs.KeyFields.{cell_default, cell_given, default_given, defaults_after, effective, key_given, next_defaults}
 use Rattle.kx_merge.specs.Last.{last_given}
 use Rattle.kx_key_fields.specs.Attributes.{Settings, given_to, no_settings, attribute_in, type_at, with_given}
 use Rattle.kx_key_fields.specs.declared.cells.AttributeCell.{AttributeCell}
@@ -61,5 +61,5 @@ module _ (names : List (List ℕ)) where
   none_in _ = refl
 
   -- of default statements the last counts
-  pub last_defaults : (statements : List Field) (cell : AttributeCell) → attribute_in (defaults_behind names statements) cell ≡ last_given (cell_default names cell) None statements
+  pub last_defaults : (statements : List Field) (cell : AttributeCell) → attribute_in (defaults_after names statements) cell ≡ last_given (cell_default names cell) None statements
   last_defaults statements cell = go no_settings cell statements ∙ ap (λ v. last_given (cell_default names cell) v statements) (none_in cell)

@@ -33,8 +33,8 @@ module _ (names : List (List ℕ)) where
   abbrev pub next_defaults : Settings → Field → Settings
   next_defaults d field = with_given d (default_given field)
 
-  abbrev pub defaults_behind : List Field → Settings
-  defaults_behind statements = fold next_defaults no_settings statements
+  abbrev pub defaults_after : List Field → Settings
+  defaults_after statements = fold next_defaults no_settings statements
 
   -- a cell has the value that is written last in the statement, else its default
   abbrev pub effective : Settings → List KeyField → AttributeCell → Option AttributeValue

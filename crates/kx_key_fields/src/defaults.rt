@@ -49,7 +49,7 @@ impl Model for KeyDefaults {
 impl KeyDefaults {
     ghost use Rattle.std.specs.Prelude.{◌≡◌, List, IfOk};
     ghost use Rattle.kx_parse.specs.declared.tree.Field.{Field as FieldValue};
-    ghost use Rattle.kx_key_fields.specs.KeyFields.{cell_default, default_faults, defaults_behind, next_defaults};
+    ghost use Rattle.kx_key_fields.specs.KeyFields.{cell_default, default_faults, defaults_after, next_defaults};
     ghost use Rattle.kx_key_fields.specs.Attributes.{no_settings, attribute_in};
     ghost use Rattle.kx_merge.specs.Last.{last_given};
     ghost use Rattle.kx_merge.specs.Reports.{ReportsOrRunsOut};
@@ -77,7 +77,7 @@ impl KeyDefaults {
     /// `UnknownField` at the word before the point where it isn't `key`, or where there is no point; at the word after it
     /// where it is no field of keys, `symbols` or `actions`, or where it has an index and takes none; else the faults of the
     /// value, as [`read_settings`](crate::read_settings) has them; `Memory`.
-    pub fn behind(
+    pub fn after(
         self,
         alloc: Global,
         names: &ModNames,
@@ -86,7 +86,7 @@ impl KeyDefaults {
     ) -> Result<KeyDefaults, Fault>
         ensures value { IfOk result (λ d. d ≡ next_defaults names.now.names self field.now) }
         ensures last { (statements : List FieldValue) (cell : AttributeCell)
-            → attribute_in (defaults_behind names.now.names statements) cell
+            → attribute_in (defaults_after names.now.names statements) cell
             ≡ last_given (cell_default names.now.names cell) None statements }
         ensures faults { ReportsOrRunsOut result (default_faults file names.now.names field.now) }
     {

@@ -55,11 +55,11 @@ module _ {K C V D R : Type 0} {cell : R → C → Option V} {width : R → ℕ �
 
 module _ {K C V D : Type 0} (eq : K → K → Bool) (rules : Rules K C V D) (moves : Moves K C) (bodies : List Body) where
   pub entry-first : (place : Place) (d : D) (e : Entry) (es : List Entry) (rest : Body) → offers eq rules moves d (entries_body bodies place (e ∷ es) rest) ≡ entry_offers eq rules moves bodies place d e ++ offers eq rules moves (entry_next rules d e) (entries_body bodies place es rest)
-  entry-first place d (Own item) es rest = refl
+  entry-first place d (Own stated) es rest = refl
   entry-first place d (Include mode links) es rest = refl
 
   entry-blamed : (place : Place) (d : D) (e : Entry) (es : List Entry) (rest : Body) → faults eq rules moves d (entries_body bodies place (e ∷ es) rest) ≡ entry_faults eq rules moves bodies place d e ++ faults eq rules moves (entry_next rules d e) (entries_body bodies place es rest)
-  entry-blamed place d (Own item) es rest = refl
+  entry-blamed place d (Own stated) es rest = refl
   entry-blamed place d (Include mode links) es rest = refl
 
   -- at an index of a loop

@@ -51,11 +51,11 @@ included_faults eq rules moves bodies x = faults_of eq rules moves (links_body b
 
 module _ {K C V D : Type 0} (eq : K → K → Bool) (rules : Rules K C V D) (moves : Moves K C) (bodies : List Body) (place : Place) where
   ends-with : (base : List (Offer K C V)) (d : D) (e : Entry) → (front : List (Offer K C V)) × (base ++ entry_offers eq rules moves bodies place d e ≡ front ++ included_offers eq rules moves bodies (included_by e))
-  ends-with base d (Own item) = (base ++ rules.offers d place item.now, sym (append-nil (base ++ rules.offers d place item.now)))
+  ends-with base d (Own stated) = (base ++ rules.offers d place stated.now, sym (append-nil (base ++ rules.offers d place stated.now)))
   ends-with base d (Include mode links) = (base, refl)
 
   clean-by : (d : D) (e : Entry) → entry_faults eq rules moves bodies place d e ≡ [] → included_faults eq rules moves bodies (included_by e) ≡ []
-  clean-by d (Own item) clean = refl
+  clean-by d (Own stated) clean = refl
   clean-by d (Include mode links) clean = clean
 
   -- offers have these among them
@@ -65,7 +65,7 @@ module _ {K C V D : Type 0} (eq : K → K → Bool) (rules : Rules K C V D) (mov
     pub is : os ≡ before ++ (xs ++ after)
 
   has-first : (d : D) (e : Entry) (rest : List (Offer K C V)) → Has (entry_offers eq rules moves bodies place d e ++ rest) (included_offers eq rules moves bodies (included_by e))
-  has-first d (Own item) rest = record { before = rules.offers d place item.now; after = rest; is = refl }
+  has-first d (Own stated) rest = record { before = rules.offers d place stated.now; after = rest; is = refl }
   has-first d (Include mode links) rest = record { before = []; after = rest; is = refl }
 
   has-later : (d : D) (xs : List Entry) (n : ℕ) (x : Mode × List Link) → included_at xs n ≡ Some x → Has (offers eq rules moves d (entries_body bodies place xs End)) (included_offers eq rules moves bodies x)
@@ -189,7 +189,7 @@ module _ {K C V D R : Type 0} (cell : R → C → Option V) (width : R → ℕ �
 
     -- an include is passed over that stands before and after, too
     pub going_past : (laws : IsEquivalence eq) (same : (j k : K) → eq j k ≡ true → j ≡ k) (e : Entry) → Going names at last i d n1 a1 → i < length xs → e ≡ get_or xs i e → StandsBetween xs i (included_by e) → Going names at last (i + 1) d n1 a1
-    going_past laws same (Own item) l within is stands = absurd (false≢true stands.strong)
+    going_past laws same (Own stated) l within is stands = absurd (false≢true stands.strong)
     going_past laws same (Include mode links) l within is stands = record {
       kept = l.kept;
       all = l.all ++ added;
@@ -277,7 +277,7 @@ module _ {K C V D R : Type 0} (cell : R → C → Option V) (width : R → ℕ �
 
   -- what an entry that was merged covers
   covered-entry : (keys : List K) (kept : List (Offer K C V)) (d : D) (e : Entry) → is_strong (included_by e).0 ≡ false → Covers eq laws keys (kept ++ entry_offers eq rules moves bodies place d e) (offers_by (included_by e))
-  covered-entry keys kept d (Own item) weak = covers_none eq laws keys (kept ++ rules.offers d place item.now)
+  covered-entry keys kept d (Own stated) weak = covers_none eq laws keys (kept ++ rules.offers d place stated.now)
   covered-entry keys kept d (Include mode links) weak = covers_self eq laws keys kept (offers_by (mode, links.items)) (weak_gathered eq mode (offers_of eq rules moves (links_body bodies links.items)) weak)
 
   module _ (kept : List (Offer K C V)) (since : ℕ) (marks : List ℕ) (noted keys : List K) (i : ℕ) (d : D) (e : Entry) (within : i < length xs) (is : e ≡ get_or xs i e) (marked : Marked marks (length noted) i)
@@ -298,7 +298,7 @@ module _ {K C V D R : Type 0} (cell : R → C → Option V) (width : R → ℕ �
 
   passed : {names : List K} {at : K → Option R} {last : Mode × List Link} {i : ℕ} {d : D} {n1 : List K} {a1 : K → Option R} (same : (j k : K) → eq j k ≡ true → j ≡ k) (e : Entry) (l : Reaches names at last i d n1 a1) → i < length xs → e ≡ get_or xs i e → StandsBetween xs i (included_by e) → (r : Reaches names at last (i + 1) d n1 a1) × (r.kept ≡ l.kept)
   unfolding going_past
-  passed same (Own item) l within is stands = absurd (false≢true stands.strong)
+  passed same (Own stated) l within is stands = absurd (false≢true stands.strong)
   passed same (Include mode links) l within is stands = (going_past cell width eq rules moves bodies place xs laws same (Include mode links) l within is stands, refl)
 
   augment-is : (m : Mode) → is_strong m ≡ false → Augment ≡ m
@@ -344,7 +344,7 @@ module _ {K C V D R : Type 0} (cell : R → C → Option V) (width : R → ℕ �
     pub covering_again : {n2 : List K} {a2 : K → Option R} (before : ℕ) (e : Entry) → Covering names at last since marks noted i d n1 a1 → i < length xs → e ≡ get_or xs i e → StoodAt xs since i before (included_by e)
         → TakesUp cell width eq (keys_since marks noted before) n1 a1 n2 a2 (gathered eq Augment (offers_of eq rules moves (links_body bodies (included_by e).1)))
         → Covering names at (included_by e) (cond (is_replace (included_by e).0) (i + 1) since) (marks ++ length noted ∷ []) noted (i + 1) d n2 a2
-    covering_again before (Own item) l within is stood takes = absurd (omega (arith, stood.some))
+    covering_again before (Own stated) l within is stood takes = absurd (omega (arith, stood.some))
     covering_again {n2 = n2} {a2 = a2} before (Include mode links) l within is stood takes = record {
       going = record {
         kept = k.kept ++ added;

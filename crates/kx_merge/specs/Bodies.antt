@@ -3,8 +3,8 @@ use Rattle.std.specs.Prelude.{ℕ, Bool, List, [], ◌∷◌, ◌++◌, map, Opt
 use Rattle.std.specs.List.{flat_map}
 use Rattle.std.specs.Option.{option_and_then, option_map_or}
 use Rattle.kx_lex.specs.declared.fault.Fault.{Fault}
-use Rattle.kx_parse.specs.declared.tree.Item.{Item}
 use Rattle.kx_parse.specs.declared.tree.Mode.{Mode}
+use Rattle.kx_parse.specs.declared.tree.Stated.{Stated}
 use Rattle.kx_include.specs.Expansion.{Body, End, Begin, Own, Inc}
 use Rattle.kx_include.specs.declared.place.Place.{Place}
 use Rattle.kx_merge.specs.Offers.{Offer, value_of, width_of, names_of}
@@ -12,9 +12,9 @@ use Rattle.kx_merge.specs.Offers.{Offer, value_of, width_of, names_of}
 -- what statements of a kind say: the defaults at a section's start and after a statement, its offers and its faults under those before it
 pub record Rules (K C V D : Type 0) : Type 0 where
   pub start : D
-  pub next : D → Item → D
-  pub offers : D → Place → Item → List (Offer K C V)
-  pub faults : D → Place → Item → List Fault
+  pub next : D → Stated → D
+  pub offers : D → Place → Stated → List (Offer K C V)
+  pub faults : D → Place → Stated → List Fault
 
 -- what moving a map to a group does: to which record one goes, if any, and which cell and group of the map's becomes this one
 pub record Moves (K C : Type 0) : Type 0 where
@@ -44,14 +44,14 @@ module _ {K C V D : Type 0} (eq : K → K → Bool) (rules : Rules K C V D) (mov
   abbrev pub offers : D → Body → List (Offer K C V)
   offers d End = []
   offers d (Begin rest) = offers rules.start rest
-  offers d (Own place item rest) = rules.offers d place item ++ offers (rules.next d item) rest
+  offers d (Own place stated rest) = rules.offers d place stated ++ offers (rules.next d stated) rest
   offers d (Inc mode group body rest) = moved moves group (gathered eq mode (offers rules.start body)) ++ offers d rest
 
   -- of each statement, hidden or not, in the source or in a file that is included
   abbrev pub faults : D → Body → List Fault
   faults d End = []
   faults d (Begin rest) = faults rules.start rest
-  faults d (Own place item rest) = rules.faults d place item ++ faults (rules.next d item) rest
+  faults d (Own place stated rest) = rules.faults d place stated ++ faults (rules.next d stated) rest
   faults d (Inc mode group body rest) = faults rules.start body ++ faults d rest
 
   abbrev pub offers_of : Body → List (Offer K C V)

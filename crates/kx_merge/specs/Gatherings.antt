@@ -52,21 +52,21 @@ module _ {K C V D R : Type 0} (cell : R → C → Option V) (width : R → ℕ �
 -- an entry of a map, under the defaults before it
 module _ {K C V D : Type 0} (eq : K → K → Bool) (rules : Rules K C V D) (moves : Moves K C) (bodies : List Body) (place : Place) where
   abbrev pub entry_offers : D → Entry → List (Offer K C V)
-  entry_offers d (Own item) = rules.offers d place item.now
+  entry_offers d (Own stated) = rules.offers d place stated.now
   entry_offers d (Include mode links) = gathered eq mode (offers_of eq rules moves (links_body bodies links.items))
 
   abbrev pub entry_faults : D → Entry → List Fault
-  entry_faults d (Own item) = rules.faults d place item.now
+  entry_faults d (Own stated) = rules.faults d place stated.now
   entry_faults d (Include mode links) = faults_of eq rules moves (links_body bodies links.items)
 
 -- the defaults after an entry
 abbrev pub entry_next : {K C V D : Type 0} → Rules K C V D → D → Entry → D
-entry_next rules d (Own item) = rules.next d item.now
+entry_next rules d (Own stated) = rules.next d stated.now
 entry_next rules d (Include mode links) = d
 
 -- the mode and the parts of an include; no parts of a statement
 abbrev pub included_by : Entry → Mode × List Link
-included_by (Own item) = (Augment, [])
+included_by (Own stated) = (Augment, [])
 included_by (Include mode links) = (mode, links.items)
 
 -- what the entry at a place includes

@@ -1,14 +1,8 @@
 -- Records, and what they show of offers.
 use Rattle.std.specs.Prelude.{◌≡◌, ℕ, Bool, List, [], ◌∷◌, Option, None, Some}
 use Rattle.indexmap.specs.IndexMap.{IndexMap, get, keys}
-use Rattle.kx_parse.specs.declared.tree.Item.{Item}
-use Rattle.kx_parse.specs.declared.tree.Item.TheVariants.{Include, Statement}
 use Rattle.kx_parse.specs.declared.tree.Mode.{Mode}
 use Rattle.kx_merge.specs.Offers.{Offer, value_of, width_of, names_of}
-
-abbrev pub mode_of : Item → Mode
-mode_of (Include mode text span) = mode
-mode_of (Statement mode statement first span) = mode
 
 module _ {K C V R : Type 0} (mode : Mode) (cell : R → C → Option V) (width : R → ℕ → ℕ) where
   -- a record and what tells it apart are an offer

@@ -5,11 +5,11 @@ use Rattle.kx_lex.specs.declared.fault.Fault.{Fault}
 use Rattle.kx_merge.specs.Bodies.{Moves, Rules}
 use Rattle.kx_merge.specs.Offers.{Offer}
 use Rattle.kx_merge.specs.declared.single.Single.{Single}
-use Rattle.kx_parse.specs.declared.tree.Item.{Item}
+use Rattle.kx_parse.specs.declared.tree.Stated.{Stated}
 
 module _ {K V : Type 0} where
-  abbrev pub single_rules : (Place → Item → List (Offer K (Unit {0}) V)) → (Place → Item → List Fault) → Rules K (Unit {0}) V (Unit {0})
-  single_rules offers faults = record { start = tt; next = λ d item. tt; offers = λ d place item. offers place item; faults = λ d place item. faults place item }
+  abbrev pub single_rules : (Place → Stated → List (Offer K (Unit {0}) V)) → (Place → Stated → List Fault) → Rules K (Unit {0}) V (Unit {0})
+  single_rules offers faults = record { start = tt; next = λ d stated. tt; offers = λ d place stated. offers place stated; faults = λ d place stated. faults place stated }
 
 -- to which record one goes, if any
 abbrev pub single_moves : {K : Type 0} → (ℕ → K → Option K) → Moves K (Unit {0})

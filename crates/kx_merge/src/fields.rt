@@ -1,6 +1,6 @@
 //! What a kind of statement gives records: the trait of each kind.
 ghost use Rattle.std.specs.Prelude.{◌≡◌, ℕ, true, Option, None, Some, IfOk, IfErr, OnOk};
-ghost use Rattle.kx_merge.specs.Records.{AreOffered, mode_of};
+ghost use Rattle.kx_merge.specs.Records.{AreOffered};
 ghost use Rattle.kx_lex.specs.declared.fault.Fault.TheVariants.{Memory};
 ghost use Rattle.kx_merge.specs.Bodies.{Rules, Moves};
 ghost use Rattle.kx_merge.specs.Moved.{moved_key, moved_value, moved_width};
@@ -11,7 +11,7 @@ use ks_core::Notes;
 use kx_include::Place;
 use kx_lex::Fault;
 use kx_ordered::TableKey;
-use kx_parse::{Item, Mode};
+use kx_parse::{Mode, Stated};
 use std::alloc::Global;
 
 /// What the statements of a section kind make of records, under a context `C`.
@@ -44,16 +44,16 @@ pub trait Fields<C>: Drop {
         context: &C,
         defaults: Self::Defaults,
         place: Place,
-        item: &Item,
+        stated: &Stated,
         notes: &mut Notes,
     ) -> Result<(Vec<(Self::Key, Self)>, Self::Defaults), Fault>
         ensures records { IfOk result (λ said.
-            AreOffered (mode_of item.now) (cell) (width) said.0.items
-            ((rules context.now).offers defaults place item.now)) }
+            AreOffered stated.now.mode (cell) (width) said.0.items
+            ((rules context.now).offers defaults place stated.now)) }
         ensures next { IfOk result (λ said.
-            said.1 ≡ (rules context.now).next defaults item.now) }
+            said.1 ≡ (rules context.now).next defaults stated.now) }
         ensures faults { ReportsOrRunsOut result
-            ((rules context.now).faults defaults place item.now) };
+            ((rules context.now).faults defaults place stated.now) };
 
     /// Merges what a later record gives.
     fn merge(&mut self, alloc: Global, other: Self, mode: Mode) -> Result<(), Fault>

@@ -220,9 +220,9 @@ fn merge_entry<C, R: Fields<C>>(
     ensures next { IfOk result (λ d. d ≡ entry_next (R.rules context.now) defaults entry.now) }
 {
     match entry {
-        Entry::Own(item) => {
+        Entry::Own(stated) => {
             merge_own::<C, R>(
-                alloc, context, defaults, place, item, records, replaced, notes,
+                alloc, context, defaults, place, stated, records, replaced, notes,
             )
         }
         Entry::Include { mode, links } => {

@@ -8,14 +8,14 @@ ghost use Rattle.kx_merge.specs.Gatherings.{TableAdds};
 ghost use Rattle.kx_merge.specs.Renewals.{TakesBack, held};
 ghost use Rattle.kx_merge.specs.Moved.{IsOfferedMoved, moved_key};
 ghost use Rattle.kx_merge.specs.Offers.{Offer, is_replace, merged_value};
-ghost use Rattle.kx_merge.specs.Records.{AreOffered, IsGood, IsOffered, TableShows, mode_of};
+ghost use Rattle.kx_merge.specs.Records.{AreOffered, IsGood, IsOffered, TableShows};
 
 use crate::fields::Fields;
 use ks_core::Notes;
 use kx_include::Place;
 use kx_lex::Fault;
 use kx_ordered::{Ordered, TableKey};
-use kx_parse::{Item, Mode};
+use kx_parse::{Mode, Stated};
 use std::alloc::Global;
 
 /// What a value under a mode makes of the one before it.
@@ -232,37 +232,26 @@ fn note_replaced<C, R: Fields<C>>(
     }
 }
 
-/// The mode of a statement.
-pub(crate) fn mode_of(item: &Item) -> Mode
-    ensures { result ≡ mode_of item.now }
-{
-    match item {
-        Item::Statement { mode, .. } => *mode,
-        Item::Include { mode, .. } => *mode,
-    }
-}
-
 /// What a statement makes of records, and the defaults after it. The keys of records whose values it takes back are noted.
 pub(crate) fn merge_own<C, R: Fields<C>>(
     alloc: Global,
     context: &C,
     defaults: R::Defaults,
     place: Place,
-    item: &Item,
+    stated: &Stated,
     records: &mut Ordered<R::Key, R>,
     replaced: &mut Vec<R::Key>,
     notes: &mut Notes,
 ) -> Result<R::Defaults, Fault>
     ensures adds { TableAdds R.cell R.width R.Key.eq records.old result records.new
-        ((R.rules context.now).offers defaults place item.now)
-        ((R.rules context.now).faults defaults place item.now) }
+        ((R.rules context.now).offers defaults place stated.now)
+        ((R.rules context.now).faults defaults place stated.now) }
     ensures back { OnOk result (TakesBack R.Key.eq false replaced.old.items replaced.new.items
-        ((R.rules context.now).offers defaults place item.now)) }
-    ensures next { IfOk result (λ d. d ≡ (R.rules context.now).next defaults item.now) }
+        ((R.rules context.now).offers defaults place stated.now)) }
+    ensures next { IfOk result (λ d. d ≡ (R.rules context.now).next defaults stated.now) }
 {
-    let (given, next) = R::read(alloc, context, defaults, place, item, notes)?;
-    let mode = mode_of(item);
-    note_replaced::<C, R>(replaced, mode, given.as_slice())?;
-    add_all::<C, R>(alloc, records, mode, given)?;
+    let (given, next) = R::read(alloc, context, defaults, place, stated, notes)?;
+    note_replaced::<C, R>(replaced, stated.mode, given.as_slice())?;
+    add_all::<C, R>(alloc, records, stated.mode, given)?;
     Ok(next)
 }

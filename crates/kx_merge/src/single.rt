@@ -5,10 +5,10 @@ ghost use Rattle.kx_lex.specs.declared.fault.Fault.{Fault as FaultValue};
 ghost use Rattle.kx_lex.specs.declared.fault.Fault.TheVariants.{Memory};
 ghost use Rattle.kx_merge.specs.Moved.{moved_key};
 ghost use Rattle.kx_merge.specs.Offers.{Offer, plain_offer, merged_value};
-ghost use Rattle.kx_merge.specs.Records.{AreOffered, mode_of};
+ghost use Rattle.kx_merge.specs.Records.{AreOffered};
 ghost use Rattle.kx_merge.specs.Single.{single_cell, single_moves, single_rules, single_width};
-ghost use Rattle.kx_parse.specs.declared.tree.Item.{Item as ItemValue};
 ghost use Rattle.kx_parse.specs.declared.tree.Mode.{Mode as ModeValue};
+ghost use Rattle.kx_parse.specs.declared.tree.Stated.{Stated as StatedValue};
 ghost use Rattle.kx_merge.specs.Reports.{ReportsOrRunsOut};
 
 use crate::fields::Fields;
@@ -17,7 +17,7 @@ use ks_core::Notes;
 use kx_include::Place;
 use kx_lex::Fault;
 use kx_ordered::TableKey;
-use kx_parse::{Item, Mode};
+use kx_parse::{Mode, Stated};
 use std::alloc::Global;
 
 /// A record of one value, where statements give it one.
@@ -31,9 +31,9 @@ pub trait SingleValue<C>: Drop {
     /// What records are told apart by.
     type Key: Ord + TableKey + Drop;
 
-    ghost offers: { C → PlaceValue → ItemValue → List (Offer Self.Key (Unit {0}) Self) };
+    ghost offers: { C → PlaceValue → StatedValue → List (Offer Self.Key (Unit {0}) Self) };
 
-    ghost faults: { C → PlaceValue → ItemValue → List FaultValue };
+    ghost faults: { C → PlaceValue → StatedValue → List FaultValue };
 
     // The record that one of a map goes to where the map is moved to a group, if any.
     ghost moved: { ℕ → Self.Key → Option Self.Key };
@@ -43,12 +43,12 @@ pub trait SingleValue<C>: Drop {
         alloc: Global,
         context: &C,
         place: Place,
-        item: &Item,
+        stated: &Stated,
     ) -> Result<Vec<(Self::Key, Single<Self>)>, Fault>
         ensures records { IfOk result (λ records.
-            AreOffered (mode_of item.now) single_cell single_width records.items
-            (offers context.now place item.now)) }
-        ensures faults { ReportsOrRunsOut result (faults context.now place item.now) };
+            AreOffered stated.now.mode single_cell single_width records.items
+            (offers context.now place stated.now)) }
+        ensures faults { ReportsOrRunsOut result (faults context.now place stated.now) };
 
     /// The same value.
     fn try_clone(&self, alloc: Global) -> Result<Self, Fault>
@@ -127,10 +127,10 @@ impl<C, V: SingleValue<C>> Fields<C> for Single<V> {
         context: &C,
         _defaults: (),
         place: Place,
-        item: &Item,
+        stated: &Stated,
         _notes: &mut Notes,
     ) -> Result<(Vec<(V::Key, Single<V>)>, ()), Fault> {
-        Ok((V::read(alloc, context, place, item)?, ()))
+        Ok((V::read(alloc, context, place, stated)?, ()))
     }
 
     fn merge(&mut self, _alloc: Global, other: Single<V>, mode: Mode) -> Result<(), Fault> {

@@ -15,9 +15,8 @@ use Rattle.kx_virtual_mods.specs.Masks.{real_mask, virtual_number}
 use Rattle.kx_merge.specs.Offers.{with_name}
 use Rattle.kx_parse.specs.declared.tree.Entry.{Entry}
 use Rattle.kx_parse.specs.declared.tree.Entry.TheVariants.{KeyName, Symbol}
-use Rattle.kx_parse.specs.declared.tree.Item.{Item}
-use Rattle.kx_parse.specs.declared.tree.Item.TheVariants.{Include, Statement}
-use Rattle.kx_parse.specs.declared.tree.Statement.{Statement as Said}
+use Rattle.kx_parse.specs.declared.tree.Stated.{Stated}
+use Rattle.kx_parse.specs.declared.tree.Statement.{Statement}
 use Rattle.kx_parse.specs.declared.tree.Statement.TheVariants.{ModifierMap}
 use Rattle.kx_symbols.specs.KeyFaults.{symbol_faults}
 use Rattle.kx_symbols.specs.Keysyms.{symbol_keysym}
@@ -30,7 +29,7 @@ abbrev pub same_target : Target → Target → Bool
 same_target = ghosts.eq
 
 -- the word and the entries of a modifier map statement
-abbrev pub map_in : Said → Option (Name × List Entry)
+abbrev pub map_in : Statement → Option (Name × List Entry)
 map_in (ModifierMap word entries) = Some (word, entries)
 map_in _ = None
 
@@ -68,9 +67,8 @@ module _ (file : ℕ) where
   entry_faults whole (Symbol symbol) = symbol_faults file symbol
 
   -- those of a modifier map; those of other statements are none of these
-  abbrev pub item_faults : List (List ℕ) → Item → List Fault
-  item_faults modifiers (Statement mode statement first whole) = option_map_or (λ map. word_faults modifiers map.0 ++ flat_map (entry_faults whole) map.1) (map_in statement) []
-  item_faults modifiers (Include mode text span) = []
+  abbrev pub stated_faults : List (List ℕ) → Stated → List Fault
+  stated_faults modifiers stated = option_map_or (λ map. word_faults modifiers map.0 ++ flat_map (entry_faults stated.span) map.1) (map_in stated.statement) []
 
 -- ---- Under names, for clauses and proofs
 

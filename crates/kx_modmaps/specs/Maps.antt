@@ -14,10 +14,8 @@ use Rattle.kx_merge.specs.Offers.{Offer, names_of, value_of, plain_offer}
 use Rattle.kx_merge.specs.Records.{AreOffered}
 use Rattle.kx_mods.specs.Mods.{mask}
 use Rattle.kx_parse.specs.declared.tree.Entry.{Entry}
-use Rattle.kx_parse.specs.declared.tree.Item.{Item}
-use Rattle.kx_parse.specs.declared.tree.Item.TheVariants.{Include, Statement}
 use Rattle.kx_parse.specs.declared.tree.Mode.{Mode}
-use Rattle.kx_modmaps.specs.Entries.{item_faults, map_in, same_target, targets_of, word_mask}
+use Rattle.kx_modmaps.specs.Entries.{map_in, same_target, stated_faults, targets_of, word_mask}
 use Rattle.kx_modmaps.specs.declared.maps.KeysymEntry.{KeysymEntry}
 use Rattle.kx_modmaps.specs.declared.record.Assigned.{Assigned}
 use Rattle.kx_modmaps.specs.declared.record.Cell.{Cell}
@@ -43,13 +41,9 @@ offers_to mode (Some mask) targets = map (λ target. plain_offer mode target (gi
 abbrev pub map_offers : Codes → KeysymTable → Mode → Option (Name × List Entry) → List (Offer Target Cell ℕ)
 map_offers codes names mode map = option_map_or (λ m. offers_to mode (word_mask m.0.bytes) (targets_of codes names m.1)) map []
 
-abbrev pub item_offers : Codes → KeysymTable → Item → List (Offer Target Cell ℕ)
-item_offers codes names (Statement mode statement first whole) = map_offers codes names mode (map_in statement)
-item_offers codes names (Include mode text span) = []
-
 -- `modifiers` are the names of virtual modifiers
 abbrev pub map_rules : Codes → KeysymTable → List (List ℕ) → Rules Target Cell ℕ (Unit {0})
-map_rules codes names modifiers = record { start = tt; next = λ d item. tt; offers = λ d place item. item_offers codes names item; faults = λ d place item. item_faults place.file modifiers item }
+map_rules codes names modifiers = record { start = tt; next = λ d stated. tt; offers = λ d place stated. map_offers codes names stated.mode (map_in stated.statement); faults = λ d place stated. stated_faults place.file modifiers stated }
 
 abbrev pub map_offers_of : Codes → KeysymTable → List (List ℕ) → Body → List (Offer Target Cell ℕ)
 map_offers_of codes names modifiers body = offers_of same_target (map_rules codes names modifiers) no_moves body

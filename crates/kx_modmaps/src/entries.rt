@@ -14,7 +14,7 @@ use crate::target::Target;
 use ks_core::{NameTable, Note, Notes};
 use kx_basics::MOST_NAME_BYTES;
 use kx_codes::Codes;
-use kx_lex::{At, Fault, KeyName, Name, Span};
+use kx_lex::{At, Fault, KeyName, Name};
 use kx_mods::Mods;
 use kx_ordered::OrderedSet;
 use kx_parse::{Entry, Row, Statement};
@@ -26,16 +26,8 @@ use std::alloc::Global;
 #[derive(Clone, Copy)]
 pub struct Context<'a, 'l> {
     pub codes: &'a Codes<'l>,
-    pub names: &'a NameTable,
+    pub keysyms: &'a NameTable,
     pub modifiers: &'a ModNames,
-}
-
-/// Where a statement stands.
-#[derive(Clone, Copy, Debug)]
-pub(crate) struct StatementSite {
-    pub file: u32,
-    /// All of the statement.
-    pub whole: Span,
 }
 
 /// The word and the entries of a modifier map statement.
@@ -91,19 +83,16 @@ pub(crate) fn read_word(modifiers: &ModNames, file: u32, word: &Name) -> Result<
 /// The key of a name, where it has a keycode; else that is noted.
 fn key_target(
     codes: &Codes,
-    site: StatementSite,
+    whole: At,
     name: &KeyName,
     notes: &mut Notes,
 ) -> Result<Option<Target>, Fault>
     ensures value { IfOk result (λ target.
         target ≡ option_map (λ code. Key code) (code_of codes.now name.now.bytes)) }
-    ensures faults { ReportsOrRunsOut result (name_faults site.file site.whole name.now) }
+    ensures faults { ReportsOrRunsOut result (name_faults whole.file whole.span name.now) }
 {
     if name.as_slice().len() > MOST_NAME_BYTES {
-        return Err(Fault::TooMany(At {
-            file: site.file,
-            span: site.whole,
-        }));
+        return Err(Fault::TooMany(whole));
     }
     match codes.code_of(name.as_slice()) {
         Some(code) => Ok(Some(Target::Key(code))),
@@ -116,18 +105,18 @@ fn key_target(
 
 /// What an entry names.
 fn read_entry(
-    codes: &Codes,
-    names: &NameTable,
-    site: StatementSite,
+    context: &Context,
+    whole: At,
     entry: &Entry,
     notes: &mut Notes,
 ) -> Result<Option<Target>, Fault>
-    ensures value { IfOk result (λ target. target ≡ entry_target codes.now names.now entry.now) }
-    ensures faults { ReportsOrRunsOut result (entry_faults site.file site.whole entry.now) }
+    ensures value { IfOk result (λ target. target
+        ≡ entry_target context.now.codes.now context.now.keysyms.now entry.now) }
+    ensures faults { ReportsOrRunsOut result (entry_faults whole.file whole.span entry.now) }
 {
     match entry {
-        Entry::KeyName(name) => key_target(codes, site, name, notes),
-        Entry::Symbol(symbol) => match symbol_keysym(names, site.file, symbol, notes)? {
+        Entry::KeyName(name) => key_target(context.codes, whole, name, notes),
+        Entry::Symbol(symbol) => match symbol_keysym(context.keysyms, whole.file, symbol, notes)? {
             None => Ok(None),
             Some(keysym) => Ok(Some(Target::Keysym(keysym))),
         },
@@ -148,19 +137,19 @@ fn add_target(targets: &mut OrderedSet<Target>, target: Option<Target>) -> Resul
 /// What entries name, each once.
 pub(crate) fn read_targets(
     alloc: Global,
-    codes: &Codes,
-    names: &NameTable,
-    site: StatementSite,
+    context: &Context,
+    whole: At,
     entries: &[Entry],
     notes: &mut Notes,
 ) -> Result<OrderedSet<Target>, Fault>
-    ensures value { IfOk result (λ targets. targets ≡ targets_of codes.now names.now entries.now) }
+    ensures value { IfOk result (λ targets. targets
+        ≡ targets_of context.now.codes.now context.now.keysyms.now entries.now) }
     ensures faults { ReportsOrRunsOut result
-        (flat_map (entry_faults site.file site.whole) entries.now) }
+        (flat_map (entry_faults whole.file whole.span) entries.now) }
 {
     let mut targets = OrderedSet::new(alloc);
     'entries: for entry in entries {
-        let target = read_entry(codes, names, site, entry, notes)?;
+        let target = read_entry(context, whole, entry, notes)?;
         add_target(&mut targets, target)?;
     }
     Ok(targets)

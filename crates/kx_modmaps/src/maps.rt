@@ -133,7 +133,7 @@ pub fn modifier_maps(
 {
     let context = Context {
         codes,
-        names,
+        keysyms: names,
         modifiers,
     };
     let merged = merge::<Context, Assigned>(alloc, &context, expansion)?;

@@ -6,22 +6,19 @@ ghost use Rattle.kx_lex.specs.declared.fault.Fault.TheVariants.{Memory};
 ghost use Rattle.kx_parse.specs.declared.tree.Mode.{Mode as ModeValue};
 ghost use Rattle.kx_merge.specs.Moved.{moved_key, moved_value, moved_width};
 ghost use Rattle.kx_merge.specs.Offers.{Offer, merged_value, merged_width};
-ghost use Rattle.kx_merge.specs.Records.{mode_of};
 ghost use Rattle.kx_mods.specs.Mods.{mask};
-ghost use Rattle.kx_modmaps.specs.Entries.{entry_faults, item_faults, targets_of, word_faults, word_mask};
-ghost use Rattle.kx_modmaps.specs.Maps.{AreAssigned, assigned_cell, assigned_width, given, item_offers, map_moves, map_offer, map_rules, offers_to, present};
+ghost use Rattle.kx_modmaps.specs.Entries.{entry_faults, targets_of, word_faults, word_mask};
+ghost use Rattle.kx_modmaps.specs.Maps.{AreAssigned, assigned_cell, assigned_width, given, map_moves, map_offer, map_rules, offers_to, present};
 ghost use Rattle.kx_merge.specs.Reports.{ReportsOrRunsOut};
 
-use crate::entries::{Context, StatementSite, map_in, read_targets, read_word};
+use crate::entries::{Context, map_in, read_targets, read_word};
 use crate::target::Target;
-use ks_core::{NameTable, Notes};
-use kx_codes::Codes;
+use ks_core::Notes;
 use kx_include::Place;
-use kx_lex::{Fault, Name};
+use kx_lex::{At, Fault, Name};
 use kx_merge::Fields;
 use kx_mods::Mods;
-use kx_parse::{Entry, Item, Mode};
-use kx_virtual_mods::ModNames;
+use kx_parse::{Entry, Mode, Stated};
 use std::alloc::Global;
 
 /// What can have a value in a modifier map.
@@ -116,23 +113,22 @@ fn records_for(
 /// What a modifier map gives.
 fn read_map(
     alloc: Global,
-    codes: &Codes,
-    names: &NameTable,
-    modifiers: &ModNames,
-    site: StatementSite,
+    context: &Context,
+    whole: At,
     word: &Name,
     entries: &[Entry],
     notes: &mut Notes,
 ) -> Result<Vec<(Target, Assigned)>, Fault>
     ensures records { (mode : ModeValue)
         → IfOk result (λ records. AreAssigned mode records.items
-        (offers_to mode (word_mask word.now.bytes) (targets_of codes.now names.now entries.now))) }
+        (offers_to mode (word_mask word.now.bytes)
+        (targets_of context.now.codes.now context.now.keysyms.now entries.now))) }
     ensures faults { ReportsOrRunsOut result
-        (word_faults site.file modifiers.now.names word.now
-        ++ flat_map (entry_faults site.file site.whole) entries.now) }
+        (word_faults whole.file context.now.modifiers.now.names word.now
+        ++ flat_map (entry_faults whole.file whole.span) entries.now) }
 {
-    let mods = read_word(modifiers, site.file, word)?;
-    let targets = read_targets(alloc, codes, names, site, entries, notes)?;
+    let mods = read_word(context.modifiers, whole.file, word)?;
+    let targets = read_targets(alloc, context, whole, entries, notes)?;
     records_for(alloc, targets.as_slice(), mods)
 }
 
@@ -141,45 +137,6 @@ fn no_records(alloc: Global) -> Vec<(Target, Assigned)>
     ensures { (mode : ModeValue) → AreAssigned mode result.items [] }
 {
     Vec::new(alloc)
-}
-
-/// What an item gives.
-fn read_item(
-    alloc: Global,
-    codes: &Codes,
-    names: &NameTable,
-    modifiers: &ModNames,
-    file: u32,
-    item: &Item,
-    notes: &mut Notes,
-) -> Result<Vec<(Target, Assigned)>, Fault>
-    ensures records { IfOk result (λ records. AreAssigned (mode_of item.now) records.items
-        (item_offers codes.now names.now item.now)) }
-    ensures faults { ReportsOrRunsOut result (item_faults file modifiers.now.names item.now) }
-{
-    match item {
-        Item::Include { .. } => Ok(no_records(alloc)),
-        Item::Statement {
-            statement,
-            span,
-            ..
-        } => match map_in(statement) {
-            None => Ok(no_records(alloc)),
-            Some((word, entries)) => {
-                let site = StatementSite { file, whole: *span };
-                read_map(
-                    alloc,
-                    codes,
-                    names,
-                    modifiers,
-                    site,
-                    word,
-                    entries.as_slice(),
-                    notes,
-                )
-            }
-        },
-    }
 }
 
 impl<'a, 'l> Fields<Context<'a, 'l>> for Assigned {
@@ -191,7 +148,7 @@ impl<'a, 'l> Fields<Context<'a, 'l>> for Assigned {
 
     type Defaults = ();
 
-    ghost rules = { λ context. map_rules context.codes.now context.names.now
+    ghost rules = { λ context. map_rules context.codes.now context.keysyms.now
         context.modifiers.now.names };
 
     ghost moves = { map_moves };
@@ -207,18 +164,17 @@ impl<'a, 'l> Fields<Context<'a, 'l>> for Assigned {
         context: &Context<'a, 'l>,
         _defaults: (),
         place: Place,
-        item: &Item,
+        stated: &Stated,
         notes: &mut Notes,
     ) -> Result<(Vec<(Target, Assigned)>, ()), Fault> {
-        let records = read_item(
-            alloc,
-            context.codes,
-            context.names,
-            context.modifiers,
-            place.file,
-            item,
-            notes,
-        )?;
+        let Some((word, entries)) = map_in(&stated.statement) else {
+            return Ok((no_records(alloc), ()));
+        };
+        let whole = At {
+            file: place.file,
+            span: stated.span,
+        };
+        let records = read_map(alloc, context, whole, word, entries.as_slice(), notes)?;
         Ok((records, ()))
     }
 

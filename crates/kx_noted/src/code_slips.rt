@@ -3,7 +3,7 @@ use crate::kind::WarningKind;
 use crate::statements::Reader;
 use kx_include::{Entry as MapEntry, Expansion};
 use kx_lex::{At, KeyName};
-use kx_parse::{Item, Statement};
+use kx_parse::Statement;
 use std::alloc::AllocError;
 
 fn shown(name: &[u8]) -> &str {
@@ -12,13 +12,11 @@ fn shown(name: &[u8]) -> &str {
 
 /// The name and the code that an entry of a map pairs.
 fn pair_of<'l>(entry: &MapEntry<'l>) -> Option<(&'l KeyName, u32)> {
-    match entry {
-        MapEntry::Own(
-            Item::Statement {
-                statement: Statement::Keycode { name, code },
-                ..
-            },
-        ) => Some((name, code.value)),
+    let MapEntry::Own(stated) = entry else {
+        return None;
+    };
+    match &stated.statement {
+        Statement::Keycode { name, code } => Some((name, code.value)),
         _ => None,
     }
 }

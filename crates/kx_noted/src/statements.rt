@@ -9,8 +9,8 @@ use kx_explain::quoted;
 use kx_include::{Entry as MapEntry, Expansion, Map};
 use kx_lex::At;
 use kx_parse::{
-    BracePart, Call, Element, Entry, Field, Item, KeyField, KeyName, List, Mode, Setting,
-    Statement, Symbol, Value,
+    BracePart, Call, Element, Entry, Field, KeyField, KeyName, List, Mode, Setting, Statement,
+    Symbol, Value,
 };
 use kx_source::ReadSource;
 use kx_symbols::symbol_keysym;
@@ -422,19 +422,11 @@ impl Reader<'_, '_, '_> {
         let is_own = !self.is_installed(file);
         self.maps = self.maps.saturating_add(1);
         for entry in map.entries.as_slice() {
-            if let MapEntry::Own(
-                Item::Statement {
-                    mode,
-                    statement,
-                    first,
-                    span,
-                },
-            ) = entry
-            {
-                let is_meant = span.start < first.start;
-                self.note_statement(file, statement, *mode, is_meant)?;
+            if let MapEntry::Own(stated) = entry {
+                let is_meant = stated.span.start < stated.first.start;
+                self.note_statement(file, &stated.statement, stated.mode, is_meant)?;
                 if is_own {
-                    self.note_slips(file, statement, is_meant)?;
+                    self.note_slips(file, &stated.statement, is_meant)?;
                 }
             }
         }

@@ -27,11 +27,11 @@ unfolding is_keyword
 not_word keyword t h = other-keyword keyword t.kind h
 
 -- a word that joins is a word, and so are the others below
-mode-none : (t : Token) → is_word t ≡ false → mode_of t ≡ None
+pub mode-none : (t : Token) → is_word t ≡ false → mode_of t ≡ None
 unfolding mode_of
 mode-none t h = rw (not_word keywords.Augment t h, not_word keywords.Override t h, not_word keywords.Replace t h, not_word keywords.Alternate t h) refl
 
-join-none : (t : Token) → is_word t ≡ false → join_of t ≡ None
+pub join-none : (t : Token) → is_word t ≡ false → join_of t ≡ None
 unfolding join_of
 join-none t h = rw (not_word keywords.Include t h) (mode-none t h)
 
@@ -200,7 +200,7 @@ unfolding flagged-lawful geometry_section-lawful plain_section-lawful keyword-la
 flagged-least text fs = omega arith
 
 -- a section's flags take no token where there are none, but its kind takes one
-section-uses : (text : List ℕ) (ts : List Token) (x : Section) (rest : List Token) → (section text).spells ts x rest → length rest + 1 ≤ length ts
+pub section-uses : (text : List ℕ) (ts : List Token) (x : Section) (rest : List Token) → (section text).spells ts x rest → length rest + 1 ≤ length ts
 unfolding section
 section-uses text ts x rest s =
     let before = (flags-lawful text).uses ts s.0 s.1 s.2 in
@@ -225,11 +225,11 @@ pub section-least : (text : List ℕ) → 1 ≤ (section-lawful text).least
 unfolding section-lawful
 section-least text = omega arith
 
-kind-none : (t : Token) → is_word t ≡ false → kind_of t ≡ None
+pub kind-none : (t : Token) → is_word t ≡ false → kind_of t ≡ None
 unfolding kind_of
 kind-none t h = rw (not_word keywords.XkbKeycodes t h, not_word keywords.XkbTypes t h, not_word keywords.XkbSymbols t h, not_word keywords.XkbCompatibility t h, not_word keywords.XkbCompat t h, not_word keywords.XkbCompatMap t h, not_word keywords.XkbCompatibilityMap t h) refl
 
-flag-none : (t : Token) → is_word t ≡ false → flag_of t ≡ None
+pub flag-none : (t : Token) → is_word t ≡ false → flag_of t ≡ None
 unfolding flag_of
 flag-none t h = rw (not_word keywords.Default t h, not_word keywords.Partial t h, not_word keywords.Hidden t h, not_word keywords.AlphanumericKeys t h, not_word keywords.ModifierKeys t h, not_word keywords.KeypadKeys t h, not_word keywords.FunctionKeys t h, not_word keywords.AlternateGroup t h) refl
 

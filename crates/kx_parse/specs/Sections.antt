@@ -18,6 +18,7 @@ use Rattle.kx_parse.specs.declared.tree.Mode.{Mode}
 use Rattle.kx_parse.specs.declared.tree.Mode.TheVariants.{Augment, Override, Replace}
 use Rattle.kx_parse.specs.declared.tree.Item.{Item}
 use Rattle.kx_parse.specs.declared.tree.Item.TheVariants as items
+use Rattle.kx_parse.specs.declared.tree.Stated.{Stated}
 use Rattle.kx_parse.specs.declared.tree.Kind.{Kind}
 use Rattle.kx_parse.specs.declared.tree.Kind.TheVariants.{Keycodes, Types, Compat, Symbols, Geometry}
 use Rattle.kx_parse.specs.declared.tree.Flag.{Flag}
@@ -58,16 +59,18 @@ unfoldable pub modal : List ℕ → Production (Mode × Statement × Span)
 modal text = mode text >>= moded text
 
 unfoldable pub own : List ℕ → Production Item
-own text = placed (λ s span. items.Statement s.0 s.1 s.2 span) (either begins_moded (modal text) (moded text Override))
+own text = placed (λ s span. items.Statement (record { mode = s.0; statement = s.1; first = s.2; span = span })) (either begins_moded (modal text) (moded text Override))
 
 unfoldable pub item : List ℕ → Production Item
 item text = either begins_include (include text) (own text)
 
--- the word that a fault of an unknown field names: a field's word, of another statement its first token, of an include all of it
-abbrev pub word_span : Item → Span
-word_span (items.Include mode name span) = span
-word_span (items.Statement mode (statements.Field f) first span) = f.place.word.span
-word_span (items.Statement mode _ first span) = first
+-- the word that a fault of an unknown field names: a field's word, and of another statement its first token
+abbrev pub word_or : Span → Statement → Span
+word_or first (statements.Field f) = f.place.word.span
+word_or first _ = first
+
+abbrev pub word_span : Stated → Span
+word_span s = word_or s.first s.statement
 
 unfoldable pub kind_of : Token → Option Kind
 kind_of t = lookup (λ k. is_keyword k t) (

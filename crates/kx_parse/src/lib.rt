@@ -12,5 +12,5 @@ pub use sections::{one_stop, one_tree, parse, parse_file, stops};
 pub use tree::{
     Argument, BracePart, Braces, Call, Declaration, Element, Entry, Expression, Field, FieldPlace,
     Flag, Index, Item, KeyField, Kind, List, Mode, Operation, PlacedArgument, Predicate, Section,
-    Setting, Sign, Signed, Statement, Symbol, Term, Tree, Value,
+    Setting, Sign, Signed, Stated, Statement, Symbol, Term, Tree, Value,
 };

@@ -15,7 +15,7 @@ ghost use Rattle.kx_lex.specs.Tokens.{text_name, close_brace};
 ghost use Rattle.kx_parse.specs.Sections.{mode_of, join_of, begins_include, begins_moded, join, mode, include, moded, modal, own, item, kind_of, flag_of, kind, flag, flags, optional_text, held_items, plain_section, geometry_body, geometry_section, flagged, section, held_sections, source, file, Spells, StopsWith, SpellsFile, FileStopsWith};
 
 use crate::statements::read_statement;
-use crate::tree::{Flag, Item, Kind, Mode, Section, Statement, Tree};
+use crate::tree::{Flag, Item, Kind, Mode, Section, Stated, Statement, Tree};
 use kx_lex::repeated::{Repeated, is_before_mark, read_many};
 use kx_lex::tokens::{
     Parsed, behind_front, front_is_key_name, front_is_keyword, front_is_mark, front_is_text,
@@ -26,7 +26,7 @@ use kx_lex::{Fault, Keyword, Name, Row, Span, Token};
 use std::alloc::Global;
 
 #[tactic(auto, unfolding(crate::specs::Sections::mode_of))]
-fn mode_of(token: &Token) -> Option<Mode>
+pub(crate) fn mode_of(token: &Token) -> Option<Mode>
     ensures { result ≡ mode_of token.now }
 {
     if is_keyword(Keyword::Augment, token) {
@@ -43,7 +43,7 @@ fn mode_of(token: &Token) -> Option<Mode>
 }
 
 #[tactic(auto, unfolding(crate::specs::Sections::join_of))]
-fn join_of(token: &Token) -> Option<Mode>
+pub(crate) fn join_of(token: &Token) -> Option<Mode>
     ensures { result ≡ join_of token.now }
 {
     if is_keyword(Keyword::Include, token) {
@@ -157,12 +157,12 @@ fn read_own<'a>(alloc: Global, text: &[u8], tokens: &'a [Token]) -> Parsed<'a, I
     };
     let span = span_between(tokens, rest);
     Ok((
-        Item::Statement {
+        Item::Statement(Stated {
             mode,
             statement,
             first,
             span,
-        },
+        }),
         rest,
     ))
 }
@@ -196,7 +196,7 @@ impl Repeated for Items {
 }
 
 #[tactic(auto, unfolding(crate::specs::Sections::kind_of))]
-fn kind_of(token: &Token) -> Option<Kind>
+pub(crate) fn kind_of(token: &Token) -> Option<Kind>
     ensures { result ≡ kind_of token.now }
 {
     if is_keyword(Keyword::XkbKeycodes, token) {
@@ -219,7 +219,7 @@ fn kind_of(token: &Token) -> Option<Kind>
 }
 
 #[tactic(auto, unfolding(crate::specs::Sections::flag_of))]
-fn flag_of(token: &Token) -> Option<Flag>
+pub(crate) fn flag_of(token: &Token) -> Option<Flag>
     ensures { result ≡ flag_of token.now }
 {
     if is_keyword(Keyword::Default, token) {

@@ -240,23 +240,23 @@ pub enum Mode {
     Replace,
 }
 
+/// A statement as it stands in a section.
+#[derive(Debug, Drop)]
+pub struct Stated {
+    pub mode: Mode,
+    pub statement: Statement,
+    /// Its first token after the mode.
+    pub first: Span,
+    /// All of it, with the mode and its `;`.
+    pub span: Span,
+}
+
 /// What a section holds.
 #[derive(Debug, Drop)]
 pub enum Item {
     /// An include; the span is from its word to its text.
-    Include {
-        mode: Mode,
-        text: Name,
-        span: Span,
-    },
-    /// A statement; `first` is its first token behind the mode, `span` all of it with the mode and
-    /// its `;`.
-    Statement {
-        mode: Mode,
-        statement: Statement,
-        first: Span,
-        span: Span,
-    },
+    Include { mode: Mode, text: Name, span: Span },
+    Statement(Stated),
 }
 
 /// What a section is about.
@@ -297,22 +297,18 @@ pub struct Tree {
     pub sections: Row<Section>,
 }
 
-impl Item {
+impl Stated {
     ghost use Rattle.std.specs.Prelude.{◌≡◌};
     ghost use Rattle.kx_parse.specs.Sections.{word_span};
 
-    /// The word that a fault of an unknown field names: a field's word, an include with its text,
-    /// and of another statement its first token.
+    /// The word that a fault of an unknown field names: a field's word, and of another statement
+    /// its first token.
     pub fn word_span(&self) -> Span
         ensures { result ≡ word_span self.now }
     {
-        match self {
-            Item::Include { span, .. } => *span,
-            Item::Statement {
-                statement: Statement::Field(field),
-                ..
-            } => field.get().place.word.span,
-            Item::Statement { first, .. } => *first,
+        match &self.statement {
+            Statement::Field(field) => field.get().place.word.span,
+            _ => self.first,
         }
     }
 }

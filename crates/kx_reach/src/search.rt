@@ -1,6 +1,6 @@
 //! The walk over includes that finds files.
 use crate::folder::Folder;
-use crate::kinds::kind_name;
+use crate::kinds::full_name;
 use crate::maps::{Map, Maps};
 use crate::reading::read_on;
 use crate::text::Texts;
@@ -65,14 +65,6 @@ struct Search {
     found: Vec<Found>,
     /// So many paths of the file that is looked for were looked at in vain.
     tried: usize,
-}
-
-/// The file of a name under the folder of its kind.
-fn full_name(alloc: Global, kind: Kind, name: &[u8]) -> Result<Vec<u8>, AllocError> {
-    let mut full = Vec::from_slice(alloc, kind_name(kind).as_bytes())?;
-    full.push(b'/')?;
-    full.extend_from_slice(name)?;
-    Ok(full)
 }
 
 fn wanted_by(alloc: Global, kind: Kind, part: &Part) -> Result<Wanted, AllocError> {

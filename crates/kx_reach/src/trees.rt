@@ -116,7 +116,8 @@ impl Trees {
 /// All of an item.
 pub fn item_span(item: &Item) -> Span {
     match item {
-        Item::Include { span, .. } | Item::Statement { span, .. } => *span,
+        Item::Include { span, .. } => *span,
+        Item::Statement(stated) => stated.span,
     }
 }
 

@@ -3,47 +3,29 @@ use Rattle.std.proofs.Common.{◌≡◌, List, [], ◌∷◌, ◌++◌, ap, ◌�
 use Rattle.kx_include.specs.Expansion.{Begin, Body, End, body_of}
 use Rattle.kx_include.specs.IncludeFaults.{IsWhole}
 use Rattle.kx_virtual_mods.specs.Declarations.{virtual_names}
-use Rattle.kx_parse.specs.declared.tree.Item.{Item}
+use Rattle.kx_parse.specs.declared.tree.Stated.{Stated}
 use Rattle.kx_parse.specs.declared.tree.Kind.TheVariants.{Compat, Keycodes, Symbols, Types}
 use Rattle.kx_tables.specs.Content.{Content}
 use Rattle.kx_tables.specs.Sound.{Sound}
 use Rattle.kx_builder.specs.IndicatorMaps.{ResolvedIndicator}
 use Rattle.roundtrip_meaning.specs.Bodies.{own_body, place_of}
-use Rattle.roundtrip_meaning.specs.Sources.{IsOwnItem, indicators_body, symbols_place}
-use Rattle.roundtrip_meaning.proofs.Sources.{indicators_are, is_whole, keycodes_are, own_items, symbols_are, types_are}
-use Rattle.roundtrip_text.specs.Source.{EachOf, NamedGroup, PrintedKey, indicators_printed, keys_printed, named_from, names_printed, types_printed}
-use Rattle.roundtrip_text.specs.ModifierMaps.{MapLine}
+use Rattle.roundtrip_meaning.specs.Sources.{indicators_body, symbols_place}
+use Rattle.roundtrip_meaning.proofs.Sources.{indicators_are, is_whole, keycodes_are, symbols_are, types_are}
+use Rattle.roundtrip_text.specs.Source.{EachOf, NamedGroup, indicators_printed, keys_printed, named_from, names_printed, types_printed}
 use Rattle.roundtrip_text.specs.Sections.{map_lines_printed}
 use Rattle.roundtrip_tree.specs.Indicators.{IsIndicator}
-use Rattle.roundtrip_tree.specs.Keys.{IsKey}
-use Rattle.roundtrip_tree.specs.Shows.{AreShown, IsItem, IsKeycode, IsModifierMap, more, none}
-use Rattle.roundtrip_tree.specs.Source.{IsGroupName, IsKeyItem, IsMapItem, IsNameItem}
-use Rattle.roundtrip_tree.proofs.KeyForms.{key_items, map_items}
-use Rattle.roundtrip_tree.specs.Types.{IsType}
+use Rattle.roundtrip_tree.specs.Shows.{AreShown, IsStated, more, none}
+use Rattle.roundtrip_tree.specs.Source.{IsGroupName, IsKeyStated, IsMapStated, IsNameStated}
+use Rattle.roundtrip_tree.proofs.KeyForms.{keys_stated, maps_stated}
 use Rattle.roundtrip_meaning.specs.NoModifiers.{NoneDeclared, ends, own}
 use Rattle.roundtrip_meaning.proofs.NoModifiers.{no_modifiers, types_undeclared, indicators_undeclared, symbols_undeclared}
 use Rattle.kx_source.specs.Meaning.{modifier_bodies_of}
 use Rattle.kx_roundtrip.specs.Parts.{Parts, parts_of}
 use Rattle.kx_roundtrip.proofs.Written.{library, shown}
-use Rattle.roundtrip_tree.proofs.Types.{each-append}
 
 module _ (c : Content) (sound : Sound c) where
-  abbrev pub symbol_items : List Item
-  symbol_items = (shown c sound).names ++ ((shown c sound).keys ++ (shown c sound).maps)
-
-  own_keycodes : EachOf IsOwnItem (shown c sound).keycodes
-  own_keycodes = own_items (λ (k : PrintedKey). IsKeycode k.name k.code) (keys_printed c) (shown c sound).keycodes (shown c sound).keycodes_are
-
-  own_types : EachOf IsOwnItem (shown c sound).types
-  own_types = own_items IsType (types_printed c) (shown c sound).types (shown c sound).types_are
-
-  own_indicators : EachOf IsOwnItem (shown c sound).indicators
-  own_indicators = own_items IsIndicator (indicators_printed c) (shown c sound).indicators (shown c sound).indicators_are
-
-  own_symbols : EachOf IsOwnItem symbol_items
-  own_symbols =
-      each-append IsOwnItem (shown c sound).names ((shown c sound).keys ++ (shown c sound).maps) (own_items (λ (g : NamedGroup). IsGroupName g.group g.name) (named_from 1 (names_printed c)) (shown c sound).names (shown c sound).names_are)
-      (each-append IsOwnItem (shown c sound).keys (shown c sound).maps (own_items IsKey (keys_printed c) (shown c sound).keys (shown c sound).keys_are) (own_items (λ (l : MapLine). IsModifierMap l.modifier l.name) (map_lines_printed (keys_printed c)) (shown c sound).maps (shown c sound).maps_are))
+  abbrev pub symbols_stated : List Stated
+  symbols_stated = (shown c sound).names ++ ((shown c sound).keys ++ (shown c sound).maps)
 
   abbrev pub keycodes : Body
   keycodes = Begin (own_body (place_of 0) (shown c sound).keycodes End)
@@ -55,26 +37,26 @@ module _ (c : Content) (sound : Sound c) where
   compat = indicators_body (shown c sound).indicators
 
   abbrev pub symbols : Body
-  symbols = Begin (own_body (symbols_place (shown c sound).indicators) symbol_items End)
+  symbols = Begin (own_body (symbols_place (shown c sound).indicators) symbols_stated End)
 
   pub keycodes_is : body_of (library c sound) Keycodes ≡ keycodes
-  keycodes_is = keycodes_are (shown c sound).keycodes (shown c sound).types symbol_items own_keycodes own_types own_symbols (shown c sound).indicators
+  keycodes_is = keycodes_are (shown c sound).keycodes (shown c sound).types symbols_stated (shown c sound).indicators
 
   pub types_is : body_of (library c sound) Types ≡ types
-  types_is = types_are (shown c sound).keycodes (shown c sound).types symbol_items own_keycodes own_types own_symbols (shown c sound).indicators
+  types_is = types_are (shown c sound).keycodes (shown c sound).types symbols_stated (shown c sound).indicators
 
   pub compat_is : body_of (library c sound) Compat ≡ compat
-  compat_is = indicators_are (shown c sound).keycodes (shown c sound).types symbol_items own_keycodes own_types own_symbols (shown c sound).indicators own_indicators
+  compat_is = indicators_are (shown c sound).keycodes (shown c sound).types symbols_stated (shown c sound).indicators
 
   pub symbols_is : body_of (library c sound) Symbols ≡ symbols
-  symbols_is = symbols_are (shown c sound).keycodes (shown c sound).types symbol_items own_keycodes own_types own_symbols (shown c sound).indicators
+  symbols_is = symbols_are (shown c sound).keycodes (shown c sound).types symbols_stated (shown c sound).indicators
 
   pub whole : IsWhole (library c sound)
-  whole = is_whole (shown c sound).keycodes (shown c sound).types symbol_items own_keycodes own_types own_symbols (shown c sound).indicators own_indicators
+  whole = is_whole (shown c sound).keycodes (shown c sound).types symbols_stated (shown c sound).indicators
 
   -- ---- There are no virtual modifiers
 
-  none_in_compat : (ds : List ResolvedIndicator) (is : List Item) → AreShown (λ d i. IsItem (IsIndicator d) i) ds is → NoneDeclared (indicators_body is)
+  none_in_compat : (ds : List ResolvedIndicator) (is : List Stated) → AreShown (λ d i. IsStated (IsIndicator d) i) ds is → NoneDeclared (indicators_body is)
   none_in_compat ds [] are = ends
   none_in_compat ds (i ∷ is) are = own (place_of 2) (i ∷ is) (indicators_undeclared ds (i ∷ is) are)
 
@@ -84,24 +66,24 @@ module _ (c : Content) (sound : Sound c) where
   pub compat_declares_none : NoneDeclared compat
   compat_declares_none = none_in_compat (indicators_printed c) (shown c sound).indicators (shown c sound).indicators_are
 
-  pub name_items : EachOf IsNameItem (shown c sound).names
-  name_items = all_names (named_from 1 (names_printed c)) (shown c sound).names (shown c sound).names_are
+  pub names_are_stated : EachOf IsNameStated (shown c sound).names
+  names_are_stated = all_names (named_from 1 (names_printed c)) (shown c sound).names (shown c sound).names_are
     where
-      all_names : (gs : List NamedGroup) (is : List Item) → AreShown (λ (g : NamedGroup) i. IsItem (IsGroupName g.group g.name) i) gs is → EachOf IsNameItem is
+      all_names : (gs : List NamedGroup) (is : List Stated) → AreShown (λ (g : NamedGroup) i. IsStated (IsGroupName g.group g.name) i) gs is → EachOf IsNameStated is
       all_names [] [] none = tt
       all_names [] (i ∷ is) are = elim are [ ]
       all_names (g ∷ gs) [] are = elim are [ ]
       all_names (g ∷ gs) (i ∷ is) (more one are) =
-          (record { statement = one.statement; first = one.first; whole = one.whole; item_is = one.item_is; shows = record { group = g.group; name = g.name; is = one.shows } }, all_names gs is are)
+          (record { mode_is = one.mode_is; shows = record { group = g.group; name = g.name; is = one.shows } }, all_names gs is are)
 
-  pub keys_items : EachOf IsKeyItem (shown c sound).keys
-  keys_items = key_items (keys_printed c) (shown c sound).keys (shown c sound).keys_are
+  pub keys_are_stated : EachOf IsKeyStated (shown c sound).keys
+  keys_are_stated = keys_stated (keys_printed c) (shown c sound).keys (shown c sound).keys_are
 
-  pub maps_items : EachOf IsMapItem (shown c sound).maps
-  maps_items = map_items (map_lines_printed (keys_printed c)) (shown c sound).maps (shown c sound).maps_are
+  pub maps_are_stated : EachOf IsMapStated (shown c sound).maps
+  maps_are_stated = maps_stated (map_lines_printed (keys_printed c)) (shown c sound).maps (shown c sound).maps_are
 
   pub symbols_declare_none : NoneDeclared symbols
-  symbols_declare_none = own (symbols_place (shown c sound).indicators) symbol_items (symbols_undeclared (shown c sound).names (shown c sound).keys (shown c sound).maps name_items keys_items maps_items)
+  symbols_declare_none = own (symbols_place (shown c sound).indicators) symbols_stated (symbols_undeclared (shown c sound).names (shown c sound).keys (shown c sound).maps names_are_stated keys_are_stated maps_are_stated)
 
   abbrev pub parts : Parts
   parts = record { modifiers = []; keycodes = keycodes; types = types; compat = compat; symbols = symbols }

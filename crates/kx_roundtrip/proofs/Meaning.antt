@@ -26,7 +26,7 @@ use Rattle.kx_modmaps.specs.Entries.{same_target}
 use Rattle.kx_modmaps.specs.Maps.{keysyms_given, map_offers_of}
 use Rattle.kx_modmaps.specs.declared.record.Cell.TheVariants.{Present}
 use Rattle.kx_modmaps.specs.declared.target.Target.TheVariants.{Key as KeyTarget}
-use Rattle.kx_parse.specs.declared.tree.Item.{Item}
+use Rattle.kx_parse.specs.declared.tree.Stated.{Stated}
 use Rattle.kx_resolve.specs.Lit.{indicator_lit, indicators_of}
 use Rattle.kx_source.specs.Meaning.{codes_of, declared_in, indicators_by, indicators_in, interpretations_in, key_given, key_in, keyed_in, indicator_maps_from, mapping_by, modmap_in, read_keymap_in, real_in, resolved_in, typing_in}
 use Rattle.kx_source.specs.Source.{HoldsAll}
@@ -36,7 +36,7 @@ use Rattle.kx_tables.specs.States.{state_bits}
 use Rattle.kx_types.specs.Types.{declared_type}
 use Rattle.kx_types.specs.declared.limits.TheConstants.{MOST_TYPES}
 use Rattle.kx_roundtrip.specs.Parts.{Parts, parts_of}
-use Rattle.kx_roundtrip.proofs.Bodies.{keycodes, keys_items, maps_items, name_items, parts_are}
+use Rattle.kx_roundtrip.proofs.Bodies.{keycodes, keys_are_stated, maps_are_stated, names_are_stated, parts_are}
 use Rattle.kx_roundtrip.proofs.Faults.{codes_again, few_printed}
 use Rattle.kx_roundtrip.proofs.Written.{library, shown}
 use Rattle.roundtrip_meaning.specs.Bodies.{own_body, place_of}
@@ -53,7 +53,7 @@ use Rattle.roundtrip_text.proofs.Tables.{sound_placed}
 use Rattle.roundtrip_text.proofs.TablesHold.{codes_rise, each_row, indicators_apart, indicators_few, indicators_fit, keys_apart, keys_fit, names_fit, types_apart, types_fit}
 use Rattle.roundtrip_text.proofs.TablesLists.{each_at}
 use Rattle.roundtrip_tree.specs.Indicators.{IsIndicator}
-use Rattle.roundtrip_tree.specs.Shows.{AreShown, IsItem, none}
+use Rattle.roundtrip_tree.specs.Shows.{AreShown, IsStated, none}
 use Rattle.roundtrip_meaning.specs.Types.{definition_seen}
 use Rattle.roundtrip_meaning.proofs.GroupNames.{names_printed_again}
 use Rattle.roundtrip_meaning.proofs.Indicators.{indicators_named, indicator_maps_printed}
@@ -76,7 +76,7 @@ module _ (real : ℕ → RealSet) (real_is : (set r : ℕ) → set < 2 ^ 8 → r
       ap₂ (λ a b. a ∷ b) (ap (indicator_lit real d.name) (ap indicator_map (let same : n ≡ n + 0 = omega arith in same) ∙ each 0 d refl) ∙ lit_again d fit.0)
       (all_lit indicator_map (suc n) ds fit.1 (λ i e is. ap indicator_map (let same : suc n + i ≡ n + suc i = omega arith in same) ∙ each (suc i) e is))
 
-  section_lit : (ds : List ResolvedIndicator) (is : List Item) → AreShown (λ d i. IsItem (IsIndicator d) i) ds is → EachOf IndicatorFits ds → AreApart (λ (d : ResolvedIndicator). d.name) ds → length ds ≤ 32 → indicators_of real (indicators_by [] (indicators_body is)) ≡ ds
+  section_lit : (ds : List ResolvedIndicator) (is : List Stated) → AreShown (λ d i. IsStated (IsIndicator d) i) ds is → EachOf IndicatorFits ds → AreApart (λ (d : ResolvedIndicator). d.name) ds → length ds ≤ 32 → indicators_of real (indicators_by [] (indicators_body is)) ≡ ds
   section_lit [] [] none fit apart few = refl
   section_lit (d ∷ ds) [] are fit apart few = elim are [ ]
   section_lit ds (i ∷ is) are fit apart few =
@@ -85,7 +85,7 @@ module _ (real : ℕ → RealSet) (real_is : (set r : ℕ) → set < 2 ^ 8 → r
 
 -- ---- Interpretations
 
-interpretations_none : (names : KeysymTable) (ds : List ResolvedIndicator) (is : List Item) → AreShown (λ d i. IsItem (IsIndicator d) i) ds is → interpretations_of names [] (indicators_body is) ≡ []
+interpretations_none : (names : KeysymTable) (ds : List ResolvedIndicator) (is : List Stated) → AreShown (λ d i. IsStated (IsIndicator d) i) ds is → interpretations_of names [] (indicators_body is) ≡ []
 interpretations_none names ds [] are = none_without names
 interpretations_none names ds (i ∷ is) are = no_interpretations names (place_of 2) ds (i ∷ is) are
 
@@ -117,12 +117,12 @@ module _ (c : Content) (sound : Sound c) (names : KeysymTable) (table : list_all
   given_are : EachOf (λ (k : PrintedKey). IsGiven k (key_in names (library c sound) k.code)) ks
   given_are =
       subst (λ p. EachOf (λ (k : PrintedKey). IsGiven k (key_given (codes_of p.keycodes) names p.modifiers p.symbols k.code)) ks) (sym (parts_are c sound))
-      (keys_given (codes_of (keycodes c sound)) names place ks (shown c sound).names (shown c sound).keys (shown c sound).maps table (name_items c sound) (shown c sound).keys_are (shown c sound).maps_are (keys_fit c sound) (codes_rise c sound) (codes_again c sound names table few_types))
+      (keys_given (codes_of (keycodes c sound)) names place ks (shown c sound).names (shown c sound).keys (shown c sound).maps table (names_are_stated c sound) (shown c sound).keys_are (shown c sound).maps_are (keys_fit c sound) (codes_rise c sound) (codes_again c sound names table few_types))
 
   no_keysyms : keysyms_given (map_offers_of (codes_of read.keycodes) names read.modifiers read.symbols) ≡ []
   no_keysyms =
       ap (λ (p : Parts). keysyms_given (map_offers_of (codes_of p.keycodes) names p.modifiers p.symbols)) (parts_are c sound)
-      ∙ maps_keysymless (codes_of (keycodes c sound)) names place ks (shown c sound).names (shown c sound).keys (shown c sound).maps table (name_items c sound) (shown c sound).keys_are (shown c sound).maps_are (keys_fit c sound) (codes_rise c sound) (codes_again c sound names table few_types)
+      ∙ maps_keysymless (codes_of (keycodes c sound)) names place ks (shown c sound).names (shown c sound).keys (shown c sound).maps table (names_are_stated c sound) (shown c sound).keys_are (shown c sound).maps_are (keys_fit c sound) (codes_rise c sound) (codes_again c sound names table few_types)
 
   abbrev mapping : Mapping
   mapping = mapping_by (name_of (codes_of read.keycodes)) (key_in names (library c sound)) (typing_in names (library c sound)) (map_offers_of (codes_of read.keycodes) names read.modifiers read.symbols)
@@ -133,7 +133,7 @@ module _ (c : Content) (sound : Sound c) (names : KeysymTable) (table : list_all
   maps_are : EachOf (IsMapped read) ks
   maps_are =
       subst (λ p. EachOf (IsMapped p) ks) (sym (parts_are c sound))
-      (maps_given (codes_of (keycodes c sound)) names place ks (shown c sound).names (shown c sound).keys (shown c sound).maps table (name_items c sound) (shown c sound).keys_are (shown c sound).maps_are (keys_fit c sound) (codes_rise c sound) (codes_again c sound names table few_types))
+      (maps_given (codes_of (keycodes c sound)) names place ks (shown c sound).names (shown c sound).keys (shown c sound).maps table (names_are_stated c sound) (shown c sound).keys_are (shown c sound).maps_are (keys_fit c sound) (codes_rise c sound) (codes_again c sound names table few_types))
 
   mapped_are : EachOf (λ (k : PrintedKey). modmap_in names (library c sound) k.code ≡ k.modmap) ks
   mapped_are = each_row (λ (k : PrintedKey). modmap_in names (library c sound) k.code ≡ k.modmap) ks (λ i k at.
@@ -161,7 +161,7 @@ module _ (c : Content) (sound : Sound c) (names : KeysymTable) (table : list_all
 
   names_is : (groups : List (List ℕ)) → AreGroupNames groups read.symbols → groups ≡ names_printed c
   names_is groups are =
-      names_printed_again place (names_printed c) (shown c sound).names (shown c sound).keys (shown c sound).maps (shown c sound).names_are (keys_items c sound) (maps_items c sound) (names_fit c sound) groups
+      names_printed_again place (names_printed c) (shown c sound).names (shown c sound).keys (shown c sound).maps (shown c sound).names_are (keys_are_stated c sound) (maps_are_stated c sound) (names_fit c sound) groups
       (subst (λ (p : Parts). AreGroupNames groups p.symbols) (parts_are c sound) are)
 
   -- the tables that the printed text's library holds are those that were printed

@@ -1,5 +1,5 @@
 -- Which tables can be printed so that the text means them again.
-use Rattle.std.specs.Prelude.{◌≡◌, ◌≤◌, true, List, length}
+use Rattle.std.specs.Prelude.{◌≡◌, ◌≤◌, true, length}
 use Rattle.std.specs.List.{list_all}
 use Rattle.ks_core.specs.Table.{KeysymTable}
 use Rattle.ks_core.specs.Lines.{is_sound}

@@ -29,15 +29,13 @@ use Rattle.kx_virtual_mods.specs.Sets.{any_below, has, has_virtual, real_of, rea
 use Rattle.kx_virtual_mods.specs.Standing.{stands_for}
 use Rattle.kx_merge.specs.Bodies.{Rules, faults_of, offers_of}
 use Rattle.kx_merge.specs.Offers.{value_of, width_of}
-use Rattle.kx_modmaps.specs.Entries.{entry_target, item_faults as map_item_faults, map_in, targets_of, with_target, word_mask}
-use Rattle.kx_modmaps.specs.Maps.{item_offers as map_item_offers, map_moves, map_offers, map_offers_of, map_rules, offers_to}
+use Rattle.kx_modmaps.specs.Entries.{entry_target, map_in, stated_faults as map_faults, targets_of, with_target, word_mask}
+use Rattle.kx_modmaps.specs.Maps.{map_moves, map_offers, map_offers_of, map_rules, offers_to}
 use Rattle.kx_modmaps.specs.declared.target.Target.{Target}
 use Rattle.kx_modmaps.specs.declared.target.Target.TheVariants.{Key as KeyTarget}
 use Rattle.kx_mods.specs.declared.mods.Mods.{Mods}
 use Rattle.kx_parse.specs.declared.tree.Entry.{Entry as MapEntry}
 use Rattle.kx_parse.specs.declared.tree.Entry.TheVariants.{KeyName, Symbol}
-use Rattle.kx_parse.specs.declared.tree.Item.{Item}
-use Rattle.kx_parse.specs.declared.tree.Item.TheVariants.{Include, Statement}
 use Rattle.kx_parse.specs.declared.tree.Kind.TheVariants.{Compat, Keycodes, Symbols}
 use Rattle.kx_parse.specs.declared.tree.KeyField.{KeyField}
 use Rattle.kx_parse.specs.declared.tree.Mode.{Mode}
@@ -47,8 +45,8 @@ use Rattle.kx_resolve.specs.Shown.{keymap_meant}
 use Rattle.kx_source.specs.Meaning.{codes_in, codes_of, declared_in, declared_masks_of, indicators_by, indicators_in, interpretations_in, key_given, key_in, keyed_in, keymap_by, keymap_in, indicator_maps_from, lit_by, mapping_by, modifier_bodies_of, modifiers_of, modmap_in, read_keymap_in, real_in, resolved_in, typing_in}
 use Rattle.kx_source.specs.Made.{parts_faults}
 use Rattle.kx_source.specs.Source.{keys_faults, maps_faults, names_faults}
-use Rattle.kx_symbols.specs.KeyFaults.{item_faults, key_in as key_said}
-use Rattle.kx_symbols.specs.Keys.{KeyContent, KeysShow, item_next, item_offers, key_at, key_moves, key_rules, known_under, offered, said_offers}
+use Rattle.kx_symbols.specs.KeyFaults.{key_in as key_said, stated_faults}
+use Rattle.kx_symbols.specs.Keys.{KeyContent, KeysShow, field_in, key_at, key_moves, key_rules, known_under, offered, said_next, said_offers}
 use Rattle.kx_symbols.specs.Known.{Defaults, Known, no_defaults}
 use Rattle.kx_symbols.specs.declared.cells.Cell.{Cell}
 use Rattle.kx_symbols.specs.declared.cells.CellValue.{CellValue}
@@ -76,16 +74,12 @@ module _ (c : Codes) (body : Body) (shows : CodesShow c body) where
     said_same known mode None = refl
     said_same known mode (Some key) = ap (offered known key.1 mode) (code_same key.0.bytes)
 
-    offers_same : (known : Known) (item : Item) → item_offers c known item ≡ item_offers (codes_of body) known item
-    offers_same known (Statement mode statement first span) = said_same known mode (key_said statement)
-    offers_same known (Include mode text span) = refl
-
     pub rules_same : key_rules c names modifiers ≡ key_rules (codes_of body) names modifiers
     rules_same = λ i. record {
       start = no_defaults;
-      next = item_next modifiers;
-      offers = λ d place item. offers_same (known_under c names modifiers d) item i;
-      faults = λ d place item. item_faults place.file (known_under c names modifiers d) item;
+      next = λ d stated. said_next modifiers d (field_in stated.statement);
+      offers = λ d place stated. said_same (known_under c names modifiers d) stated.mode (key_said stated.statement) i;
+      faults = λ d place stated. stated_faults place.file (known_under c names modifiers d) stated;
     }
 
     -- ---- Modifier maps
@@ -101,16 +95,12 @@ module _ (c : Codes) (body : Body) (shows : CodesShow c body) where
     map_same mode None = refl
     map_same mode (Some map) = ap (offers_to mode (word_mask map.0.bytes)) (targets_same map.1)
 
-    map_items_same : (item : Item) → map_item_offers c names item ≡ map_item_offers (codes_of body) names item
-    map_items_same (Statement mode statement first span) = map_same mode (map_in statement)
-    map_items_same (Include mode text span) = refl
-
     pub map_rules_same : map_rules c names modifiers ≡ map_rules (codes_of body) names modifiers
     map_rules_same = λ i. record {
       start = tt;
-      next = λ d item. tt;
-      offers = λ d place item. map_items_same item i;
-      faults = λ d place item. map_item_faults place.file modifiers item;
+      next = λ d stated. tt;
+      offers = λ d place stated. map_same stated.mode (map_in stated.statement) i;
+      faults = λ d place stated. map_faults place.file modifiers stated;
     }
 
 -- ---- Indicators

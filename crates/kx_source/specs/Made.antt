@@ -17,6 +17,7 @@ use Rattle.kx_resolve.specs.Mapping.{modmap_of}
 use Rattle.kx_virtual_mods.specs.Declarations.{ModNames}
 use Rattle.kx_virtual_mods.specs.Sets.{real_of}
 use Rattle.kx_virtual_mods.specs.Standing.{stands_for}
+use Rattle.kx_virtual_mods.specs.declared.limits.TheConstants.{MOST_VIRTUAL_MODIFIERS}
 use Rattle.kx_modmaps.specs.Maps.{map_offers_of}
 use Rattle.kx_mods.specs.declared.mods.Mods.{Mods}
 use Rattle.kx_resolve.specs.Keys.{Keyed, keyed_of, resolved_of}
@@ -48,7 +49,7 @@ pub record IsInterpreted (names : KeysymTable) (m : ModNames) (compat symbols : 
   pub interpreted : interpretations ≡ interpretations_of names m.names compat
   -- what virtual modifiers stand for
   pub found : List Mods
-  pub stand : (number real : ℕ) → number < 24 → stands_for found number real ≡ stands (read_keymap_of c (typing_by types names.letters) keys modmaps interpretations m.masks) number real
+  pub stand : (number real : ℕ) → number < MOST_VIRTUAL_MODIFIERS → stands_for found number real ≡ stands (read_keymap_of c (typing_by types names.letters) keys modmaps interpretations m.masks) number real
   pub lit : IsLit m.names compat symbols (real_of (stands_for found)) (typing_by types names.letters) (keyed_of (real_of (stands_for found)) c keys modmaps interpretations) content
 
 -- of types, with the keys and the modifier maps that a symbols body has

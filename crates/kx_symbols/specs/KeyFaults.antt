@@ -17,8 +17,6 @@ use Rattle.kx_parse.specs.declared.tree.Element.{Element}
 use Rattle.kx_parse.specs.declared.tree.Element.TheVariants as elements
 use Rattle.kx_parse.specs.declared.tree.Field.{Field}
 use Rattle.kx_parse.specs.declared.tree.Index.{Index}
-use Rattle.kx_parse.specs.declared.tree.Item.{Item}
-use Rattle.kx_parse.specs.declared.tree.Item.TheVariants.{Include, Statement}
 use Rattle.kx_parse.specs.declared.tree.KeyField.{KeyField}
 use Rattle.kx_parse.specs.declared.tree.KeyField.TheVariants as fields
 use Rattle.kx_parse.specs.declared.tree.List.{List as Listed}
@@ -26,8 +24,9 @@ use Rattle.kx_parse.specs.declared.tree.BracePart.{BracePart}
 use Rattle.kx_parse.specs.declared.tree.BracePart.TheVariants as parts
 use Rattle.kx_parse.specs.declared.tree.Setting.{Setting}
 use Rattle.kx_parse.specs.declared.tree.Setting.TheVariants.{Off, On, To}
-use Rattle.kx_parse.specs.declared.tree.Statement.{Statement as Said}
-use Rattle.kx_parse.specs.declared.tree.Statement.TheVariants as said
+use Rattle.kx_parse.specs.declared.tree.Stated.{Stated}
+use Rattle.kx_parse.specs.declared.tree.Statement.{Statement}
+use Rattle.kx_parse.specs.declared.tree.Statement.TheVariants as statements
 use Rattle.kx_parse.specs.declared.tree.Symbol.{Symbol}
 use Rattle.kx_parse.specs.declared.tree.Symbol.TheVariants.{Word, Number}
 use Rattle.kx_parse.specs.declared.tree.Value.TheVariants as values
@@ -43,8 +42,8 @@ use Rattle.kx_symbols.specs.Known.{Known}
 use Rattle.kx_symbols.specs.Lists.{StatementLists, bare_kind, field_kind, field_lists, no_lists}
 
 -- the name and the fields of a key statement
-abbrev pub key_in : Said → Option (Name × List KeyField)
-key_in (said.Key name fields) = Some (name, fields)
+abbrev pub key_in : Statement → Option (Name × List KeyField)
+key_in (statements.Key name fields) = Some (name, fields)
 key_in _ = None
 
 abbrev pub symbol_span : Symbol → Span
@@ -119,25 +118,21 @@ module _ (file : ℕ) where
   fields_faults known whole s (f ∷ fs) = field_faults file known.modifiers whole s f ++ fields_faults known whole (field_lists known s f) fs
 
   -- of a statement that is about no key; `word` is where the fault of one is that such a section doesn't have
-  abbrev pub other_faults : List (List ℕ) → Span → Said → List Fault
-  other_faults modifiers word (said.VirtualModifiers declarations) = []
-  other_faults modifiers word (said.ModifierMap modifier entries) = []
-  other_faults modifiers word (said.Field field) = if is_group_name field.place then [] else if is_key_word field.place.word.bytes then key_default_faults file modifiers field else action_default_faults file modifiers field
+  abbrev pub other_faults : List (List ℕ) → Span → Statement → List Fault
+  other_faults modifiers word (statements.VirtualModifiers declarations) = []
+  other_faults modifiers word (statements.ModifierMap modifier entries) = []
+  other_faults modifiers word (statements.Field field) = if is_group_name field.place then [] else if is_key_word field.place.word.bytes then key_default_faults file modifiers field else action_default_faults file modifiers field
   other_faults modifiers word _ = UnknownField (at file word) ∷ []
 
   -- of the lists of a key statement, and of what it says besides
   abbrev pub content_faults : Known → Span → List KeyField → List Fault
   content_faults known whole fs = fields_faults known whole no_lists fs ++ setting_faults file known.modifiers fs
 
-  -- those of a statement in a file; of an include's text there are none here
-  abbrev pub item_faults : Known → Item → List Fault
-  item_faults known (Statement mode statement first whole) = option_map_or (λ key. name_faults file whole key.0 ++ content_faults known whole key.1) (key_in statement) (other_faults known.modifiers (word_span (Statement mode statement first whole)) statement)
-  item_faults known (Include mode text span) = []
+  -- those of a statement in a file
+  abbrev pub stated_faults : Known → Stated → List Fault
+  stated_faults known stated = option_map_or (λ key. name_faults file stated.span key.0 ++ content_faults known stated.span key.1) (key_in stated.statement) (other_faults known.modifiers (word_span stated) stated.statement)
 
--- ---- Under a name, for clauses and proofs
-
-abbrev pub said_faults : ℕ → Known → Said → Span → Span → Option (Name × List KeyField) → List Fault
-said_faults file known statement word whole key = option_map_or (λ k. name_faults file whole k.0 ++ content_faults file known whole k.1) key (other_faults file known.modifiers word statement)
+-- ---- Under names, for clauses and proofs
 
 abbrev pub default_faults : (file : ℕ) → List (List ℕ) → Field → List Fault
 default_faults file modifiers field = if is_key_word field.place.word.bytes then key_default_faults file modifiers field else action_default_faults file modifiers field

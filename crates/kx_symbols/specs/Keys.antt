@@ -14,19 +14,17 @@ use Rattle.kx_merge.specs.ByGroup.{group_before}
 use Rattle.kx_merge.specs.Bodies.{Rules, Moves, offers_of}
 use Rattle.kx_merge.specs.Offers.{Offer, value_of, width_of}
 use Rattle.kx_parse.specs.declared.tree.Field.{Field}
-use Rattle.kx_parse.specs.declared.tree.Item.{Item}
-use Rattle.kx_parse.specs.declared.tree.Item.TheVariants.{Include, Statement}
 use Rattle.kx_parse.specs.declared.tree.KeyField.{KeyField}
 use Rattle.kx_parse.specs.declared.tree.Mode.{Mode}
-use Rattle.kx_parse.specs.declared.tree.Statement.{Statement as Said}
-use Rattle.kx_parse.specs.declared.tree.Statement.TheVariants as said
+use Rattle.kx_parse.specs.declared.tree.Statement.{Statement}
+use Rattle.kx_parse.specs.declared.tree.Statement.TheVariants as statements
 use Rattle.kx_key_fields.specs.KeyFields.{effective, next_defaults as next_key_defaults}
 use Rattle.kx_key_fields.specs.Attributes.{Settings, attribute_before, attribute_in}
 use Rattle.kx_symbols.specs.declared.cells.Cell.{Cell}
 use Rattle.kx_symbols.specs.declared.cells.Cell.TheVariants as cells
 use Rattle.kx_symbols.specs.declared.cells.CellValue.{CellValue}
 use Rattle.kx_symbols.specs.declared.cells.CellValue.TheVariants as values
-use Rattle.kx_symbols.specs.KeyFaults.{item_faults, key_in}
+use Rattle.kx_symbols.specs.KeyFaults.{key_in, stated_faults}
 use Rattle.kx_symbols.specs.Known.{Defaults, Known, no_defaults}
 use Rattle.kx_symbols.specs.Lists.{StatementLists, lists_of}
 
@@ -66,20 +64,17 @@ module _ (known : Known) (fs : List KeyField) where
 abbrev pub said_offers : Codes → Known → Mode → Option (Name × List KeyField) → List (Offer ℕ Cell CellValue)
 said_offers codes known mode key = option_map_or (λ k. offered known k.1 mode (code_of codes k.0.bytes)) key []
 
-module _ (codes : Codes) (known : Known) where
-  abbrev pub item_offers : Item → List (Offer ℕ Cell CellValue)
-  item_offers (Statement mode statement first span) = said_offers codes known mode (key_in statement)
-  item_offers (Include mode text span) = []
-
-abbrev pub field_in : Said → Option Field
-field_in (said.Field field) = Some field
+abbrev pub field_in : Statement → Option Field
+field_in (statements.Field field) = Some field
 field_in _ = None
 
 module _ (modifiers : List (List ℕ)) where
-  -- the defaults after a statement
-  abbrev pub item_next : Defaults → Item → Defaults
-  item_next d (Statement mode statement first span) = option_map_or (λ field. record { actions = next_action_defaults modifiers d.actions field; keys = next_key_defaults modifiers d.keys field }) (field_in statement) d
-  item_next d (Include mode text span) = d
+  -- the defaults after a field that stands by itself, and after any statement
+  abbrev pub after_field : Defaults → Field → Defaults
+  after_field d field = record { actions = next_action_defaults modifiers d.actions field; keys = next_key_defaults modifiers d.keys field }
+
+  abbrev pub said_next : Defaults → Option Field → Defaults
+  said_next d field = option_map_or (after_field d) field d
 
 -- `modifiers` are the virtual modifiers by number
 module _ (codes : Codes) (names : KeysymTable) (modifiers : List (List ℕ)) where
@@ -89,9 +84,9 @@ module _ (codes : Codes) (names : KeysymTable) (modifiers : List (List ℕ)) whe
   abbrev pub key_rules : Rules ℕ Cell CellValue Defaults
   key_rules = record {
     start = no_defaults;
-    next = item_next modifiers;
-    offers = λ d place item. item_offers codes (known_under d) item;
-    faults = λ d place item. item_faults place.file (known_under d) item;
+    next = λ d stated. said_next modifiers d (field_in stated.statement);
+    offers = λ d place stated. said_offers codes (known_under d) stated.mode (key_in stated.statement);
+    faults = λ d place stated. stated_faults place.file (known_under d) stated;
   }
 
 abbrev pub cell_in_any : Option KeyContent → Cell → Option CellValue
@@ -123,13 +118,7 @@ pub record KeysShow (keys : List (ℕ × KeyContent)) (codes : Codes) (names : K
   pub cells_are : (code : ℕ) (c : Cell) → cell_in_any (key_at keys code) c ≡ value_of nat_eq (offers_of nat_eq (key_rules codes names modifiers) key_moves body) code c
   pub widths_are : (code group : ℕ) → width_in_any (key_at keys code) group ≡ width_of nat_eq (offers_of nat_eq (key_rules codes names modifiers) key_moves body) code group
 
--- ---- Under names, for clauses and proofs
-
-abbrev pub behind_field : (modifiers : List (List ℕ)) → Defaults → Field → Defaults
-behind_field modifiers d field = record { actions = next_action_defaults modifiers d.actions field; keys = next_key_defaults modifiers d.keys field }
-
-abbrev pub said_next : (modifiers : List (List ℕ)) → Defaults → Option Field → Defaults
-said_next modifiers d field = option_map_or (behind_field modifiers d) field d
+-- ---- Under a name, for clauses and proofs
 
 abbrev pub given_width : (known : Known) → (fs : List KeyField) → ℕ → ℕ
 given_width known fs group = max (width_in (lists_of known fs).symbols group) (width_in (lists_of known fs).actions group)

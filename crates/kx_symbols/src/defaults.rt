@@ -2,15 +2,16 @@
 ghost use Rattle.std.specs.Prelude.{◌≡◌, IfOk};
 ghost use Rattle.std.specs.Option.{option_map_or};
 ghost use Rattle.kx_key_fields.specs.Attributes.{no_settings};
+ghost use Rattle.kx_parse.specs.Sections.{word_span};
 ghost use Rattle.kx_symbols.specs.Known.{no_defaults};
-ghost use Rattle.kx_symbols.specs.Keys.{behind_field, field_in, said_next};
+ghost use Rattle.kx_symbols.specs.Keys.{after_field, field_in, said_next};
 ghost use Rattle.kx_symbols.specs.KeyFaults.{default_faults, other_faults, section_field_faults};
 ghost use Rattle.kx_merge.specs.Reports.{ReportsOrRunsOut};
 
 use kx_actions::ActionDefaults;
 use kx_key_fields::{KeyDefaults, is_group_name, is_key_word};
-use kx_lex::{At, Fault, Span};
-use kx_parse::{Field, Statement};
+use kx_lex::{At, Fault};
+use kx_parse::{Field, Stated, Statement};
 use kx_virtual_mods::ModNames;
 use std::alloc::{AllocError, Global};
 use std::marker::Model;
@@ -68,25 +69,25 @@ impl Gathered {
     }
 
     /// The defaults after a field of the section that is one for keys or for an action.
-    fn behind(
+    fn after(
         self,
         alloc: Global,
         modifiers: &ModNames,
         file: u32,
         field: &Field,
     ) -> Result<Gathered, Fault>
-        ensures next { IfOk result (λ d. d ≡ behind_field modifiers.now.names self field.now) }
+        ensures next { IfOk result (λ d. d ≡ after_field modifiers.now.names self field.now) }
         ensures faults { ReportsOrRunsOut result
             (default_faults file modifiers.now.names field.now) }
     {
         if is_key_word(field.place.word.bytes.as_slice()) {
-            let keys = self.keys.behind(alloc, modifiers, file, field)?;
+            let keys = self.keys.after(alloc, modifiers, file, field)?;
             return Ok(Gathered {
                 actions: self.actions,
                 keys,
             });
         }
-        let actions = self.actions.behind(modifiers, file, field)?;
+        let actions = self.actions.after(modifiers, file, field)?;
         Ok(Gathered {
             actions,
             keys: self.keys,
@@ -139,43 +140,45 @@ impl SectionDefaults {
     }
 
     /// The defaults after a field that stands by itself in the section.
-    fn behind(
+    fn after_field(
         self,
         alloc: Global,
         modifiers: &ModNames,
         file: u32,
         field: &Field,
     ) -> Result<SectionDefaults, Fault>
-        ensures next { IfOk result (λ d. d ≡ behind_field modifiers.now.names self field.now) }
+        ensures next { IfOk result (λ d. d ≡ after_field modifiers.now.names self field.now) }
         ensures faults { ReportsOrRunsOut result
             (section_field_faults file modifiers.now.names field.now) }
     {
         if is_group_name(&field.place) {
             return Ok(self);
         }
-        let gathered = self.unboxed(alloc).behind(alloc, modifiers, file, field)?;
+        let gathered = self.unboxed(alloc).after(alloc, modifiers, file, field)?;
         Ok(SectionDefaults::boxed(alloc, gathered)?)
     }
 
-    /// The defaults after a statement of the section that is about no key; a fault of its name is at a word.
+    /// The defaults after a statement of the section that is about no key.
     pub(crate) fn after(
         self,
         alloc: Global,
         modifiers: &ModNames,
         file: u32,
-        word: Span,
-        statement: &Statement,
+        stated: &Stated,
     ) -> Result<SectionDefaults, Fault>
         ensures next { IfOk result (λ d.
-            d ≡ said_next modifiers.now.names self (field_in statement.now)) }
+            d ≡ said_next modifiers.now.names self (field_in stated.now.statement)) }
         ensures faults { ReportsOrRunsOut result
-            (other_faults file modifiers.now.names word statement.now) }
+            (other_faults file modifiers.now.names (word_span stated.now) stated.now.statement) }
     {
-        match statement {
+        match &stated.statement {
             Statement::VirtualModifiers(_) => Ok(self),
             Statement::ModifierMap { .. } => Ok(self),
-            Statement::Field(field) => self.behind(alloc, modifiers, file, field.get()),
-            _ => Err(Fault::UnknownField(At { file, span: word })),
+            Statement::Field(field) => self.after_field(alloc, modifiers, file, field.get()),
+            _ => Err(Fault::UnknownField(At {
+                file,
+                span: stated.word_span(),
+            })),
         }
     }
 }

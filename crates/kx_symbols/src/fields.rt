@@ -10,10 +10,10 @@ ghost use Rattle.kx_merge.specs.Reports.{ReportsOrRunsOut};
 use crate::actions::{LevelAction, read_actions};
 use crate::keysyms::{Keysyms, read_levels};
 use crate::kinds::{ListKind, bare_kind, field_kind};
-use crate::known::{Known, StatementSite};
+use crate::known::Known;
 use ks_core::{NameTable, Notes};
 use kx_key_fields::{Levels, group_for, put_list};
-use kx_lex::Fault;
+use kx_lex::{At, Fault};
 use kx_parse::{Boxed, Field, Index, KeyField, List as Listed, Setting, Value};
 use std::alloc::Global;
 use std::marker::Model;
@@ -37,7 +37,7 @@ impl Model for StatementLists {
 fn add_symbols(
     alloc: Global,
     names: &NameTable,
-    site: StatementSite,
+    whole: At,
     index: &Option<Boxed<Index>>,
     list: &Listed,
     lists: &mut Vec<Option<Levels<Keysyms>>>,
@@ -47,11 +47,11 @@ fn add_symbols(
         ≡ given_list lists.old.items (group_for lists.old.items (index.now))
         (levels_of names.now list.now)) }
     ensures faults { ReportsOrRunsOut result
-        (place_faults site.file lists.old.items (index.now) list.now
-        ++ elements_faults site.file site.whole list.now) }
+        (place_faults whole.file lists.old.items (index.now) list.now
+        ++ elements_faults whole.file whole.span list.now) }
 {
-    let group = group_for(site.file, lists.as_slice(), index, list)?;
-    let levels = read_levels(alloc, names, site, list, notes)?;
+    let group = group_for(whole.file, lists.as_slice(), index, list)?;
+    let levels = read_levels(alloc, names, whole, list, notes)?;
     put_list(lists, group, levels)?;
     Ok(())
 }
@@ -60,7 +60,7 @@ fn add_symbols(
 fn add_actions(
     alloc: Global,
     known: &Known,
-    site: StatementSite,
+    whole: At,
     index: &Option<Boxed<Index>>,
     list: &Listed,
     lists: &mut Vec<Option<Levels<LevelAction>>>,
@@ -70,11 +70,11 @@ fn add_actions(
         ≡ given_list lists.old.items (group_for lists.old.items (index.now))
         (actions_of known.now list.now)) }
     ensures faults { ReportsOrRunsOut result
-        (place_faults site.file lists.old.items (index.now) list.now
-        ++ actions_faults site.file known.now.modifiers list.now) }
+        (place_faults whole.file lists.old.items (index.now) list.now
+        ++ actions_faults whole.file known.now.modifiers list.now) }
 {
-    let group = group_for(site.file, lists.as_slice(), index, list)?;
-    let levels = read_actions(alloc, known, site.file, list, notes)?;
+    let group = group_for(whole.file, lists.as_slice(), index, list)?;
+    let levels = read_actions(alloc, known, whole.file, list, notes)?;
     put_list(lists, group, levels)?;
     Ok(())
 }
@@ -83,7 +83,7 @@ fn add_actions(
 fn add_list(
     alloc: Global,
     known: &Known,
-    site: StatementSite,
+    whole: At,
     kind: ListKind,
     index: &Option<Boxed<Index>>,
     list: &Listed,
@@ -93,16 +93,16 @@ fn add_list(
     ensures value { OnOk result (lists.new
         ≡ with_listed known.now lists.old (index.now) list.now kind) }
     ensures faults { ReportsOrRunsOut result
-        (list_faults site.file known.now.modifiers site.whole lists.old (index.now) list.now kind) }
+        (list_faults whole.file known.now.modifiers whole.span lists.old (index.now) list.now kind) }
 {
     match kind {
         ListKind::Symbols => {
             let symbols = &mut lists.symbols;
-            add_symbols(alloc, known.names, site, index, list, symbols, notes)
+            add_symbols(alloc, known.names, whole, index, list, symbols, notes)
         }
         ListKind::Actions => {
             let actions = &mut lists.actions;
-            add_actions(alloc, known, site, index, list, actions, notes)
+            add_actions(alloc, known, whole, index, list, actions, notes)
         }
     }
 }
@@ -111,7 +111,7 @@ fn add_list(
 fn add_set(
     alloc: Global,
     known: &Known,
-    site: StatementSite,
+    whole: At,
     kind: ListKind,
     field: &Field,
     lists: &mut StatementLists,
@@ -120,19 +120,28 @@ fn add_set(
     ensures value { OnOk result (lists.new
         ≡ set_lists known.now lists.old field.now.place.index kind field.now.setting) }
     ensures faults { ReportsOrRunsOut result
-        (set_faults site.file known.now.modifiers site.whole lists.old field.now.place.index
+        (set_faults whole.file known.now.modifiers whole.span lists.old field.now.place.index
         field.now.span kind field.now.setting) }
 {
     match &field.setting {
         Setting::To(Value::List(list)) => {
             let index = &field.place.index;
-            add_list(alloc, known, site, kind, index, list, lists, notes)
+            add_list(alloc, known, whole, kind, index, list, lists, notes)
         }
         Setting::To(Value::Expression(expression)) => {
-            Err(Fault::BadValue(site.at(expression.span)))
+            Err(Fault::BadValue(At {
+                span: expression.span,
+                ..whole
+            }))
         }
-        Setting::To(Value::Call(call)) => Err(Fault::BadValue(site.at(call.span))),
-        Setting::Off | Setting::On => Err(Fault::BadValue(site.at(field.span))),
+        Setting::To(Value::Call(call)) => Err(Fault::BadValue(At {
+            span: call.span,
+            ..whole
+        })),
+        Setting::Off | Setting::On => Err(Fault::BadValue(At {
+            span: field.span,
+            ..whole
+        })),
     }
 }
 
@@ -140,7 +149,7 @@ fn add_set(
 fn add_named(
     alloc: Global,
     known: &Known,
-    site: StatementSite,
+    whole: At,
     field: &Field,
     lists: &mut StatementLists,
     notes: &mut Notes,
@@ -148,12 +157,12 @@ fn add_named(
     ensures value { OnOk result (lists.new
         ≡ named_lists known.now lists.old field.now (field_kind field.now.place)) }
     ensures faults { ReportsOrRunsOut result
-        (named_faults site.file known.now.modifiers site.whole lists.old field.now
+        (named_faults whole.file known.now.modifiers whole.span lists.old field.now
         (field_kind field.now.place)) }
 {
     match field_kind(&field.place) {
         None => Ok(()),
-        Some(kind) => add_set(alloc, known, site, kind, field, lists, notes),
+        Some(kind) => add_set(alloc, known, whole, kind, field, lists, notes),
     }
 }
 
@@ -161,21 +170,21 @@ fn add_named(
 fn add_field(
     alloc: Global,
     known: &Known,
-    site: StatementSite,
+    whole: At,
     field: &KeyField,
     lists: &mut StatementLists,
     notes: &mut Notes,
 ) -> Result<(), Fault>
     ensures value { OnOk result (lists.new ≡ field_lists known.now lists.old field.now) }
     ensures faults { ReportsOrRunsOut result
-        (field_faults site.file known.now.modifiers site.whole lists.old field.now) }
+        (field_faults whole.file known.now.modifiers whole.span lists.old field.now) }
 {
     match field {
         KeyField::List(list) => {
             let kind = bare_kind(list);
-            add_list(alloc, known, site, kind, &None, list, lists, notes)
+            add_list(alloc, known, whole, kind, &None, list, lists, notes)
         }
-        KeyField::Field(field) => add_named(alloc, known, site, field.get(), lists, notes),
+        KeyField::Field(field) => add_named(alloc, known, whole, field.get(), lists, notes),
     }
 }
 
@@ -183,20 +192,20 @@ fn add_field(
 pub(crate) fn read_lists(
     alloc: Global,
     known: &Known,
-    site: StatementSite,
+    whole: At,
     fields: &[KeyField],
     notes: &mut Notes,
 ) -> Result<StatementLists, Fault>
     ensures value { IfOk result (λ lists. lists ≡ lists_of known.now fields.now) }
     ensures faults { ReportsOrRunsOut result
-        (fields_faults site.file known.now site.whole no_lists fields.now) }
+        (fields_faults whole.file known.now whole.span no_lists fields.now) }
 {
     let mut lists = StatementLists {
         symbols: Vec::new(alloc),
         actions: Vec::new(alloc),
     };
     'fields: for field in fields {
-        add_field(alloc, known, site, field, &mut lists, notes)?;
+        add_field(alloc, known, whole, field, &mut lists, notes)?;
     }
     Ok(lists)
 }

@@ -8,27 +8,27 @@ ghost use Rattle.kx_parse.specs.declared.tree.Mode.{Mode as ModeValue};
 ghost use Rattle.kx_merge.specs.Bodies.{faults_of};
 ghost use Rattle.kx_merge.specs.Moved.{moved_key, moved_value, moved_width};
 ghost use Rattle.kx_merge.specs.Offers.{Offer, merged_value, merged_width};
-ghost use Rattle.kx_merge.specs.Records.{AreOffered, IsOffered, mode_of};
-ghost use Rattle.kx_symbols.specs.KeyFaults.{content_faults, item_faults, key_in, said_faults};
+ghost use Rattle.kx_merge.specs.Records.{AreOffered, IsOffered};
+ghost use Rattle.kx_symbols.specs.KeyFaults.{content_faults, key_in, stated_faults};
 ghost use Rattle.kx_merge.specs.Faults.{name_faults};
 ghost use Rattle.kx_codes.specs.Codes.{code_of};
-ghost use Rattle.kx_symbols.specs.Keys.{KeysShow, cell_in, field_in, item_next, item_offers, key_at, key_moves, key_offer, key_rules, known_under, offered, said_next, said_offers, width_in_key};
+ghost use Rattle.kx_symbols.specs.Keys.{KeysShow, cell_in, field_in, key_at, key_moves, key_offer, key_rules, known_under, offered, said_next, said_offers, width_in_key};
 ghost use Rattle.kx_merge.specs.Reports.{ReportsOrRunsOut};
 
 use crate::cells::{Cell, CellValue};
 use crate::defaults::SectionDefaults;
 use crate::fields::read_lists;
-use crate::known::{Known, StatementSite};
+use crate::known::Known;
 use crate::record::KeyRecord;
 use crate::settings::read_besides;
 use ks_core::{NameTable, Note, Notes};
 use kx_basics::MOST_NAME_BYTES;
 use kx_codes::Codes;
 use kx_include::{Expansion, Place};
-use kx_lex::{Fault, Span};
+use kx_lex::{At, Fault};
 use kx_merge::{Fields, merge};
 use kx_ordered::Ordered;
-use kx_parse::{Item, KeyField, KeyName, Mode, SmallRow, Statement};
+use kx_parse::{KeyField, KeyName, Mode, SmallRow, Stated, Statement};
 use kx_virtual_mods::ModNames;
 use std::alloc::Global;
 use std::marker::Model;
@@ -37,7 +37,7 @@ use std::marker::Model;
 #[derive(Clone, Copy)]
 pub struct Context<'a, 'l> {
     pub codes: &'a Codes<'l>,
-    pub names: &'a NameTable,
+    pub keysyms: &'a NameTable,
     pub modifiers: &'a ModNames,
 }
 
@@ -73,7 +73,7 @@ fn one_record(alloc: Global, code: u16, key: KeyRecord) -> Result<Vec<(u16, KeyR
 fn read_content(
     alloc: Global,
     known: &Known,
-    site: StatementSite,
+    whole: At,
     fields: &[KeyField],
     notes: &mut Notes,
 ) -> Result<KeyRecord, Fault>
@@ -81,10 +81,10 @@ fn read_content(
         → IfOk result (λ key. IsOffered mode (cell_in) (width_in_key) code key
         (key_offer known.now fields.now mode code)) }
     ensures faults { ReportsOrRunsOut result
-        (content_faults site.file known.now site.whole fields.now) }
+        (content_faults whole.file known.now whole.span fields.now) }
 {
-    let lists = read_lists(alloc, known, site, fields, notes)?;
-    let settings = read_besides(alloc, known, site.file, fields)?;
+    let lists = read_lists(alloc, known, whole, fields, notes)?;
+    let settings = read_besides(alloc, known, whole.file, fields)?;
     Ok(KeyRecord::of(lists, settings))
 }
 
@@ -93,7 +93,7 @@ fn read_key(
     alloc: Global,
     codes: &Codes,
     known: &Known,
-    site: StatementSite,
+    whole: At,
     name: &KeyName,
     fields: &[KeyField],
     notes: &mut Notes,
@@ -102,13 +102,13 @@ fn read_key(
         → IfOk result (λ records. AreOffered mode (cell_in) (width_in_key) records.items
         (offered known.now fields.now mode (code_of codes.now name.now.bytes))) }
     ensures faults { ReportsOrRunsOut result
-        (name_faults site.file site.whole name.now
-        ++ content_faults site.file known.now site.whole fields.now) }
+        (name_faults whole.file whole.span name.now
+        ++ content_faults whole.file known.now whole.span fields.now) }
 {
     if name.as_slice().len() > MOST_NAME_BYTES {
-        return Err(Fault::TooMany(site.at(site.whole)));
+        return Err(Fault::TooMany(whole));
     }
-    let key = read_content(alloc, known, site, fields, notes)?;
+    let key = read_content(alloc, known, whole, fields, notes)?;
     match codes.code_of(name.as_slice()) {
         Some(code) => one_record(alloc, code, key),
         None => {
@@ -118,81 +118,47 @@ fn read_key(
     }
 }
 
-/// What a statement gives, and the defaults after it; a fault of its name is at a word.
+/// What a statement gives, and the defaults after it.
 fn read_statement(
     alloc: Global,
     context: &Context,
     defaults: SectionDefaults,
-    site: StatementSite,
-    word: Span,
-    statement: &Statement,
+    file: u32,
+    stated: &Stated,
     notes: &mut Notes,
 ) -> Result<(Vec<(u16, KeyRecord)>, SectionDefaults), Fault>
     ensures records { (mode : ModeValue)
         → IfOk result (λ said. AreOffered mode (cell_in) (width_in_key) said.0.items
         (said_offers context.now.codes.now (known_under context.now.codes.now
-        context.now.names.now context.now.modifiers.now.names defaults) mode
-        (key_in statement.now))) }
+        context.now.keysyms.now context.now.modifiers.now.names defaults) mode
+        (key_in stated.now.statement))) }
     ensures next { IfOk result (λ said.
-        said.1 ≡ said_next context.now.modifiers.now.names defaults (field_in statement.now)) }
+        said.1 ≡ said_next context.now.modifiers.now.names defaults
+        (field_in stated.now.statement)) }
     ensures faults { ReportsOrRunsOut result
-        (said_faults site.file
-        (known_under context.now.codes.now context.now.names.now
+        (stated_faults file
+        (known_under context.now.codes.now context.now.keysyms.now
         context.now.modifiers.now.names defaults)
-        statement.now word site.whole (key_in statement.now)) }
+        stated.now) }
 {
-    match key_in(statement) {
+    match key_in(&stated.statement) {
         None => {
-            let next = defaults.after(alloc, context.modifiers, site.file, word, statement)?;
+            let next = defaults.after(alloc, context.modifiers, file, stated)?;
             Ok((no_records(alloc), next))
         }
         Some((name, fields)) => {
             let known = Known {
-                names: context.names,
+                names: context.keysyms,
                 modifiers: context.modifiers,
                 defaults: &defaults,
             };
-            let fields = fields.as_slice();
-            let records = read_key(alloc, context.codes, &known, site, name, fields, notes)?;
-            Ok((records, defaults))
-        }
-    }
-}
-
-/// What an item of a symbols section gives, and the defaults after it.
-fn read_item(
-    alloc: Global,
-    context: &Context,
-    defaults: SectionDefaults,
-    place: Place,
-    item: &Item,
-    notes: &mut Notes,
-) -> Result<(Vec<(u16, KeyRecord)>, SectionDefaults), Fault>
-    ensures records { IfOk result (λ said.
-        AreOffered (mode_of item.now) (cell_in) (width_in_key) said.0.items
-        (item_offers context.now.codes.now (known_under context.now.codes.now
-        context.now.names.now context.now.modifiers.now.names defaults) item.now)) }
-    ensures next { IfOk result (λ said.
-        said.1 ≡ item_next context.now.modifiers.now.names defaults item.now) }
-    ensures faults { ReportsOrRunsOut result
-        (item_faults place.file
-        (known_under context.now.codes.now context.now.names.now
-        context.now.modifiers.now.names defaults)
-        item.now) }
-{
-    match item {
-        Item::Include { .. } => Ok((no_records(alloc), defaults)),
-        Item::Statement {
-            statement,
-            span,
-            ..
-        } => {
-            let site = StatementSite {
-                file: place.file,
-                whole: *span,
+            let whole = At {
+                file,
+                span: stated.span,
             };
-            let word = item.word_span();
-            read_statement(alloc, context, defaults, site, word, statement, notes)
+            let fields = fields.as_slice();
+            let records = read_key(alloc, context.codes, &known, whole, name, fields, notes)?;
+            Ok((records, defaults))
         }
     }
 }
@@ -206,7 +172,7 @@ impl<'a, 'l> Fields<Context<'a, 'l>> for KeyRecord {
 
     type Defaults = SectionDefaults;
 
-    ghost rules = { λ context. key_rules context.codes.now context.names.now
+    ghost rules = { λ context. key_rules context.codes.now context.keysyms.now
         context.modifiers.now.names };
 
     ghost moves = { key_moves };
@@ -224,10 +190,10 @@ impl<'a, 'l> Fields<Context<'a, 'l>> for KeyRecord {
         context: &Context<'a, 'l>,
         defaults: SectionDefaults,
         place: Place,
-        item: &Item,
+        stated: &Stated,
         notes: &mut Notes,
     ) -> Result<(Vec<(u16, KeyRecord)>, SectionDefaults), Fault> {
-        read_item(alloc, context, defaults, place, item, notes)
+        read_statement(alloc, context, defaults, place.file, stated, notes)
     }
 
     fn merge(&mut self, _alloc: Global, other: KeyRecord, mode: Mode) -> Result<(), Fault>
@@ -329,7 +295,7 @@ pub fn symbols(
 {
     let context = Context {
         codes,
-        names,
+        keysyms: names,
         modifiers,
     };
     let merged = merge::<Context, KeyRecord>(alloc, &context, expansion)?;

@@ -7,7 +7,6 @@ ghost use Rattle.kx_basics.specs.Keysyms.{IsKeysym};
 ghost use Rattle.kx_symbols.specs.Keysyms.{element_level, given, keysym_of_text, levels_of, number_keysym, part_keysyms, symbol_keysym, word_keysym};
 ghost use Rattle.kx_merge.specs.Reports.{ReportsOrRunsOut};
 
-use crate::known::StatementSite;
 use arrayvec::ArrayVec;
 use ks_core::{NameTable, Note, Notes};
 use kx_basics::{GREATEST_KEYSYM, MOST_KEYSYMS};
@@ -225,7 +224,7 @@ pub fn symbol_keysym(
 /// Adds what a part of a level gives.
 fn add_part(
     names: &NameTable,
-    site: StatementSite,
+    whole: At,
     part: &BracePart,
     keysyms: &mut BracedKeysyms,
     notes: &mut Notes,
@@ -233,37 +232,40 @@ fn add_part(
     requires { length keysyms.old < 8 }
     ensures value { OnOk result (keysyms.new ≡ keysyms.old ++ part_keysyms names.now part.now) }
     ensures few { OnOk result (length keysyms.new ≤ length keysyms.old + 1) }
-    ensures faults { ReportsOrRunsOut result (part_faults site.file part.now) }
+    ensures faults { ReportsOrRunsOut result (part_faults whole.file part.now) }
 {
     match part {
         BracePart::Symbol(symbol) => {
-            if let Some(keysym) = symbol_keysym(names, site.file, symbol, notes)? {
+            if let Some(keysym) = symbol_keysym(names, whole.file, symbol, notes)? {
                 keysyms.push(keysym);
             }
             Ok(())
         }
-        BracePart::Call(call) => Err(Fault::BadValue(site.at(call.span))),
+        BracePart::Call(call) => Err(Fault::BadValue(At {
+            span: call.span,
+            ..whole
+        })),
     }
 }
 
 /// The keysyms of a level in braces.
 fn braces_keysyms(
     names: &NameTable,
-    site: StatementSite,
+    whole: At,
     parts: &[BracePart],
     notes: &mut Notes,
 ) -> Result<BracedKeysyms, Fault>
     ensures value { IfOk result (λ keysyms. keysyms ≡ flat_map (part_keysyms names.now) parts.now) }
     ensures faults { ReportsOrRunsOut result
-        (count_faults site.file site.whole parts.now
-        ++ flat_map (part_faults site.file) parts.now) }
+        (count_faults whole.file whole.span parts.now
+        ++ flat_map (part_faults whole.file) parts.now) }
 {
     let mut keysyms = BracedKeysyms::none();
     if parts.len() > MOST_KEYSYMS {
-        return Err(Fault::TooMany(site.at(site.whole)));
+        return Err(Fault::TooMany(whole));
     }
     'parts: for part in parts {
-        add_part(names, site, part, &mut keysyms, notes)?;
+        add_part(names, whole, part, &mut keysyms, notes)?;
     }
     Ok(keysyms)
 }
@@ -272,21 +274,24 @@ fn braces_keysyms(
 fn element_level(
     alloc: Global,
     names: &NameTable,
-    site: StatementSite,
+    whole: At,
     element: &Element,
     notes: &mut Notes,
 ) -> Result<Option<Keysyms>, Fault>
     ensures value { IfOk result (λ level. level ≡ element_level names.now element.now) }
-    ensures faults { ReportsOrRunsOut result (element_faults site.file site.whole element.now) }
+    ensures faults { ReportsOrRunsOut result (element_faults whole.file whole.span element.now) }
 {
     match element {
-        Element::Symbol(symbol) => match symbol_keysym(names, site.file, symbol, notes)? {
+        Element::Symbol(symbol) => match symbol_keysym(names, whole.file, symbol, notes)? {
             None => Ok(None),
             Some(keysym) => Ok(Some(Keysyms::one(keysym))),
         },
-        Element::Call(call) => Err(Fault::BadValue(site.at(call.get().span))),
+        Element::Call(call) => Err(Fault::BadValue(At {
+            span: call.get().span,
+            ..whole
+        })),
         Element::Braces(braces) => {
-            let keysyms = braces_keysyms(names, site, braces.parts.as_slice(), notes)?;
+            let keysyms = braces_keysyms(names, whole, braces.parts.as_slice(), notes)?;
             Ok(Keysyms::of_braces(alloc, keysyms)?)
         }
     }
@@ -296,17 +301,17 @@ fn element_level(
 pub(crate) fn read_levels(
     alloc: Global,
     names: &NameTable,
-    site: StatementSite,
+    whole: At,
     list: &Listed,
     notes: &mut Notes,
 ) -> Result<Levels<Keysyms>, Fault>
     ensures value { IfOk result (λ levels. levels ≡ levels_of names.now list.now) }
-    ensures faults { ReportsOrRunsOut result (elements_faults site.file site.whole list.now) }
+    ensures faults { ReportsOrRunsOut result (elements_faults whole.file whole.span list.now) }
 {
     let elements = list.elements.as_slice();
     let mut levels = Vec::with_capacity(alloc, elements.len())?;
     'elements: for element in elements {
-        levels.push(element_level(alloc, names, site, element, notes)?)?;
+        levels.push(element_level(alloc, names, whole, element, notes)?)?;
     }
     Ok(Levels::of(levels))
 }

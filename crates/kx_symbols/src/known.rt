@@ -1,9 +1,7 @@
-//! What key statements are read against, and where they stand.
-ghost use Rattle.std.specs.Prelude.{◌≡◌};
+//! What key statements are read against.
 
 use crate::defaults::SectionDefaults;
 use ks_core::NameTable;
-use kx_lex::{At, Span};
 use kx_virtual_mods::ModNames;
 use std::marker::Model;
 
@@ -25,23 +23,4 @@ impl<'a> Model for Known<'a> {
       modifiers = k.modifiers.now.names;
       defaults = k.defaults.now;
     } };
-}
-
-/// Where a statement stands.
-#[derive(Clone, Copy, Debug, PartialEq, Eq)]
-pub(crate) struct StatementSite {
-    pub file: u32,
-    /// All of the statement.
-    pub whole: Span,
-}
-
-impl StatementSite {
-    pub fn at(self, span: Span) -> At
-        ensures { result ≡ record { file = self.file; span = span } }
-    {
-        At {
-            file: self.file,
-            span,
-        }
-    }
 }

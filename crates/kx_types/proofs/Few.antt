@@ -13,14 +13,12 @@ use Rattle.kx_include.specs.Expansion.{Body, End, Begin, Own, Inc}
 use Rattle.kx_virtual_mods.specs.Counted.{Said, Text, names_behind as names_behind_saids, names_with, statements_of, with_names}
 use Rattle.kx_merge.specs.Bodies.{gather, gathered, moved, no_moves, offers}
 use Rattle.kx_merge.specs.Offers.{names_behind, names_of, with_name}
-use Rattle.kx_parse.specs.declared.tree.Item.{Item}
-use Rattle.kx_parse.specs.declared.tree.Item.TheVariants.{Include, Statement}
 use Rattle.kx_parse.specs.declared.tree.Field.{Field}
 use Rattle.kx_parse.specs.declared.tree.Mode.{Mode}
 use Rattle.kx_lex.specs.declared.name.Name.{Name}
 use Rattle.kx_types.specs.KeyTypes.{Definition}
 use Rattle.kx_types.specs.TypeFaults.{type_in}
-use Rattle.kx_types.specs.Types.{NamedTypes, TypeOffer, TypesShow, declared_names, item_offers, said_offers, type_names, type_offers, type_rules, written_name}
+use Rattle.kx_types.specs.Types.{NamedTypes, TypeOffer, TypesShow, declared_names, said_offers, type_names, type_offers, type_rules, written_name}
 use Rattle.kx_virtual_mods.proofs.Bits.{or-inner}
 
 -- ---- A name is among names to which others were added where it is among either
@@ -47,16 +45,16 @@ module _ (q : Text) where
   more_among ks (k ∷ more) = more_among (with_name bytes_eq ks k) more ∙ ap (λ b. b || among more) (with_among ks k) ∙ or-inner (among ks) (bytes_eq q k) (among more)
 
   written : List Said → List Text
-  written saids = flat_map (λ (s : Said). type_names s.1) saids
+  written saids = flat_map (λ (s : Said). type_names s.1.statement) saids
 
   saids_among : (ks : List Text) (saids : List Said) → among (names_behind_saids type_names ks saids) ≡ (among ks || among (written saids))
   unfolding among written
   saids_among ks [] = sym (or-false (among ks))
   saids_among ks (s ∷ saids) =
       saids_among (names_with type_names ks s) saids
-      ∙ ap (λ b. b || among (written saids)) (more_among ks (type_names s.1))
-      ∙ or-inner (among ks) (among (type_names s.1)) (among (written saids))
-      ∙ ap (λ b. among ks || b) (sym (list_any-append (bytes_eq q) (type_names s.1) (written saids)))
+      ∙ ap (λ b. b || among (written saids)) (more_among ks (type_names s.1.statement))
+      ∙ or-inner (among ks) (among (type_names s.1.statement)) (among (written saids))
+      ∙ ap (λ b. among ks || b) (sym (list_any-append (bytes_eq q) (type_names s.1.statement) (written saids)))
 
   offered : List TypeOffer → Bool
   offered os = list_any (λ (o : TypeOffer). bytes_eq q o.name) os
@@ -84,19 +82,14 @@ module _ (q : Text) where
   said_offered names mode None = refl
   said_offered names mode (Some t) = refl
 
-  item_offered : (names : List Text) (item : Item) → offered (item_offers names item) ≡ among (type_names item)
-  unfolding among offered
-  item_offered names (Include mode text span) = refl
-  item_offered names (Statement mode statement first span) = said_offered names mode (type_in statement)
-
   body_offered : (names : List Text) (d : Unit {0}) (body : Body) → offered (offers bytes_eq (type_rules names) no_moves d body) ≡ among (written (statements_of body))
   unfolding among written offered
   body_offered names d End = refl
   body_offered names d (Begin rest) = body_offered names tt rest
-  body_offered names d (Own place item rest) =
-      list_any-append (λ (o : TypeOffer). bytes_eq q o.name) (item_offers names item) (offers bytes_eq (type_rules names) no_moves tt rest)
-      ∙ (λ i. item_offered names item i || body_offered names tt rest i)
-      ∙ sym (list_any-append (bytes_eq q) (type_names item) (written (statements_of rest)))
+  body_offered names d (Own place stated rest) =
+      list_any-append (λ (o : TypeOffer). bytes_eq q o.name) (said_offers names stated.mode (type_in stated.statement)) (offers bytes_eq (type_rules names) no_moves tt rest)
+      ∙ (λ i. said_offered names stated.mode (type_in stated.statement) i || body_offered names tt rest i)
+      ∙ sym (list_any-append (bytes_eq q) (type_names stated.statement) (written (statements_of rest)))
   body_offered names d (Inc mode group body rest) =
       let inner = offers bytes_eq (type_rules names) no_moves tt body in
       list_any-append (λ (o : TypeOffer). bytes_eq q o.name) (moved no_moves group (gathered bytes_eq mode inner)) (offers bytes_eq (type_rules names) no_moves d rest)
@@ -104,7 +97,7 @@ module _ (q : Text) where
       ∙ sym (ap among (written_append (statements_of body) (statements_of rest)) ∙ list_any-append (bytes_eq q) (written (statements_of body)) (written (statements_of rest)))
     where
       written_append : (xs ys : List Said) → written (xs ++ ys) ≡ written xs ++ written ys
-      written_append xs ys = flat_map-append (λ (s : Said). type_names s.1) xs ys
+      written_append xs ys = flat_map-append (λ (s : Said). type_names s.1.statement) xs ys
 
   pub same_names : (names : List Text) (body : Body) → among (declared_names names body) ≡ among (names_behind_saids type_names [] (statements_of body))
   unfolding among

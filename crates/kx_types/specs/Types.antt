@@ -11,11 +11,10 @@ use Rattle.kx_merge.specs.Bodies.{Rules, faults_of, offers_of, no_moves}
 use Rattle.kx_merge.specs.Offers.{Offer, names_of, value_of, plain_offer}
 use Rattle.kx_merge.specs.Single.{single_rules}
 use Rattle.kx_parse.specs.declared.tree.Field.{Field}
-use Rattle.kx_parse.specs.declared.tree.Item.{Item}
-use Rattle.kx_parse.specs.declared.tree.Item.TheVariants.{Include, Statement}
 use Rattle.kx_parse.specs.declared.tree.Mode.{Mode}
+use Rattle.kx_parse.specs.declared.tree.Statement.{Statement}
 use Rattle.kx_types.specs.KeyTypes.{Definition, definition_of}
-use Rattle.kx_types.specs.TypeFaults.{item_faults, type_in}
+use Rattle.kx_types.specs.TypeFaults.{stated_faults, type_in}
 use Rattle.kx_types.specs.TypeFields.{sayings_of}
 use Rattle.kx_types.specs.declared.limits.TheConstants.{MOST_TYPES}
 
@@ -31,17 +30,12 @@ said_offers names mode t = option_map_or (λ t. type_offer mode t.0.bytes (defin
 
 -- `names` are the virtual modifiers by number
 module _ (names : List (List ℕ)) where
-  abbrev pub item_offers : Item → List TypeOffer
-  item_offers (Statement mode statement first span) = said_offers names mode (type_in statement)
-  item_offers (Include mode text span) = []
-
   abbrev pub type_rules : Rules (List ℕ) (Unit {0}) Definition (Unit {0})
-  type_rules = single_rules (λ place item. item_offers item) (λ place item. item_faults names place.file item)
+  type_rules = single_rules (λ place stated. said_offers names stated.mode (type_in stated.statement)) (λ place stated. stated_faults names place.file stated)
 
 -- the name that a type statement writes
-abbrev pub type_names : Item → List (List ℕ)
-type_names (Statement mode statement first span) = option_map_or (λ t. t.0.bytes ∷ []) (type_in statement) []
-type_names (Include mode text span) = []
+abbrev pub type_names : Statement → List (List ℕ)
+type_names statement = option_map_or (λ t. t.0.bytes ∷ []) (type_in statement) []
 
 module _ (names : List (List ℕ)) (body : Body) where
   abbrev pub type_offers : List TypeOffer

@@ -7,7 +7,7 @@ ghost use Rattle.kx_virtual_mods.specs.Counted.{with_names};
 
 use crate::declared::type_in;
 use kx_lex::Fault;
-use kx_parse::Item;
+use kx_parse::Statement;
 use kx_virtual_mods::{Names, Naming};
 use std::alloc::Global;
 
@@ -17,11 +17,12 @@ pub(crate) struct TypeNaming;
 impl Naming for TypeNaming {
     ghost names = { type_names };
 
-    fn add(alloc: Global, others: &mut Names, item: &Item) -> Result<(), Fault>
-        ensures added { OnOk result (others.new ≡ with_names others.old (type_names item.now)) }
+    fn add(alloc: Global, others: &mut Names, statement: &Statement) -> Result<(), Fault>
+        ensures added { OnOk result
+            (others.new ≡ with_names others.old (type_names statement.now)) }
         ensures err { IfErr result (λ e. e ≡ Memory) }
     {
-        match written_name(item) {
+        match written_name(statement) {
             None => Ok(()),
             Some(name) => others.add(alloc, name),
         }
@@ -29,14 +30,11 @@ impl Naming for TypeNaming {
 }
 
 /// The name of the type that a statement declares.
-fn written_name(item: &Item) -> Option<&[u8]>
-    ensures { option_to_list (option_map (λ n. n.now) result) ≡ type_names item.now }
+fn written_name(statement: &Statement) -> Option<&[u8]>
+    ensures { option_to_list (option_map (λ n. n.now) result) ≡ type_names statement.now }
 {
-    match item {
-        Item::Include { .. } => None,
-        Item::Statement { statement, .. } => match type_in(statement) {
-            None => None,
-            Some((name, _)) => Some(name.bytes.as_slice()),
-        },
+    match type_in(statement) {
+        None => None,
+        Some((name, _)) => Some(name.bytes.as_slice()),
     }
 }

@@ -5,14 +5,13 @@ ghost use Rattle.std.specs.Option.{option_map};
 ghost use Rattle.std.specs.Cmp.Lexicographic.{bytes_decides};
 ghost use Rattle.std.proofs.Common.{◌∙◌, ap, sym};
 ghost use Rattle.kx_include.specs.Shared.{expanded_body};
-ghost use Rattle.kx_merge.specs.Records.{AreOffered, mode_of};
+ghost use Rattle.kx_merge.specs.Records.{AreOffered};
 ghost use Rattle.kx_merge.specs.Single.{single_cell, single_width};
-ghost use Rattle.kx_parse.specs.Sections.{word_span};
 ghost use Rattle.kx_parse.specs.declared.tree.Mode.{Mode as ModeValue};
 ghost use Rattle.kx_types.specs.KeyTypes.{definition_of};
-ghost use Rattle.kx_types.specs.TypeFaults.{declares_modifiers, item_faults, said_faults, type_in};
+ghost use Rattle.kx_types.specs.TypeFaults.{declares_modifiers, stated_faults, type_in};
 ghost use Rattle.kx_types.specs.TypeFields.{field_faults, sayings_of};
-ghost use Rattle.kx_types.specs.Types.{TypesShow, item_offers, said_offers, type_offer, types_faults};
+ghost use Rattle.kx_types.specs.Types.{TypesShow, said_offers, type_offer, types_faults};
 ghost use Rattle.kx_merge.specs.Faults.{name_faults};
 ghost use Rattle.kx_merge.specs.Reports.{ReportsOrRunsOut};
 
@@ -26,7 +25,7 @@ use kx_include::{Expansion, Place};
 use kx_lex::{At, Fault, Span};
 use kx_merge::{Single, SingleValue, merge, none_given, one_given};
 use kx_ordered::ShortName;
-use kx_parse::{Field, Item, Name, Row, Statement};
+use kx_parse::{Field, Name, Row, Stated, Statement};
 use kx_virtual_mods::{ModNames, Names, count_names};
 use std::alloc::Global;
 
@@ -75,61 +74,39 @@ fn read_type(
     one_given(alloc, ShortName::of(bytes), definition)
 }
 
-/// What a statement declares; `word` is what a fault of an unknown statement names, `whole` all of it.
+/// What a statement declares.
 fn read_statement(
     alloc: Global,
     modifiers: &ModNames,
     file: u32,
-    word: Span,
-    whole: Span,
-    statement: &Statement,
+    stated: &Stated,
 ) -> Result<Vec<(ShortName, Single<KeyType>)>, Fault>
     ensures records { (mode : ModeValue)
         → IfOk result (λ records. AreOffered mode single_cell single_width records.items
-        (said_offers modifiers.now.names mode (type_in statement.now))) }
-    ensures faults { ReportsOrRunsOut result
-        (said_faults modifiers.now.names file (type_in statement.now) statement.now word whole) }
+        (said_offers modifiers.now.names mode (type_in stated.now.statement))) }
+    ensures faults { ReportsOrRunsOut result (stated_faults modifiers.now.names file stated.now) }
 {
-    match type_in(statement) {
-        Some((name, fields)) => read_type(alloc, modifiers, file, whole, name, fields.as_slice()),
+    match type_in(&stated.statement) {
+        Some((name, fields)) => {
+            read_type(alloc, modifiers, file, stated.span, name, fields.as_slice())
+        }
         None => {
-            if !declares_modifiers(statement) {
-                return Err(Fault::UnknownField(At { file, span: word }));
+            if !declares_modifiers(&stated.statement) {
+                let span = stated.word_span();
+                return Err(Fault::UnknownField(At { file, span }));
             }
             Ok(none_given(alloc))
         }
     }
 }
 
-/// What an item of a types section declares.
-fn read_item(
-    alloc: Global,
-    modifiers: &ModNames,
-    place: Place,
-    item: &Item,
-) -> Result<Vec<(ShortName, Single<KeyType>)>, Fault>
-    ensures records { IfOk result (λ records.
-        AreOffered (mode_of item.now) single_cell single_width records.items
-        (item_offers modifiers.now.names item.now)) }
-    ensures faults { ReportsOrRunsOut result (item_faults modifiers.now.names place.file item.now) }
-{
-    let word = item.word_span();
-    match item {
-        Item::Include { .. } => Ok(none_given(alloc)),
-        Item::Statement {
-            statement,
-            span,
-            ..
-        } => read_statement(alloc, modifiers, place.file, word, *span, statement),
-    }
-}
-
 impl SingleValue<ModNames> for KeyType {
     type Key = ShortName;
 
-    ghost offers = { λ modifiers place item. item_offers modifiers.names item };
+    ghost offers = { λ modifiers place stated.
+        said_offers modifiers.names stated.mode (type_in stated.statement) };
 
-    ghost faults = { λ modifiers place item. item_faults modifiers.names place.file item };
+    ghost faults = { λ modifiers place stated. stated_faults modifiers.names place.file stated };
 
     ghost moved = { λ n name. Some name };
 
@@ -137,9 +114,9 @@ impl SingleValue<ModNames> for KeyType {
         alloc: Global,
         modifiers: &ModNames,
         place: Place,
-        item: &Item,
+        stated: &Stated,
     ) -> Result<Vec<(ShortName, Single<KeyType>)>, Fault> {
-        read_item(alloc, modifiers, place, item)
+        read_statement(alloc, modifiers, place.file, stated)
     }
 
     fn try_clone(&self, alloc: Global) -> Result<KeyType, Fault> {

@@ -10,8 +10,8 @@ use Rattle.kx_lex.specs.declared.fault.Fault.{Fault}
 use Rattle.kx_lex.specs.declared.fault.Fault.TheVariants.{Memory, TooMany}
 use Rattle.kx_include.specs.IncludeFaults.{at}
 use Rattle.kx_include.specs.Shared.{body_at}
-use Rattle.kx_parse.specs.declared.tree.Item.{Item}
-use Rattle.kx_virtual_mods.specs.Counted.{Said, Text, crossing, names_behind, names_with, statements_of, whole_span}
+use Rattle.kx_parse.specs.declared.tree.Statement.{Statement}
+use Rattle.kx_virtual_mods.specs.Counted.{Said, Text, crossing, names_behind, names_with, statements_of}
 use Rattle.kx_virtual_mods.specs.Tallies.{Adds, AreDone, HasAll, bodies_of}
 use Rattle.kx_virtual_mods.specs.declared.counted.Tally.{Tally}
 use Rattle.kx_merge.proofs.Going.{drop_next}
@@ -40,13 +40,13 @@ flat_next f xs i x within is = ap (flat_map f) (drop_next xs i x within is)
 pub flat_done : {X Y : Type 0} (f : X → List Y) (xs : List X) (i : ℕ) → length xs ≤ i → flat_map f (drop i xs) ≡ []
 flat_done f xs i over = ap (flat_map f) (drop_all i xs over)
 
-module _ (names : Item → List Text) (limit : ℕ) where
+module _ (names : Statement → List Text) (limit : ℕ) where
   behind-append : (ks : List Text) (one rest : List Said) → names_behind names ks (one ++ rest) ≡ names_behind names (names_behind names ks one) rest
   behind-append ks one rest = fold-append (names_with names) ks one rest
 
   crossing-append : (ks : List Text) (one rest : List Said) → crossing names limit ks (one ++ rest) ≡ crossing names limit ks one ++ behind (crossing names limit ks one) (crossing names limit (names_behind names ks one) rest)
   crossing-append ks [] rest = refl
-  crossing-append ks (said ∷ one) rest = by (TooMany (at said.0.file (whole_span said.1))) (nat_lt limit (length (names_with names ks said))) (crossing-append (names_with names ks said) one rest)
+  crossing-append ks (said ∷ one) rest = by (TooMany (at said.0.file said.1.span)) (nat_lt limit (length (names_with names ks said))) (crossing-append (names_with names ks said) one rest)
     where
       by : (f : Fault) (b : Bool) → crossing names limit (names_with names ks said) (one ++ rest) ≡ crossing names limit (names_with names ks said) one ++ behind (crossing names limit (names_with names ks said) one) (crossing names limit (names_behind names ks (said ∷ one)) rest)
           → cond b (f ∷ []) (crossing names limit (names_with names ks said) (one ++ rest))

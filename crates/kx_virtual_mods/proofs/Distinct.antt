@@ -4,9 +4,8 @@ use Rattle.std.specs.List.{AllByRecursion, IsDistinct, list_any}
 use Rattle.std.proofs.lemmas.Bool.Decides.{nat_tests}
 use Rattle.std.proofs.lemmas.Bool.{or_parts}
 use Rattle.kx_merge.specs.Offers.{Offer, with_name}
-use Rattle.kx_merge.specs.Records.{mode_of}
 use Rattle.kx_parse.specs.declared.tree.Mode.{Mode}
-use Rattle.kx_virtual_mods.specs.Declarations.{Given, given_in, declarations_of, mask_offer, mask_rules, numbers_of}
+use Rattle.kx_virtual_mods.specs.Declarations.{Given, given_in, declarations_in, mask_offer, mask_rules, numbers_of}
 use Rattle.kx_virtual_mods.specs.Once.{OffersOnce}
 
 all-push : (P : ℕ → Type 0) (ks : List ℕ) (k : ℕ) → AllByRecursion P ks → P k → AllByRecursion P (ks ++ k ∷ [])
@@ -43,6 +42,6 @@ offer-names mode given [] = refl
 offer-names mode given (n ∷ ns) = ap (λ xs. n ∷ xs) (offer-names mode given ns)
 
 pub masks_once : (names : List (List ℕ)) → OffersOnce nat_eq (mask_rules names)
-masks_once names d place item =
-    let given = given_in names (declarations_of item) in
-    subst (IsDistinct nat_eq) (sym (offer-names (mode_of item) given (numbers_of given))) (distinct-fold [] (map (λ (g : Given). g.0) given) distinct-none)
+masks_once names d place stated =
+    let given = given_in names (declarations_in stated.statement) in
+    subst (IsDistinct nat_eq) (sym (offer-names stated.mode given (numbers_of given))) (distinct-fold [] (map (λ (g : Given). g.0) given) distinct-none)

@@ -20,7 +20,7 @@ module _ (bodies : List Body) where
 
   entries-said : (place : Place) (es : List Entry) (rest : Body) → statements_of (entries_body bodies place es rest) ≡ flat_map (entry_statements bodies place) es ++ statements_of rest
   entries-said place [] rest = refl
-  entries-said place (entry.Own item ∷ es) rest = ap (λ xs. (place, item.now) ∷ xs) (entries-said place es rest)
+  entries-said place (entry.Own stated ∷ es) rest = ap (λ xs. (place, stated.now) ∷ xs) (entries-said place es rest)
   entries-said place (entry.Include mode links ∷ es) rest =
       ap (λ xs. xs ++ statements_of (entries_body bodies place es rest)) (links-said links.items)
       ∙ ap (λ xs. links_statements bodies links.items ++ xs) (entries-said place es rest)

@@ -8,10 +8,9 @@ use Rattle.kx_include.specs.IncludeFaults.{at}
 use Rattle.kx_include.specs.declared.place.Place.{Place}
 use Rattle.kx_lex.specs.declared.fault.Fault.{Fault}
 use Rattle.kx_lex.specs.declared.fault.Fault.TheVariants.{TooMany}
-use Rattle.kx_lex.specs.declared.token.Span.{Span}
 use Rattle.kx_merge.specs.Offers.{with_name}
-use Rattle.kx_parse.specs.declared.tree.Item.{Item}
-use Rattle.kx_parse.specs.declared.tree.Item.TheVariants.{Include, Statement}
+use Rattle.kx_parse.specs.declared.tree.Stated.{Stated}
+use Rattle.kx_parse.specs.declared.tree.Statement.{Statement}
 
 -- a name by its bytes
 abbrev pub Text : Type 0
@@ -19,28 +18,23 @@ Text = List ℕ
 
 -- a statement and the section where it stands
 abbrev pub Said : Type 0
-Said = Place × Item
+Said = Place × Stated
 
 -- the statements of a body in order, with those that an include brings in its place; hidden ones count too
 abbrev pub statements_of : Body → List Said
 statements_of End = []
 statements_of (Begin rest) = statements_of rest
-statements_of (Own place item rest) = (place, item) ∷ statements_of rest
+statements_of (Own place stated rest) = (place, stated) ∷ statements_of rest
 statements_of (Inc mode group body rest) = statements_of body ++ statements_of rest
 
 -- those of bodies one after another
 abbrev pub all_statements : List Body → List Said
 all_statements bodies = flat_map statements_of bodies
 
--- the whole statement, from its mode to its `;`
-abbrev pub whole_span : Item → Span
-whole_span (Include mode text span) = span
-whole_span (Statement mode statement first span) = span
-
-module _ (names : Item → List Text) where
+module _ (names : Statement → List Text) where
   -- those before a statement, and after them those that it writes for the first time
   abbrev pub names_with : List Text → Said → List Text
-  names_with before said = fold (with_name bytes_eq) before (names said.1)
+  names_with before said = fold (with_name bytes_eq) before (names said.1.statement)
 
   -- each name once, in the order of first appearance
   abbrev pub names_of : List Said → List Text
@@ -50,7 +44,7 @@ module _ (names : Item → List Text) where
   abbrev pub crossing : ℕ → List Text → List Said → List Fault
   crossing limit before [] = []
   crossing limit before (said ∷ saids) =
-      if nat_lt limit (length (names_with before said)) then TooMany (at said.0.file (whole_span said.1)) ∷ []
+      if nat_lt limit (length (names_with before said)) then TooMany (at said.0.file said.1.span) ∷ []
       else crossing limit (names_with before said) saids
 
   abbrev pub count_faults : ℕ → List Said → List Fault
@@ -62,5 +56,5 @@ with_names before more = fold (with_name bytes_eq) before more
 
 -- ---- Under a name, for clauses and proofs
 
-abbrev pub names_behind : (names : Item → List Text) → List Text → List Said → List Text
+abbrev pub names_behind : (names : Statement → List Text) → List Text → List Said → List Text
 names_behind names before saids = fold (names_with names) before saids

@@ -12,36 +12,30 @@ use Rattle.kx_lex.specs.declared.name.Name.{Name}
 use Rattle.kx_merge.specs.Bodies.{Rules, faults_of, offers_of, no_moves}
 use Rattle.kx_merge.specs.Offers.{Offer, value_of, with_name, plain_offer}
 use Rattle.kx_merge.specs.Single.{single_rules}
-use Rattle.kx_merge.specs.Records.{mode_of}
 use Rattle.kx_mods.specs.Mods.{mask}
 use Rattle.kx_mods.specs.declared.mods.Mods.{Mods}
 use Rattle.kx_parse.specs.declared.tree.Declaration.{Declaration}
 use Rattle.kx_parse.specs.declared.tree.Expression.{Expression}
-use Rattle.kx_parse.specs.declared.tree.Item.{Item}
-use Rattle.kx_parse.specs.declared.tree.Item.TheVariants.{Include, Statement}
 use Rattle.kx_parse.specs.declared.tree.Mode.{Mode}
-use Rattle.kx_parse.specs.declared.tree.Statement.{Statement as StatementValue}
+use Rattle.kx_parse.specs.declared.tree.Stated.{Stated}
+use Rattle.kx_parse.specs.declared.tree.Statement.{Statement}
 use Rattle.kx_parse.specs.declared.tree.Statement.TheVariants.{VirtualModifiers}
 use Rattle.kx_virtual_mods.specs.Counted.{all_statements, count_faults, names_of}
 use Rattle.kx_virtual_mods.specs.Masks.{mask_set, real_mask, real_mask_faults, virtual_number}
 use Rattle.kx_virtual_mods.specs.Sets.{union}
 use Rattle.kx_virtual_mods.specs.declared.limits.TheConstants.{MOST_VIRTUAL_MODIFIERS}
 
-abbrev pub declarations_in : StatementValue → List Declaration
+abbrev pub declarations_in : Statement → List Declaration
 declarations_in (VirtualModifiers declarations) = declarations
 declarations_in _ = []
-
-abbrev pub declarations_of : Item → List Declaration
-declarations_of (Statement mode statement first span) = declarations_in statement
-declarations_of (Include mode text span) = []
 
 -- what a declaration names; a word for real modifiers is no virtual one
 abbrev pub named_by : Declaration → List (List ℕ)
 named_by d = if is_some (real_mask d.word.bytes) then [] else d.word.bytes ∷ []
 
 -- the virtual modifiers that a statement names
-abbrev pub named_in : Item → List (List ℕ)
-named_in item = flat_map named_by (declarations_of item)
+abbrev pub named_in : Statement → List (List ℕ)
+named_in statement = flat_map named_by (declarations_in statement)
 
 -- what a declaration gives: its number, and the mask where it writes one
 abbrev pub Given : Type 0
@@ -60,8 +54,8 @@ module _ (names : List (List ℕ)) where
   abbrev pub given_in : List Declaration → List Given
   given_in declarations = flat_map (λ d. option_map_or (λ number. (number, option_map (mask_set []) d.mask) ∷ []) (virtual_number names d.word.bytes) []) declarations
 
-  abbrev pub item_offers : Item → List (Offer ℕ (Unit {0}) ℕ)
-  item_offers item = mask_offers (mode_of item) (given_in (declarations_of item))
+  abbrev pub stated_offers : Stated → List (Offer ℕ (Unit {0}) ℕ)
+  stated_offers stated = mask_offers stated.mode (given_in (declarations_in stated.statement))
 
 module _ (file : ℕ) where
   -- a virtual modifier has no name of a real one, in any case, and isn't `all` or `none`
@@ -72,11 +66,11 @@ module _ (file : ℕ) where
   abbrev pub declaration_faults : List (List ℕ) → Declaration → List Fault
   declaration_faults names d = name_faults d.word ++ option_map_or (real_mask_faults file names) d.mask []
 
-  abbrev pub item_faults : List (List ℕ) → Item → List Fault
-  item_faults names item = flat_map (declaration_faults names) (declarations_of item)
+  abbrev pub stated_faults : List (List ℕ) → Stated → List Fault
+  stated_faults names stated = flat_map (declaration_faults names) (declarations_in stated.statement)
 
 abbrev pub mask_rules : List (List ℕ) → Rules ℕ (Unit {0}) ℕ (Unit {0})
-mask_rules names = single_rules (λ place item. item_offers names item) (λ place item. item_faults place.file names item)
+mask_rules names = single_rules (λ place stated. stated_offers names stated) (λ place stated. stated_faults place.file names stated)
 
 -- the bodies in which virtual modifiers are declared, in the order in which they are numbered
 abbrev pub modifier_bodies : Bodies → List Body

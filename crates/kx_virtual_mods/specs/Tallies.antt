@@ -11,7 +11,7 @@ use Rattle.kx_include.specs.declared.place.Place.{Place}
 use Rattle.kx_include.specs.Expansion.{Body}
 use Rattle.kx_lex.specs.declared.fault.Fault.{Fault}
 use Rattle.kx_lex.specs.declared.fault.Fault.TheVariants.{Memory}
-use Rattle.kx_parse.specs.declared.tree.Item.{Item}
+use Rattle.kx_parse.specs.declared.tree.Statement.{Statement}
 use Rattle.kx_virtual_mods.specs.Counted.{Said, Text, crossing, names_behind, statements_of}
 use Rattle.kx_virtual_mods.specs.declared.counted.Tally.{Tally}
 
@@ -21,7 +21,7 @@ abbrev pub links_statements : List Body → List Link → List Said
 links_statements bodies links = flat_map (λ (l : Link). statements_of (body_at bodies l.map)) links
 
 abbrev pub entry_statements : List Body → Place → Entry → List Said
-entry_statements bodies place (Own item) = (place, item.now) ∷ []
+entry_statements bodies place (Own stated) = (place, stated.now) ∷ []
 entry_statements bodies place (Include mode links) = links_statements bodies links.items
 
 abbrev pub map_statements : List Body → Map → List Said
@@ -36,11 +36,11 @@ abbrev pub HasEach : List Text → List Text → Type 0
 HasEach there [] = Unit {0}
 HasEach there (name ∷ more) = (list_any (bytes_eq name) there ≡ true) × HasEach there more
 
-module _ (names : Item → List Text) where
+module _ (names : Statement → List Text) where
   -- each name that statements write is there
   abbrev pub HasAll : List Text → List Said → Type 0
   HasAll there [] = Unit {0}
-  HasAll there (said ∷ saids) = HasEach there (names said.1) × HasAll there saids
+  HasAll there (said ∷ saids) = HasEach there (names said.1.statement) × HasAll there saids
 
   -- the maps that are marked add no names
   abbrev pub AreDone : List Map → Tally → Type 0

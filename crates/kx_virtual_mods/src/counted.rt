@@ -1,36 +1,26 @@
 //! The names that the statements of bodies write.
 ghost use Rattle.std.specs.Prelude.{◌≡◌, ◌≤◌, ◌∷◌, [], ℕ, Contains, IfErr, IfOk, List, OnOk, false, length, slice_get, slice_set, take, true, unwrap_or};
 ghost use Rattle.kx_include.specs.Shared.{body_at, expanded_body};
-ghost use Rattle.kx_parse.specs.declared.tree.Item.{Item as ItemValue};
+ghost use Rattle.kx_parse.specs.declared.tree.Statement.{Statement as StatementValue};
 ghost use Rattle.kx_lex.specs.declared.fault.Fault.TheVariants.{Memory};
-ghost use Rattle.kx_virtual_mods.specs.Counted.{crossing, names_behind, statements_of, whole_span, with_names};
+ghost use Rattle.kx_virtual_mods.specs.Counted.{crossing, names_behind, statements_of, with_names};
 ghost use Rattle.kx_virtual_mods.specs.Tallies.{Adds, AreDone, bodies_of, entry_statements, links_statements, map_statements};
 ghost use Rattle.kx_merge.specs.Reports.{ReportsOrRunsOut};
 
 use crate::names::Names;
 use kx_include::{Entry, Expansion, Link, Map, Place};
-use kx_lex::{At, Fault, Span};
-use kx_parse::Item;
+use kx_lex::{At, Fault};
+use kx_parse::{Stated, Statement};
 use std::alloc::Global;
 
 /// A kind of names that statements write.
 pub trait Naming {
-    ghost names: { ItemValue → List (List ℕ) };
+    ghost names: { StatementValue → List (List ℕ) };
 
     /// Adds the names of a statement to others.
-    fn add(alloc: Global, others: &mut Names, item: &Item) -> Result<(), Fault>
-        ensures added { OnOk result (others.new ≡ with_names others.old (names item.now)) }
+    fn add(alloc: Global, others: &mut Names, statement: &Statement) -> Result<(), Fault>
+        ensures added { OnOk result (others.new ≡ with_names others.old (names statement.now)) }
         ensures err { IfErr result (λ e. e ≡ Memory) };
-}
-
-/// The whole of a statement, from its mode to its `;`.
-fn whole_span(item: &Item) -> Span
-    ensures { result ≡ whole_span item.now }
-{
-    match item {
-        Item::Include { span, .. } => *span,
-        Item::Statement { span, .. } => *span,
-    }
 }
 
 /// Names that were counted so far, and which maps add no more of them.
@@ -66,19 +56,19 @@ fn add_statement<N: Naming>(
     alloc: Global,
     limit: usize,
     place: Place,
-    item: &Item,
+    stated: &Stated,
     names: &mut Names,
 ) -> Result<(), Fault>
-    ensures added { OnOk result (names.new ≡ with_names names.old (N.names item.now)) }
+    ensures added { OnOk result (names.new ≡ with_names names.old (N.names stated.now.statement)) }
     ensures few { OnOk result (length names.new ≤ limit) }
     ensures fault { IfErr result (λ e.
-        Contains (Memory ∷ crossing N.names limit names.old ((place, item.now) ∷ [])) e) }
+        Contains (Memory ∷ crossing N.names limit names.old ((place, stated.now) ∷ [])) e) }
 {
-    N::add(alloc, names, item)?;
+    N::add(alloc, names, &stated.statement)?;
     if names.len() > limit {
         return Err(Fault::TooMany(At {
             file: place.file,
-            span: whole_span(item),
+            span: stated.span,
         }));
     }
     Ok(())
@@ -124,7 +114,7 @@ fn add_entry<N: Naming>(
         (entry_statements (take below (bodies_of maps.now)) place entry.now) }
 {
     match entry {
-        Entry::Own(item) => add_statement::<N>(alloc, limit, place, item, &mut tally.names),
+        Entry::Own(stated) => add_statement::<N>(alloc, limit, place, stated, &mut tally.names),
         Entry::Include { links, .. } => {
             add_links::<N>(alloc, limit, maps, below, links.as_slice(), tally)
         }

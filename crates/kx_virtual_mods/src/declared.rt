@@ -5,10 +5,10 @@ ghost use Rattle.std.specs.Option.{option_or, option_map};
 ghost use Rattle.std.proofs.Common.{◌∙◌, ap, eqb-true, sym};
 ghost use Rattle.kx_lex.specs.declared.fault.Fault.TheVariants.{Memory};
 ghost use Rattle.kx_merge.specs.Offers.{with_name};
-ghost use Rattle.kx_merge.specs.Records.{AreOffered, mode_of};
+ghost use Rattle.kx_merge.specs.Records.{AreOffered};
 ghost use Rattle.kx_merge.specs.Single.{single_cell, single_width};
 ghost use Rattle.kx_parse.specs.declared.tree.Mode.{Mode as ModeValue};
-ghost use Rattle.kx_virtual_mods.specs.Declarations.{declaration_faults, declarations_in, declarations_of, declared_faults, given_by, given_in, item_faults, item_offers, last_mask, mask_offer, mask_offers, name_faults, named_by, named_in, numbers_of};
+ghost use Rattle.kx_virtual_mods.specs.Declarations.{declaration_faults, declarations_in, declared_faults, given_by, given_in, last_mask, mask_offer, mask_offers, name_faults, named_by, named_in, numbers_of, stated_faults, stated_offers};
 ghost use Rattle.kx_virtual_mods.specs.Counted.{with_names};
 ghost use Rattle.kx_virtual_mods.specs.Masks.{mask_set, virtual_number};
 ghost use Rattle.kx_merge.specs.Reports.{Reports, ReportsOrRunsOut};
@@ -20,7 +20,7 @@ use crate::real_words::real_mask;
 use kx_include::Place;
 use kx_lex::{At, Fault, Name};
 use kx_merge::{Single, SingleValue};
-use kx_parse::{Declaration, Expression, Item, Statement};
+use kx_parse::{Declaration, Expression, Stated, Statement};
 use std::alloc::Global;
 
 /// The names of virtual modifiers.
@@ -32,15 +32,6 @@ fn declarations_in(statement: &Statement) -> &[Declaration]
     match statement {
         Statement::VirtualModifiers(declarations) => declarations.as_slice(),
         _ => &[],
-    }
-}
-
-fn declarations_of(item: &Item) -> &[Declaration]
-    ensures { result.now ≡ declarations_of item.now }
-{
-    match item {
-        Item::Statement { statement, .. } => declarations_in(statement),
-        Item::Include { .. } => &[],
     }
 }
 
@@ -71,11 +62,11 @@ fn add_declared(alloc: Global, names: &mut Names, declarations: &[Declaration]) 
 impl Naming for ModifierNaming {
     ghost names = { named_in };
 
-    fn add(alloc: Global, others: &mut Names, item: &Item) -> Result<(), Fault>
-        ensures added { OnOk result (others.new ≡ with_names others.old (named_in item.now)) }
+    fn add(alloc: Global, others: &mut Names, statement: &Statement) -> Result<(), Fault>
+        ensures added { OnOk result (others.new ≡ with_names others.old (named_in statement.now)) }
         ensures err { IfErr result (λ e. e ≡ Memory) }
     {
-        add_declared(alloc, others, declarations_of(item))
+        add_declared(alloc, others, declarations_in(statement))
     }
 }
 
@@ -231,29 +222,13 @@ fn records_of(
     records_for(alloc, given, numbers.as_slice())
 }
 
-/// What an item declares.
-fn read_item(
-    alloc: Global,
-    names: &Names,
-    file: u32,
-    item: &Item,
-) -> Result<Vec<(usize, Single<u8>)>, Fault>
-    ensures records { IfOk result (λ records.
-        AreOffered (mode_of item.now) single_cell single_width records.items
-        (item_offers names.now item.now)) }
-    ensures faults { ReportsOrRunsOut result (item_faults file names.now item.now) }
-{
-    let given = read_declarations(alloc, names, file, declarations_of(item))?;
-    records_of(alloc, given.as_slice())
-}
-
 /// The mask of real modifiers that a statement declares for a virtual modifier, as bits.
 impl SingleValue<Names> for u8 {
     type Key = usize;
 
-    ghost offers = { λ names place item. item_offers names item };
+    ghost offers = { λ names place stated. stated_offers names stated };
 
-    ghost faults = { λ names place item. item_faults place.file names item };
+    ghost faults = { λ names place stated. stated_faults place.file names stated };
 
     ghost moved = { λ n number. Some number };
 
@@ -261,9 +236,11 @@ impl SingleValue<Names> for u8 {
         alloc: Global,
         names: &Names,
         place: Place,
-        item: &Item,
+        stated: &Stated,
     ) -> Result<Vec<(usize, Single<u8>)>, Fault> {
-        read_item(alloc, names, place.file, item)
+        let declarations = declarations_in(&stated.statement);
+        let given = read_declarations(alloc, names, place.file, declarations)?;
+        records_of(alloc, given.as_slice())
     }
 
     fn try_clone(&self, _alloc: Global) -> Result<u8, Fault> {

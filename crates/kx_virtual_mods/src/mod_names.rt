@@ -30,7 +30,7 @@ use std::alloc::Global;
 use std::marker::Model;
 
 /// At most so many names are counted.
-const LIMIT: usize = 24;
+const LIMIT: usize = MOST_VIRTUAL_MODIFIERS as usize;
 
 /// The virtual modifiers of the statements of types, then of compat, then of symbols.
 fn modifier_names(alloc: Global, bodies: &Bodies) -> Result<Names, Fault>

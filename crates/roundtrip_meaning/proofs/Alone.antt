@@ -1,6 +1,5 @@
 -- The bodies of a source that includes nothing.
 use Rattle.std.proofs.Common.{◌≡◌, ℕ, List, [], ◌∷◌, Ok, refl, ap, ◌∙◌}
-use Rattle.kx_include.specs.IncludeFaults.{nothing}
 use Rattle.kx_include.specs.Library.{Library, Text}
 use Rattle.kx_include.specs.Texts.{IsLibrary, AreTexts, none}
 use Rattle.kx_parse.specs.declared.tree.Section.{Section}

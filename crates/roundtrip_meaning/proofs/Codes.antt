@@ -12,9 +12,9 @@ use Rattle.kx_codes.specs.Codes.{Codes, code_of, paired}
 use Rattle.kx_codes.specs.Pairs.{Pair, shares, pairs_of, code_in}
 use Rattle.kx_include.specs.Expansion.{Body, Begin, End}
 use Rattle.kx_include.specs.declared.place.Place.{Place}
-use Rattle.kx_parse.specs.declared.tree.Item.{Item}
+use Rattle.kx_parse.specs.declared.tree.Stated.{Stated}
 use Rattle.roundtrip_text.specs.Source.{EachOf, AreApart, AreRising, PrintedKey, KeyFits}
-use Rattle.roundtrip_tree.specs.Shows.{AreShown, IsItem, IsKeycode, none, more}
+use Rattle.roundtrip_tree.specs.Shows.{AreShown, IsStated, IsKeycode, none, more}
 use Rattle.roundtrip_meaning.specs.Bodies.{own_body, IsPair, Fresh}
 use Rattle.roundtrip_meaning.proofs.Keycodes.{AllFit, pairs_are, keycodes_faultless}
 use Rattle.roundtrip_meaning.proofs.Offered.{each_from, each_at}
@@ -22,7 +22,7 @@ use Rattle.roundtrip_meaning.proofs.Offered.{each_from, each_at}
 abbrev pair_of : PrintedKey → Pair
 pair_of k = record { name = k.name; code = k.code }
 
-shown_pairs : (ks : List PrintedKey) (is : List Item) → AreShown (λ (k : PrintedKey) i. IsItem (IsKeycode k.name k.code) i) ks is → AreShown IsPair (map pair_of ks) is
+shown_pairs : (ks : List PrintedKey) (is : List Stated) → AreShown (λ (k : PrintedKey) i. IsStated (IsKeycode k.name k.code) i) ks is → AreShown IsPair (map pair_of ks) is
 shown_pairs [] [] none = none
 shown_pairs [] (i ∷ is) are = elim are [ ]
 shown_pairs (k ∷ ks) [] are = elim are [ ]
@@ -71,7 +71,7 @@ coded (l ∷ ks) (suc i) k apart is =
 
 -- ---- The section
 
-module _ (place : Place) (ks : List PrintedKey) (is : List Item) (shown : AreShown (λ (k : PrintedKey) i. IsItem (IsKeycode k.name k.code) i) ks is)
+module _ (place : Place) (ks : List PrintedKey) (is : List Stated) (shown : AreShown (λ (k : PrintedKey) i. IsStated (IsKeycode k.name k.code) i) ks is)
     (fit : EachOf KeyFits ks) (apart : AreApart (λ (k : PrintedKey). k.name) ks) (rising : AreRising (λ (k : PrintedKey). k.code) 0 ks) where
   abbrev pub keycodes : Body
   keycodes = Begin (own_body place is End)

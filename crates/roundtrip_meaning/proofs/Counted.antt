@@ -10,14 +10,15 @@ use Rattle.kx_include.specs.IncludeFaults.{at}
 use Rattle.kx_include.specs.declared.place.Place.{Place}
 use Rattle.kx_lex.specs.declared.fault.Fault.{Fault}
 use Rattle.kx_lex.specs.declared.fault.Fault.TheVariants.{TooMany}
-use Rattle.kx_virtual_mods.specs.Counted.{Text, statements_of, names_with, names_of, crossing, count_faults, whole_span}
+use Rattle.kx_virtual_mods.specs.Counted.{Text, statements_of, names_with, names_of, crossing, count_faults}
 use Rattle.kx_merge.specs.Offers.{with_name}
-use Rattle.kx_parse.specs.declared.tree.Item.{Item}
+use Rattle.kx_parse.specs.declared.tree.Stated.{Stated}
+use Rattle.kx_parse.specs.declared.tree.Statement.{Statement}
 use Rattle.roundtrip_meaning.specs.Bodies.{own_body}
 use Rattle.roundtrip_text.specs.Source.{EachOf, AreApart}
 use Rattle.roundtrip_tree.specs.Shows.{AreShown, none, more}
 
-module _ {X : Type 0} (names : Item → List Text) (name : X → Text) (Is : X → Item → Type 0) (each : (x : X) (item : Item) → Is x item → names item ≡ name x ∷ []) (place : Place) where
+module _ {X : Type 0} (names : Statement → List Text) (name : X → Text) (Is : X → Stated → Type 0) (each : (x : X) (s : Stated) → Is x s → names s.statement ≡ name x ∷ []) (place : Place) where
   one_more : (before : List Text) (k : Text) → length (with_name bytes_eq before k) ≤ length before + 1
   one_more before k = by (list_any (bytes_eq k) before)
     where
@@ -25,17 +26,17 @@ module _ {X : Type 0} (names : Item → List Text) (name : X → Text) (Is : X �
       by true = omega arith
       by false = omega (arith, length-append before (k ∷ []))
 
-  few_from : (limit : ℕ) (before : List Text) (xs : List X) (is : List Item) → AreShown Is xs is → length before + length xs ≤ limit → crossing names limit before (statements_of (own_body place is End)) ≡ []
+  few_from : (limit : ℕ) (before : List Text) (xs : List X) (is : List Stated) → AreShown Is xs is → length before + length xs ≤ limit → crossing names limit before (statements_of (own_body place is End)) ≡ []
   few_from limit before [] [] none few = refl
   few_from limit before [] (i ∷ is) are few = elim are [ ]
   few_from limit before (x ∷ xs) [] are few = elim are [ ]
   few_from limit before (x ∷ xs) (i ∷ is) (more one are) few =
       let size = one_more before (name x) in
-      ap (λ ks. let next = fold (with_name bytes_eq) before ks in let faults : List Fault = cond (nat_lt limit (length next)) (TooMany (at place.file (whole_span i)) ∷ []) (crossing names limit next (statements_of (own_body place is End))) in faults) (each x i one)
-      ∙ ap (λ t. let faults : List Fault = cond t (TooMany (at place.file (whole_span i)) ∷ []) (crossing names limit (with_name bytes_eq before (name x)) (statements_of (own_body place is End))) in faults) (le-ltb limit (length (with_name bytes_eq before (name x))) (omega (arith, few, size)))
+      ap (λ ks. let next = fold (with_name bytes_eq) before ks in let faults : List Fault = cond (nat_lt limit (length next)) (TooMany (at place.file i.span) ∷ []) (crossing names limit next (statements_of (own_body place is End))) in faults) (each x i one)
+      ∙ ap (λ t. let faults : List Fault = cond t (TooMany (at place.file i.span) ∷ []) (crossing names limit (with_name bytes_eq before (name x)) (statements_of (own_body place is End))) in faults) (le-ltb limit (length (with_name bytes_eq before (name x))) (omega (arith, few, size)))
       ∙ few_from limit (with_name bytes_eq before (name x)) xs is are (omega (arith, few, size))
 
-  pub few_names : (limit : ℕ) (xs : List X) (is : List Item) → AreShown Is xs is → length xs ≤ limit → count_faults names limit (statements_of (own_body place is End)) ≡ []
+  pub few_names : (limit : ℕ) (xs : List X) (is : List Stated) → AreShown Is xs is → length xs ≤ limit → count_faults names limit (statements_of (own_body place is End)) ≡ []
   few_names limit xs is are few = few_from limit [] xs is are (omega (arith, few))
 
   abbrev Unnamed : List Text → List X → Type 0
@@ -48,7 +49,7 @@ module _ {X : Type 0} (names : Item → List Text) (name : X → Text) (Is : X �
     unnamed_behind before k xs new.1 other.1,
   )
 
-  names_from : (before : List Text) (xs : List X) (is : List Item) → AreShown Is xs is → Unnamed before xs → AreApart name xs → fold (names_with names) before (statements_of (own_body place is End)) ≡ before ++ map name xs
+  names_from : (before : List Text) (xs : List X) (is : List Stated) → AreShown Is xs is → Unnamed before xs → AreApart name xs → fold (names_with names) before (statements_of (own_body place is End)) ≡ before ++ map name xs
   names_from before [] [] none new apart = sym (append-nil before)
   names_from before [] (i ∷ is) are new apart = elim are [ ]
   names_from before (x ∷ xs) [] are new apart = elim are [ ]
@@ -63,5 +64,5 @@ module _ {X : Type 0} (names : Item → List Text) (name : X → Text) (Is : X �
   none_before (x ∷ xs) = (refl, none_before xs)
 
   -- all names, in order
-  pub names_are : (xs : List X) (is : List Item) → AreShown Is xs is → AreApart name xs → names_of names (statements_of (own_body place is End)) ≡ map name xs
+  pub names_are : (xs : List X) (is : List Stated) → AreShown Is xs is → AreApart name xs → names_of names (statements_of (own_body place is End)) ≡ map name xs
   names_are xs is are apart = names_from [] xs is are (none_before xs) apart

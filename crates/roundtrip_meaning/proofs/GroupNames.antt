@@ -5,8 +5,8 @@ use Rattle.std.proofs.lemmas.Option.{slice_get_past}
 use Rattle.std.proofs.lemmas.List.Concat.{flat_map_single}
 use Rattle.std.specs.List.{list_any}
 use Rattle.kx_basics.specs.declared.limits.TheConstants.{MOST_NAME_BYTES}
-use Rattle.kx_group_names.specs.Fields.{name_in, item_faults, named_faults}
-use Rattle.kx_group_names.specs.Names.{AreGroupNames, group_name, item_offers, name_at as name_of_group, name_moves, name_offer, name_rules, named_offers, offered}
+use Rattle.kx_group_names.specs.Fields.{name_in, named_faults, stated_faults}
+use Rattle.kx_group_names.specs.Names.{AreGroupNames, group_name, name_at as name_of_group, name_moves, name_offer, name_rules, named_offers, offered, stated_offers}
 use Rattle.kx_include.specs.Expansion.{Body, Begin, End}
 use Rattle.kx_include.specs.IncludeFaults.{at}
 use Rattle.kx_include.specs.declared.place.Place.{Place}
@@ -14,7 +14,7 @@ use Rattle.kx_lex.specs.declared.fault.Fault.{Fault}
 use Rattle.kx_lex.specs.declared.fault.Fault.TheVariants.{TooMany, GroupRange}
 use Rattle.kx_merge.specs.Bodies.{offers, offers_of, faults, faults_of}
 use Rattle.kx_merge.specs.Offers.{Offer, value_of, is_about}
-use Rattle.kx_parse.specs.declared.tree.Item.{Item}
+use Rattle.kx_parse.specs.declared.tree.Stated.{Stated}
 use Rattle.kx_parse.specs.declared.tree.Mode.TheVariants.{Override}
 use Rattle.kx_parse.specs.declared.tree.Statement.TheVariants as said
 use Rattle.kx_merge.specs.Numbers.{is_within}
@@ -24,17 +24,17 @@ use Rattle.roundtrip_meaning.proofs.Offered.{shown_with, offers_shown, faults_sh
 use Rattle.roundtrip_meaning.proofs.Silent.{own_append3, IsSilent, silent_offers, silent_faults}
 use Rattle.roundtrip_meaning.proofs.Single.{AllOverride, value_here, value_past}
 use Rattle.roundtrip_text.specs.Source.{EachOf, NamedGroup, NameFits, NamesFit, named_from}
-use Rattle.roundtrip_tree.specs.Shows.{AreShown, IsItem, none}
+use Rattle.roundtrip_tree.specs.Shows.{AreShown, IsStated}
 use Rattle.roundtrip_meaning.proofs.Types.{placed}
-use Rattle.roundtrip_tree.specs.Source.{IsGroupName, IsKeyItem, IsMapItem}
+use Rattle.roundtrip_tree.specs.Source.{IsGroupName, IsKeyStated, IsMapStated}
 
 -- ---- The statements
 
 abbrev IsInRange : NamedGroup → Type 0
 IsInRange g = (1 ≤ g.group) × (g.group ≤ 32) × NameFits g.name
 
-abbrev IsFitItem : NamedGroup → Item → Type 0
-IsFitItem g i = IsInRange g × IsItem (IsGroupName g.group g.name) i
+abbrev IsFitStated : NamedGroup → Stated → Type 0
+IsFitStated g i = IsInRange g × IsStated (IsGroupName g.group g.name) i
 
 abbrev NameOffer : Type 0
 NameOffer = Offer ℕ (Unit {0}) (List ℕ)
@@ -45,36 +45,36 @@ offer_of g = name_offer Override g.group g.name
 within : (g : NamedGroup) → IsInRange g → is_within Group g.group ≡ true
 within g range = ap₂ (λ a b. a && b) (lt-ltb 0 g.group range.0) (le-leb g.group 32 range.1)
 
-offered_one : (g : NamedGroup) (i : Item) → IsFitItem g i → item_offers i ≡ offer_of g ∷ []
+offered_one : (g : NamedGroup) (i : Stated) → IsFitStated g i → stated_offers i ≡ offer_of g ∷ []
 offered_one g i is =
     let s = is.1.shows in
-    ap item_offers is.1.item_is ∙ ap (λ statement. named_offers Override (name_in statement)) s.is
+    ap₂ (λ mode statement. named_offers mode (name_in statement)) is.1.mode_is s.is
     ∙ placed (λ f. named_offers Override (name_in (said.Field f))) s.field s.place_is s.setting_is
     ∙ ap (λ t. offered Override (cond t (Some g.group) None) (Some g.name)) (within g is.0)
 
-faultless_one : (file : ℕ) (g : NamedGroup) (i : Item) → IsFitItem g i → item_faults file i ≡ []
+faultless_one : (file : ℕ) (g : NamedGroup) (i : Stated) → IsFitStated g i → stated_faults file i ≡ []
 faultless_one file g i is =
     let s = is.1.shows in
-    ap (item_faults file) is.1.item_is ∙ ap (λ statement. named_faults file is.1.whole (name_in statement)) s.is
-    ∙ placed (λ f. named_faults file is.1.whole (name_in (said.Field f))) s.field s.place_is s.setting_is
-    ∙ ap₂ (λ a b. let fs : List Fault = cond a [] (GroupRange (at file s.expression_span) ∷ []) ++ cond b (TooMany (at file is.1.whole) ∷ []) [] in fs) (within g is.0) (le-ltb MOST_NAME_BYTES (length g.name) is.0.2.name_fits)
+    ap (λ statement. named_faults file i.span (name_in statement)) s.is
+    ∙ placed (λ f. named_faults file i.span (name_in (said.Field f))) s.field s.place_is s.setting_is
+    ∙ ap₂ (λ a b. let fs : List Fault = cond a [] (GroupRange (at file s.expression_span) ∷ []) ++ cond b (TooMany (at file i.span) ∷ []) [] in fs) (within g is.0) (le-ltb MOST_NAME_BYTES (length g.name) is.0.2.name_fits)
 
 -- keys and modifier maps say nothing of names of groups
-key_silent : (place : Place) (i : Item) → IsKeyItem i → IsSilent name_rules place tt i
+key_silent : (place : Place) (i : Stated) → IsKeyStated i → IsSilent name_rules place tt i
 key_silent place i is = record {
   next_is = refl;
-  offers_none = ap item_offers is.item_is ∙ ap (λ statement. named_offers Override (name_in statement)) is.shows.is;
-  faults_none = ap (item_faults place.file) is.item_is ∙ ap (λ statement. named_faults place.file is.whole (name_in statement)) is.shows.is;
+  offers_none = ap₂ (λ mode statement. named_offers mode (name_in statement)) is.mode_is is.shows.is;
+  faults_none = ap (λ statement. named_faults place.file i.span (name_in statement)) is.shows.is;
 }
 
-map_silent : (place : Place) (i : Item) → IsMapItem i → IsSilent name_rules place tt i
+map_silent : (place : Place) (i : Stated) → IsMapStated i → IsSilent name_rules place tt i
 map_silent place i is = record {
   next_is = refl;
-  offers_none = ap item_offers is.item_is ∙ ap (λ statement. named_offers Override (name_in statement)) is.shows.is;
-  faults_none = ap (item_faults place.file) is.item_is ∙ ap (λ statement. named_faults place.file is.whole (name_in statement)) is.shows.is;
+  offers_none = ap₂ (λ mode statement. named_offers mode (name_in statement)) is.mode_is is.shows.is;
+  faults_none = ap (λ statement. named_faults place.file i.span (name_in statement)) is.shows.is;
 }
 
-each_silent : (P : Item → Type 0) (place : Place) → ((i : Item) → P i → IsSilent name_rules place tt i) → (is : List Item) → EachOf P is → EachOf (IsSilent name_rules place tt) is
+each_silent : (P : Stated → Type 0) (place : Place) → ((i : Stated) → P i → IsSilent name_rules place tt i) → (is : List Stated) → EachOf P is → EachOf (IsSilent name_rules place tt) is
 each_silent P place silent [] each = tt
 each_silent P place silent (i ∷ is) each = (silent i each.0, each_silent P place silent is each.1)
 
@@ -155,20 +155,20 @@ in_range n (g ∷ gs) some few each = by (length g == 0) (in_range (n + 1) gs (o
     by true rest = rest
     by false rest = ((some, omega (arith, few), each.0), rest)
 
-module _ (place : Place) (gs : List (List ℕ)) (nis kis mis : List Item) (shown : AreShown (λ (g : NamedGroup) i. IsItem (IsGroupName g.group g.name) i) (named_from 1 gs) nis)
-    (keys : EachOf IsKeyItem kis) (maps : EachOf IsMapItem mis) (fit : NamesFit gs) where
+module _ (place : Place) (gs : List (List ℕ)) (nis kis mis : List Stated) (shown : AreShown (λ (g : NamedGroup) i. IsStated (IsGroupName g.group g.name) i) (named_from 1 gs) nis)
+    (keys : EachOf IsKeyStated kis) (maps : EachOf IsMapStated mis) (fit : NamesFit gs) where
   abbrev pub symbols : Body
   symbols = Begin (own_body place (nis ++ (kis ++ mis)) End)
 
-  all_shown : AreShown IsFitItem (named_from 1 gs) nis
-  all_shown = shown_with IsInRange (λ (g : NamedGroup) i. IsItem (IsGroupName g.group g.name) i) (named_from 1 gs) nis (in_range 1 gs (omega arith) (let few = fit.few in omega (arith, few)) fit.each) shown
+  all_shown : AreShown IsFitStated (named_from 1 gs) nis
+  all_shown = shown_with IsInRange (λ (g : NamedGroup) i. IsStated (IsGroupName g.group g.name) i) (named_from 1 gs) nis (in_range 1 gs (omega arith) (let few = fit.few in omega (arith, few)) fit.each) shown
 
   offers_are : offers_of nat_eq name_rules name_moves symbols ≡ map offer_of (named_from 1 gs)
   offers_are =
       ap (λ b. offers nat_eq name_rules name_moves tt b) (own_append3 place nis kis mis End)
-      ∙ offers_shown nat_eq name_rules name_moves IsFitItem (λ g. offer_of g ∷ []) tt place offered_one (λ g i is. refl) (named_from 1 gs) nis (own_body place kis (own_body place mis End)) all_shown
+      ∙ offers_shown nat_eq name_rules name_moves IsFitStated (λ g. offer_of g ∷ []) tt place offered_one (λ g i is. refl) (named_from 1 gs) nis (own_body place kis (own_body place mis End)) all_shown
       ∙ ap₂ (λ a b. a ++ b) (flat_map_single offer_of (named_from 1 gs))
-      (silent_offers name_rules nat_eq name_moves place tt kis (own_body place mis End) (each_silent IsKeyItem place (key_silent place) kis keys) ∙ silent_offers name_rules nat_eq name_moves place tt mis End (each_silent IsMapItem place (map_silent place) mis maps))
+      (silent_offers name_rules nat_eq name_moves place tt kis (own_body place mis End) (each_silent IsKeyStated place (key_silent place) kis keys) ∙ silent_offers name_rules nat_eq name_moves place tt mis End (each_silent IsMapStated place (map_silent place) mis maps))
       ∙ append-nil (map offer_of (named_from 1 gs))
 
   name_is : (group : ℕ) → group_name symbols (group + 1) ≡ name_of_group gs group
@@ -186,6 +186,6 @@ module _ (place : Place) (gs : List (List ℕ)) (nis kis mis : List Item) (shown
   pub names_faultless : faults_of nat_eq name_rules name_moves symbols ≡ []
   names_faultless =
       ap (λ b. faults nat_eq name_rules name_moves tt b) (own_append3 place nis kis mis End)
-      ∙ faults_shown nat_eq name_rules name_moves IsFitItem tt place (λ g i is. faultless_one place.file g i is) (λ g i is. refl) (named_from 1 gs) nis (own_body place kis (own_body place mis End)) all_shown
-      ∙ silent_faults name_rules nat_eq name_moves place tt kis (own_body place mis End) (each_silent IsKeyItem place (key_silent place) kis keys)
-      ∙ silent_faults name_rules nat_eq name_moves place tt mis End (each_silent IsMapItem place (map_silent place) mis maps)
+      ∙ faults_shown nat_eq name_rules name_moves IsFitStated tt place (λ g i is. faultless_one place.file g i is) (λ g i is. refl) (named_from 1 gs) nis (own_body place kis (own_body place mis End)) all_shown
+      ∙ silent_faults name_rules nat_eq name_moves place tt kis (own_body place mis End) (each_silent IsKeyStated place (key_silent place) kis keys)
+      ∙ silent_faults name_rules nat_eq name_moves place tt mis End (each_silent IsMapStated place (map_silent place) mis maps)

@@ -14,12 +14,12 @@ use Rattle.kx_compat.specs.Meaning.{compat_faults}
 use Rattle.kx_include.specs.Expansion.{Body, Begin, End}
 use Rattle.kx_include.specs.IncludeFaults.{at}
 use Rattle.kx_include.specs.declared.place.Place.{Place}
-use Rattle.kx_indicators.specs.Blocks.{indicator_in, indicator_map_names, written_name, item_faults, own_faults, own_value, values_of, next_default}
+use Rattle.kx_indicators.specs.Blocks.{indicator_in, indicator_map_names, written_name, said_faults, own_faults, own_value, values_of, next_default}
 use Rattle.kx_indicators.specs.Given.{IndicatorMapValues}
 use Rattle.kx_indicators.specs.Giving.{no_values, values_cell, last_values, only}
 use Rattle.kx_indicators.specs.IndicatorMapFields.{expression_value, expression_faults}
 use Rattle.kx_indicators.specs.IndicatorMaps.{IndicatorMap, indicator_map_with}
-use Rattle.kx_indicators.specs.Meaning.{IndicatorMapOffer, item_offers, said_offers, indicator_map_rules, indicator_names, indicator_map_offers, indicator_map_of, indicator_maps_faults}
+use Rattle.kx_indicators.specs.Meaning.{IndicatorMapOffer, said_offers, indicator_map_rules, indicator_names, indicator_map_offers, indicator_map_of, indicator_maps_faults}
 use Rattle.kx_indicators.specs.declared.limits.TheConstants.{MOST_INDICATORS}
 use Rattle.kx_indicators.specs.declared.values.IndicatorMapField.{IndicatorMapField}
 use Rattle.kx_indicators.specs.declared.values.IndicatorMapField.TheVariants as fields
@@ -34,8 +34,7 @@ use Rattle.kx_mods.specs.Mods.{mask}
 use Rattle.kx_mods.specs.declared.mods.Mods.{Mods}
 use Rattle.kx_parse.specs.declared.tree.Expression.{Expression}
 use Rattle.kx_parse.specs.declared.tree.Field.{Field}
-use Rattle.kx_parse.specs.declared.tree.Item.{Item}
-use Rattle.kx_parse.specs.declared.tree.Item.TheVariants.{Statement}
+use Rattle.kx_parse.specs.declared.tree.Stated.{Stated}
 use Rattle.kx_parse.specs.declared.tree.Mode.TheVariants.{Override}
 use Rattle.kx_parse.specs.declared.tree.Operation.{Operation}
 use Rattle.kx_parse.specs.declared.tree.Sign.TheVariants.{Plus}
@@ -49,7 +48,7 @@ use Rattle.roundtrip_meaning.proofs.Offered.{shown_with, each_from, each_at, off
 use Rattle.roundtrip_text.specs.Source.{EachOf, AreApart, IndicatorFits}
 use Rattle.roundtrip_text.specs.Spelled.{set_words}
 use Rattle.roundtrip_tree.specs.Indicators.{states_written, indicator_map_lines, IsIndicator}
-use Rattle.roundtrip_tree.specs.Shows.{AreShown, IsItem, name_at, none, more}
+use Rattle.roundtrip_tree.specs.Shows.{AreShown, IsStated, name_at, none, more}
 use Rattle.roundtrip_tree.specs.ShowsLines.{Words, Digits, IsSetting, IsWritten, IsPlusWord, IsLine}
 use Rattle.roundtrip_tree.specs.Types.{mods_written}
 use Rattle.roundtrip_meaning.proofs.Counted.{few_names, names_are}
@@ -203,8 +202,8 @@ numbers_apart number n (x ∷ xs) each =
 
 -- ---- The statements
 
-abbrev IsIndicatorMapItem : ResolvedIndicator → Item → Type 0
-IsIndicatorMapItem d i = IndicatorFits d × IsItem (IsIndicator d) i
+abbrev IsIndicatorMapStated : ResolvedIndicator → Stated → Type 0
+IsIndicatorMapStated d i = IndicatorFits d × IsStated (IsIndicator d) i
 
 module _ (ds : List ResolvedIndicator) where
   abbrev number_of : ResolvedIndicator → ℕ
@@ -214,43 +213,42 @@ module _ (ds : List ResolvedIndicator) where
   abbrev IsNumbered : ResolvedIndicator → Type 0
   IsNumbered d = position (bytes_eq d.name) (names ds) ≡ Some (number_of d)
 
-  abbrev IsNumberedItem : ResolvedIndicator → Item → Type 0
-  IsNumberedItem d i = IsNumbered d × IsIndicatorMapItem d i
+  abbrev IsNumberedStated : ResolvedIndicator → Stated → Type 0
+  IsNumberedStated d i = IsNumbered d × IsIndicatorMapStated d i
 
   abbrev offer_of : ResolvedIndicator → IndicatorMapOffer
   offer_of d = plain_offer Override (number_of d) (values_cell (indicator_map_values d))
 
-  offered : (d : ResolvedIndicator) (i : Item) → IsNumberedItem d i → item_offers (names ds) [] no_values i ≡ offer_of d ∷ []
+  offered : (d : ResolvedIndicator) (i : Stated) → IsNumberedStated d i → said_offers (names ds) [] no_values i.mode (indicator_in i.statement) ≡ offer_of d ∷ []
   offered d i is =
       let s = is.1.1 in
-      ap (item_offers (names ds) [] no_values) s.item_is ∙ ap (λ said. said_offers (names ds) [] no_values Override (indicator_in said)) s.shows.is
+      ap₂ (λ mode said. said_offers (names ds) [] no_values mode (indicator_in said)) s.mode_is s.shows.is
       ∙ ap₂ (λ v n. option_map_or (λ n. plain_offer Override n (values_cell v) ∷ []) n []) (values_shown d s.shows.fields is.1.0 s.shows.are) is.0
 
-item_faultless : (file : ℕ) (d : ResolvedIndicator) (i : Item) → IsIndicatorMapItem d i → item_faults file [] i ≡ []
-item_faultless file d i is =
+stated_faultless : (file : ℕ) (d : ResolvedIndicator) (i : Stated) → IsIndicatorMapStated d i → said_faults file [] i.statement i.span (indicator_in i.statement) ≡ []
+stated_faultless file d i is =
     let s = is.1 in
-    ap (item_faults file []) s.item_is
-    ∙ ap (λ said. item_faults file [] (Statement Override said s.first s.whole)) s.shows.is
-    ∙ ap₂ (λ (a : Bool) (fs : List Fault). let all : List Fault = cond a (TooMany (at file s.whole) ∷ []) [] ++ fs in all) (le-ltb MOST_NAME_BYTES (length d.name) is.0.name_fits) (field_faultless file d s.shows.fields is.0 s.shows.are)
+    ap (λ said. said_faults file [] said i.span (indicator_in said)) s.shows.is
+    ∙ ap₂ (λ (a : Bool) (fs : List Fault). let all : List Fault = cond a (TooMany (at file i.span) ∷ []) [] ++ fs in all) (le-ltb MOST_NAME_BYTES (length d.name) is.0.name_fits) (field_faultless file d s.shows.fields is.0 s.shows.are)
 
-named : (d : ResolvedIndicator) (i : Item) → IsIndicatorMapItem d i → indicator_map_names i ≡ d.name ∷ []
-named d i is = ap indicator_map_names is.1.item_is ∙ ap (λ s. written_name (indicator_in s)) is.1.shows.is
+named : (d : ResolvedIndicator) (i : Stated) → IsIndicatorMapStated d i → indicator_map_names i.statement ≡ d.name ∷ []
+named d i is = ap (λ s. written_name (indicator_in s)) is.1.shows.is
 
-stays : (d : ResolvedIndicator) (i : Item) → IsItem (IsIndicator d) i → next_default [] no_values i ≡ no_values
-stays d i is = ap (next_default [] no_values) is.item_is ∙ ap (λ said. next_default [] no_values (Statement Override said is.first is.whole)) is.shows.is
+stays : (d : ResolvedIndicator) (i : Stated) → IsStated (IsIndicator d) i → next_default [] no_values i.statement ≡ no_values
+stays d i is = ap (next_default [] no_values) is.shows.is
 
 -- ---- The section
 
-module _ (place : Place) (ds : List ResolvedIndicator) (is : List Item) (shown : AreShown (λ d i. IsItem (IsIndicator d) i) ds is)
+module _ (place : Place) (ds : List ResolvedIndicator) (is : List Stated) (shown : AreShown (λ d i. IsStated (IsIndicator d) i) ds is)
     (fit : EachOf IndicatorFits ds) (apart : AreApart (λ (d : ResolvedIndicator). d.name) ds) (few : length ds ≤ 32) where
   abbrev pub compat : Body
   compat = Begin (own_body place is End)
 
-  all_shown : AreShown IsIndicatorMapItem ds is
-  all_shown = shown_with IndicatorFits (λ d i. IsItem (IsIndicator d) i) ds is fit shown
+  all_shown : AreShown IsIndicatorMapStated ds is
+  all_shown = shown_with IndicatorFits (λ d i. IsStated (IsIndicator d) i) ds is fit shown
 
   pub indicators_named : indicator_names compat ≡ names ds
-  indicators_named = names_are indicator_map_names (λ (d : ResolvedIndicator). d.name) IsIndicatorMapItem named place ds is all_shown apart
+  indicators_named = names_are indicator_map_names (λ (d : ResolvedIndicator). d.name) IsIndicatorMapStated named place ds is all_shown apart
 
   numbered : EachOf (IsNumbered ds) ds
   numbered = each_from (IsNumbered ds) ds (λ i d at. position_is ds i d apart at ∙ ap (λ o. Some (unwrap_or o 0)) (sym (position_is ds i d apart at)))
@@ -258,7 +256,7 @@ module _ (place : Place) (ds : List ResolvedIndicator) (is : List Item) (shown :
   offers_are : indicator_map_offers [] compat ≡ map (offer_of ds) ds
   offers_are =
       ap (λ indicator_maps. offers_of nat_eq (indicator_map_rules indicator_maps []) no_moves compat) indicators_named
-      ∙ offers_shown nat_eq (indicator_map_rules (names ds) []) no_moves (IsNumberedItem ds) (λ d. offer_of ds d ∷ []) no_values place (offered ds) (λ d i one. stays d i one.1.1) ds is End (shown_with (IsNumbered ds) IsIndicatorMapItem ds is numbered all_shown)
+      ∙ offers_shown nat_eq (indicator_map_rules (names ds) []) no_moves (IsNumberedStated ds) (λ d. offer_of ds d ∷ []) no_values place (offered ds) (λ d i one. stays d i one.1.1) ds is End (shown_with (IsNumbered ds) IsIndicatorMapStated ds is numbered all_shown)
       ∙ append-nil (flat_map (λ d. offer_of ds d ∷ []) ds) ∙ flat_map_single (offer_of ds) ds
 
   number_is : (i : ℕ) (d : ResolvedIndicator) → slice_get ds i ≡ Some d → number_of ds d ≡ i
@@ -279,8 +277,8 @@ module _ (place : Place) (ds : List ResolvedIndicator) (is : List Item) (shown :
 
   pub indicator_maps_faultless : indicator_maps_faults [] compat ≡ []
   indicator_maps_faultless = ap₂ (λ (a b : List Fault). a ++ b)
-      (few_names indicator_map_names (λ (d : ResolvedIndicator). d.name) IsIndicatorMapItem named place MOST_INDICATORS ds is all_shown few)
-      (faults_shown nat_eq (indicator_map_rules (indicator_names compat) []) no_moves IsIndicatorMapItem no_values place (λ d i one. item_faultless place.file d i one) (λ d i one. stays d i one.1) ds is End all_shown)
+      (few_names indicator_map_names (λ (d : ResolvedIndicator). d.name) IsIndicatorMapStated named place MOST_INDICATORS ds is all_shown few)
+      (faults_shown nat_eq (indicator_map_rules (indicator_names compat) []) no_moves IsIndicatorMapStated no_values place (λ d i one. stated_faultless place.file d i one) (λ d i one. stays d i one.1) ds is End all_shown)
 
   pub interpretations_faultless : (table : KeysymTable) → compat_faults table [] compat ≡ []
   interpretations_faultless table = no_faults table place ds is shown

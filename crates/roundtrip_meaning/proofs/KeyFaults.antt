@@ -18,19 +18,16 @@ use Rattle.kx_key_fields.specs.Places.{place_faults, second_faults}
 use Rattle.kx_parse.specs.declared.tree.BracePart.{BracePart}
 use Rattle.kx_parse.specs.declared.tree.Element.{Element}
 use Rattle.kx_parse.specs.declared.tree.Index.{Index}
-use Rattle.kx_parse.specs.declared.tree.Item.{Item}
-use Rattle.kx_parse.specs.declared.tree.Item.TheVariants as items
+use Rattle.kx_parse.specs.declared.tree.Stated.{Stated}
 use Rattle.kx_parse.specs.declared.tree.KeyField.{KeyField}
 use Rattle.kx_parse.specs.declared.tree.List.{List as Listed}
-use Rattle.kx_parse.specs.declared.tree.Mode.TheVariants.{Override}
 use Rattle.kx_parse.specs.declared.tree.Setting.TheVariants.{To}
-use Rattle.kx_parse.specs.declared.tree.Statement.{Statement}
 use Rattle.kx_parse.specs.declared.tree.Symbol.{Symbol}
 use Rattle.kx_parse.specs.declared.tree.Value.TheVariants as values
 use Rattle.kx_print.specs.Printed.{keysym_text}
 use Rattle.kx_key_fields.specs.KeyFields.{key_field_faults, setting_faults}
 use Rattle.kx_symbols.specs.Actions.{actions_of}
-use Rattle.kx_symbols.specs.KeyFaults.{symbol_faults, part_faults, element_faults, field_faults, fields_faults, item_faults}
+use Rattle.kx_symbols.specs.KeyFaults.{symbol_faults, part_faults, element_faults, field_faults, fields_faults, stated_faults}
 use Rattle.kx_symbols.specs.Keysyms.{levels_of}
 use Rattle.kx_symbols.specs.Known.{Known}
 use Rattle.kx_symbols.specs.Lists.{StatementLists, field_lists, no_lists}
@@ -43,7 +40,8 @@ use Rattle.roundtrip_text.specs.KeyPhrases.{Worded, Numbered, group_phrases}
 use Rattle.roundtrip_text.specs.Keys.{keysym_phrase, level_phrases, call_of, group_phrase, range_phrases}
 use Rattle.roundtrip_text.proofs.Keysyms.{number_stands_for}
 use Rattle.roundtrip_tree.specs.Keys.{IsKeysymOf, IsPartOf, IsLevelOf, IsFieldOf, IsIndexedField, IsListOf, IsTextOf, IsActionOf, IsKey, indexed_place, plain_place}
-use Rattle.roundtrip_tree.specs.Shows.{AreShown, IsItem, none, more}
+use Rattle.roundtrip_tree.proofs.Statements.{stated_as}
+use Rattle.roundtrip_tree.specs.Shows.{AreShown, IsStated, none, more}
 use Rattle.roundtrip_meaning.proofs.Actions.{known_by, actions_faultless}
 use Rattle.roundtrip_meaning.proofs.KeyShown.{field_of, indexed_is, bare_is, numbered_is, number_expression, group_is, group_faultless}
 use Rattle.roundtrip_meaning.proofs.Pushed.{list_pushed, length-push}
@@ -192,14 +190,14 @@ module _ (file : ℕ) (modifiers : List (List ℕ)) where
 
 -- ---- A statement
 
-pub key_faultless : (file : ℕ) (names : KeysymTable) (modifiers : List (List ℕ)) (k : PrintedKey) (i : Item) → KeyFits k → IsItem (IsKey k) i → item_faults file (known_by names modifiers) i ≡ []
+pub key_faultless : (file : ℕ) (names : KeysymTable) (modifiers : List (List ℕ)) (k : PrintedKey) (i : Stated) → KeyFits k → IsStated (IsKey k) i → stated_faults file (known_by names modifiers) i ≡ []
 key_faultless file names modifiers k i fits is =
     let fs = is.shows.fields in
     let most = fits.few in
     let few : 0 + length k.groups ≤ 32 = omega (arith, most) in
-    ap (item_faults file (known_by names modifiers)) (is.item_is ∙ ap (λ (s : Statement). items.Statement Override s is.first is.whole) is.shows.is)
+    ap (stated_faults file (known_by names modifiers)) (stated_as i is _ is.shows.is)
     ∙ ap₂ (λ (a b : List Fault). a ++ b)
-    (ap (λ t. let faults : List Fault = cond t (TooMany (at file is.whole) ∷ []) [] in faults) (le-ltb MOST_NAME_BYTES (length k.name) fits.name_fits))
+    (ap (λ t. let faults : List Fault = cond t (TooMany (at file i.span) ∷ []) [] in faults) (le-ltb MOST_NAME_BYTES (length k.name) fits.name_fits))
     (ap₂ (λ (a b : List Fault). a ++ b)
-    (lists_faultless file names modifiers is.whole 0 k.groups k.range no_lists fs few fits.groups refl refl is.shows.are)
+    (lists_faultless file names modifiers i.span 0 k.groups k.range no_lists fs few fits.groups refl refl is.shows.are)
     (settings_faultless file modifiers 0 k.groups k.range fs few fits.range is.shows.are))

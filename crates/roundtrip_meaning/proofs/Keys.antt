@@ -14,7 +14,7 @@ use Rattle.kx_include.specs.declared.place.Place.{Place}
 use Rattle.kx_key_fields.specs.Lists.{level_in, width_in}
 use Rattle.kx_merge.specs.Bodies.{offers_of, faults_of}
 use Rattle.kx_merge.specs.Offers.{Offer, value_of, width_of}
-use Rattle.kx_parse.specs.declared.tree.Item.{Item}
+use Rattle.kx_parse.specs.declared.tree.Stated.{Stated}
 use Rattle.kx_parse.specs.declared.tree.KeyField.{KeyField}
 use Rattle.kx_key_fields.specs.declared.cells.AttributeCell.TheVariants as settings
 use Rattle.kx_key_fields.specs.declared.cells.AttributeValue.{AttributeValue}
@@ -36,8 +36,8 @@ use Rattle.roundtrip_text.specs.Source.{EachOf, AreRising, PrintedGroup, Printed
 use Rattle.roundtrip_text.specs.KeyPhrases.{field_phrases}
 use Rattle.roundtrip_text.specs.Keys.{key_phrase}
 use Rattle.roundtrip_tree.specs.Keys.{IsFieldOf, IsKey}
-use Rattle.roundtrip_tree.specs.Shows.{AreShown, IsItem, none, more}
-use Rattle.roundtrip_tree.specs.Source.{IsNameItem, IsMapItem}
+use Rattle.roundtrip_tree.specs.Shows.{AreShown, IsStated, none, more}
+use Rattle.roundtrip_tree.specs.Source.{IsNameStated, IsMapStated}
 use Rattle.roundtrip_meaning.specs.Given.{key_action, IsGiven}
 use Rattle.roundtrip_meaning.specs.Groups.{GroupLists}
 use Rattle.roundtrip_meaning.proofs.Actions.{known_by}
@@ -133,7 +133,7 @@ module _ (codes : Codes) (names : KeysymTable) (modifiers : List (List ℕ)) (pl
   abbrev Gives : PrintedKey → Offer ℕ Cell CellValue → Type 0
   Gives k o = IsGiven k (given_by o.value o.width)
 
-  all_offered : (ks : List PrintedKey) (is : List Item) (are : AreShown (λ (k : PrintedKey) i. IsItem (IsKey k) i) ks is) → EachOf KeyFits ks → AreShown (IsOffered (λ (k : PrintedKey). k.code) Gives) ks (offers_shown codes names modifiers place ks is are)
+  all_offered : (ks : List PrintedKey) (is : List Stated) (are : AreShown (λ (k : PrintedKey) i. IsStated (IsKey k) i) ks is) → EachOf KeyFits ks → AreShown (IsOffered (λ (k : PrintedKey). k.code) Gives) ks (offers_shown codes names modifiers place ks is are)
   all_offered [] [] none fit = none
   all_offered [] (i ∷ is) are fit = elim are [ ]
   all_offered (k ∷ ks) [] are fit = elim are [ ]
@@ -143,7 +143,7 @@ module _ (codes : Codes) (names : KeysymTable) (modifiers : List (List ℕ)) (pl
   each_given os [] all = tt
   each_given os (k ∷ ks) all = (given_same k (value_of nat_eq os k.code) all.0.offer.value (width_of nat_eq os k.code) all.0.offer.width all.0.value_is all.0.width_is all.0.says, each_given os ks all.1)
 
-  module _ (ks : List PrintedKey) (nis kis mis : List Item) (named : EachOf IsNameItem nis) (keys : AreShown (λ (k : PrintedKey) i. IsItem (IsKey k) i) ks kis) (maps : EachOf IsMapItem mis)
+  module _ (ks : List PrintedKey) (nis kis mis : List Stated) (named : EachOf IsNameStated nis) (keys : AreShown (λ (k : PrintedKey) i. IsStated (IsKey k) i) ks kis) (maps : EachOf IsMapStated mis)
       (fit : EachOf KeyFits ks) (rising : AreRising (λ (k : PrintedKey). k.code) 0 ks) (coded : EachOf (λ (k : PrintedKey). code_of codes k.name ≡ Some k.code) ks) where
     abbrev symbols : Body
     symbols = Begin (own_body place (nis ++ (kis ++ mis)) End)

@@ -1,4 +1,3 @@
-pub mod Bodies
 pub mod Keycodes
 pub mod Single
 pub mod Alone

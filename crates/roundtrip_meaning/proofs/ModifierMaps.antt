@@ -16,18 +16,16 @@ use Rattle.kx_lex.specs.declared.fault.Fault.{Fault}
 use Rattle.kx_virtual_mods.specs.Sets.{has}
 use Rattle.kx_merge.specs.Bodies.{Rules, offers, faults, faults_of, no_moves}
 use Rattle.kx_merge.specs.Offers.{Offer, is_about, is_hidden, is_strong, seen, last_strong, first_weak, value_of, names_behind, with_name, plain_offer}
-use Rattle.kx_modmaps.specs.Entries.{same_target, word_mask, item_faults}
-use Rattle.kx_modmaps.specs.Maps.{given, item_offers, offers_to, map_rules, map_offers_of, keysym_given, keysyms_given, present}
+use Rattle.kx_modmaps.specs.Entries.{same_target, stated_faults, word_mask}
+use Rattle.kx_modmaps.specs.Maps.{given, offers_to, map_rules, map_offers_of, keysym_given, keysyms_given, present}
 use Rattle.kx_modmaps.specs.declared.record.Cell.{Cell}
 use Rattle.kx_modmaps.specs.declared.record.Cell.TheVariants.{Present}
 use Rattle.kx_modmaps.specs.declared.target.Target.{Target}
 use Rattle.kx_modmaps.specs.declared.target.Target.TheVariants.{Key}
 use Rattle.kx_mods.specs.Mods.{mask, mod_names}
 use Rattle.kx_parse.specs.declared.tree.Entry.TheVariants as entries
-use Rattle.kx_parse.specs.declared.tree.Item.{Item}
-use Rattle.kx_parse.specs.declared.tree.Item.TheVariants as items
+use Rattle.kx_parse.specs.declared.tree.Stated.{Stated}
 use Rattle.kx_parse.specs.declared.tree.Mode.TheVariants.{Override}
-use Rattle.kx_parse.specs.declared.tree.Statement.{Statement}
 use Rattle.kx_parse.specs.declared.tree.Statement.TheVariants as statements
 use Rattle.kx_print.specs.Masks.{chosen}
 use Rattle.roundtrip_meaning.specs.Bodies.{own_body}
@@ -35,8 +33,9 @@ use Rattle.roundtrip_meaning.proofs.Silent.{IsSilent, own_append3, silent_offers
 use Rattle.roundtrip_meaning.proofs.Single.{AllOverride, not_hidden}
 use Rattle.roundtrip_text.specs.Source.{EachOf, AreRising, PrintedKey, KeyFits}
 use Rattle.roundtrip_text.specs.ModifierMaps.{MapLine, map_line, maps_of_key}
-use Rattle.roundtrip_tree.specs.Shows.{AreShown, IsItem, IsModifierMap, name_at, none, more}
-use Rattle.roundtrip_tree.specs.Source.{IsNameItem, IsKeyItem}
+use Rattle.roundtrip_tree.proofs.Statements.{stated_as, stated_at}
+use Rattle.roundtrip_tree.specs.Shows.{AreShown, IsStated, IsModifierMap, name_at, none, more}
+use Rattle.roundtrip_tree.specs.Source.{IsNameStated, IsKeyStated}
 use Rattle.roundtrip_text.proofs.Lines.{chosen_all}
 
 -- ---- Words of modifiers
@@ -158,63 +157,63 @@ module _ (codes : Codes) (names : KeysymTable) (modifiers : List (List ℕ)) (pl
   abbrev rules : Rules Target Cell ℕ (Unit {0})
   rules = map_rules codes names modifiers
 
-  name_silent : (i : Item) → IsNameItem i → IsSilent rules place tt i
+  name_silent : (i : Stated) → IsNameStated i → IsSilent rules place tt i
   name_silent i is =
-      let whole : i ≡ items.Statement Override (statements.Field is.shows.is.field) is.first is.whole = is.item_is ∙ ap (λ (s : Statement). items.Statement Override s is.first is.whole) is.shows.is.is in
-      record { next_is = refl; offers_none = ap (item_offers codes names) whole; faults_none = ap (item_faults place.file modifiers) whole }
+      let whole = stated_as i is (statements.Field is.shows.is.field) is.shows.is.is in
+      record { next_is = refl; offers_none = ap (rules.offers tt place) whole; faults_none = ap (rules.faults tt place) whole }
 
-  key_silent : (i : Item) → IsKeyItem i → IsSilent rules place tt i
+  key_silent : (i : Stated) → IsKeyStated i → IsSilent rules place tt i
   key_silent i is =
-      let whole : i ≡ items.Statement Override (statements.Key is.shows.name is.shows.fields) is.first is.whole = is.item_is ∙ ap (λ (s : Statement). items.Statement Override s is.first is.whole) is.shows.is in
-      record { next_is = refl; offers_none = ap (item_offers codes names) whole; faults_none = ap (item_faults place.file modifiers) whole }
+      let whole = stated_as i is (statements.Key is.shows.name is.shows.fields) is.shows.is in
+      record { next_is = refl; offers_none = ap (rules.offers tt place) whole; faults_none = ap (rules.faults tt place) whole }
 
-  names_silent : (is : List Item) → EachOf IsNameItem is → EachOf (IsSilent rules place tt) is
+  names_silent : (is : List Stated) → EachOf IsNameStated is → EachOf (IsSilent rules place tt) is
   names_silent [] all = tt
   names_silent (i ∷ is) all = (name_silent i all.0, names_silent is all.1)
 
-  keys_silent : (is : List Item) → EachOf IsKeyItem is → EachOf (IsSilent rules place tt) is
+  keys_silent : (is : List Stated) → EachOf IsKeyStated is → EachOf (IsSilent rules place tt) is
   keys_silent [] all = tt
   keys_silent (i ∷ is) all = (key_silent i all.0, keys_silent is all.1)
 
-  line_item : (l : MapLine) (i : Item) (is : IsItem (IsModifierMap l.modifier l.name) i)
-      → i ≡ items.Statement Override (statements.ModifierMap (name_at l.modifier is.shows.word_span) (entries.KeyName (name_at l.name is.shows.name_span) ∷ [])) is.first is.whole
-  line_item l i is = is.item_is ∙ ap (λ (s : Statement). items.Statement Override s is.first is.whole) is.shows.is
+  line_stated : (l : MapLine) (i : Stated) (is : IsStated (IsModifierMap l.modifier l.name) i)
+      → i ≡ stated_at (statements.ModifierMap (name_at l.modifier is.shows.word_span) (entries.KeyName (name_at l.name is.shows.name_span) ∷ [])) i.first i.span
+  line_stated l i is = stated_as i is _ is.shows.is
 
-  line_offers : (l : MapLine) (code : ℕ) (i : Item) → is_modifier l.modifier ≡ true → code_of codes l.name ≡ Some code → IsItem (IsModifierMap l.modifier l.name) i → item_offers codes names i ≡ map_offer code l.modifier ∷ []
+  line_offers : (l : MapLine) (code : ℕ) (i : Stated) → is_modifier l.modifier ≡ true → code_of codes l.name ≡ Some code → IsStated (IsModifierMap l.modifier l.name) i → rules.offers tt place i ≡ map_offer code l.modifier ∷ []
   line_offers l code i real coded is =
-      ap (item_offers codes names) (line_item l i is)
+      ap (rules.offers tt place) (line_stated l i is)
       ∙ ap₂ (λ (m c : Option ℕ). offers_to Override m (option_map_or (with_name same_target []) (option_map Key c) [])) (word_is l.modifier real) coded
 
-  line_faultless : (l : MapLine) (i : Item) → is_modifier l.modifier ≡ true → length l.name ≤ MOST_NAME_BYTES → IsItem (IsModifierMap l.modifier l.name) i → item_faults place.file modifiers i ≡ []
+  line_faultless : (l : MapLine) (i : Stated) → is_modifier l.modifier ≡ true → length l.name ≤ MOST_NAME_BYTES → IsStated (IsModifierMap l.modifier l.name) i → stated_faults place.file modifiers i ≡ []
   line_faultless l i real short is =
-      ap (item_faults place.file modifiers) (line_item l i is)
+      ap (stated_faults place.file modifiers) (line_stated l i is)
       ∙ rw (real, le-ltb MOST_NAME_BYTES (length l.name) short) refl
 
   -- of the lines of a key, before others
-  lines_offer : (k : PrintedKey) (ms : List (List ℕ)) (ls : List MapLine) (is : List Item) (tail : List MapOffer) → list_all is_modifier ms ≡ true → code_of codes k.name ≡ Some k.code
-      → ((js : List Item) → AreShown (λ (l : MapLine) i. IsItem (IsModifierMap l.modifier l.name) i) ls js → offers same_target rules no_moves tt (own_body place js End) ≡ tail)
-      → AreShown (λ (l : MapLine) i. IsItem (IsModifierMap l.modifier l.name) i) (map (map_line k.name) ms ++ ls) is
+  lines_offer : (k : PrintedKey) (ms : List (List ℕ)) (ls : List MapLine) (is : List Stated) (tail : List MapOffer) → list_all is_modifier ms ≡ true → code_of codes k.name ≡ Some k.code
+      → ((js : List Stated) → AreShown (λ (l : MapLine) i. IsStated (IsModifierMap l.modifier l.name) i) ls js → offers same_target rules no_moves tt (own_body place js End) ≡ tail)
+      → AreShown (λ (l : MapLine) i. IsStated (IsModifierMap l.modifier l.name) i) (map (map_line k.name) ms ++ ls) is
       → offers same_target rules no_moves tt (own_body place is End) ≡ map (map_offer k.code) ms ++ tail
   lines_offer k [] ls is tail real coded others are = others is are
   lines_offer k (m ∷ ms) ls is tail real coded others (more {a = i} {bs = js} one are) =
       let both = and_parts (is_modifier m) (list_all is_modifier ms) real in
       ap₂ (λ (a b : List MapOffer). a ++ b) (line_offers (map_line k.name m) k.code i both.0 coded one) (lines_offer k ms ls js tail both.1 coded others are)
 
-  lines_faultless : (k : PrintedKey) (ms : List (List ℕ)) (ls : List MapLine) (is : List Item) → list_all is_modifier ms ≡ true → length k.name ≤ MOST_NAME_BYTES
-      → ((js : List Item) → AreShown (λ (l : MapLine) i. IsItem (IsModifierMap l.modifier l.name) i) ls js → faults same_target rules no_moves tt (own_body place js End) ≡ [])
-      → AreShown (λ (l : MapLine) i. IsItem (IsModifierMap l.modifier l.name) i) (map (map_line k.name) ms ++ ls) is
+  lines_faultless : (k : PrintedKey) (ms : List (List ℕ)) (ls : List MapLine) (is : List Stated) → list_all is_modifier ms ≡ true → length k.name ≤ MOST_NAME_BYTES
+      → ((js : List Stated) → AreShown (λ (l : MapLine) i. IsStated (IsModifierMap l.modifier l.name) i) ls js → faults same_target rules no_moves tt (own_body place js End) ≡ [])
+      → AreShown (λ (l : MapLine) i. IsStated (IsModifierMap l.modifier l.name) i) (map (map_line k.name) ms ++ ls) is
       → faults same_target rules no_moves tt (own_body place is End) ≡ []
   lines_faultless k [] ls is real short others are = others is are
   lines_faultless k (m ∷ ms) ls is real short others (more {a = i} {bs = js} one are) =
       let both = and_parts (is_modifier m) (list_all is_modifier ms) real in
       ap₂ (λ (a b : List Fault). a ++ b) (line_faultless (map_line k.name m) i both.0 short one) (lines_faultless k ms ls js both.1 short others are)
 
-  maps_offer : (ks : List PrintedKey) (is : List Item) → EachOf (λ (k : PrintedKey). code_of codes k.name ≡ Some k.code) ks → AreShown (λ (l : MapLine) i. IsItem (IsModifierMap l.modifier l.name) i) (flat_map maps_of_key ks) is
+  maps_offer : (ks : List PrintedKey) (is : List Stated) → EachOf (λ (k : PrintedKey). code_of codes k.name ≡ Some k.code) ks → AreShown (λ (l : MapLine) i. IsStated (IsModifierMap l.modifier l.name) i) (flat_map maps_of_key ks) is
       → offers same_target rules no_moves tt (own_body place is End) ≡ all_offers ks
   maps_offer [] is coded none = refl
   maps_offer (k ∷ ks) is coded are = lines_offer k (modifiers_of k) (flat_map maps_of_key ks) is (all_offers ks) (chosen_all is_modifier (mask k.modmap) mod_names all_modifiers) coded.0 (λ js js_are. maps_offer ks js coded.1 js_are) are
 
-  maps_fault : (ks : List PrintedKey) (is : List Item) → EachOf KeyFits ks → AreShown (λ (l : MapLine) i. IsItem (IsModifierMap l.modifier l.name) i) (flat_map maps_of_key ks) is
+  maps_fault : (ks : List PrintedKey) (is : List Stated) → EachOf KeyFits ks → AreShown (λ (l : MapLine) i. IsStated (IsModifierMap l.modifier l.name) i) (flat_map maps_of_key ks) is
       → faults same_target rules no_moves tt (own_body place is End) ≡ []
   maps_fault [] is fit none = refl
   maps_fault (k ∷ ks) is fit are = lines_faultless k (modifiers_of k) (flat_map maps_of_key ks) is (chosen_all is_modifier (mask k.modmap) mod_names all_modifiers) fit.0.name_fits (λ js js_are. maps_fault ks js fit.1 js_are) are
@@ -279,8 +278,8 @@ keysymless whole (k ∷ ks) = no_keysyms whole k.code (modifiers_of k) (all_offe
 
 -- ---- A symbols section
 
-module _ (codes : Codes) (names : KeysymTable) (modifiers : List (List ℕ)) (place : Place) (ks : List PrintedKey) (nis kis mis : List Item) (named : EachOf IsNameItem nis) (keys : EachOf IsKeyItem kis)
-    (maps : AreShown (λ (l : MapLine) i. IsItem (IsModifierMap l.modifier l.name) i) (flat_map maps_of_key ks) mis) where
+module _ (codes : Codes) (names : KeysymTable) (modifiers : List (List ℕ)) (place : Place) (ks : List PrintedKey) (nis kis mis : List Stated) (named : EachOf IsNameStated nis) (keys : EachOf IsKeyStated kis)
+    (maps : AreShown (λ (l : MapLine) i. IsStated (IsModifierMap l.modifier l.name) i) (flat_map maps_of_key ks) mis) where
   abbrev symbols : Body
   symbols = Begin (own_body place (nis ++ (kis ++ mis)) End)
 

@@ -7,7 +7,7 @@ use Rattle.kx_include.specs.declared.place.Place.{Place}
 use Rattle.kx_lex.specs.declared.fault.Fault.{Fault}
 use Rattle.kx_merge.specs.Bodies.{Rules, Moves, offers, faults}
 use Rattle.kx_merge.specs.Offers.{Offer, value_of}
-use Rattle.kx_parse.specs.declared.tree.Item.{Item}
+use Rattle.kx_parse.specs.declared.tree.Stated.{Stated}
 use Rattle.kx_parse.specs.declared.tree.Mode.TheVariants.{Override}
 use Rattle.roundtrip_text.specs.Source.{EachOf, AreApart}
 use Rattle.roundtrip_tree.specs.Shows.{AreShown, none, more}
@@ -16,9 +16,9 @@ use Rattle.roundtrip_meaning.proofs.Single.{AllOverride, value_here, value_past}
 
 -- ---- Offers and faults; the defaults stay
 
-module _ {K C V D X : Type 0} (eq : K → K → Bool) (rules : Rules K C V D) (moves : Moves K C) (Is : X → Item → Type 0) (gives : X → List (Offer K C V)) (d : D) (place : Place)
-    (each : (x : X) (item : Item) → Is x item → rules.offers d place item ≡ gives x) (stays : (x : X) (item : Item) → Is x item → rules.next d item ≡ d) where
-  pub offers_shown : (xs : List X) (is : List Item) (rest : Body) → AreShown Is xs is → offers eq rules moves d (own_body place is rest) ≡ flat_map gives xs ++ offers eq rules moves d rest
+module _ {K C V D X : Type 0} (eq : K → K → Bool) (rules : Rules K C V D) (moves : Moves K C) (Is : X → Stated → Type 0) (gives : X → List (Offer K C V)) (d : D) (place : Place)
+    (each : (x : X) (item : Stated) → Is x item → rules.offers d place item ≡ gives x) (stays : (x : X) (item : Stated) → Is x item → rules.next d item ≡ d) where
+  pub offers_shown : (xs : List X) (is : List Stated) (rest : Body) → AreShown Is xs is → offers eq rules moves d (own_body place is rest) ≡ flat_map gives xs ++ offers eq rules moves d rest
   offers_shown [] [] rest none = refl
   offers_shown [] (i ∷ is) rest are = elim are [ ]
   offers_shown (x ∷ xs) [] rest are = elim are [ ]
@@ -27,9 +27,9 @@ module _ {K C V D X : Type 0} (eq : K → K → Bool) (rules : Rules K C V D) (m
       ∙ ap (λ os. gives x ++ os) (offers_shown xs is rest are)
       ∙ sym (append_assoc (gives x) (flat_map gives xs) (offers eq rules moves d rest))
 
-module _ {K C V D X : Type 0} (eq : K → K → Bool) (rules : Rules K C V D) (moves : Moves K C) (Is : X → Item → Type 0) (d : D) (place : Place)
-    (each : (x : X) (item : Item) → Is x item → rules.faults d place item ≡ []) (stays : (x : X) (item : Item) → Is x item → rules.next d item ≡ d) where
-  pub faults_shown : (xs : List X) (is : List Item) (rest : Body) → AreShown Is xs is → faults eq rules moves d (own_body place is rest) ≡ faults eq rules moves d rest
+module _ {K C V D X : Type 0} (eq : K → K → Bool) (rules : Rules K C V D) (moves : Moves K C) (Is : X → Stated → Type 0) (d : D) (place : Place)
+    (each : (x : X) (item : Stated) → Is x item → rules.faults d place item ≡ []) (stays : (x : X) (item : Stated) → Is x item → rules.next d item ≡ d) where
+  pub faults_shown : (xs : List X) (is : List Stated) (rest : Body) → AreShown Is xs is → faults eq rules moves d (own_body place is rest) ≡ faults eq rules moves d rest
   faults_shown [] [] rest none = refl
   faults_shown [] (i ∷ is) rest are = elim are [ ]
   faults_shown (x ∷ xs) [] rest are = elim are [ ]

@@ -22,15 +22,14 @@ use Rattle.kx_mods.specs.declared.mods.Mods.{Mods}
 use Rattle.kx_parse.specs.declared.tree.Expression.{Expression}
 use Rattle.kx_parse.specs.declared.tree.Field.{Field}
 use Rattle.kx_parse.specs.declared.tree.FieldPlace.{FieldPlace}
-use Rattle.kx_parse.specs.declared.tree.Item.{Item}
-use Rattle.kx_parse.specs.declared.tree.Item.TheVariants.{Statement}
+use Rattle.kx_parse.specs.declared.tree.Stated.{Stated}
 use Rattle.kx_parse.specs.declared.tree.Mode.TheVariants.{Override}
 use Rattle.kx_parse.specs.declared.tree.Setting.{Setting}
 use Rattle.kx_tables.specs.declared.rows.EntryRow.{EntryRow}
 use Rattle.kx_types.specs.KeyTypes.{definition_of}
-use Rattle.kx_types.specs.TypeFaults.{type_in, item_faults}
+use Rattle.kx_types.specs.TypeFaults.{stated_faults, type_in}
 use Rattle.kx_types.specs.TypeFields.{field_faults, saying_of, sayings_of, text_faults}
-use Rattle.kx_types.specs.Types.{TypeOffer, type_offer, type_rules, item_offers, said_offers, type_names, written_name, type_offers, declared_type, types_faults}
+use Rattle.kx_types.specs.Types.{TypeOffer, type_offer, type_rules, said_offers, type_names, written_name, type_offers, declared_type, types_faults}
 use Rattle.kx_types.specs.declared.limits.TheConstants.{MOST_TYPES}
 use Rattle.kx_types.specs.declared.saying.Saying.{Saying}
 use Rattle.kx_types.specs.declared.saying.Saying.TheVariants.{Modifiers, Map, Preserve, LevelName}
@@ -39,11 +38,12 @@ use Rattle.kx_merge.specs.declared.numbers.Counted.TheVariants.{Level}
 use Rattle.roundtrip_meaning.specs.Bodies.{own_body}
 use Rattle.roundtrip_meaning.proofs.Offered.{shown_with, each_from, offers_shown, faults_shown, value_of_one}
 use Rattle.roundtrip_text.specs.Source.{EachOf, AreApart, EntryFits, TypeFits}
-use Rattle.roundtrip_tree.specs.Shows.{AreShown, IsItem, none, more, name_at}
+use Rattle.roundtrip_tree.specs.Shows.{AreShown, IsStated, none, more, name_at}
 use Rattle.roundtrip_tree.specs.ShowsLines.{Line, Quoted, Set, SetAt, IsLine}
 use Rattle.roundtrip_tree.specs.Types.{mods_written, number_written, entry_shown, type_lines, IsType}
 use Rattle.roundtrip_meaning.specs.Rows.{EntriesFit, Apart, entry_sayings, sayings}
 use Rattle.roundtrip_meaning.specs.Types.{entry_seen, definition_seen}
+use Rattle.roundtrip_tree.proofs.Statements.{stated_as}
 use Rattle.roundtrip_meaning.proofs.Counted.{few_names}
 use Rattle.roundtrip_meaning.proofs.Definition.{definition_is}
 use Rattle.roundtrip_meaning.proofs.Masks.{mods_set, mods_faultless}
@@ -172,41 +172,40 @@ defined t fits = definition_is (mask t.mods) t.levels (map entry_seen t.entries)
 
 -- ---- The statements
 
-abbrev IsTypeItem : ResolvedType → Item → Type 0
-IsTypeItem t i = TypeFits t × IsItem (IsType t) i
+abbrev IsTypeStated : ResolvedType → Stated → Type 0
+IsTypeStated t i = TypeFits t × IsStated (IsType t) i
 
 abbrev offer_of : ResolvedType → TypeOffer
 offer_of t = type_offer Override t.name (definition_seen t)
 
-offered : (t : ResolvedType) (i : Item) → IsTypeItem t i → item_offers [] i ≡ offer_of t ∷ []
+offered : (t : ResolvedType) (i : Stated) → IsTypeStated t i → said_offers [] i.mode (type_in i.statement) ≡ offer_of t ∷ []
 offered t i is =
-    ap (item_offers []) is.1.item_is ∙ ap (λ s. said_offers [] Override (type_in s)) is.1.shows.is
+    ap₂ (λ mode s. said_offers [] mode (type_in s)) is.1.mode_is is.1.shows.is
     ∙ ap (λ d. type_offer Override t.name d ∷ []) (ap definition_of (sayings_shown (type_lines t) (sayings_seen t) is.1.shows.fields (type_said t is.0) is.1.shows.are) ∙ defined t is.0)
 
-item_faultless : (file : ℕ) (t : ResolvedType) (i : Item) → IsTypeItem t i → item_faults [] file i ≡ []
-item_faultless file t i is =
+stated_faultless : (file : ℕ) (t : ResolvedType) (i : Stated) → IsTypeStated t i → stated_faults [] file i ≡ []
+stated_faultless file t i is =
     let s = is.1 in
     let name : Name = name_at t.name s.shows.span in
-    ap (item_faults [] file) s.item_is
-    ∙ ap (λ said. item_faults [] file (Statement Override said s.first s.whole)) s.shows.is
-    ∙ ap₂ (λ (a : Bool) (fs : List Fault). let all : List Fault = cond a (TooMany (at file s.whole) ∷ []) [] ++ fs in all) (le-ltb MOST_NAME_BYTES (length t.name) is.0.name_fits) (fields_faultless file (type_lines t) (sayings_seen t) s.shows.fields (type_said t is.0) s.shows.are)
+    ap (stated_faults [] file) (stated_as i s _ s.shows.is)
+    ∙ ap₂ (λ (a : Bool) (fs : List Fault). let all : List Fault = cond a (TooMany (at file i.span) ∷ []) [] ++ fs in all) (le-ltb MOST_NAME_BYTES (length t.name) is.0.name_fits) (fields_faultless file (type_lines t) (sayings_seen t) s.shows.fields (type_said t is.0) s.shows.are)
 
-named : (t : ResolvedType) (i : Item) → IsTypeItem t i → type_names i ≡ t.name ∷ []
-named t i is = ap type_names is.1.item_is ∙ ap (λ s. written_name (type_in s)) is.1.shows.is
+named : (t : ResolvedType) (i : Stated) → IsTypeStated t i → type_names i.statement ≡ t.name ∷ []
+named t i is = ap (λ s. written_name (type_in s)) is.1.shows.is
 
 -- ---- The section
 
-module _ (place : Place) (ts : List ResolvedType) (is : List Item) (shown : AreShown (λ t i. IsItem (IsType t) i) ts is)
+module _ (place : Place) (ts : List ResolvedType) (is : List Stated) (shown : AreShown (λ t i. IsStated (IsType t) i) ts is)
     (fit : EachOf TypeFits ts) (apart : AreApart (λ (t : ResolvedType). t.name) ts) (few : length ts ≤ MOST_TYPES) where
   abbrev pub types : Body
   types = Begin (own_body place is End)
 
-  all_shown : AreShown IsTypeItem ts is
-  all_shown = shown_with TypeFits (λ t i. IsItem (IsType t) i) ts is fit shown
+  all_shown : AreShown IsTypeStated ts is
+  all_shown = shown_with TypeFits (λ t i. IsStated (IsType t) i) ts is fit shown
 
   offers_are : type_offers [] types ≡ map offer_of ts
   offers_are =
-      offers_shown bytes_eq (type_rules []) no_moves IsTypeItem (λ t. offer_of t ∷ []) tt place offered (λ t i is. refl) ts is End all_shown
+      offers_shown bytes_eq (type_rules []) no_moves IsTypeStated (λ t. offer_of t ∷ []) tt place offered (λ t i is. refl) ts is End all_shown
       ∙ append-nil (flat_map (λ t. offer_of t ∷ []) ts) ∙ flat_map_single offer_of ts
 
   pub types_declared : EachOf (λ (t : ResolvedType). declared_type [] types t.name ≡ Some (definition_seen t)) ts
@@ -215,5 +214,5 @@ module _ (place : Place) (ts : List ResolvedType) (is : List Item) (shown : AreS
 
   pub types_faultless : types_faults [] types ≡ []
   types_faultless = ap₂ (λ (a b : List Fault). a ++ b)
-      (few_names type_names (λ (t : ResolvedType). t.name) IsTypeItem named place MOST_TYPES ts is all_shown few)
-      (faults_shown bytes_eq (type_rules []) no_moves IsTypeItem tt place (λ t i one. item_faultless place.file t i one) (λ t i one. refl) ts is End all_shown)
+      (few_names type_names (λ (t : ResolvedType). t.name) IsTypeStated named place MOST_TYPES ts is all_shown few)
+      (faults_shown bytes_eq (type_rules []) no_moves IsTypeStated tt place (λ t i one. stated_faultless place.file t i one) (λ t i one. refl) ts is End all_shown)

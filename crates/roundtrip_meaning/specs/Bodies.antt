@@ -5,17 +5,17 @@ use Rattle.kx_codes.specs.Pairs.{Pair, shares}
 use Rattle.kx_include.specs.Expansion.{Body, Own}
 use Rattle.kx_include.specs.declared.place.Place.{Place}
 use Rattle.kx_include.specs.Library.{Library}
-use Rattle.kx_parse.specs.declared.tree.Item.{Item}
+use Rattle.kx_parse.specs.declared.tree.Stated.{Stated}
 use Rattle.kx_parse.specs.declared.tree.Section.{Section}
-use Rattle.roundtrip_tree.specs.Shows.{IsItem, IsKeycode}
+use Rattle.roundtrip_tree.specs.Shows.{IsStated, IsKeycode}
 
 -- a section's statements, and the rest after them
-abbrev pub own_body : Place → List Item → Body → Body
+abbrev pub own_body : Place → List Stated → Body → Body
 own_body place [] rest = rest
-own_body place (i ∷ is) rest = Own place i (own_body place is rest)
+own_body place (s ∷ ss) rest = Own place s (own_body place ss rest)
 
-abbrev pub IsPair : Pair → Item → Type 0
-IsPair p item = IsItem (IsKeycode p.name p.code) item
+abbrev pub IsPair : Pair → Stated → Type 0
+IsPair p stated = IsStated (IsKeycode p.name p.code) stated
 
 -- each of some pairs shares nothing with those before it
 abbrev pub Fresh : List Pair → List Pair → Type 0

@@ -2,11 +2,11 @@
 use Rattle.std.specs.Prelude.{List, [], ◌≡◌}
 use Rattle.kx_include.specs.Expansion.{Body, Begin, End}
 use Rattle.kx_include.specs.declared.place.Place.{Place}
-use Rattle.kx_virtual_mods.specs.Declarations.{declarations_of}
-use Rattle.kx_parse.specs.declared.tree.Item.{Item}
+use Rattle.kx_virtual_mods.specs.Declarations.{declarations_in}
+use Rattle.kx_parse.specs.declared.tree.Stated.{Stated}
 use Rattle.roundtrip_meaning.specs.Bodies.{own_body}
 use Rattle.roundtrip_text.specs.Source.{EachOf}
 
 pub data NoneDeclared : Body → Type 0 where
   ends : NoneDeclared End
-  own : (place : Place) (is : List Item) → EachOf (λ i. declarations_of i ≡ []) is → NoneDeclared (Begin (own_body place is End))
+  own : (place : Place) (ss : List Stated) → EachOf (λ (s : Stated). declarations_in s.statement ≡ []) ss → NoneDeclared (Begin (own_body place ss End))

@@ -1,5 +1,5 @@
 -- What is read of a printed text, key by key and type by type.
-use Rattle.std.specs.Prelude.{ℕ, ◌≡◌, ◌<◌, ◌^◌, List, Option, Some, map}
+use Rattle.std.specs.Prelude.{ℕ, ◌≡◌, ◌<◌, ◌^◌, Some, map}
 use Rattle.kx_builder.specs.Resolved.{ResolvedCell, ResolvedType}
 use Rattle.kx_codes.specs.Pairs.{Pair, name_in}
 use Rattle.kx_resolve.specs.Selecting.{RealSet}

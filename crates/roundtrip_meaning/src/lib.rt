@@ -13,7 +13,7 @@ ghost use Rattle.kx_include.specs.Texts.{IsLibrary};
 ghost use Rattle.kx_include.specs.declared.place.Place.{Place as PlaceValue};
 ghost use Rattle.kx_merge.specs.Bodies.{offers_of};
 ghost use Rattle.kx_merge.specs.Offers.{value_of, width_of};
-ghost use Rattle.kx_parse.specs.declared.tree.Item.{Item};
+ghost use Rattle.kx_parse.specs.declared.tree.Stated.{Stated};
 ghost use Rattle.kx_parse.specs.declared.tree.Tree.{Tree};
 ghost use Rattle.kx_resolve.specs.Given.{given_by};
 ghost use Rattle.kx_resolve.specs.Keys.{Keyed, resolved_of};
@@ -33,8 +33,8 @@ ghost use Rattle.roundtrip_meaning.specs.Types.{definition_seen};
 ghost use Rattle.roundtrip_text.specs.ModifierMaps.{MapLine, maps_of_key};
 ghost use Rattle.roundtrip_text.specs.Source.{AreApart, EachOf, TypeFits, AreRising, KeyFits, PrintedKey};
 ghost use Rattle.roundtrip_tree.specs.Keys.{IsKey};
-ghost use Rattle.roundtrip_tree.specs.Shows.{AreShown, IsItem, IsModifierMap};
-ghost use Rattle.roundtrip_tree.specs.Source.{IsNameItem};
+ghost use Rattle.roundtrip_tree.specs.Shows.{AreShown, IsStated, IsModifierMap};
+ghost use Rattle.roundtrip_tree.specs.Source.{IsNameStated};
 ghost use Rattle.roundtrip_tree.specs.Sources.{sections_of};
 ghost use Rattle.roundtrip_tree.specs.Types.{IsType};
 ghost use Rattle.std.specs.List.{flat_map, list_all};
@@ -42,15 +42,15 @@ ghost use Rattle.std.specs.Prelude.{◌≡◌, List, [], ℕ, Option, ◌++◌, 
 
 /// Without files a tree of printed sections is these sections alone.
 pub fn printed_sections_stand_alone()
-    ensures { (keycodes types indicators symbols : List Item) (tree : Tree) (library : Library)
+    ensures { (keycodes types indicators symbols : List Stated) (tree : Tree) (library : Library)
         → tree ≡ record { sections = sections_of keycodes types indicators symbols }
         → IsLibrary tree [] library → library ≡ library_of keycodes types indicators symbols }
 {}
 
 /// The section of printed types declares each as it was printed.
 pub fn printed_types_are_declared()
-    ensures { (place : PlaceValue) (ts : List ResolvedType) (items : List Item)
-        → AreShown (λ t i. IsItem (IsType t) i) ts items → EachOf TypeFits ts
+    ensures { (place : PlaceValue) (ts : List ResolvedType) (items : List Stated)
+        → AreShown (λ t i. IsStated (IsType t) i) ts items → EachOf TypeFits ts
         → AreApart (λ (t : ResolvedType). t.name) ts → length ts ≤ MOST_TYPES
         → EachOf (λ (t : ResolvedType).
         declared_type [] (Begin (own_body place items End)) t.name ≡ Some (definition_seen t)) ts }
@@ -59,10 +59,10 @@ pub fn printed_types_are_declared()
 /// A section of printed names of groups, keys and modifier maps gives each key what was printed of it.
 pub fn printed_keys_are_given()
     ensures { (codes : Codes) (names : KeysymTable) (place : PlaceValue) (ks : List PrintedKey)
-        (group_names keys maps : List Item)
-        → list_all is_sound names.names ≡ true → EachOf IsNameItem group_names
-        → AreShown (λ (k : PrintedKey) i. IsItem (IsKey k) i) ks keys
-        → AreShown (λ (l : MapLine) i. IsItem (IsModifierMap l.modifier l.name) i)
+        (group_names keys maps : List Stated)
+        → list_all is_sound names.names ≡ true → EachOf IsNameStated group_names
+        → AreShown (λ (k : PrintedKey) i. IsStated (IsKey k) i) ks keys
+        → AreShown (λ (l : MapLine) i. IsStated (IsModifierMap l.modifier l.name) i)
         (flat_map maps_of_key ks) maps
         → EachOf KeyFits ks → AreRising (λ (k : PrintedKey). k.code) 0 ks
         → EachOf (λ (k : PrintedKey). code_of codes k.name ≡ Some k.code) ks

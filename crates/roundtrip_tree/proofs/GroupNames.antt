@@ -12,7 +12,6 @@ use Rattle.kx_parse.specs.Statements.{statement, keycodes_statement, types_state
 use Rattle.kx_parse.specs.declared.tree.Expression.{Expression}
 use Rattle.kx_parse.specs.declared.tree.FieldPlace.{FieldPlace}
 use Rattle.kx_parse.specs.declared.tree.Item.TheVariants as items
-use Rattle.kx_parse.specs.declared.tree.Mode.TheVariants.{Override}
 use Rattle.kx_parse.specs.declared.tree.Setting.TheVariants as settings
 use Rattle.kx_parse.specs.declared.tree.Statement.TheVariants as statements
 use Rattle.kx_parse.specs.declared.tree.Value.TheVariants as values
@@ -25,7 +24,7 @@ use Rattle.roundtrip_tree.specs.Source.{IsGroupName}
 use Rattle.roundtrip_tree.specs.Types.{number_written}
 use Rattle.roundtrip_tree.proofs.Lines.{Ended, line_reads}
 use Rattle.roundtrip_tree.proofs.Spellings.{made_spelled, second_spelled}
-use Rattle.roundtrip_tree.proofs.Statements.{item_spelled}
+use Rattle.roundtrip_tree.proofs.Statements.{item_spelled, stated_at}
 use Rattle.roundtrip_tree.proofs.Tokens.{token}
 use Rattle.roundtrip_tree.proofs.Types.{number_readable}
 
@@ -39,28 +38,29 @@ name_spelled text n name s us rest e =
     let at = f.at_is in
     let value = f.is in
     record {
-      value = items.Statement Override (statements.Field e.value) s (span_between (token (Word None) s ∷ us) rest);
+      value = items.Statement (stated_at (statements.Field e.value) s (span_between (token (Word None) s ∷ us) rest));
       spelled = item_spelled text (token (Mark 59) e.end) rest refl refl
           (second_spelled _ refl (second_spelled _ refl (second_spelled _ refl (second_spelled _ refl
           (second_spelled _ refl (second_spelled _ refl (second_spelled _ refl (second_spelled _ refl (second_spelled _ refl
           (second_spelled _ refl (second_spelled _ refl (made_spelled statements.Field e.spelled))))))))))))
           refl;
       is = record {
-        statement = _;
-        first = s;
-        whole = _;
+        stated = _;
         item_is = refl;
-        shows = record {
-          field = e.value;
-          word_span = f.word_span;
-          number_span = at.0;
-          expression_span = at.1;
-          index_span = f.index_span;
-          text_span = value.0;
-          value_span = value.1;
-          is = refl;
-          place_is = f.place_is ∙ ap (λ (x : Expression). let p : FieldPlace = record { word = name_at (codes "name") f.word_span; member = None; index = Some (record { value = x; span = f.index_span }) } in p) at.2;
-          setting_is = f.setting_is ∙ ap (λ x. settings.To (values.Expression x)) value.2;
+        is = record {
+          mode_is = refl;
+          shows = record {
+            field = e.value;
+            word_span = f.word_span;
+            number_span = at.0;
+            expression_span = at.1;
+            index_span = f.index_span;
+            text_span = value.0;
+            value_span = value.1;
+            is = refl;
+            place_is = f.place_is ∙ ap (λ (x : Expression). let p : FieldPlace = record { word = name_at (codes "name") f.word_span; member = None; index = Some (record { value = x; span = f.index_span }) } in p) at.2;
+            setting_is = f.setting_is ∙ ap (λ x. settings.To (values.Expression x)) value.2;
+          };
         };
       };
     }

@@ -13,7 +13,6 @@ use Rattle.kx_lex.specs.declared.token.TokenKind.TheVariants.{Word, Text, Mark, 
 use Rattle.kx_parse.specs.Sections.{item, join_of, mode_of}
 use Rattle.kx_parse.specs.Statements.{statement, keycodes_statement, types_statement, indicator}
 use Rattle.kx_parse.specs.declared.tree.Item.TheVariants as items
-use Rattle.kx_parse.specs.declared.tree.Mode.TheVariants.{Override}
 use Rattle.kx_parse.specs.declared.tree.Statement.TheVariants as statements
 use Rattle.kx_print.specs.Masks.{state_names}
 use Rattle.kx_print.specs.Phrases.{hexadecimal}
@@ -31,7 +30,7 @@ use Rattle.roundtrip_tree.specs.Indicators.{states_written, indicator_map_lines,
 use Rattle.roundtrip_tree.proofs.Lines.{block_reads}
 use Rattle.roundtrip_tree.proofs.Rows.{parted}
 use Rattle.roundtrip_tree.proofs.Spellings.{keyword_spelled, made2_spelled, after_spelled, first_spelled, second_spelled}
-use Rattle.roundtrip_tree.proofs.Statements.{item_spelled}
+use Rattle.roundtrip_tree.proofs.Statements.{item_spelled, stated_at}
 use Rattle.roundtrip_tree.proofs.Tokens.{token, text_spelled}
 use Rattle.roundtrip_tree.proofs.Types.{some_words, mods_readable}
 
@@ -56,11 +55,11 @@ closed_reads text d fits s1 s2 s3 us mid rest a2 first (more s4 a4 (more s5 a5 n
     let n = text_spelled text (printed_name d.name) d.name s2 (token (Mark 123) s3 ∷ us) (name_value d.name fits.bytes) a2 in
     let s = after_spelled (keyword_spelled text keywords.Indicator (token (Word (Some keywords.Indicator)) s1) _ refl) (made2_spelled statements.Indicator n b.spelled) in
     record {
-      value = items.Statement Override (statements.Indicator (name_at d.name s2) b.value) s1 (span_between (token (Word (Some keywords.Indicator)) s1 ∷ token Text s2 ∷ token (Mark 123) s3 ∷ us) rest);
+      value = items.Statement (stated_at (statements.Indicator (name_at d.name s2) b.value) s1 (span_between (token (Word (Some keywords.Indicator)) s1 ∷ token Text s2 ∷ token (Mark 123) s3 ∷ us) rest));
       spelled = item_spelled text (token (Mark 59) s5) rest refl refl
           (second_spelled _ refl (second_spelled _ refl (second_spelled _ refl (second_spelled _ refl (second_spelled _ refl (second_spelled _ refl (second_spelled _ refl (first_spelled _ refl s))))))))
           refl;
-      is = record { statement = _; first = s1; whole = _; item_is = refl; shows = record { span = s2; fields = b.value; is = refl; are = b.is } };
+      is = record { stated = _; item_is = refl; is = record { mode_is = refl; shows = record { span = s2; fields = b.value; is = refl; are = b.is } } };
     }
 
 pub indicator_reads : (text : List ℕ) (d : ResolvedIndicator) → IndicatorFits d → (ts rest : List Token) → Begins text (indicator_statement_slices d) ts rest → ReadsAs (item text) (λ i. IsItem (IsIndicator d) i) ts rest

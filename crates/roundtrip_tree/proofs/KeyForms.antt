@@ -1,22 +1,22 @@
 -- The forms of printed keys and modifier maps, whatever they say.
 use Rattle.std.proofs.Common.{List, [], ◌∷◌}
-use Rattle.kx_parse.specs.declared.tree.Item.{Item}
+use Rattle.kx_parse.specs.declared.tree.Stated.{Stated}
 use Rattle.roundtrip_text.specs.Source.{EachOf, PrintedKey}
 use Rattle.roundtrip_text.specs.ModifierMaps.{MapLine}
 use Rattle.roundtrip_tree.specs.Keys.{IsKey}
-use Rattle.roundtrip_tree.specs.Shows.{AreShown, IsItem, IsModifierMap, none, more}
-use Rattle.roundtrip_tree.specs.Source.{IsKeyItem, IsMapItem}
+use Rattle.roundtrip_tree.specs.Shows.{AreShown, IsModifierMap, IsStated, none, more}
+use Rattle.roundtrip_tree.specs.Source.{IsKeyStated, IsMapStated}
 
-pub key_items : (ks : List PrintedKey) (is : List Item) → AreShown (λ (k : PrintedKey) i. IsItem (IsKey k) i) ks is → EachOf IsKeyItem is
-key_items [] [] none = tt
-key_items [] (i ∷ is) are = elim are [ ]
-key_items (k ∷ ks) [] are = elim are [ ]
-key_items (k ∷ ks) (i ∷ is) (more one are) =
-    (record { statement = one.statement; first = one.first; whole = one.whole; item_is = one.item_is; shows = record { name = _; fields = one.shows.fields; is = one.shows.is } }, key_items ks is are)
+pub keys_stated : (ks : List PrintedKey) (ss : List Stated) → AreShown (λ (k : PrintedKey) s. IsStated (IsKey k) s) ks ss → EachOf IsKeyStated ss
+keys_stated [] [] none = tt
+keys_stated [] (s ∷ ss) are = elim are [ ]
+keys_stated (k ∷ ks) [] are = elim are [ ]
+keys_stated (k ∷ ks) (s ∷ ss) (more one are) =
+    (record { mode_is = one.mode_is; shows = record { name = _; fields = one.shows.fields; is = one.shows.is } }, keys_stated ks ss are)
 
-pub map_items : (ls : List MapLine) (is : List Item) → AreShown (λ (l : MapLine) i. IsItem (IsModifierMap l.modifier l.name) i) ls is → EachOf IsMapItem is
-map_items [] [] none = tt
-map_items [] (i ∷ is) are = elim are [ ]
-map_items (l ∷ ls) [] are = elim are [ ]
-map_items (l ∷ ls) (i ∷ is) (more one are) =
-    (record { statement = one.statement; first = one.first; whole = one.whole; item_is = one.item_is; shows = record { modifier = _; entries = _; is = one.shows.is } }, map_items ls is are)
+pub maps_stated : (ls : List MapLine) (ss : List Stated) → AreShown (λ (l : MapLine) s. IsStated (IsModifierMap l.modifier l.name) s) ls ss → EachOf IsMapStated ss
+maps_stated [] [] none = tt
+maps_stated [] (s ∷ ss) are = elim are [ ]
+maps_stated (l ∷ ls) [] are = elim are [ ]
+maps_stated (l ∷ ls) (s ∷ ss) (more one are) =
+    (record { mode_is = one.mode_is; shows = record { modifier = _; entries = _; is = one.shows.is } }, maps_stated ls ss are)

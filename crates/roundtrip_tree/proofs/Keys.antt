@@ -59,7 +59,7 @@ module _ (text : List ℕ) (phrase : KeyPhrase) (bytes : list_all is_key_byte ph
       record {
         value = _;
         spelled = item_spelled text (token (Mark 59) s5) rest refl refl s refl;
-        is = record { statement = _; first = s1; whole = _; item_is = refl; shows = record { name_span = s2; fields = r.value; is = refl; are = r.is } };
+        is = record { stated = _; item_is = refl; is = record { mode_is = refl; shows = record { name_span = s2; fields = r.value; is = refl; are = r.is } } };
       }
 
   pub key_phrase_reads : (ts rest : List Token) → Begins text (key_slices phrase) ts rest → ReadsAs (item text) (IsItem (IsKeyOf phrase)) ts rest

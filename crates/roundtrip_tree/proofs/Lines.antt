@@ -1,5 +1,5 @@
 -- What printed lines of fields, and blocks of them, are spelled as.
-use Rattle.std.proofs.Common.{◌≡◌, ℕ, true, false, ◌||◌, List, [], ◌∷◌, ◌++◌, map, refl, sym, ap, subst, append_assoc}
+use Rattle.std.proofs.Common.{◌≡◌, ℕ, true, false, List, [], ◌∷◌, ◌++◌, map, refl, sym, ap, subst, append_assoc}
 use Rattle.std.specs.List.{flat_map}
 use Rattle.kx_lex.specs.Keywords.{keyword_of}
 use Rattle.kx_lex.specs.Kinds.{front, is_mark, before_mark}

@@ -29,5 +29,5 @@ map_reads text l fits ts rest (more s1 a1 (more s2 a2 (more s3 a3 (more s4 a4 (m
     record {
       value = _;
       spelled = item_spelled text (token (Mark 59) s6) rest refl refl s refl;
-      is = record { statement = _; first = s1; whole = _; item_is = refl; shows = record { word_span = s2; name_span = s4; is = refl } };
+      is = record { stated = _; item_is = refl; is = record { mode_is = refl; shows = record { word_span = s2; name_span = s4; is = refl } } };
     }

@@ -1,5 +1,5 @@
 -- What a printed text is spelled as.
-use Rattle.std.proofs.Common.{◌≡◌, ℕ, ◌+◌, ◌≤◌, ◌==◌, Bool, true, false, cond, List, [], ◌∷◌, ◌++◌, Option, Some, codes, length, map, refl, ap, ◌∙◌, subst, arith, is_some}
+use Rattle.std.proofs.Common.{◌≡◌, ℕ, ◌+◌, ◌≤◌, ◌==◌, Bool, true, false, cond, List, [], ◌∷◌, ◌++◌, Option, Some, codes, length, map, refl, ap, ◌∙◌, subst, arith, is_some, ap₂}
 use Rattle.std.proofs.lemmas.Bool.{ne_eqb}
 use Rattle.std.specs.Fmt.{decimal}
 use Rattle.kx_builder.specs.IndicatorMaps.{ResolvedIndicator}
@@ -16,9 +16,12 @@ use Rattle.kx_lex.specs.declared.token.Token.{Token}
 use Rattle.kx_lex.specs.declared.token.TokenKind.TheVariants.{KeyName, Mark, Word}
 use Rattle.kx_parse.specs.Sections.{Spells, flag, flag_of, flags, held_sections, item, optional_text, section, source}
 use Rattle.kx_parse.specs.declared.tree.Item.{Item}
+use Rattle.kx_parse.specs.declared.tree.Item.TheVariants as items
 use Rattle.kx_parse.specs.declared.tree.Kind.{Kind}
 use Rattle.kx_parse.specs.declared.tree.Kind.TheVariants as kinds
 use Rattle.kx_parse.specs.declared.tree.Section.{Section}
+use Rattle.kx_parse.specs.declared.tree.Stated.{Stated}
+use Rattle.kx_parse.specs.declared.tree.Statement.{Statement}
 use Rattle.kx_parse.specs.declared.tree.Tree.{Tree}
 use Rattle.kx_basics.specs.declared.limits.TheConstants.{MOST_GROUPS}
 use Rattle.roundtrip_text.specs.Slices.{Slice, slice, Begins, none, more}
@@ -32,9 +35,9 @@ use Rattle.roundtrip_text.specs.Types.{type_statement_slices}
 use Rattle.roundtrip_text.proofs.ModifierMaps.{MapLineFits, maps_fit}
 use Rattle.roundtrip_tree.specs.Indicators.{IsIndicator}
 use Rattle.roundtrip_tree.specs.Keys.{IsKey}
-use Rattle.roundtrip_tree.specs.Shows.{AreShown, IsItem, IsKeycode, IsModifierMap, IsSpelled, ReadsAs, none as shows_none, more as shows_more}
+use Rattle.roundtrip_tree.specs.Shows.{AreShown, IsItem, IsKeycode, IsModifierMap, IsSpelled, IsStated, ReadsAs, none as shows_none, more as shows_more}
 use Rattle.roundtrip_tree.specs.Source.{IsGroupName}
-use Rattle.roundtrip_tree.specs.Sources.{ShowsSource, compat_sections, plain, sections_of}
+use Rattle.roundtrip_tree.specs.Sources.{ShowsSource, compat_sections, plain, sections_of, stating}
 use Rattle.roundtrip_tree.specs.Types.{IsType}
 use Rattle.roundtrip_tree.proofs.GroupNames.{name_reads}
 use Rattle.roundtrip_tree.proofs.Indicators.{indicator_reads}
@@ -48,11 +51,37 @@ use Rattle.roundtrip_tree.proofs.Statements.{keycode_reads}
 use Rattle.roundtrip_tree.proofs.Tokens.{token}
 use Rattle.roundtrip_tree.proofs.Types.{type_reads, each-append}
 
-three_parts : (is a b c d : List Item) → is ≡ a ++ b → b ≡ c ++ d → is ≡ a ++ (c ++ d)
+three_parts : (is a b c d : List Stated) → is ≡ a ++ b → b ≡ c ++ d → is ≡ a ++ (c ++ d)
 three_parts is a b c d first second = first ∙ ap (λ js. a ++ js) second
 
-same_tree : (ks ts ds : List Item) {is js : List Item} → is ≡ js → (let t : Tree = record { sections = sections_of ks ts ds is } in t) ≡ (let t : Tree = record { sections = sections_of ks ts ds js } in t)
+same_tree : (ks ts ds : List Stated) {is js : List Stated} → is ≡ js → (let t : Tree = record { sections = sections_of ks ts ds is } in t) ≡ (let t : Tree = record { sections = sections_of ks ts ds js } in t)
 same_tree ks ts ds e = ap (λ is. let t : Tree = record { sections = sections_of ks ts ds is } in t) e
+
+-- ---- Items that are statements
+
+pub record AllStated {X : Type 0} (Is : X → Statement → Type 0) (xs : List X) (is : List Item) : Type 0 where
+  stateds : List Stated
+  are_stated : is ≡ map items.Statement stateds
+  are : AreShown (λ x s. IsStated (Is x) s) xs stateds
+
+all_stated : {X : Type 0} (Is : X → Statement → Type 0) (xs : List X) (is : List Item) → AreShown (λ x i. IsItem (Is x) i) xs is → AllStated Is xs is
+all_stated Is [] [] shows_none = record { stateds = []; are_stated = refl; are = shows_none }
+all_stated Is [] (i ∷ is) are = elim are [ ]
+all_stated Is (x ∷ xs) [] are = elim are [ ]
+all_stated Is (x ∷ xs) (i ∷ is) (shows_more one are) =
+    let rest = all_stated Is xs is are in
+    record { stateds = one.stated ∷ rest.stateds; are_stated = ap₂ (λ j js. j ∷ js) one.item_is rest.are_stated; are = shows_more one.is rest.are }
+
+-- a section of statements alone
+record IsStating {X : Type 0} (k : Kind) (Is : X → Statement → Type 0) (xs : List X) (s : Section) : Type 0 where
+  stateds : List Stated
+  is : s ≡ stating k stateds
+  are : AreShown (λ x s. IsStated (Is x) s) xs stateds
+
+section_states : {X : Type 0} {k : Kind} (Is : X → Statement → Type 0) (xs : List X) (s : Section) → IsSection k (λ x i. IsItem (Is x) i) xs s → IsStating k Is xs s
+section_states {k = k} Is xs s section =
+    let all = all_stated Is xs section.items section.are in
+    record { stateds = all.stateds; is = section.is ∙ ap (plain k) all.are_stated; are = all.are }
 
 -- ---- Statements of symbols
 
@@ -66,10 +95,16 @@ LineFits (OfName g) = NamedFits g
 LineFits (OfKey k) = KeyFits k
 LineFits (OfMap l) = MapLineFits l
 
+abbrev LineSays : SymbolsLine → Statement → Type 0
+LineSays (OfName g) statement = IsGroupName g.group g.name statement
+LineSays (OfKey k) statement = IsKey k statement
+LineSays (OfMap l) statement = IsModifierMap l.modifier l.name statement
+
 abbrev IsLine : SymbolsLine → Item → Type 0
-IsLine (OfName g) i = IsItem (IsGroupName g.group g.name) i
-IsLine (OfKey k) i = IsItem (IsKey k) i
-IsLine (OfMap l) i = IsItem (IsModifierMap l.modifier l.name) i
+IsLine x i = IsItem (LineSays x) i
+
+abbrev StatesLine : SymbolsLine → Stated → Type 0
+StatesLine x s = IsStated (LineSays x) s
 
 each_map : {X Y : Type 0} (P : Y → Type 0) (f : X → Y) (xs : List X) → EachOf (λ x. P (f x)) xs → EachOf P (map f xs)
 each_map P f [] each = tt
@@ -126,6 +161,14 @@ one_more text {k = k} {ts = ts} {mid = mid} starts r ss rest f = record { spelle
     plain_spelled : (section text).spells ts (plain k r.is.items) mid
     plain_spelled = subst (λ s. (section text).spells ts s mid) r.is.is r.spelled.spelled
 
+-- the same of a section of statements
+stated_more : (text : List ℕ) {X : Type 0} {k : Kind} {Is : X → Statement → Type 0} {xs : List X} {ts mid : List Token} → before_mark close_brace ts ≡ true → (r : ReadsAs (section text) (IsSection k (λ x i. IsItem (Is x) i) xs) ts mid) → (ss : List Section) (rest : List Token) → Front text ss mid rest
+    → Front text (stating k (section_states Is xs r.value r.is).stateds ∷ ss) ts rest
+stated_more text {k = k} {Is = Is} {xs = xs} {ts = ts} {mid = mid} starts r ss rest f = record { spelled = (starts, mid, stated_spelled, f.spelled) }
+  where
+    stated_spelled : (section text).spells ts (stating k (section_states Is xs r.value r.is).stateds) mid
+    stated_spelled = subst (λ s. (section text).spells ts s mid) (section_states Is xs r.value r.is).is r.spelled.spelled
+
 module _ (text : List ℕ) where
   abbrev IsCode : PrintedKey → Item → Type 0
   IsCode k i = IsItem (IsKeycode k.name k.code) i
@@ -168,13 +211,13 @@ module _ (text : List ℕ) where
   -- ---- The section of indicators, where there are any
 
   record CompatReads (ds : List ResolvedIndicator) (ts mid : List Token) : Type 0 where
-    items : List Item
-    are : AreShown IsIndicatorMap ds items
-    front : (ss : List Section) (rest : List Token) → Front text ss mid rest → Front text (compat_sections items ++ ss) ts rest
+    stateds : List Stated
+    are : AreShown (λ d s. IsStated (IsIndicator d) s) ds stateds
+    front : (ss : List Section) (rest : List Token) → Front text ss mid rest → Front text (compat_sections stateds ++ ss) ts rest
 
   compat_reads : (ds : List ResolvedIndicator) → EachOf IndicatorFits ds → (ts mid : List Token) → Begins text (compat_slices ds) ts mid → CompatReads ds ts mid
-  compat_reads [] fit ts mid none = record { items = []; are = shows_none; front = λ ss rest f. f }
-  compat_reads (d ∷ ds) fit ts mid begins = by r.is.items r.is.are (one_more text (word_starts _ (codes "xkb_compat") some) r)
+  compat_reads [] fit ts mid none = record { stateds = []; are = shows_none; front = λ ss rest f. f }
+  compat_reads (d ∷ ds) fit ts mid begins = by states.stateds states.are (stated_more text {Is = IsIndicator} (word_starts _ (codes "xkb_compat") some) r)
     where
       some : Begins text (section_slices (codes "xkb_compat") indicator_statement_slices (d ∷ ds)) ts mid
       some = subst (λ t. Begins text (cond t [] (section_slices (codes "xkb_compat") indicator_statement_slices (d ∷ ds))) ts mid) (ne_eqb (length (d ∷ ds)) 0 (λ e. omega (arith, e))) begins
@@ -182,9 +225,12 @@ module _ (text : List ℕ) where
       r : ReadsAs (section text) (IsSection kinds.Compat IsIndicatorMap (d ∷ ds)) ts mid
       r = indicators_read (d ∷ ds) fit ts mid some
 
-      by : (items : List Item) → AreShown IsIndicatorMap (d ∷ ds) items → ((ss : List Section) (rest : List Token) → Front text ss mid rest → Front text (plain kinds.Compat items ∷ ss) ts rest) → CompatReads (d ∷ ds) ts mid
+      states : IsStating kinds.Compat IsIndicator (d ∷ ds) r.value
+      states = section_states IsIndicator (d ∷ ds) r.value r.is
+
+      by : (stateds : List Stated) → AreShown (λ d s. IsStated (IsIndicator d) s) (d ∷ ds) stateds → ((ss : List Section) (rest : List Token) → Front text ss mid rest → Front text (stating kinds.Compat stateds ∷ ss) ts rest) → CompatReads (d ∷ ds) ts mid
       by [] are more_of = elim are [ ]
-      by (i ∷ is) are more_of = record { items = i ∷ is; are = are; front = more_of }
+      by (s ∷ ss) are more_of = record { stateds = s ∷ ss; are = are; front = more_of }
 
   -- ---- All of it
 
@@ -233,27 +279,30 @@ module _ (text : List ℕ) where
         let indicator_maps = compat_reads ds indicators_fit b.mid c.mid c.first in
         let symbols = symbols_read lines all_fit c.mid stop c.second in
         let nothing_more : Front text [] stop stop = record { spelled = refl } in
-        let front : Front text (sections_of codes_read.is.items types_here.is.items indicator_maps.items symbols.is.items) ts stop =
-        one_more text (word_starts _ (codes "xkb_keycodes") a.first) codes_read _ stop (one_more text (word_starts _ (codes "xkb_types") b.first) types_here _ stop (indicator_maps.front _ stop (one_more text (word_starts _ (codes "xkb_symbols") c.second) symbols [] stop nothing_more))) in
-        let named = parts_shown IsLine (map OfName (named_from 1 gs)) (map OfKey ks ++ map OfMap (map_lines_printed ks)) symbols.is.items symbols.is.are in
-        let keyed = parts_shown IsLine (map OfKey ks) (map OfMap (map_lines_printed ks)) named.second named.seconds in
+        let coded = section_states (λ (k : PrintedKey). IsKeycode k.name k.code) ks codes_read.value codes_read.is in
+        let typed = section_states IsType us types_here.value types_here.is in
+        let lined = section_states LineSays lines symbols.value symbols.is in
+        let front : Front text (sections_of coded.stateds typed.stateds indicator_maps.stateds lined.stateds) ts stop =
+        stated_more text (word_starts _ (codes "xkb_keycodes") a.first) codes_read _ stop (stated_more text (word_starts _ (codes "xkb_types") b.first) types_here _ stop (indicator_maps.front _ stop (stated_more text (word_starts _ (codes "xkb_symbols") c.second) symbols [] stop nothing_more))) in
+        let named = parts_shown StatesLine (map OfName (named_from 1 gs)) (map OfKey ks ++ map OfMap (map_lines_printed ks)) lined.stateds lined.are in
+        let keyed = parts_shown StatesLine (map OfKey ks) (map OfMap (map_lines_printed ks)) named.second named.seconds in
         record {
-          tree = record { sections = sections_of codes_read.is.items types_here.is.items indicator_maps.items symbols.is.items };
-          spelled = source_spelled (sections_of codes_read.is.items types_here.is.items indicator_maps.items symbols.is.items) s1 s2 s3 s4 ts front;
+          tree = record { sections = sections_of coded.stateds typed.stateds indicator_maps.stateds lined.stateds };
+          spelled = source_spelled (sections_of coded.stateds typed.stateds indicator_maps.stateds lined.stateds) s1 s2 s3 s4 ts front;
           shows = record {
-            keycodes = codes_read.is.items;
-            types = types_here.is.items;
-            indicators = indicator_maps.items;
+            keycodes = coded.stateds;
+            types = typed.stateds;
+            indicators = indicator_maps.stateds;
             names = named.first;
             keys = keyed.first;
             maps = keyed.second;
-            keycodes_are = codes_read.is.are;
-            types_are = types_here.is.are;
+            keycodes_are = coded.are;
+            types_are = typed.are;
             indicators_are = indicator_maps.are;
-            names_are = mapped_shown IsLine OfName (named_from 1 gs) named.first named.firsts;
-            keys_are = mapped_shown IsLine OfKey ks keyed.first keyed.firsts;
-            maps_are = mapped_shown IsLine OfMap (map_lines_printed ks) keyed.second keyed.seconds;
-            tree_is = same_tree _ _ _ (three_parts symbols.is.items named.first named.second keyed.first keyed.second named.are keyed.are);
+            names_are = mapped_shown StatesLine OfName (named_from 1 gs) named.first named.firsts;
+            keys_are = mapped_shown StatesLine OfKey ks keyed.first keyed.firsts;
+            maps_are = mapped_shown StatesLine OfMap (map_lines_printed ks) keyed.second keyed.seconds;
+            tree_is = same_tree _ _ _ (three_parts lined.stateds named.first named.second keyed.first keyed.second named.are keyed.are);
           };
         }
 

@@ -8,9 +8,6 @@ use Rattle.kx_lex.specs.declared.token.Token.{Token}
 use Rattle.kx_lex.specs.declared.token.TokenKind.TheVariants.{Mark, Number}
 use Rattle.kx_parse.specs.Forms.{after, made, listed}
 use Rattle.kx_parse.specs.Values.{term, operation, expression, is_sign}
-use Rattle.kx_parse.specs.declared.tree.Element.TheVariants as elements
-use Rattle.kx_parse.specs.declared.tree.BracePart.TheVariants as parts
-use Rattle.kx_parse.specs.declared.tree.Symbol.TheVariants as symbols
 use Rattle.kx_parse.specs.declared.tree.Term.TheVariants as terms
 use Rattle.roundtrip_text.specs.Slices.{Slice, slice, Begins, none, more}
 use Rattle.roundtrip_tree.specs.Shows.{IsSpelled, ReadsAs, AreShown, number_at}

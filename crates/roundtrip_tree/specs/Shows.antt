@@ -9,6 +9,7 @@ use Rattle.kx_parse.specs.declared.tree.Entry.TheVariants as entries
 use Rattle.kx_parse.specs.declared.tree.Item.{Item}
 use Rattle.kx_parse.specs.declared.tree.Item.TheVariants as items
 use Rattle.kx_parse.specs.declared.tree.Mode.TheVariants.{Override}
+use Rattle.kx_parse.specs.declared.tree.Stated.{Stated}
 use Rattle.kx_parse.specs.declared.tree.Statement.{Statement}
 use Rattle.kx_parse.specs.declared.tree.Statement.TheVariants as statements
 
@@ -19,12 +20,14 @@ abbrev pub number_at : ℕ → Span → NumberValue
 number_at value span = record { value = value; span = span }
 
 -- a statement as it is printed, without a mode
+pub record IsStated (Is : Statement → Type 0) (stated : Stated) : Type 0 where
+  pub mode_is : stated.mode ≡ Override
+  pub shows : Is stated.statement
+
 pub record IsItem (Is : Statement → Type 0) (item : Item) : Type 0 where
-  pub statement : Statement
-  pub first : Span
-  pub whole : Span
-  pub item_is : item ≡ items.Statement Override statement first whole
-  pub shows : Is statement
+  pub stated : Stated
+  pub item_is : item ≡ items.Statement stated
+  pub is : IsStated Is stated
 
 pub record IsKeycode (name : List ℕ) (code : ℕ) (statement : Statement) : Type 0 where
   pub name_span : Span

@@ -4,14 +4,14 @@ use Rattle.kx_lex.specs.declared.name.Name.{Name}
 use Rattle.kx_lex.specs.declared.token.Span.{Span}
 use Rattle.kx_parse.specs.declared.tree.Entry.{Entry}
 use Rattle.kx_parse.specs.declared.tree.Field.{Field}
-use Rattle.kx_parse.specs.declared.tree.Item.{Item}
 use Rattle.kx_parse.specs.declared.tree.KeyField.{KeyField}
 use Rattle.kx_parse.specs.declared.tree.Setting.TheVariants.{To}
+use Rattle.kx_parse.specs.declared.tree.Stated.{Stated}
 use Rattle.kx_parse.specs.declared.tree.Statement.{Statement}
 use Rattle.kx_parse.specs.declared.tree.Statement.TheVariants as statements
 use Rattle.kx_parse.specs.declared.tree.Term.TheVariants as terms
 use Rattle.kx_parse.specs.declared.tree.Value.TheVariants as values
-use Rattle.roundtrip_tree.specs.Shows.{IsItem, name_at, number_at}
+use Rattle.roundtrip_tree.specs.Shows.{IsStated, name_at, number_at}
 
 -- `name[n]= "NAME"`
 pub record IsGroupName (group : ℕ) (name : List ℕ) (statement : Statement) : Type 0 where
@@ -44,11 +44,11 @@ pub record MapsModifier (statement : Statement) : Type 0 where
   pub entries : List Entry
   pub is : statement ≡ statements.ModifierMap modifier entries
 
-abbrev pub IsNameItem : Item → Type 0
-IsNameItem item = IsItem NamesGroup item
+abbrev pub IsNameStated : Stated → Type 0
+IsNameStated stated = IsStated NamesGroup stated
 
-abbrev pub IsKeyItem : Item → Type 0
-IsKeyItem item = IsItem NamesKey item
+abbrev pub IsKeyStated : Stated → Type 0
+IsKeyStated stated = IsStated NamesKey stated
 
-abbrev pub IsMapItem : Item → Type 0
-IsMapItem item = IsItem MapsModifier item
+abbrev pub IsMapStated : Stated → Type 0
+IsMapStated stated = IsStated MapsModifier stated

@@ -11,12 +11,12 @@ use Rattle.kx_merge.specs.Faults.{name_faults}
 
 pub returns-in_err-values-clause-faults : goal.returns-in_err-values-clause-faults
 returns-in_err-values-clause-faults c =
-    let names = c.args.names.now.names in
-    let front = name_faults c.args.file c.args.whole c.args.name.now in
-    let fields = flat_map (own_faults c.args.file names) c.args.fields.now in
+    let names = c.args.context.now.modifiers.now.names in
+    let front = name_faults c.args.whole.file c.args.whole.span c.args.name.now in
+    let fields = flat_map (own_faults c.args.whole.file names) c.args.fields.now in
     reported_or_out c.from_residual.result (front ++ fields) c.in_err-values.field-0.0 c.from_residual.ensures.1 (blamed_behind Memory front fields c.in_err-values.field-0.0 c.in_err-values.ensures.faults.1)
 
 pub returns-clause-records : goal.returns-clause-records
 returns-clause-records c = λ mode.
-    given_offered values_cell values_width mode (λ v g. refl) (λ v. v.items) c.records_for.result c.number_of.result (position (bytes_eq c.args.name.now.bytes) c.args.indicator_maps.now) c.in_ok-values.values (values_of c.args.names.now.names c.args.defaults c.args.fields.now)
-    (c.number_of.ensures.value ∙ ap (λ bytes. position (bytes_eq bytes) c.args.indicator_maps.now) c.as_slice-bytes.ensures) c.in_ok-values.ensures.value c.records_for.ensures.records
+    given_offered values_cell values_width mode (λ v g. refl) (λ v. v.items) c.records_for.result c.number_of.result (position (bytes_eq c.args.name.now.bytes) c.args.context.now.indicators.now) c.in_ok-values.values (values_of c.args.context.now.modifiers.now.names c.args.defaults c.args.fields.now)
+    (c.number_of.ensures.value ∙ ap (λ bytes. position (bytes_eq bytes) c.args.context.now.indicators.now) c.as_slice-bytes.ensures) c.in_ok-values.ensures.value c.records_for.ensures.records

@@ -1,7 +1,6 @@
 use Rattle.std.proofs.Common.{[], ◌++◌, ap, cond, ◌∙◌}
 use Rattle.std.specs.Map.{keys_of}
 use Rattle.kx_merge.specs.Offers.{is_replace}
-use Rattle.kx_merge.specs.Records.{mode_of}
 use Rattle.kx_merge.proofs.Covering.{takes_back}
 use Rattle.kx_merge.proofs.merging.merge_own.Goals as goal
 
@@ -9,9 +8,8 @@ pub returns-clause-back : goal.returns-clause-back
 returns-clause-back g c =
     let old = c.args.replaced.now.items in
     let new = c.note_replaced.new.replaced.items in
-    let mode = mode_of c.args.item.now in
+    let mode = c.args.stated.now.mode in
     let given = c.in_ok-given.given.items in
     let noted =
-    c.in_ok-note_replaced.ensures.noted ∙ ap (λ m. old ++ cond (is_replace m) (keys_of c.as_slice.result.now) []) c.mode_of-mode.ensures
-    ∙ ap (λ rs. old ++ cond (is_replace mode) (keys_of rs) []) c.as_slice.ensures.value in
-    takes_back g.R.Key.PartialEq.eq mode given ((g.R.Fields.rules c.args.context.now).offers c.args.defaults c.args.place c.args.item.now) old new c.in_ok-given.ensures.records noted
+    c.in_ok-note_replaced.ensures.noted ∙ ap (λ rs. old ++ cond (is_replace mode) (keys_of rs) []) c.as_slice.ensures.value in
+    takes_back g.R.Key.PartialEq.eq mode given ((g.R.Fields.rules c.args.context.now).offers c.args.defaults c.args.place c.args.stated.now) old new c.in_ok-given.ensures.records noted

@@ -4,4 +4,4 @@ use Rattle.kx_symbols.specs.Lists.{field_lists, lists_of, no_lists}
 use Rattle.kx_symbols.proofs.fields.read_lists.Given as goal
 
 abbrev pub invariant-fields : goal.invariant-fields
-invariant-fields l = (lists_of l.known l.fields ≡ fold (field_lists l.known) l.lists (drop l.field-index l.fields)) × (fields_faults l.site.file l.known l.site.whole no_lists l.fields ≡ fields_faults l.site.file l.known l.site.whole l.lists (drop l.field-index l.fields))
+invariant-fields l = (lists_of l.known l.fields ≡ fold (field_lists l.known) l.lists (drop l.field-index l.fields)) × (fields_faults l.whole.file l.known l.whole.span no_lists l.fields ≡ fields_faults l.whole.file l.known l.whole.span l.lists (drop l.field-index l.fields))

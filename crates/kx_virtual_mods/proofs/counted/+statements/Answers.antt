@@ -18,7 +18,7 @@ add_entry-returns-in-Own g t c =
     let bodies = take c.args.below (bodies_of c.args.maps.now) in
     let new : Tally = record { names = c.add_statement.new.names; done = c.args.tally.now.done } in
     subst (λ e. Adds names {X = Unit {0}} c.args.limit c.args.maps.now c.args.tally.now c.add_statement.result new (entry_statements bodies c.args.place e)) (sym c.in-Own.is)
-    (adds_statement names c.args.limit c.args.maps.now c.args.tally.now new (c.args.place, c.in-Own.item.now) c.add_statement.result c.requires.done refl c.add_statement.ensures.added c.add_statement.ensures.few c.add_statement.ensures.fault)
+    (adds_statement names c.args.limit c.args.maps.now c.args.tally.now new (c.args.place, c.in-Own.stated.now) c.add_statement.result c.requires.done refl c.add_statement.ensures.added c.add_statement.ensures.few c.add_statement.ensures.fault)
 
 pub add_included-returns-then-is_done : goal.add_included-returns-then-is_done
 add_included-returns-then-is_done g t c =

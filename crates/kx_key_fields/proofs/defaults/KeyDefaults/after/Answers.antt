@@ -2,7 +2,7 @@ use Rattle.kx_lex.specs.declared.fault.Fault.TheVariants.{Memory}
 use Rattle.kx_key_fields.specs.KeyFields.{default_faults}
 use Rattle.kx_key_fields.proofs.Cellwise.{last_defaults}
 use Rattle.kx_merge.proofs.Going.{blamed, reported_or_out}
-use Rattle.kx_key_fields.proofs.defaults.KeyDefaults.behind.Goals as goal
+use Rattle.kx_key_fields.proofs.defaults.KeyDefaults.after.Goals as goal
 
 pub returns-in_err-given-clause-last : goal.returns-in_err-given-clause-last
 returns-in_err-given-clause-last c = last_defaults c.args.names.now.names

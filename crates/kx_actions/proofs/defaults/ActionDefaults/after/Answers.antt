@@ -1,5 +1,5 @@
 use Rattle.kx_actions.proofs.Last.{last_defaults}
-use Rattle.kx_actions.proofs.defaults.ActionDefaults.behind.Goals as goal
+use Rattle.kx_actions.proofs.defaults.ActionDefaults.after.Goals as goal
 
 pub returns-in_default-clause-last : goal.returns-in_default-clause-last
 returns-in_default-clause-last c = last_defaults c.args.names.now.names
