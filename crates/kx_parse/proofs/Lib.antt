@@ -4,3 +4,8 @@ mod LawfulGeometry
 mod LawfulSections
 mod Trees
 mod Refusals
+mod PassedForms
+mod PassedValues
+mod PassedStatements
+mod PassedOutline
+mod PassedSections

@@ -2,12 +2,16 @@
 #![tactic(auto)]
 
 mod fields;
+mod outline;
+mod passing;
+mod passing_statements;
 mod sections;
 mod statements;
 mod tree;
 mod values;
 
 pub use kx_lex::{Boxed, Bytes, KeyName, Name, Number, Row, SmallRow};
+pub use outline::{Outline, outline_file};
 pub use sections::{one_stop, one_tree, parse, parse_file, stops};
 pub use tree::{
     Argument, BracePart, Braces, Call, Declaration, Element, Entry, Expression, Field, FieldPlace,

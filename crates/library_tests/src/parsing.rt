@@ -1,6 +1,6 @@
 //! Trees of texts.
 use kx_lex::{Fault, Span, lex};
-use kx_parse::{Item, Kind, Mode, Stated, Statement, Tree, parse};
+use kx_parse::{Item, Kind, Mode, Outline, Stated, Statement, Tree, outline_file, parse};
 use std::alloc::Global;
 use std::process::Abort;
 use std::test::Fail;
@@ -178,5 +178,44 @@ fn kinds_of_sections(rt: HostRuntime) -> Result<(), Fail> {
     assert!(rt; sections.len() == 2);
     assert!(rt; matches!(sections[0].kind, Kind::Types));
     assert!(rt; matches!(sections[1].kind, Kind::Compat));
+    Ok(())
+}
+
+/// A file of a map, of which two items are includes, and geometry.
+const FILE: &[u8] = b"// maps
+partial xkb_symbols \"one\" { include \"us(basic)\" key <A> { [a] }; augment \"de\" };
+xkb_geometry { { } };
+";
+
+/// Asserts that an outline is that of `FILE`.
+fn outlines_the_file(rt: &impl Abort, outline: &Outline) {
+    let sections = outline.sections.as_slice();
+    let places = outline.places.as_slice();
+    assert!(rt; sections.len() == 2 && places.len() == 2);
+    assert!(rt; sections[0].kind == Kind::Symbols && sections[1].kind == Kind::Geometry);
+    assert!(rt; sections[0].flags.as_slice().len() == 1 && sections[0].name.is_some());
+    assert!(rt; sections[0].items.as_slice().len() == 2 && sections[1].items.as_slice().is_empty());
+    let bytes = &FILE[places[0].start as usize..places[0].stop as usize];
+    assert!(rt; bytes.starts_with(b"partial") && bytes.ends_with(b"};"));
+    let bytes = &FILE[places[1].start as usize..places[1].stop as usize];
+    assert!(rt; bytes == b"xkb_geometry { { } };".as_slice());
+}
+
+#[test]
+fn an_outline_keeps_includes_and_places(rt: HostRuntime) -> Result<(), Fail> {
+    let Some(outline) = outline_file(rt.alloc(), FILE)? else {
+        assert!(rt; false);
+        return Ok(());
+    };
+    outlines_the_file(&rt, &outline);
+    Ok(())
+}
+
+#[test]
+fn a_file_without_a_tree_has_no_outline(rt: HostRuntime) -> Result<(), Fail> {
+    let broken = b"xkb_symbols \"one\" { key <A> { [a }; };".as_slice();
+    assert!(rt; outline_file(rt.alloc(), broken)?.is_none());
+    let unnamed = b"xkb_keymap { xkb_symbols { }; };".as_slice();
+    assert!(rt; outline_file(rt.alloc(), unnamed)?.is_none());
     Ok(())
 }

@@ -1,0 +1,378 @@
+//! What the sections of a text are, without the statements in them.
+ghost use Rattle.std.specs.Prelude.{◌≡◌, ◌≤◌, ◌<◌, ◌-◌, ◌+◌, ◌==◌, ◌&&◌, ◌++◌, [], ◌∷◌, true, false, ℕ, List, Some, None, filter, length, IfNone, IfOk, IfSome};
+ghost use Rattle.kx_lex.specs.Passing.{Ends, IsAtToken, front_byte, Passes, PassesAs, PassesTo, PassesWord};
+ghost use Rattle.kx_lex.specs.Production.{spanned};
+ghost use Rattle.kx_lex.specs.Tokens.{close_brace, text_name};
+ghost use Rattle.kx_lex.specs.declared.scan.TheConstants.{MOST_TEXT_BYTES};
+ghost use Rattle.kx_lex.specs.declared.token.TokenKind.TheVariants.{Word};
+ghost use Rattle.kx_parse.specs.Forms.{ended};
+ghost use Rattle.kx_parse.specs.Geometry.{geometry};
+ghost use Rattle.kx_parse.specs.Outline.{BeginsNoInclude, BeginsNoModed, IsJoinWord, IsKindWord, IsModeWord, IsNoFlag, IsOutline, PassesDeep, held_by, include_at, is_include, items_ended, outline_of};
+ghost use Rattle.kx_parse.specs.Sections.{flag, flagged, flags, item, optional_text, section};
+
+use crate::passing_statements::{pass_statement, pass_statement_behind};
+use crate::sections::{flag_of, join_of, kind_of, mode_of};
+use crate::tree::{Flag, Item, Kind, Mode, Section};
+use kx_lex::passing::{
+    first_in, front_is, front_is_word, pass_keyword, pass_mark, pass_name, pass_token, span_at,
+};
+use kx_lex::tokens::is_keyword;
+use kx_lex::{Keyword, MOST_TEXT_BYTES, Name, Row, Span, Token, TokenKind};
+use std::alloc::{AllocError, Global};
+
+/// The sections of a text without their statements, and where each stands, from its first token to its `;`.
+#[derive(Debug, Drop)]
+pub struct Outline {
+    pub sections: Row<Section>,
+    pub places: Row<Span>,
+}
+
+/// What is known of a value that is passed over, and what stands behind it; nothing where none is spelled, and an error where
+/// a growth is refused.
+type Outlined<'t, T> = Result<Option<(T, &'t [u8])>, AllocError>;
+
+/// A word that spells this keyword, or none.
+fn word_token(keyword: Option<Keyword>) -> Token
+    ensures { result.kind ≡ Word keyword }
+{
+    Token {
+        kind: TokenKind::Word(keyword),
+        span: Span { start: 0, stop: 0 },
+    }
+}
+
+/// The mode in which an include joins what stands before it, where its word and its text stand there.
+fn include_mode(word: Option<Keyword>, bytes: &[u8]) -> Option<Mode>
+    requires { IsAtToken bytes.now }
+    ensures some { IfSome result (λ mode. IsJoinWord mode word) }
+    ensures none { IfNone result (BeginsNoInclude word bytes.now) }
+{
+    let mode = join_of(&word_token(word))?;
+    if !front_is(b'"', bytes) {
+        return None;
+    }
+    Some(mode)
+}
+
+/// Whether bytes behind a mode's word begin a statement in that mode.
+fn front_is_moded(word: Option<Keyword>, bytes: &[u8]) -> bool
+    requires { IsAtToken bytes.now }
+    ensures some { result ≡ true → IsModeWord word }
+    ensures none { result ≡ false → BeginsNoModed word bytes.now }
+{
+    if mode_of(&word_token(word)).is_none() {
+        return false;
+    }
+    front_is_word(bytes) || front_is(b'<', bytes) || front_is(b'!', bytes)
+}
+
+/// Passes the text of an include, whose word stands at `start`, and answers it.
+fn pass_include<'t>(
+    alloc: Global,
+    text: &[u8],
+    mode: Mode,
+    start: &[u8],
+    bytes: &'t [u8],
+) -> Outlined<'t, Item>
+    requires starts { Ends text.now start.now }
+    requires ends { Ends text.now bytes.now }
+    requires short { length text.now ≤ MOST_TEXT_BYTES }
+    ensures passes { IfOk result (λ o. IfSome o (λ p.
+        PassesAs text.now (text_name text.now)
+        (λ n. p.0 ≡ include_at mode (length text.now - length start.now) n)
+        bytes.now p.1.now)) }
+    ensures within { IfOk result (λ o. IfSome o (λ p. length p.1.now < length bytes.now)) }
+    ensures at { IfOk result (λ o. IfSome o (λ p. IsAtToken p.1.now)) }
+{
+    let Some((name, rest)) = pass_name(alloc, text, bytes)? else {
+        return Ok(None);
+    };
+    let span = Span {
+        start: span_at(text, start, 0).start,
+        stop: name.span.stop,
+    };
+    let include = Item::Include {
+        mode,
+        text: name,
+        span,
+    };
+    Ok(Some((include, rest)))
+}
+
+/// Passes an item of a section, and adds it where it is an include.
+fn pass_item<'t>(
+    alloc: Global,
+    text: &[u8],
+    bytes: &'t [u8],
+    includes: &mut Vec<Item>,
+) -> Result<Option<&'t [u8]>, AllocError>
+    requires ends { Ends text.now bytes.now }
+    requires short { length text.now ≤ MOST_TEXT_BYTES }
+    requires at { IsAtToken bytes.now }
+    ensures passes { IfOk result (λ o. IfSome o (λ rest.
+        PassesAs text.now (item text.now)
+        (λ i. includes.new.items ≡ includes.old.items ++ filter is_include (i ∷ []))
+        bytes.now rest.now)) }
+    ensures within { IfOk result (λ o. IfSome o (λ rest. length rest.now < length bytes.now)) }
+    ensures at { IfOk result (λ o. IfSome o (λ rest. IsAtToken rest.now)) }
+{
+    let Some((word, behind)) = pass_keyword(bytes) else {
+        return Ok(pass_statement(bytes));
+    };
+    if let Some(mode) = include_mode(word, behind) {
+        let Some((include, rest)) = pass_include(alloc, text, mode, bytes, behind)? else {
+            return Ok(None);
+        };
+        includes.push(include)?;
+        return Ok(Some(rest));
+    }
+    if front_is_moded(word, behind) {
+        return Ok(pass_statement(behind));
+    }
+    Ok(pass_statement_behind(word, behind))
+}
+
+/// Passes the items of a section and the brace that closes it, and answers the includes among them.
+fn pass_items<'t>(alloc: Global, text: &[u8], bytes: &'t [u8]) -> Outlined<'t, Row<Item>>
+    requires ends { Ends text.now bytes.now }
+    requires short { length text.now ≤ MOST_TEXT_BYTES }
+    requires at { IsAtToken bytes.now }
+    ensures passes { IfOk result (λ o. IfSome o (λ p.
+        PassesAs text.now (items_ended text.now) (λ is. p.0 ≡ filter is_include is)
+        bytes.now p.1.now)) }
+    ensures within { IfOk result (λ o. IfSome o (λ p. length p.1.now < length bytes.now)) }
+    ensures at { IfOk result (λ o. IfSome o (λ p. IsAtToken p.1.now)) }
+{
+    let mut includes = Vec::new(alloc);
+    let mut rest = bytes;
+    'items: while !front_is(b'}', rest) {
+        let Some(left) = pass_item(alloc, text, rest, &mut includes)? else {
+            return Ok(None);
+        };
+        rest = left;
+    }
+    match pass_mark(b'}', rest) {
+        Some(left) => Ok(Some((Row::of(includes), left))),
+        None => Ok(None),
+    }
+}
+
+/// Whether the brace that closes geometry stands at the front, with so many open braces before it.
+fn ends_geometry(depth: usize, bytes: &[u8]) -> bool
+    ensures { result ≡ (depth == 0 && front_byte 125 bytes.now) }
+{
+    depth == 0 && front_is(b'}', bytes)
+}
+
+/// Passes a token of geometry with so many open braces before it, and answers how many there are behind it.
+fn pass_deeper(depth: usize, bytes: &[u8]) -> Option<(usize, &[u8])>
+    requires short { depth + length bytes.now ≤ MOST_TEXT_BYTES }
+    requires at { IsAtToken bytes.now }
+    ensures passes { IfSome result (λ p. (end : List ℕ) → PassesDeep p.0 p.1.now end
+        → PassesDeep depth bytes.now end) }
+    ensures deeper { IfSome result (λ p. p.0 + length p.1.now ≤ depth + length bytes.now) }
+    ensures within { IfSome result (λ p. length p.1.now < length bytes.now) }
+    ensures at { IfSome result (λ p. IsAtToken p.1.now) }
+{
+    if front_is(b'{', bytes) {
+        let rest = pass_mark(b'{', bytes)?;
+        return Some((depth + 1, rest));
+    }
+    if !front_is(b'}', bytes) {
+        let rest = pass_token(bytes)?;
+        return Some((depth, rest));
+    }
+    if depth == 0 {
+        return None;
+    }
+    let rest = pass_mark(b'}', bytes)?;
+    Some((depth - 1, rest))
+}
+
+/// Passes geometry and the brace that closes it; braces are counted.
+fn pass_geometry(bytes: &[u8]) -> Option<&[u8]>
+    requires short { length bytes.now ≤ MOST_TEXT_BYTES }
+    requires at { IsAtToken bytes.now }
+    ensures passes { IfSome result (λ rest.
+        Passes (λ text. ended text close_brace (geometry text)) bytes.now rest.now) }
+    ensures within { IfSome result (λ rest. length rest.now < length bytes.now) }
+    ensures at { IfSome result (λ rest. IsAtToken rest.now) }
+{
+    let mut depth: usize = 0;
+    let mut rest = bytes;
+    'tokens: while !ends_geometry(depth, rest) {
+        let (inner, left) = pass_deeper(depth, rest)?;
+        depth = inner;
+        rest = left;
+    }
+    pass_mark(b'}', rest)
+}
+
+/// Passes a word that flags a section.
+fn pass_flag(bytes: &[u8]) -> Option<(Flag, &[u8])>
+    requires { IsAtToken bytes.now }
+    ensures passes { IfSome result (λ p. PassesTo flag p.0 bytes.now p.1.now) }
+    ensures none { IfNone result (IsNoFlag bytes.now) }
+    ensures within { IfSome result (λ p. length p.1.now < length bytes.now) }
+    ensures at { IfSome result (λ p. IsAtToken p.1.now) }
+{
+    let (word, rest) = pass_keyword(bytes)?;
+    let flag = flag_of(&word_token(word))?;
+    Some((flag, rest))
+}
+
+fn pass_flags<'t>(alloc: Global, bytes: &'t [u8]) -> Result<(Row<Flag>, &'t [u8]), AllocError>
+    requires { IsAtToken bytes.now }
+    ensures passes { IfOk result (λ p. PassesTo flags p.0 bytes.now p.1.now) }
+    ensures within { IfOk result (λ p. length p.1.now ≤ length bytes.now) }
+    ensures at { IfOk result (λ p. IsAtToken p.1.now) }
+{
+    let mut flags = Vec::new(alloc);
+    let mut rest = bytes;
+    'flags: while let Some((flag, left)) = pass_flag(rest) {
+        flags.push(flag)?;
+        rest = left;
+    }
+    Ok((Row::of(flags), rest))
+}
+
+fn pass_optional_name<'t>(alloc: Global, text: &[u8], bytes: &'t [u8]) -> Outlined<'t, Option<Name>>
+    requires ends { Ends text.now bytes.now }
+    requires short { length text.now ≤ MOST_TEXT_BYTES }
+    requires at { IsAtToken bytes.now }
+    ensures passes { IfOk result (λ o. IfSome o (λ p.
+        PassesAs text.now (optional_text text.now) (λ n. n ≡ p.0) bytes.now p.1.now)) }
+    ensures within { IfOk result (λ o. IfSome o (λ p. length p.1.now ≤ length bytes.now)) }
+    ensures at { IfOk result (λ o. IfSome o (λ p. IsAtToken p.1.now)) }
+{
+    if !front_is(b'"', bytes) {
+        return Ok(Some((None, bytes)));
+    }
+    match pass_name(alloc, text, bytes)? {
+        Some((name, rest)) => Ok(Some((Some(name), rest))),
+        None => Ok(None),
+    }
+}
+
+/// Passes the braces of a section of a kind, and answers the includes between them.
+fn pass_held<'t>(alloc: Global, text: &[u8], kind: Kind, bytes: &'t [u8]) -> Outlined<'t, Row<Item>>
+    requires ends { Ends text.now bytes.now }
+    requires short { length text.now ≤ MOST_TEXT_BYTES }
+    ensures passes { IfOk result (λ o. IfSome o (λ p.
+        PassesAs text.now (held_by text.now kind) (λ is. p.0 ≡ filter is_include is) bytes.now
+        p.1.now)) }
+    ensures within { IfOk result (λ o. IfSome o (λ p. length p.1.now < length bytes.now)) }
+    ensures at { IfOk result (λ o. IfSome o (λ p. IsAtToken p.1.now)) }
+{
+    let Some(first) = pass_mark(b'{', bytes) else {
+        return Ok(None);
+    };
+    match kind {
+        Kind::Geometry => match pass_geometry(first) {
+            Some(rest) => Ok(Some((Row::of(Vec::new(alloc)), rest))),
+            None => Ok(None),
+        },
+        _ => pass_items(alloc, text, first),
+    }
+}
+
+/// The kind of section that a word begins.
+fn section_kind(word: Option<Keyword>) -> Option<Kind>
+    ensures { IfSome result (λ kind. IsKindWord kind word) }
+{
+    let token = word_token(word);
+    if is_keyword(Keyword::XkbGeometry, &token) {
+        return Some(Kind::Geometry);
+    }
+    kind_of(&token)
+}
+
+/// Passes a section behind its flags, without its `;`, and answers it without its statements.
+fn pass_flagged<'t>(
+    alloc: Global,
+    text: &[u8],
+    flags: Row<Flag>,
+    bytes: &'t [u8],
+) -> Outlined<'t, Section>
+    requires ends { Ends text.now bytes.now }
+    requires short { length text.now ≤ MOST_TEXT_BYTES }
+    ensures passes { IfOk result (λ o. IfSome o (λ p.
+        PassesAs text.now (flagged text.now flags) (λ s. p.0 ≡ outline_of s) bytes.now
+        p.1.now)) }
+    ensures within { IfOk result (λ o. IfSome o (λ p. length p.1.now < length bytes.now)) }
+    ensures at { IfOk result (λ o. IfSome o (λ p. IsAtToken p.1.now)) }
+{
+    let Some((word, behind)) = pass_keyword(bytes) else {
+        return Ok(None);
+    };
+    let Some(kind) = section_kind(word) else {
+        return Ok(None);
+    };
+    let Some((name, open)) = pass_optional_name(alloc, text, behind)? else {
+        return Ok(None);
+    };
+    let Some((items, rest)) = pass_held(alloc, text, kind, open)? else {
+        return Ok(None);
+    };
+    let section = Section {
+        flags,
+        kind,
+        name,
+        items,
+    };
+    Ok(Some((section, rest)))
+}
+
+/// Passes a section, and answers it without its statements, and where it stands.
+fn pass_section<'t>(alloc: Global, text: &[u8], bytes: &'t [u8]) -> Outlined<'t, (Section, Span)>
+    requires ends { Ends text.now bytes.now }
+    requires short { length text.now ≤ MOST_TEXT_BYTES }
+    requires at { IsAtToken bytes.now }
+    ensures passes { IfOk result (λ o. IfSome o (λ p.
+        PassesAs text.now (spanned (section text.now))
+        (λ s. p.0 ≡ (outline_of s.0, s.1)) bytes.now p.1.now)) }
+    ensures within { IfOk result (λ o. IfSome o (λ p. length p.1.now < length bytes.now)) }
+    ensures at { IfOk result (λ o. IfSome o (λ p. IsAtToken p.1.now)) }
+{
+    let (flags, kind) = pass_flags(alloc, bytes)?;
+    let Some((section, end)) = pass_flagged(alloc, text, flags, kind)? else {
+        return Ok(None);
+    };
+    let Some(rest) = pass_mark(b';', end) else {
+        return Ok(None);
+    };
+    let span = Span {
+        start: span_at(text, bytes, 0).start,
+        stop: span_at(text, end, 1).stop,
+    };
+    Ok(Some(((section, span), rest)))
+}
+
+/// The outline of a file; nothing where the file has no tree.
+///
+/// # Errors
+/// Where a growth is refused.
+pub fn outline_file(alloc: Global, text: &[u8]) -> Result<Option<Outline>, AllocError>
+    ensures { IfOk result (λ o. IfSome o (λ outline. IsOutline text.now outline)) }
+{
+    if text.len() > MOST_TEXT_BYTES {
+        return Ok(None);
+    }
+    let mut sections = Vec::new(alloc);
+    let mut places = Vec::new(alloc);
+    let mut rest = first_in(text);
+    'sections: while !rest.is_empty() {
+        let Some((placed, left)) = pass_section(alloc, text, rest)? else {
+            return Ok(None);
+        };
+        let (section, place) = placed;
+        sections.push(section)?;
+        places.push(place)?;
+        rest = left;
+    }
+    let outline = Outline {
+        sections: Row::of(sections),
+        places: Row::of(places),
+    };
+    Ok(Some(outline))
+}
