@@ -1,6 +1,6 @@
 //! Trees of texts.
 use kx_lex::{Fault, Span, lex};
-use kx_parse::{Item, Kind, Mode, Outline, Stated, Statement, Tree, outline_file, parse};
+use kx_parse::{Item, Kind, Mode, Section, Stated, Statement, Tree, outline_file, parse};
 use std::alloc::Global;
 use std::process::Abort;
 use std::test::Fail;
@@ -187,18 +187,36 @@ partial xkb_symbols \"one\" { include \"us(basic)\" key <A> { [a] }; augment \"d
 xkb_geometry { { } };
 ";
 
-/// Asserts that an outline is that of `FILE`.
-fn outlines_the_file(rt: &impl Abort, outline: &Outline) {
-    let sections = outline.sections.as_slice();
-    let places = outline.places.as_slice();
-    assert!(rt; sections.len() == 2 && places.len() == 2);
-    assert!(rt; sections[0].kind == Kind::Symbols && sections[1].kind == Kind::Geometry);
-    assert!(rt; sections[0].flags.as_slice().len() == 1 && sections[0].name.is_some());
-    assert!(rt; sections[0].items.as_slice().len() == 2 && sections[1].items.as_slice().is_empty());
-    let bytes = &FILE[places[0].start as usize..places[0].stop as usize];
-    assert!(rt; bytes.starts_with(b"partial") && bytes.ends_with(b"};"));
-    let bytes = &FILE[places[1].start as usize..places[1].stop as usize];
-    assert!(rt; bytes == b"xkb_geometry { { } };".as_slice());
+/// What stands at a place of `FILE`.
+fn bytes_at(place: &Span) -> &'static [u8] {
+    FILE.get(place.start as usize..place.stop as usize)
+        .unwrap_or(&[])
+}
+
+/// Asserts that the sections of an outline are those of `FILE`.
+fn are_the_sections(rt: &impl Abort, sections: &[Section]) {
+    let [map, geometry] = sections else {
+        assert!(rt; false);
+        return;
+    };
+    assert!(rt; map.kind == Kind::Symbols);
+    assert!(rt; map.name.is_some());
+    assert!(rt; map.flags.as_slice().len() == 1);
+    assert!(rt; map.items.as_slice().len() == 2);
+    assert!(rt; geometry.kind == Kind::Geometry);
+    assert!(rt; geometry.name.is_none());
+    assert!(rt; geometry.items.as_slice().is_empty());
+}
+
+/// Asserts that sections stand where those of `FILE` do.
+fn are_the_places(rt: &impl Abort, places: &[Span]) {
+    let [map, geometry] = places else {
+        assert!(rt; false);
+        return;
+    };
+    assert!(rt; bytes_at(map).starts_with(b"partial"));
+    assert!(rt; bytes_at(map).ends_with(b"};"));
+    assert!(rt; bytes_at(geometry) == b"xkb_geometry { { } };".as_slice());
 }
 
 #[test]
@@ -207,7 +225,8 @@ fn an_outline_keeps_includes_and_places(rt: HostRuntime) -> Result<(), Fail> {
         assert!(rt; false);
         return Ok(());
     };
-    outlines_the_file(&rt, &outline);
+    are_the_sections(&rt, outline.sections.as_slice());
+    are_the_places(&rt, outline.places.as_slice());
     Ok(())
 }
 
