@@ -1,7 +1,9 @@
 //! From a source to what its image leaves out.
 ghost use Rattle.std.specs.Prelude.{◌≡◌, ◌⊎◌, [], IfErr, IfOk, OnOk};
 ghost use Rattle.kx_include.specs.Bodies.{AreBodies};
+ghost use Rattle.kx_include.specs.Held.{StandsFor};
 ghost use Rattle.kx_include.specs.IncludeFaults.{IsWhole};
+ghost use Rattle.kx_include.specs.Library.{Library as LibraryValue};
 ghost use Rattle.kx_lex.specs.declared.fault.Fault.TheVariants.{Memory};
 ghost use Rattle.kx_virtual_mods.specs.Declarations.{AreModNames, modifier_bodies};
 ghost use Rattle.kx_source.specs.Source.{HasFault, HasFaultIn};
@@ -20,19 +22,18 @@ use kx_types::types;
 use kx_virtual_mods::ModNames;
 use std::alloc::Global;
 
-/// What is left out of what the bodies say that a source and its files expand to.
+/// What is left out of what the bodies of any library say.
 fn left_out_over(
     alloc: Global,
-    library: &Library,
     names: &NameTable,
     bodies: &Bodies,
     modifiers: &ModNames,
 ) -> Result<LeftOut, Fault>
-    requires whole { IsWhole library.now }
-    requires bodies { AreBodies library.now bodies.now }
     requires names { AreModNames modifiers.now (modifier_bodies bodies.now) }
-    ensures are { IfOk result (λ left. AreLeftOut names.now library.now left) }
-    ensures fault { IfErr result (λ e. (e ≡ Memory) ⊎ HasFaultIn names.now library.now e) }
+    ensures are { IfOk result (λ left. (library : LibraryValue) → AreBodies library bodies.now
+        → AreLeftOut names.now library left) }
+    ensures fault { IfErr result (λ e. (library : LibraryValue) → IsWhole library
+        → AreBodies library bodies.now → (e ≡ Memory) ⊎ HasFaultIn names.now library e) }
 {
     let codes = codes(alloc, &bodies.keycodes)?;
     let aliases = known_aliases(alloc, &bodies.keycodes, &codes)?;
@@ -56,15 +57,19 @@ fn left_out_over(
     ))
 }
 
-/// What is left out of what a source and its files say.
+/// What is left out of what a source and its files say. The library may lack what no include reaches: it is the whole one that is
+/// spoken of.
 fn left_out_of(alloc: Global, library: &Library, names: &NameTable) -> Result<LeftOut, Fault>
-    ensures whole { OnOk result (IsWhole library.now) }
-    ensures are { IfOk result (λ left. AreLeftOut names.now library.now left) }
-    ensures fault { IfErr result (λ e. (e ≡ Memory) ⊎ HasFaultIn names.now library.now e) }
+    ensures whole { OnOk result ((whole : LibraryValue) → StandsFor library.now whole
+        → IsWhole whole) }
+    ensures are { IfOk result (λ left. (whole : LibraryValue) → StandsFor library.now whole
+        → AreLeftOut names.now whole left) }
+    ensures fault { IfErr result (λ e. (whole : LibraryValue) → StandsFor library.now whole
+        → (e ≡ Memory) ⊎ HasFaultIn names.now whole e) }
 {
     let bodies = library.expand(alloc)?;
     let modifiers = ModNames::of(alloc, &bodies)?;
-    left_out_over(alloc, library, names, &bodies, &modifiers)
+    left_out_over(alloc, names, &bodies, &modifiers)
 }
 
 /// What a source and its files say that the source's image leaves out.

@@ -8,3 +8,9 @@ pub mod Visiting
 pub mod Sections
 pub mod Indexing
 pub mod Complete
+pub mod Reached
+pub mod Outlining
+pub mod Standing
+pub mod Sketching
+pub mod Wanting
+pub mod Answering

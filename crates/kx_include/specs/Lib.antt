@@ -12,3 +12,4 @@ pub mod Sharing
 pub mod Splits
 pub mod Texts
 pub mod Source
+pub mod Held

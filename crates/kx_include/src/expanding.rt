@@ -3,9 +3,10 @@ ghost use Rattle.std.specs.Prelude.{◌≡◌, ◌+◌, ◌≤◌, ◌∷◌, []
 ghost use Rattle.std.specs.Option.{option_map};
 ghost use Rattle.kx_include.specs.Bodies.{AreBodies, expansion_of};
 ghost use Rattle.kx_include.specs.Complete.{LeavesNothingOut};
+ghost use Rattle.kx_include.specs.Held.{StandsFor};
 ghost use Rattle.kx_include.specs.IncludeFaults.{all_of, in_depth, in_file, in_include, in_item, in_map, in_part, HasIncludeFault, IsWhole};
 ghost use Rattle.kx_include.specs.IncludeText.{parts_of};
-ghost use Rattle.kx_include.specs.Library.{items_in, place_in};
+ghost use Rattle.kx_include.specs.Library.{Library as LibraryValue, items_in, place_in};
 ghost use Rattle.kx_include.specs.Limits.{most_depth, most_parts};
 ghost use Rattle.kx_include.specs.Sharing.{AddsSection, AreEntriesOf, AreKnown, AreLinksOf, Blames, Expands, IsFound, IsKnownMap, IsLinkOf, IsMapOf, IsNumberOf, IsTextOf};
 ghost use Rattle.kx_lex.specs.declared.fault.Fault.TheVariants.{Memory};
@@ -60,9 +61,21 @@ impl<'a> Library<'a> {
     /// `BadInclude`, `FileMissing`, `MapMissing` and `DepthOver16` at the include's text; what its file has no tree for,
     /// in that file; `TooMany` at the word and the text of the include that passes the limit; `Memory`.
     pub fn expand(&self, alloc: Global) -> Result<Bodies<'_>, Fault>
+        ensures whole { OnOk result ((whole : LibraryValue) → StandsFor self.now whole
+            → IsWhole whole) }
+        ensures bodies { IfOk result (λ bodies. (whole : LibraryValue) → StandsFor self.now whole
+            → AreBodies whole bodies) }
+        ensures complete { (library : LibraryValue) → IsWhole library → LeavesNothingOut library }
+        ensures fault { IfErr result (λ e. (whole : LibraryValue) → StandsFor self.now whole
+            → (e ≡ Memory) ⊎ HasIncludeFault whole e) }
+    {
+        self.expand_held(alloc)
+    }
+
+    /// The same of what the library holds.
+    fn expand_held(&self, alloc: Global) -> Result<Bodies<'_>, Fault>
         ensures whole { OnOk result (IsWhole self.now) }
         ensures bodies { IfOk result (λ bodies. AreBodies self.now bodies) }
-        ensures complete { IsWhole self.now → LeavesNothingOut self.now }
         ensures fault { IfErr result (λ e. (e ≡ Memory) ⊎ HasIncludeFault self.now e) }
     {
         let mut bodies = Bodies::new(alloc);

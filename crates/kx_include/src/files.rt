@@ -2,6 +2,7 @@
 ghost use Rattle.std.specs.Prelude.{◌≡◌, ◌++◌, [], ◌≤◌, List, ℕ, IfOk, OnOk, OnErr, IfErr, IfSome, IfNone, length, slice_get, map, Some, position};
 ghost use Rattle.std.specs.Option.{option_map};
 ghost use Rattle.kx_lex.specs.declared.fault.Fault.TheVariants.{Memory};
+ghost use Rattle.kx_include.specs.Held.{bytes_by};
 ghost use Rattle.kx_include.specs.Library.{number_of, with_file};
 ghost use Rattle.kx_include.specs.declared.sources.TheConstants.{MOST_FILES};
 
@@ -62,6 +63,16 @@ impl Files {
         match self.files.place_of_owned_name(name) {
             None => None,
             Some(place) => Some(place as u32 + 1),
+        }
+    }
+
+    /// The bytes of the text of a number, which is a file's place counted from 1; none of the source's.
+    pub(crate) fn bytes_of(&self, number: usize) -> &[u8]
+        ensures { result.now ≡ bytes_by self.now number }
+    {
+        match number.checked_sub(1) {
+            Some(place) => self.bytes_at(place),
+            None => &[],
         }
     }
 

@@ -1,12 +1,14 @@
 //! A text with the index of its maps.
-ghost use Rattle.std.specs.Prelude.{◌≡◌, IfOk, Some};
+ghost use Rattle.std.specs.Prelude.{◌≡◌, IfErr, IfOk, Some};
 ghost use Rattle.std.specs.Option.{option_map};
 ghost use Rattle.kx_include.specs.IncludeFaults.{fault_in};
-ghost use Rattle.kx_include.specs.Library.{map_of, sections_of};
+ghost use Rattle.kx_include.specs.Held.{Holds, IsSketch};
+ghost use Rattle.kx_include.specs.Library.{Text, map_of, sections_of};
+ghost use Rattle.kx_lex.specs.declared.fault.Fault.TheVariants.{Memory};
 
 use crate::map_index::MapIndex;
-use kx_lex::Fault;
-use kx_parse::{Kind, Section, Tree};
+use kx_lex::{Fault, Span};
+use kx_parse::{Kind, Section, Tree, with_statements};
 use std::alloc::{AllocError, Global};
 use std::marker::Model;
 
@@ -47,6 +49,37 @@ impl IndexedText {
         ensures { IfOk result (λ indexed. indexed ≡ text) }
     {
         let index = MapIndex::of(alloc, sections_of(&text))?;
+        Ok(IndexedText { text, index })
+    }
+
+    /// The text with the statements of its sections that are wanted, where it is an outline whose sections stand at these
+    /// places of a file's bytes.
+    ///
+    /// # Errors
+    /// `Memory`.
+    pub(crate) fn with_statements(
+        self,
+        alloc: Global,
+        bytes: &[u8],
+        places: Option<&[Span]>,
+        wanted: &[bool],
+    ) -> Result<IndexedText, Fault>
+        requires { (whole : Text)
+            × IsSketch bytes.now self (option_map (λ p. p.now) places) whole }
+        ensures held { IfOk result (λ held. (whole : Text)
+            → IsSketch bytes.now self (option_map (λ p. p.now) places.entry) whole
+            → Holds wanted.now self held whole) }
+        ensures err { IfErr result (λ e. e ≡ Memory) }
+    {
+        let IndexedText { text, index } = self;
+        let Some(places) = places else {
+            return Ok(IndexedText { text, index });
+        };
+        let Ok(tree) = text else { unreachable!() };
+        let Some(sections) = with_statements(alloc, bytes, tree.sections, places, wanted)? else {
+            unreachable!()
+        };
+        let text = Ok(Tree { sections });
         Ok(IndexedText { text, index })
     }
 

@@ -9,6 +9,7 @@ mod kind_maps;
 mod map_index;
 mod part;
 mod place;
+mod reaching;
 mod reading;
 mod sources;
 mod text;

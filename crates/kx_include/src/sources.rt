@@ -4,15 +4,18 @@ ghost use Rattle.std.specs.Option.{option_map};
 ghost use Rattle.kx_lex.specs.declared.fault.Fault.TheVariants.{Memory, TooMany};
 ghost use Rattle.kx_include.specs.IncludeFaults.{at};
 ghost use Rattle.kx_include.specs.Library.{folder, file_of, number_of, sections_in, items_in, place_in, place_of};
-ghost use Rattle.kx_include.specs.Texts.{IsLibrary};
+ghost use Rattle.kx_include.specs.Held.{AreOutlined, IsClosed, IsHeldLibrary, places_by};
+ghost use Rattle.kx_include.specs.Source.{Handed};
+ghost use Rattle.kx_parse.specs.declared.tree.Tree.{Tree as TreeValue};
 
 use crate::files::Files;
 use crate::indexed::IndexedText;
 use crate::part::Part;
 use crate::place::Place;
-use crate::text::read_text;
+use crate::reaching::Wanted;
+use crate::text::outline_text;
 use kx_lex::{At, Fault, Span};
-use kx_parse::{Item, Kind, Section, Tree};
+use kx_parse::{Item, Kind, Row, Section, Tree};
 use std::alloc::{AllocError, Global};
 use std::marker::Model;
 
@@ -27,14 +30,15 @@ pub struct Library<'a> {
 }
 
 impl<'a> Model for Library<'a> {
-    ghost use Rattle.std.specs.Prelude.{◌≤◌, map, length};
+    ghost use Rattle.std.specs.Prelude.{◌≡◌, ◌+◌, ◌≤◌, map, length};
     ghost use Rattle.kx_include.specs.Library.{Library};
 
     ghost Value = { Library };
 
     ghost view = { λ l. record { names = map (λ f. f.0) l.files.now; texts = l.texts.items } };
 
-    ghost invariant = { λ l. length l.files.now ≤ 65535 };
+    ghost invariant = { λ l. (length l.files.now ≤ 65535)
+        × (length l.texts.items ≡ length l.files.now + 1) };
 }
 
 fn folder(kind: Kind) -> &'static [u8]
@@ -49,15 +53,27 @@ fn folder(kind: Kind) -> &'static [u8]
     }
 }
 
+/// Where the sections of the text of a number stand in its bytes.
+fn spans_at<'p>(places: &'p [Option<Row<Span>>], file: usize) -> Option<&'p [Span]>
+    ensures { option_map (λ p. p.now) result ≡ places_by places.now file }
+{
+    match places.get(file) {
+        Some(Some(row)) => Some(row.as_slice()),
+        _ => None,
+    }
+}
+
 impl<'a> Library<'a> {
     ghost use Rattle.std.specs.Prelude.{◌≡◌, ◌≤◌, ◌<◌, ◌⊎◌, map, length, slice_get, IfOk, IfErr, OnOk, Some};
     ghost use Rattle.std.specs.Option.{option_map};
     ghost use Rattle.kx_lex.specs.declared.fault.Fault.TheVariants.{Memory, TooMany};
     ghost use Rattle.kx_include.specs.IncludeFaults.{at, fault_in};
     ghost use Rattle.kx_include.specs.Library.{file_of, number_of, sections_in, items_in, place_in, place_of};
-    ghost use Rattle.kx_include.specs.Texts.{IsLibrary};
+    ghost use Rattle.kx_include.specs.Held.{AreOutlined, IsClosed, IsHeldLibrary};
+    ghost use Rattle.kx_include.specs.Source.{Handed};
 
-    /// The library of a source's tree and the files handed in, each of which is read once. `whole` is all of the source.
+    /// The library of a source's tree and the files handed in, each of which is read once: it stands for that which has the
+    /// trees of all files. `whole` is all of the source.
     ///
     /// # Errors
     /// `TooMany` at the whole source where there are more than 65,535 files; `Memory`.
@@ -67,7 +83,7 @@ impl<'a> Library<'a> {
         whole: Span,
         files: &'a Files,
     ) -> Result<Library<'a>, Fault>
-        ensures texts { IfOk result (λ library. IsLibrary tree files.now library) }
+        ensures texts { IfOk result (λ library. IsHeldLibrary tree files.now library) }
         ensures few { OnOk result (length files.now ≤ MOST_FILES) }
         ensures err { IfErr result (λ e. (e ≡ Memory)
             ⊎ ((MOST_FILES < length files.now) × (e ≡ TooMany (at 0 whole)))) }
@@ -78,13 +94,76 @@ impl<'a> Library<'a> {
                 span: whole,
             }));
         }
+        let (outlined, places) = Library::outlined(alloc, tree, files)?;
+        let wanted = outlined.wanted(alloc)?;
+        outlined.with_statements(alloc, files, places.as_slice(), &wanted)
+    }
+
+    /// The library of a source's tree and the outlines of the files, and where the sections of each text stand in its bytes.
+    fn outlined(
+        alloc: Global,
+        tree: Tree,
+        files: &'a Files,
+    ) -> Result<(Library<'a>, Vec<Option<Row<Span>>>), Fault>
+        requires { length files.now ≤ MOST_FILES }
+        ensures outlined { IfOk result (λ r. AreOutlined tree files.now r.0 r.1.items) }
+        ensures err { IfErr result (λ e. e ≡ Memory) }
+    {
         let mut texts = Vec::new(alloc);
+        let mut places = Vec::new(alloc);
         texts.push(IndexedText::of(alloc, Ok(tree))?)?;
+        places.push(None)?;
         'files: for place in 0..files.len() {
-            let text = read_text(alloc, place as u32 + 1, files.bytes_at(place))?;
+            let (text, spans) = outline_text(alloc, place as u32 + 1, files.bytes_at(place))?;
             texts.push(IndexedText::of(alloc, text)?)?;
+            places.push(spans)?;
         }
-        Ok(Library { files, texts })
+        Ok((Library { files, texts }, places))
+    }
+
+    /// The library of outlined texts with the statements of the sections that are wanted; `places` says where the sections of
+    /// each text stand in its bytes, which `given` has.
+    fn with_statements(
+        self,
+        alloc: Global,
+        given: &Files,
+        places: &[Option<Row<Span>>],
+        wanted: &Wanted,
+    ) -> Result<Library<'a>, Fault>
+        requires { (tree : TreeValue) × AreOutlined tree given.now self places.now }
+        ensures held { IfOk result (λ held. (tree : TreeValue)
+            → AreOutlined tree given.now self.entry places.now
+            → IsClosed self.entry wanted.now → IsHeldLibrary tree given.now held) }
+        ensures err { IfErr result (λ e. e ≡ Memory) }
+    {
+        let Library { files, texts } = self;
+        let mut held = Vec::with_capacity(alloc, texts.len())?;
+        let mut file: usize = 0;
+        'texts: for text in texts {
+            let bytes = given.bytes_of(file);
+            let spans = spans_at(places, file);
+            held.push(text.with_statements(alloc, bytes, spans, wanted.of_text(file))?)?;
+            file += 1;
+        }
+        Ok(Library { files, texts: held })
+    }
+
+    /// How many texts there are.
+    pub(crate) fn len(&self) -> usize
+        ensures texts { result ≡ length self.now.texts }
+        ensures few { result ≤ 65536 }
+    {
+        self.texts.len()
+    }
+
+    /// How many sections the text of a number has.
+    pub(crate) fn section_count(&self, file: usize) -> usize
+        ensures { result ≡ length (sections_in self.now file) }
+    {
+        match self.texts.get(file) {
+            Some(text) => text.sections().len(),
+            None => 0,
+        }
     }
 
     /// The fault for which the text of a number has no tree.

@@ -7,8 +7,9 @@ use Rattle.kx_lex.specs.Parsing.{done, then_read, many_read, settle_read}
 use Rattle.kx_lex.specs.Spelling.{many_front}
 use Rattle.kx_lex.specs.Stops.{syntax_at, syntax_end, StopsAt, IsBehind, StopsWithin}
 use Rattle.kx_lex.specs.Production as productions
-use Rattle.kx_lex.specs.Production.{Production, give, either, optional, many, one, one_as, known, at_end, noted, fronted, spanned}
+use Rattle.kx_lex.specs.Production.{Production, give, either, optional, many, one, one_as, known, at_end, noted, fronted, settle, spanned}
 use Rattle.kx_lex.proofs.Laws.{done-same, same-done, same-uses, then-first, then-failed, prepend-done, prepend-failed, settle-takes, settle-again, settle-fails, noted-done, noted-failed}
+use Rattle.kx_lex.proofs.Nearby.{IsNear, Nearby, NotesNear, at_end-near, either-near, front_span-near, many-near, noted-near, nothing-near, one-near, span_between-near, then-near}
 use Rattle.kx_lex.proofs.Reasons.{behind_self, behind_more, behind_token, stops_behind, stops_here, ok_or-stops}
 
 -- what is read is spelled
@@ -48,6 +49,7 @@ pub record Lawful (text : List ℕ) {A : Type 0} (p : Production A) : Type 0 whe
   pub uses : Uses least p
   pub behind : Behind p
   pub stops : Stops text p
+  pub near : Nearby p
 
 -- the test lets in each front that the production spells: no tree is lost by it
 abbrev pub Admits : {A : Type 0} → (List Token → Bool) → Production A → Type 0
@@ -66,6 +68,7 @@ give-lawful x = record {
   uses = λ ts y rest s. same-uses s.1;
   behind = λ ts y rest s. behind_self s.1;
   stops = λ ts e h. absurd h;
+  near = λ before rest other y h s. (s.0, nothing-near before rest other s.1);
 }
 
 -- one part, and then another that its value tells
@@ -101,7 +104,7 @@ module _ {text : List ℕ} {A B : Type 0} {p : Production A} {f : A → Producti
 
 infixl 10 ◌>>=◌
 abbrev pub ◌>>=◌ : {text : List ℕ} {A B : Type 0} {p : Production A} {f : A → Production B} → Lawful text p → ((x : A) → Lawful text (f x)) → Lawful text (productions.◌>>=◌ p f)
-◌>>=◌ lp lf = record {
+◌>>=◌ {text} {A} {B} {p} {f} lp lf = record {
   least = lp.least;
   takes = then-takes lp lf;
   again = then-again lp lf;
@@ -110,6 +113,7 @@ abbrev pub ◌>>=◌ : {text : List ℕ} {A B : Type 0} {p : Production A} {f : 
   uses = then-uses lp lf;
   behind = then-behind lp lf;
   stops = then-stops lp lf;
+  near = then-near p f lp.behind lp.near (λ x. (lf x).behind) (λ x. (lf x).near);
 }
 
 -- one part or the other, as a test tells
@@ -149,8 +153,8 @@ module _ {text : List ℕ} {A : Type 0} (test : List Token → Bool) {p q : Prod
   either-stops ts e (inr h) = lq.stops ts e h.1
 
 -- the test lets in all that the one spells
-abbrev pub either-lawful : {text : List ℕ} {A : Type 0} {test : List Token → Bool} {p q : Production A} → Lawful text p → Admits test p → Lawful text q → Lawful text (either test p q)
-either-lawful {text} {A} {test} lp admits lq = record {
+abbrev pub either-lawful : {text : List ℕ} {A : Type 0} {test : List Token → Bool} {p q : Production A} → IsNear test → Lawful text p → Admits test p → Lawful text q → Lawful text (either test p q)
+either-lawful {text} {A} {test} {p} {q} near lp admits lq = record {
   least = min lp.least lq.least;
   takes = either-takes test lp lq;
   again = either-again test lp lq;
@@ -159,10 +163,11 @@ either-lawful {text} {A} {test} lp admits lq = record {
   uses = either-uses test lp lq;
   behind = either-behind test lp lq;
   stops = either-stops test lp lq;
+  near = either-near test p q near lp.near lq.near;
 }
 
-abbrev pub optional-lawful : {text : List ℕ} {A : Type 0} {test : List Token → Bool} {p : Production A} → Lawful text p → Admits test p → Lawful text (optional test p)
-optional-lawful lp admits = either-lawful (do
+abbrev pub optional-lawful : {text : List ℕ} {A : Type 0} {test : List Token → Bool} {p : Production A} → IsNear test → Lawful text p → Admits test p → Lawful text (optional test p)
+optional-lawful near lp admits = either-lawful near (do
   x ← lp
   give-lawful (Some x)) (λ ts _ _ s. admits ts s.0 s.1 s.2) (give-lawful _)
 
@@ -242,7 +247,7 @@ module _ {text : List ℕ} {A : Type 0} (test : List Token → Bool) {p : Produc
   pub many-uses : Uses 0 (many test p)
   many-uses ts xs rest s = front-uses xs ts rest s.0
 
-  front-behind : (xs : List A) (ts rest : List Token) → many_front test p.spells xs ts rest → IsBehind ts rest
+  pub front-behind : (xs : List A) (ts rest : List Token) → many_front test p.spells xs ts rest → IsBehind ts rest
   front-behind [] ts rest front = behind_self front
   front-behind (x ∷ xs) ts rest front = behind_more (lp.behind ts x front.1 front.2) (front-behind xs front.1 rest front.3)
 
@@ -252,8 +257,8 @@ module _ {text : List ℕ} {A : Type 0} (test : List Token → Bool) {p : Produc
   pub many-stops : Stops text (many test p)
   many-stops ts e h = stops_behind (front-behind h.0 ts h.1 h.2) (lp.stops h.1 e h.4)
 
-abbrev pub many-lawful : {text : List ℕ} {A : Type 0} {test : List Token → Bool} {p : Production A} (lp : Lawful text p) → Admits test p → 1 ≤ lp.least → Lawful text (many test p)
-many-lawful {text} {A} {test} lp admits some = record {
+abbrev pub many-lawful : {text : List ℕ} {A : Type 0} {test : List Token → Bool} {p : Production A} → IsNear test → (lp : Lawful text p) → Admits test p → 1 ≤ lp.least → Lawful text (many test p)
+many-lawful {text} {A} {test} {p} near lp admits some = record {
   least = 0;
   takes = many-takes test lp some;
   again = many-again test lp some;
@@ -262,6 +267,7 @@ many-lawful {text} {A} {test} lp admits some = record {
   uses = many-uses test lp some;
   behind = many-behind test lp some;
   stops = many-stops test lp some;
+  near = many-near test p near lp.behind lp.near (front-behind test lp some);
 }
 
 -- one token that passes a test
@@ -306,6 +312,7 @@ one-lawful text test = record {
   uses = one-uses text test;
   behind = λ ts t rest s. behind_token s.0;
   stops = one-stops text test;
+  near = one-near text test;
 }
 
 -- one token that passes a test, and what it stands for
@@ -350,6 +357,7 @@ one_as-lawful text test outcome why = record {
   uses = one_as-uses text test outcome;
   behind = λ ts x rest s. behind_more (behind_token s.2.0) (behind_self s.3.1);
   stops = one_as-stops text test outcome why;
+  near = then-near (one text test) (λ t. settle (outcome t)) (λ ts t rest s. behind_token s.0) (one-near text test) (λ t ts x rest s. behind_self s.1) (λ t before rest other x h s. (s.0, nothing-near before rest other s.1));
 }
 
 abbrev pub known-lawful : {A : Type 0} (text : List ℕ) (table : Token → Option A) → Lawful text (known text table)
@@ -380,11 +388,12 @@ at_end-lawful text = record {
   uses = λ ts x rest s. same-uses (s.0 ∙ sym s.1);
   behind = λ ts x rest s. behind_self (s.0 ∙ sym s.1);
   stops = λ ts e h. stops_here h.2 (inl h.3);
+  near = at_end-near;
 }
 
 -- with what is noted
-abbrev pub noted-lawful : {text : List ℕ} {A B : Type 0} {p : Production A} (note : List Token → List Token → B) → Lawful text p → Lawful text (noted note p)
-noted-lawful {text} {A} {B} {p} note lp = record {
+abbrev pub noted-lawful : {text : List ℕ} {A B : Type 0} {p : Production A} (note : List Token → List Token → B) → NotesNear note → Lawful text p → Lawful text (noted note p)
+noted-lawful {text} {A} {B} {p} note notes lp = record {
   least = lp.least;
   takes = λ ts y rest e. let both = noted-done note ts (p.read ts) y rest e in (lp.takes ts y.0 rest both.0, both.1);
   again = λ ts y rest s. rw (lp.again ts y.0 rest s.0, s.1) refl;
@@ -393,13 +402,14 @@ noted-lawful {text} {A} {B} {p} note lp = record {
   uses = λ ts y rest s. lp.uses ts y.0 rest s.0;
   behind = λ ts y rest s. lp.behind ts y.0 rest s.0;
   stops = lp.stops;
+  near = noted-near p note notes lp.near;
 }
 
 abbrev pub fronted-lawful : {text : List ℕ} {A : Type 0} {p : Production A} → Lawful text p → Lawful text (fronted p)
-fronted-lawful lp = noted-lawful _ lp
+fronted-lawful lp = noted-lawful _ front_span-near lp
 
 abbrev pub spanned-lawful : {text : List ℕ} {A : Type 0} {p : Production A} → Lawful text p → Lawful text (spanned p)
-spanned-lawful lp = noted-lawful _ lp
+spanned-lawful lp = noted-lawful _ span_between-near lp
 
 -- where more is known of how many tokens each spelling takes
 abbrev pub at_least : {text : List ℕ} {A : Type 0} {p : Production A} (n : ℕ) → Lawful text p → Uses n p → Lawful text p
@@ -412,4 +422,5 @@ at_least n lp more = record {
   uses = more;
   behind = lp.behind;
   stops = lp.stops;
+  near = lp.near;
 }

@@ -8,8 +8,10 @@ mod Words
 pub mod Pieces
 pub mod Laws
 pub mod Reasons
+pub mod Nearby
 pub mod Others
 pub mod Lawful
 pub mod TokenLaws
 pub mod Shorter
 pub mod PassedOver
+pub mod PlacedTokens

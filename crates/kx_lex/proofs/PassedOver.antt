@@ -1,6 +1,7 @@
 -- What is passed over by its bytes is spelled by its tokens.
-use Rattle.std.proofs.Common.{Option, Some, slice_index, ◌∙◌, Ok, if◌then◌else◌, ◌<◌, ◌^◌, ◌≡◌, ◌≢◌, ℕ, suc, cond, ◌+◌, ◌-◌, ◌≤◌, Bool, true, false, ◌||◌, ◌&&◌, not, ◌==◌, List, [], ◌∷◌, ◌++◌, length, take, drop, subst, sym, ap, ap₂, refl, arith, append_assoc, length-append, length-drop}
+use Rattle.std.proofs.Common.{Option, slice_index, ◌∙◌, Ok, if◌then◌else◌, ◌<◌, ◌^◌, ◌≡◌, ◌≢◌, ℕ, suc, cond, ◌+◌, ◌-◌, ◌≤◌, Bool, true, false, ◌||◌, ◌&&◌, not, ◌==◌, List, [], ◌∷◌, ◌++◌, length, take, drop, subst, sym, ap, ap₂, refl, inl, inr, ◌⊎◌, arith, append_assoc, length-append, length-drop}
 use Rattle.std.proofs.lemmas.Bool.{eq-eqb, eqb-true, ltb-false}
+use Rattle.std.proofs.lemmas.List.Sums.{prefix_len-le-length}
 use Rattle.std.proofs.Math.Seq.{drop-append_seam}
 use Rattle.std.specs.Prelude.{nat_lt, slice_range}
 use Rattle.std.specs.List.{list_all, prefix_len}
@@ -95,6 +96,32 @@ Skips-gap bs n short e = record {
 
 pub Skips-on : {bs rest : List ℕ} → Skips bs rest → (n : ℕ) → n ≤ length rest → piece rest ≡ Gap n → Skips bs (drop n rest)
 Skips-on {bs} {rest} s n short e = Skips-more s (Skips-gap rest n short e)
+
+-- the blanks at the front are a gap, where there are any
+blanks-gap : (bs : List ℕ) → (prefix_len is_blank bs ≡ 0) ⊎ (piece bs ≡ Gap (prefix_len is_blank bs))
+unfolding piece
+blanks-gap [] = inl refl
+blanks-gap (b ∷ bs) = go (is_blank b) refl
+  where
+    go : (blank : Bool) → is_blank b ≡ blank → (prefix_len is_blank (b ∷ bs) ≡ 0) ⊎ (piece (b ∷ bs) ≡ Gap (prefix_len is_blank (b ∷ bs)))
+    go true h = inr (rw h refl)
+    go false h = inl (rw h refl)
+
+pub Skips-blanks : (bs : List ℕ) → Skips bs (drop (prefix_len is_blank bs) bs)
+Skips-blanks bs = go (blanks-gap bs)
+  where
+    go : (prefix_len is_blank bs ≡ 0) ⊎ (piece bs ≡ Gap (prefix_len is_blank bs)) → Skips bs (drop (prefix_len is_blank bs) bs)
+    go (inl none) = subst (λ (n : ℕ). Skips bs (drop n bs)) (sym none) (Skips-self bs)
+    go (inr gap) = Skips-gap bs (prefix_len is_blank bs) (prefix_len-le-length is_blank bs) gap
+
+-- none is left behind them
+pub no_blank : (bs : List ℕ) → is_blank (slice_index (drop (prefix_len is_blank bs) bs) 0) ≡ false
+no_blank [] = refl
+no_blank (b ∷ bs) = go (is_blank b) refl (no_blank bs)
+  where
+    go : (blank : Bool) → is_blank b ≡ blank → is_blank (slice_index (drop (prefix_len is_blank bs) bs) 0) ≡ false → is_blank (slice_index (drop (prefix_len is_blank (b ∷ bs)) (b ∷ bs)) 0) ≡ false
+    go true h more = let one : prefix_len is_blank (b ∷ bs) ≡ suc (prefix_len is_blank bs) = rw h (omega arith) in subst (λ (n : ℕ). is_blank (slice_index (drop n (b ∷ bs)) 0) ≡ false) (sym one) more
+    go false h more = rw h h
 
 pub Lexes-self : (bs : List ℕ) → Lexes bs bs
 Lexes-self bs = record { ends = Ends-self bs; read = λ text ts ends r. (ts, r) }
@@ -430,6 +457,16 @@ pub token-slash : (bs : List ℕ) (b : ℕ) (left : List ℕ) → bs ≡ b ∷ l
 token-slash bs b left here slash other n e =
     let there : piece_of starts.Slash b left ≡ Gap n = subst (λ (s : Start). piece_of s b left ≡ Gap n) slash (sym (piece-start b left) ∙ subst (λ (cs : List ℕ). piece cs ≡ Gap n) here e) in
     slash-no_gap b (prefix_len is_not_line_feed (b ∷ left)) n (slice_index left 0 == 47) (unequal _ _ other) there
+
+-- one blank
+pub one-blank : (bs : List ℕ) (b : ℕ) (rest : List ℕ) → bs ≡ b ∷ rest → is_blank b ≡ true → IsAtToken rest → Skips bs rest
+one-blank bs b rest here blank at = subst (λ (cs : List ℕ). Skips cs rest) (sym here) (go (blanks-gap rest))
+  where
+    go : (prefix_len is_blank rest ≡ 0) ⊎ (piece rest ≡ Gap (prefix_len is_blank rest)) → Skips (b ∷ rest) rest
+    go (inl none) =
+        let one : prefix_len is_blank (b ∷ rest) ≡ 1 = rw blank (omega (arith, none)) in
+        subst (λ (n : ℕ). Skips (b ∷ rest) (drop n (b ∷ rest))) one (Skips-blanks (b ∷ rest))
+    go (inr gap) = absurd (at (prefix_len is_blank rest) gap)
 
 pub token-end : (bs : List ℕ) → length bs ≡ 0 → IsAtToken bs
 token-end bs none n e = let end = piece-end bs none in cc

@@ -103,6 +103,9 @@ word_starts b e = by (is_ascii_digit b) (nat_le 65 b && nat_le b 90) (nat_le 97 
 pub word-more : (b : ℕ) (bs : List ℕ) → start_of b ≡ starts.Word → prefix_len is_word_byte (b ∷ bs) ≡ 1 + prefix_len is_word_byte bs
 word-more b bs e = one_more is_word_byte b bs (word_starts b (as_start starts.Word b e))
 
+pub digit-more : (b : ℕ) (bs : List ℕ) → start_of b ≡ starts.Digit → prefix_len is_ascii_digit (b ∷ bs) ≡ 1 + prefix_len is_ascii_digit bs
+digit-more b bs e = one_more is_ascii_digit b bs (digit-start b e)
+
 pub blank-more : (b : ℕ) (bs : List ℕ) → start_of b ≡ starts.Blank → prefix_len is_blank (b ∷ bs) ≡ 1 + prefix_len is_blank bs
 blank-more b bs e = one_more is_blank b bs (as_start starts.Blank b e)
 

@@ -15,3 +15,4 @@ pub mod Tokens
 pub mod Gives
 pub mod Lists
 pub mod Passing
+pub mod PlacedTokens

@@ -1,5 +1,5 @@
 //! The faults of sources, and where they stand.
-ghost use Rattle.std.specs.Prelude.{◌≡◌};
+ghost use Rattle.std.specs.Prelude.{◌≡◌, true, false};
 ghost use Rattle.kx_lex.specs.declared.fault.Fault.TheVariants.{Memory};
 
 use crate::token::Span;
@@ -81,6 +81,16 @@ pub enum Fault {
     /// A keycode above 4,095.
     #[error("F18 CodeRange at {0}")]
     CodeRange(At),
+}
+
+impl Fault {
+    /// Whether a growth was refused.
+    pub fn is_memory(&self) -> bool
+        ensures memory { result ≡ true → self.now ≡ Memory }
+        ensures other { result ≡ false → self.now ≡ Memory → ⊥ }
+    {
+        matches!(self, Fault::Memory)
+    }
 }
 
 impl From<AllocError> for Fault {

@@ -3,6 +3,7 @@
 #![tactic(auto)]
 
 pub mod fault;
+mod fronts;
 pub mod kept;
 pub mod keyword;
 pub mod name;
@@ -15,6 +16,7 @@ pub mod token;
 pub mod tokens;
 
 pub use fault::{At, Fault};
+pub use fronts::lex_front;
 pub use kept::{Boxed, Bytes};
 pub use keyword::Keyword;
 pub use name::{KeyName, Name, Number, Row, SmallRow};

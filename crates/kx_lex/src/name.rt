@@ -49,6 +49,13 @@ impl<T> Row<T> {
     {
         self.items.as_slice()
     }
+
+    /// The items.
+    pub fn into_vec(self) -> Vec<T>
+        ensures { result.items ≡ self }
+    {
+        self.items
+    }
 }
 
 #[derive(Debug, Drop)]

@@ -1,7 +1,8 @@
 //! Tokens that are passed over by their bytes, without a list of them. Where something else stands, nothing is answered.
-ghost use Rattle.std.specs.Prelude.{◌≡◌, ◌≤◌, ◌<◌, ◌^◌, true, false, length, drop, take, ◌-◌, IfNone, IfOk, IfSome, MatchOption};
+ghost use Rattle.std.specs.Prelude.{◌≡◌, ◌≤◌, ◌<◌, ◌^◌, true, false, length, drop, slice_index, take, ◌-◌, IfNone, IfOk, IfSome, MatchOption};
 ghost use Rattle.std.specs.Char.{is_ascii_digit};
 ghost use Rattle.std.specs.List.{prefix_len};
+ghost use Rattle.kx_lex.specs.Bytes.{is_blank};
 ghost use Rattle.kx_lex.specs.Keywords.{keyword_of};
 ghost use Rattle.kx_lex.specs.Kinds.{number_value};
 ghost use Rattle.kx_lex.specs.Passing.{front_byte, Ends, IsAtToken, IsNoWord, Passes, PassesAs, PassesWord, Skips, is_single, token};
@@ -18,22 +19,33 @@ use crate::scan::{
     Blanks, Extent, InLine, InWord, Piece, after, begins_hex, byte_at, digit_len, hex_len, key_len,
     mark_len, past, piece_at, run_len, text_extent,
 };
-use crate::start::{Start, start_of};
+use crate::start::{Start, is_blank, start_of};
 use crate::token::Span;
 use crate::tokens::{number_value, unescaped};
 use std::alloc::{AllocError, Global};
 
-/// How many bytes of blanks or of a comment stand at the front.
+/// What stands behind the blanks at the front.
+#[inline(always)]
+fn past_blanks(bytes: &[u8]) -> &[u8]
+    ensures skips { Skips bytes.now result.now }
+    ensures within { length result.now ≤ length bytes.now }
+    ensures none { is_blank (slice_index result.now 0) ≡ false }
+{
+    past(bytes, run_len::<Blanks>(bytes))
+}
+
+/// How many bytes of a comment stand at the front.
 #[inline(always)]
 #[tactic(auto, using(crate::proofs::Pieces::pieces))]
-fn gap_len(bytes: &[u8]) -> Option<usize>
-    ensures exact { MatchOption result (IsAtToken bytes.now) (λ n. piece bytes.now ≡ Gap n) }
+fn comment_len(bytes: &[u8]) -> Option<usize>
+    ensures comment { IfSome result (λ n. piece bytes.now ≡ Gap n) }
+    ensures none { IfNone result (is_blank (slice_index bytes.now 0) ≡ false
+        → IsAtToken bytes.now) }
     ensures within { IfSome result (λ n. n ≤ length bytes.now) }
     ensures some { IfSome result (λ n. 0 < n) }
 {
     let (first, rest) = bytes.split_first()?;
     match start_of(*first) {
-        Start::Blank => Some(1 + run_len::<Blanks>(rest)),
         Start::Hash => Some(1 + run_len::<InLine>(rest)),
         Start::Slash => {
             if byte_at(rest, 0) != b'/' {
@@ -45,22 +57,53 @@ fn gap_len(bytes: &[u8]) -> Option<usize>
     }
 }
 
+/// What stands behind the blanks and comments at the front, however many.
+fn past_all_gaps(bytes: &[u8]) -> &[u8]
+    ensures skips { Skips bytes.now result.now }
+    ensures within { length result.now ≤ length bytes.now }
+    ensures at { IsAtToken result.now }
+{
+    let mut rest = past_blanks(bytes);
+    'gaps: while let Some(len) = comment_len(rest) {
+        rest = past_blanks(past(rest, len));
+    }
+    rest
+}
+
+/// Whether a byte stands at the front that blanks or a comment may begin with.
+#[inline(always)]
+fn front_may_be_gap(bytes: &[u8]) -> bool
+    ensures { result ≡ false → IsAtToken bytes.now }
+{
+    match bytes.split_first() {
+        Some((first, _)) => matches!(start_of(*first), Start::Blank | Start::Hash | Start::Slash),
+        None => false,
+    }
+}
+
 /// What stands behind the blanks and comments at the front.
+#[inline(always)]
 pub fn past_gaps(bytes: &[u8]) -> &[u8]
     ensures skips { Skips bytes.now result.now }
     ensures within { length result.now ≤ length bytes.now }
     ensures at { IsAtToken result.now }
 {
-    let mut rest = bytes;
-    'gaps: while let Some(len) = gap_len(rest) {
-        rest = past(rest, len);
+    // Most gaps are nothing or one blank.
+    if !front_may_be_gap(bytes) {
+        return bytes;
     }
-    rest
+    if let Some((first, rest)) = bytes.split_first()
+        && is_blank(*first)
+        && !front_may_be_gap(rest)
+    {
+        return rest;
+    }
+    past_all_gaps(bytes)
 }
 
 /// The same behind so many bytes.
 #[inline(always)]
-fn past_token(bytes: &[u8], len: usize) -> &[u8]
+pub(crate) fn past_token(bytes: &[u8], len: usize) -> &[u8]
     requires some { 0 < len }
     requires within { len ≤ length bytes.now }
     ensures skips { Skips (drop len bytes.now) result.now }

@@ -23,7 +23,7 @@ use std::alloc::Global;
 pub const MOST_TEXT_BYTES: usize = 1_048_576;
 
 /// Most texts have a token for each four bytes or more, so that their list of tokens never moves.
-const USUAL_TOKEN_BYTES: usize = 4;
+pub(crate) const USUAL_TOKEN_BYTES: usize = 4;
 
 /// What the front of a text begins, with its length in bytes.
 #[derive(Clone, Copy, Debug, PartialEq, Eq)]
@@ -262,6 +262,7 @@ fn word_of(bytes: &[u8], len: usize) -> Piece
 }
 
 #[tactic(auto, using(crate::proofs::Pieces::pieces))]
+#[inline(always)]
 pub(crate) fn piece_at(bytes: &[u8]) -> Piece
     requires { length bytes.now ≤ MOST_TEXT_BYTES }
     ensures exact { result ≡ piece bytes.now }

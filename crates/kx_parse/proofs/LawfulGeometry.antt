@@ -1,5 +1,6 @@
 -- The laws of geometry.
-use Rattle.std.proofs.Common.{cond, ℕ, zero, suc, ◌+◌, ◌≤◌, Bool, true, false, List, [], ◌∷◌, length, ◌≡◌, Ok, Err, refl, arith, sym, ◌∙◌, subst, append-nil}
+use Rattle.std.proofs.Common.{cond, ℕ, zero, suc, ◌+◌, ◌≤◌, Bool, true, false, List, [], ◌∷◌, ◌++◌, drop, length, ◌≡◌, Ok, Err, refl, arith, ap, sym, ◌∙◌, subst, append-nil, append_assoc}
+use Rattle.std.proofs.lemmas.List.{append_cancel_right}
 use Rattle.kx_lex.specs.declared.token.Token.{Token}
 use Rattle.kx_lex.specs.declared.fault.Fault.{Fault}
 use Rattle.kx_lex.specs.Parsing.{Read, done}
@@ -8,6 +9,7 @@ use Rattle.kx_lex.specs.Stops.{syntax_end, IsBehind, StopsWithin}
 use Rattle.kx_lex.specs.Tokens.{open_brace, close_brace}
 use Rattle.kx_lex.proofs.Laws.{done-same}
 use Rattle.kx_lex.proofs.Lawful.{Lawful}
+use Rattle.kx_lex.proofs.Nearby.{Nearby, SameFront, none, only, both, nothing-near}
 use Rattle.kx_lex.proofs.Reasons.{behind_self, behind_more, behind_first}
 use Rattle.kx_parse.specs.Geometry.{Balanced, nothing, other, nested, IsClosing, closing_read, geometry_read, geometry}
 
@@ -92,6 +94,47 @@ geometry-behind text (nested {o} {c} {ts} {mid} ho hc hd b1 b2) = behind_more (b
 pub geometry-stops : (text : List ℕ) (ts : List Token) (e : Fault) → GeometryBlames text ts e → StopsWithin text ts e
 geometry-stops text ts e h = record { rest = []; behind = record { before = ts; tokens = sym (append-nil ts) }; why = h.0 }
 
+-- tokens in pairs stay so before other tokens
+Balanced-near : (text : List ℕ) {ts rest : List Token} → Balanced text ts rest → (before more : List Token) → ts ≡ before ++ rest → Balanced text (before ++ more) more
+Balanced-near text {ts} nothing before more e = let same : before ++ more ≡ more = nothing-near before ts more (sym e) in subst (λ (us : List Token). Balanced text us more) (sym same) nothing
+Balanced-near text (other {t} {ts} h k b) [] more e = let less = Balanced-uses text b in let same = ap (λ (us : List Token). length us) e in absurd (omega arith)
+Balanced-near text (other {t} {ts} {rest} h k b) (c ∷ before) more e =
+    let same : t ≡ c = cc in
+    let after = Balanced-near text b before more (ap (λ (us : List Token). drop 1 us) e) in
+    subst (λ (u : Token). Balanced text (u ∷ (before ++ more)) more) same (other h k after)
+Balanced-near text (nested {o} {c} {ts} {mid} ho hc hd b1 b2) [] more e =
+    let one = Balanced-uses text b1 in
+    let two = Balanced-uses text b2 in
+    let same = ap (λ (us : List Token). length us) e in
+    absurd (omega arith)
+Balanced-near text (nested {o} {c} {ts} {mid} {rest} ho hc hd b1 b2) (d ∷ before) more e =
+    let same : o ≡ d = cc in
+    let one = geometry-behind text b1 in
+    let two = geometry-behind text b2 in
+    let tail : ts ≡ before ++ rest = ap (λ (us : List Token). drop 1 us) e in
+    let whole : before ++ rest ≡ (one.before ++ (c ∷ two.before)) ++ rest = rw append_assoc (sym tail ∙ one.tokens ∙ ap (λ (us : List Token). one.before ++ (c ∷ us)) two.tokens) in
+    let split = append_cancel_right before (one.before ++ (c ∷ two.before)) rest whole in
+    let there : before ++ more ≡ one.before ++ (c ∷ (two.before ++ more)) = ap (λ (us : List Token). us ++ more) split ∙ append_assoc one.before (c ∷ two.before) more in
+    let inner = Balanced-near text b1 one.before (c ∷ (two.before ++ more)) one.tokens in
+    let outer = Balanced-near text b2 two.before more two.tokens in
+    subst (λ (u : Token). Balanced text (u ∷ (before ++ more)) more) same
+    (subst (λ (us : List Token). Balanced text (o ∷ us) more) (sym there) (nested ho hc hd inner outer))
+
+closing-near : (text : List ℕ) {rest more : List Token} → SameFront rest more → IsClosing text rest → IsClosing text more
+closing-near text none c = c
+closing-near text only c = c
+closing-near text (both {t} {u} {ts} {us}) c =
+    let same : c.0 ≡ t = ap (λ (vs : List Token). first_or t vs) (sym c.2) in
+    (t, u ∷ us, refl, subst (λ (v : Token). is_mark open_brace v ≡ false) same c.3, subst (λ (v : Token). is_mark close_brace v ≡ true) same c.4)
+  where
+    first_or : Token → List Token → Token
+    first_or v [] = v
+    first_or v (w ∷ ws) = w
+
+pub geometry-near : (text : List ℕ) → Nearby (geometry text)
+unfolding geometry
+geometry-near text before rest more x h s = (Balanced-near text s.0 before more refl, closing-near text h s.1)
+
 unfoldable pub geometry-lawful : (text : List ℕ) → Lawful text (geometry text)
 unfolding geometry
 geometry-lawful text = record {
@@ -103,4 +146,5 @@ geometry-lawful text = record {
   uses = geometry-uses text;
   behind = λ ts x rest s. geometry-behind text s.0;
   stops = geometry-stops text;
+  near = geometry-near text;
 }

@@ -107,12 +107,12 @@ modal-begins text ts x rest s = rw (mode-front text ts s.0 s.1 s.2, mode-behind 
 unfoldable pub own-lawful : (text : List ℕ) → Lawful text (own text)
 unfolding own
 own-lawful text = do
-  _ ← spanned-lawful (either-lawful (modal-lawful text) (modal-begins text) (moded-lawful text Override))
+  _ ← spanned-lawful (either-lawful (λ _ _ _ _. refl) (modal-lawful text) (modal-begins text) (moded-lawful text Override))
   give-lawful _
 
 unfoldable pub item-lawful : (text : List ℕ) → Lawful text (item text)
 unfolding item
-item-lawful text = either-lawful (include-lawful text) (include-begins text) (own-lawful text)
+item-lawful text = either-lawful (λ _ _ _ _. refl) (include-lawful text) (include-begins text) (own-lawful text)
 
 pub item-before : (text : List ℕ) → Admits (before_mark close_brace) (item text)
 unfolding item include own modal
@@ -149,17 +149,17 @@ flag-least text = omega arith
 
 unfoldable pub flags-lawful : (text : List ℕ) → Lawful text (flags text)
 unfolding flags
-flags-lawful text = many-lawful (flag-lawful text) (flag-front text) (flag-least text)
+flags-lawful text = many-lawful (λ _ _ _ _. refl) (flag-lawful text) (flag-front text) (flag-least text)
 
 unfoldable pub optional_text-lawful : (text : List ℕ) → Lawful text (optional_text text)
 unfolding optional_text
-optional_text-lawful text = optional-lawful (text_name-lawful text) (text_name-front text)
+optional_text-lawful text = optional-lawful (λ _ _ _ _. refl) (text_name-lawful text) (text_name-front text)
 
 unfoldable pub held_items-lawful : (text : List ℕ) → Lawful text (held_items text)
 unfolding held_items
 held_items-lawful text = do
   _ ← mark-lawful text open_brace
-  _ ← many-lawful (item-lawful text) (item-before text) (item-least text)
+  _ ← many-lawful (λ _ _ _ _. refl) (item-lawful text) (item-before text) (item-least text)
   _ ← mark-lawful text close_brace
   give-lawful _
 
@@ -193,7 +193,7 @@ geometry_section-front text fs ts x rest s = keyword-front text keywords.XkbGeom
 
 unfoldable pub flagged-lawful : (text : List ℕ) (fs : List Flag) → Lawful text (flagged text fs)
 unfolding flagged
-flagged-lawful text fs = either-lawful (geometry_section-lawful text fs) (geometry_section-front text fs) (plain_section-lawful text fs)
+flagged-lawful text fs = either-lawful (λ _ _ _ _. refl) (geometry_section-lawful text fs) (geometry_section-front text fs) (plain_section-lawful text fs)
 
 flagged-least : (text : List ℕ) (fs : List Flag) → 1 ≤ (flagged-lawful text fs).least
 unfolding flagged-lawful geometry_section-lawful plain_section-lawful keyword-lawful kind-lawful
@@ -261,7 +261,7 @@ unfoldable pub held_sections-lawful : (text : List ℕ) → Lawful text (held_se
 unfolding held_sections
 held_sections-lawful text = do
   _ ← mark-lawful text open_brace
-  _ ← many-lawful (section-lawful text) (section-before text) (section-least text)
+  _ ← many-lawful (λ _ _ _ _. refl) (section-lawful text) (section-before text) (section-least text)
   _ ← mark-lawful text close_brace
   give-lawful _
 
@@ -279,6 +279,6 @@ source-lawful text = do
 pub file-lawful : (text : List ℕ) → Lawful text (file text)
 unfolding file
 file-lawful text = do
-  _ ← many-lawful (section-lawful text) (section-some text) (section-least text)
+  _ ← many-lawful (λ _ _ _ _. refl) (section-lawful text) (section-some text) (section-least text)
   _ ← at_end-lawful text
   give-lawful _

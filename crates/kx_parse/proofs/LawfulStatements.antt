@@ -18,7 +18,7 @@ use Rattle.kx_parse.proofs.LawfulValues.{sequence-lawful, listed-lawful, symbol-
 
 unfoldable pub setting-lawful : (text : List ℕ) → Lawful text (setting text)
 unfolding setting
-setting-lawful text = either-lawful
+setting-lawful text = either-lawful (λ _ _ _ _. refl)
     (do
       _ ← mark-lawful text equals
       _ ← value-lawful text
@@ -39,7 +39,7 @@ on_field-lawful text = do
   give-lawful _
 
 abbrev pub bare_field-lawful : (text : List ℕ) → Lawful text (bare_field text)
-bare_field-lawful text = either-lawful (off_field-lawful text) (λ ts _ _ s. mark-front text bang ts s.0 s.1 s.2) (on_field-lawful text)
+bare_field-lawful text = either-lawful (λ _ _ _ _. refl) (off_field-lawful text) (λ ts _ _ s. mark-front text bang ts s.0 s.1 s.2) (on_field-lawful text)
 
 unfoldable pub field-lawful : (text : List ℕ) → Lawful text (field text)
 unfolding field
@@ -99,13 +99,13 @@ unfoldable pub block-lawful : (text : List ℕ) → Lawful text (block text)
 unfolding block
 block-lawful text = do
   _ ← mark-lawful text open_brace
-  _ ← many-lawful (block_field-lawful text) (block_field-before text) (block_field-least text)
+  _ ← many-lawful (λ _ _ _ _. refl) (block_field-lawful text) (block_field-before text) (block_field-least text)
   _ ← mark-lawful text close_brace
   give-lawful _
 
 unfoldable pub key_field-lawful : (text : List ℕ) → Lawful text (key_field text)
 unfolding key_field
-key_field-lawful text = either-lawful
+key_field-lawful text = either-lawful (λ _ _ _ _. refl)
     (do
       _ ← list-lawful text
       give-lawful _)
@@ -124,7 +124,7 @@ key_field-before text ts x rest (inl s) = mark-before open_bracket close_brace r
 key_field-before text ts x rest (inr s) = field-before text ts s.1.0 s.1.1 s.1.2
 
 abbrev pub declared_mask-lawful : (text : List ℕ) → Lawful text (declared_mask text)
-declared_mask-lawful text = optional-lawful (do
+declared_mask-lawful text = optional-lawful (λ _ _ _ _. refl) (do
   _ ← mark-lawful text equals
   expression-lawful text) (λ ts _ _ s. mark-front text equals ts s.0 s.1 s.2)
 
@@ -145,7 +145,7 @@ declaration-front text ts x rest s = word-front text ts s.0 s.1 s.2
 
 unfoldable pub predicate-lawful : (text : List ℕ) → Lawful text (predicate text)
 unfolding predicate
-predicate-lawful text = either-lawful
+predicate-lawful text = either-lawful (λ _ _ _ _. refl)
     (do
       _ ← call-lawful text
       give-lawful _)
@@ -156,7 +156,7 @@ predicate-lawful text = either-lawful
 
 unfoldable pub entry-lawful : (text : List ℕ) → Lawful text (entry text)
 unfolding entry
-entry-lawful text = either-lawful
+entry-lawful text = either-lawful (λ _ _ _ _. refl)
     (do
       _ ← key_name-lawful text
       give-lawful _)
@@ -269,7 +269,7 @@ unfolding wanted_modifiers
 wanted_modifiers-front text ts x rest s = mark-front text plus ts s.0 s.1 s.2
 
 abbrev pub optional_modifiers-lawful : (text : List ℕ) → Lawful text (optional_modifiers text)
-optional_modifiers-lawful text = optional-lawful (wanted_modifiers-lawful text) (wanted_modifiers-front text)
+optional_modifiers-lawful text = optional-lawful (λ _ _ _ _. refl) (wanted_modifiers-lawful text) (wanted_modifiers-front text)
 
 unfoldable pub interpretation-lawful : (text : List ℕ) → Lawful text (interpretation text)
 unfolding interpretation
@@ -349,23 +349,23 @@ field_statement-lawful text = do
 
 unfoldable pub keycodes_statement-lawful : (text : List ℕ) {other : Production Statement} → Lawful text other → Lawful text (keycodes_statement text other)
 unfolding keycodes_statement
-keycodes_statement-lawful text other = either-lawful (keycode-lawful text) (keycode-front text)
-    (either-lawful (alias-lawful text) (alias-begins text)
-    (either-lawful (virtual_indicator-lawful text) (virtual_indicator-begins text)
-    (either-lawful (indicator_name-lawful text) (indicator_name-begins text) other)))
+keycodes_statement-lawful text other = either-lawful (λ _ _ _ _. refl) (keycode-lawful text) (keycode-front text)
+    (either-lawful (λ _ _ _ _. refl) (alias-lawful text) (alias-begins text)
+    (either-lawful (λ _ _ _ _. refl) (virtual_indicator-lawful text) (virtual_indicator-begins text)
+    (either-lawful (λ _ _ _ _. refl) (indicator_name-lawful text) (indicator_name-begins text) other)))
 
 unfoldable pub types_statement-lawful : (text : List ℕ) {other : Production Statement} → Lawful text other → Lawful text (types_statement text other)
 unfolding types_statement
-types_statement-lawful text other = either-lawful (virtual_modifiers-lawful text) (virtual_modifiers-begins text)
-    (either-lawful (key_type-lawful text) (key_type-begins text)
-    (either-lawful (interpretation-lawful text) (interpretation-begins text)
-    (either-lawful (indicator-lawful text) (indicator-begins text)
-    (either-lawful (group-lawful text) (group-begins text) other))))
+types_statement-lawful text other = either-lawful (λ _ _ _ _. refl) (virtual_modifiers-lawful text) (virtual_modifiers-begins text)
+    (either-lawful (λ _ _ _ _. refl) (key_type-lawful text) (key_type-begins text)
+    (either-lawful (λ _ _ _ _. refl) (interpretation-lawful text) (interpretation-begins text)
+    (either-lawful (λ _ _ _ _. refl) (indicator-lawful text) (indicator-begins text)
+    (either-lawful (λ _ _ _ _. refl) (group-lawful text) (group-begins text) other))))
 
 unfoldable pub symbols_statement-lawful : (text : List ℕ) → Lawful text (symbols_statement text)
 unfolding symbols_statement
-symbols_statement-lawful text = either-lawful (key-lawful text) (key-begins text)
-    (either-lawful (modifier_map-lawful text) (modifier_map-begins text) (field_statement-lawful text))
+symbols_statement-lawful text = either-lawful (λ _ _ _ _. refl) (key-lawful text) (key-begins text)
+    (either-lawful (λ _ _ _ _. refl) (modifier_map-lawful text) (modifier_map-begins text) (field_statement-lawful text))
 
 unfoldable pub statement-lawful : (text : List ℕ) → Lawful text (statement text)
 unfolding statement

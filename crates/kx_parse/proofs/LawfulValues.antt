@@ -21,15 +21,15 @@ after_comma-lawful text lp = do
 abbrev pub sequence-lawful : {A : Type 0} {p : Production A} (text : List ℕ) → Lawful text p → Lawful text (sequence text p)
 sequence-lawful text lp = do
   _ ← lp
-  _ ← many-lawful (after_comma-lawful text lp) (λ ts _ _ s. mark-front text comma ts s.0 s.1 s.2) (mark-least text comma)
+  _ ← many-lawful (λ _ _ _ _. refl) (after_comma-lawful text lp) (λ ts _ _ s. mark-front text comma ts s.0 s.1 s.2) (mark-least text comma)
   give-lawful _
 
 abbrev pub listed-lawful : {A : Type 0} {p : Production A} (text : List ℕ) (close : ℕ) → Lawful text p → Admits (before_mark close) p → Lawful text (listed text close p)
-listed-lawful text close lp admits = either-lawful (sequence-lawful text lp) (λ ts _ _ s. admits ts s.0 s.1 s.2) (give-lawful _)
+listed-lawful text close lp admits = either-lawful (λ _ _ _ _. refl) (sequence-lawful text lp) (λ ts _ _ s. admits ts s.0 s.1 s.2) (give-lawful _)
 
 unfoldable pub symbol-lawful : (text : List ℕ) → Lawful text (symbol text)
 unfolding symbol
-symbol-lawful text = either-lawful
+symbol-lawful text = either-lawful (λ _ _ _ _. refl)
     (do
       _ ← number-lawful text
       give-lawful _)
@@ -78,22 +78,22 @@ signed-front text ts x rest s = sign-front text ts s.2.0.0 s.2.0.1 s.2.0.2
 
 unfoldable pub term-lawful : (text : List ℕ) → Lawful text (term text)
 unfolding term
-term-lawful text = either-lawful
+term-lawful text = either-lawful (λ _ _ _ _. refl)
     (do
       _ ← signed-lawful text
       give-lawful _)
     (λ ts _ _ s. signed-front text ts s.0 s.1 s.2)
-    (either-lawful
+    (either-lawful (λ _ _ _ _. refl)
     (do
       _ ← number-lawful text
       give-lawful _)
     (λ ts _ _ s. number-front text ts s.0 s.1 s.2)
-    (either-lawful
+    (either-lawful (λ _ _ _ _. refl)
     (do
       _ ← text_name-lawful text
       give-lawful _)
     (λ ts _ _ s. text_name-front text ts s.0 s.1 s.2)
-    (either-lawful
+    (either-lawful (λ _ _ _ _. refl)
     (do
       _ ← key_name-lawful text
       give-lawful _)
@@ -130,7 +130,7 @@ unfolding expression
 expression-lawful text = do
   _ ← spanned-lawful (do
     _ ← term-lawful text
-    _ ← many-lawful (operation-lawful text) (operation-front text) (operation-least text)
+    _ ← many-lawful (λ _ _ _ _. refl) (operation-lawful text) (operation-front text) (operation-least text)
     give-lawful _)
   give-lawful _
 
@@ -153,7 +153,7 @@ unfolding index
 index-front text ts x rest s = mark-front text open_bracket ts s.2.0.0 s.2.0.1 s.2.0.2
 
 abbrev pub optional_index-lawful : (text : List ℕ) → Lawful text (optional_index text)
-optional_index-lawful text = optional-lawful (index-lawful text) (index-front text)
+optional_index-lawful text = optional-lawful (λ _ _ _ _. refl) (index-lawful text) (index-front text)
 
 unfoldable pub member-lawful : (text : List ℕ) → Lawful text (member text)
 unfolding member
@@ -166,7 +166,7 @@ unfolding member
 member-front text ts x rest s = mark-front text point ts s.0 s.1 s.2
 
 abbrev pub optional_member-lawful : (text : List ℕ) → Lawful text (optional_member text)
-optional_member-lawful text = optional-lawful (member-lawful text) (member-front text)
+optional_member-lawful text = optional-lawful (λ _ _ _ _. refl) (member-lawful text) (member-front text)
 
 unfoldable pub place-lawful : (text : List ℕ) → Lawful text (place text)
 unfolding place
@@ -213,8 +213,8 @@ unfolding off_argument
 off_argument-front text ts x rest s = mark-front text bang ts s.0 s.1 s.2
 
 abbrev pub bare_argument-lawful : (text : List ℕ) → Lawful text (bare_argument text)
-bare_argument-lawful text = either-lawful (off_argument-lawful text) (off_argument-front text)
-    (either-lawful (set_argument-lawful text) (set_argument-begins text)
+bare_argument-lawful text = either-lawful (λ _ _ _ _. refl) (off_argument-lawful text) (off_argument-front text)
+    (either-lawful (λ _ _ _ _. refl) (set_argument-lawful text) (set_argument-begins text)
     (do
       _ ← expression-lawful text
       give-lawful _))
@@ -265,7 +265,7 @@ call-before text close ts x rest s = word-before close ts (word-front text ts s.
 
 unfoldable pub part-lawful : (text : List ℕ) → Lawful text (part text)
 unfolding part
-part-lawful text = either-lawful
+part-lawful text = either-lawful (λ _ _ _ _. refl)
     (do
       _ ← call-lawful text
       give-lawful _)
@@ -299,12 +299,12 @@ braces-front text ts x rest s = mark-front text open_brace ts s.2.0.0 s.2.0.1 s.
 
 unfoldable pub element-lawful : (text : List ℕ) → Lawful text (element text)
 unfolding element
-element-lawful text = either-lawful
+element-lawful text = either-lawful (λ _ _ _ _. refl)
     (do
       _ ← braces-lawful text
       give-lawful _)
     (λ ts _ _ s. braces-front text ts s.0 s.1 s.2)
-    (either-lawful
+    (either-lawful (λ _ _ _ _. refl)
     (do
       _ ← call-lawful text
       give-lawful _)
@@ -339,12 +339,12 @@ list-front text ts x rest s = mark-front text open_bracket ts s.2.0.0 s.2.0.1 s.
 
 unfoldable pub value-lawful : (text : List ℕ) → Lawful text (value text)
 unfolding value
-value-lawful text = either-lawful
+value-lawful text = either-lawful (λ _ _ _ _. refl)
     (do
       _ ← list-lawful text
       give-lawful _)
     (λ ts _ _ s. list-front text ts s.0 s.1 s.2)
-    (either-lawful
+    (either-lawful (λ _ _ _ _. refl)
     (do
       _ ← call-lawful text
       give-lawful _)

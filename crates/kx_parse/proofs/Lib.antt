@@ -9,3 +9,5 @@ mod PassedValues
 mod PassedStatements
 mod PassedOutline
 mod PassedSections
+pub mod PlacedSections
+pub mod HeldSections

@@ -1,5 +1,5 @@
 -- The outline of a file: its sections without their statements, and where each stands.
-use Rattle.std.specs.Prelude.{ℕ, Bool, true, false, List, [], ◌∷◌, ◌≡◌, Option, Some, filter, is_some, map}
+use Rattle.std.specs.Prelude.{ℕ, Bool, true, false, List, [], ◌∷◌, ◌≡◌, Option, Some, filter, if◌then◌else◌, is_some, map, slice_get}
 use Rattle.kx_lex.specs.declared.keyword.Keyword.{Keyword}
 use Rattle.kx_lex.specs.declared.keyword.Keyword.TheVariants as keywords
 use Rattle.kx_lex.specs.declared.name.Name.{Name}
@@ -44,6 +44,32 @@ pub record IsOutline (text : List ℕ) (outline : Outline) : Type 0 where
   pub placed : (placed_sections text).spells tokens sections []
   pub outlined : outline.sections ≡ map (λ s. outline_of s.0) sections
   pub places : outline.places ≡ map (λ s. s.1) sections
+
+-- a section with its statements where it is wanted, and else without them
+abbrev pub held_section : Bool → Section → Section
+held_section wanted s = if wanted then s else outline_of s
+
+-- the same of sections one after another: none is wanted that no flag is for
+abbrev pub held_sections : List Bool → List Section → List Section
+held_sections wanted [] = []
+held_sections [] (s ∷ ss) = outline_of s ∷ held_sections [] ss
+held_sections (w ∷ ws) (s ∷ ss) = held_section w s ∷ held_sections ws ss
+
+-- whatever sections the text is spelled as, one that stands at the place is this one
+abbrev pub IsSectionAt : List ℕ → Span → Section → Type 0
+IsSectionAt text place section = (tokens : List Token) (sections : List (Section × Span)) → IsReading text tokens → (placed_sections text).spells tokens sections [] → (n : ℕ) (s : Section) → slice_get sections n ≡ Some (s, place) → s ≡ section
+
+-- none of them stands at the place
+abbrev pub HasNoSectionAt : List ℕ → Span → Type 0
+HasNoSectionAt text place = (tokens : List Token) (sections : List (Section × Span)) → IsReading text tokens → (placed_sections text).spells tokens sections [] → (n : ℕ) (s : Section) → slice_get sections n ≡ Some (s, place) → ⊥
+
+-- they don't stand at these places
+abbrev pub StandElsewhere : List ℕ → List Span → Type 0
+StandElsewhere text places = (tokens : List Token) (sections : List (Section × Span)) → IsReading text tokens → (placed_sections text).spells tokens sections [] → places ≡ map (λ s. s.1) sections → ⊥
+
+-- and where they stand at these places, the one of a number is this one
+abbrev pub IsNumbered : List ℕ → List Span → ℕ → Section → Type 0
+IsNumbered text places number section = (tokens : List Token) (sections : List (Section × Span)) → IsReading text tokens → (placed_sections text).spells tokens sections [] → places ≡ map (λ s. s.1) sections → (place : Span) × (slice_get sections number ≡ Some (section, place))
 
 -- ---- Under names, for clauses and proofs
 

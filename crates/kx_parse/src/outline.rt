@@ -1,5 +1,6 @@
 //! What the sections of a text are, without the statements in them.
-ghost use Rattle.std.specs.Prelude.{◌≡◌, ◌≤◌, ◌<◌, ◌-◌, ◌+◌, ◌==◌, ◌&&◌, ◌++◌, [], ◌∷◌, true, false, ℕ, List, Some, None, filter, length, IfNone, IfOk, IfSome};
+ghost use Rattle.std.specs.Prelude.{◌≡◌, ◌≤◌, ◌<◌, ◌-◌, ◌+◌, ◌==◌, ◌&&◌, ◌++◌, [], ◌∷◌, true, false, ℕ, List, Some, None, filter, length, map, slice_set, IfErr, IfNone, IfOk, IfSome};
+ghost use Rattle.kx_lex.specs.declared.fault.Fault.TheVariants.{Memory};
 ghost use Rattle.kx_lex.specs.Passing.{Ends, IsAtToken, front_byte, Passes, PassesAs, PassesTo, PassesWord};
 ghost use Rattle.kx_lex.specs.Production.{spanned};
 ghost use Rattle.kx_lex.specs.Tokens.{close_brace, text_name};
@@ -7,17 +8,17 @@ ghost use Rattle.kx_lex.specs.declared.scan.TheConstants.{MOST_TEXT_BYTES};
 ghost use Rattle.kx_lex.specs.declared.token.TokenKind.TheVariants.{Word};
 ghost use Rattle.kx_parse.specs.Forms.{ended};
 ghost use Rattle.kx_parse.specs.Geometry.{geometry};
-ghost use Rattle.kx_parse.specs.Outline.{BeginsNoInclude, BeginsNoModed, IsJoinWord, IsKindWord, IsModeWord, IsNoFlag, IsOutline, PassesDeep, held_by, include_at, is_include, items_ended, outline_of};
+ghost use Rattle.kx_parse.specs.Outline.{BeginsNoInclude, BeginsNoModed, HasNoSectionAt, IsNumbered, IsSectionAt, StandElsewhere, held_sections, IsJoinWord, IsKindWord, IsModeWord, IsNoFlag, IsOutline, PassesDeep, held_by, include_at, is_include, items_ended, outline_of};
 ghost use Rattle.kx_parse.specs.Sections.{flag, flagged, flags, item, optional_text, section};
 
 use crate::passing_statements::{pass_statement, pass_statement_behind};
-use crate::sections::{flag_of, join_of, kind_of, mode_of};
+use crate::sections::{flag_of, join_of, kind_of, mode_of, read_section};
 use crate::tree::{Flag, Item, Kind, Mode, Section};
 use kx_lex::passing::{
     first_in, front_is, front_is_word, pass_keyword, pass_mark, pass_name, pass_token, span_at,
 };
 use kx_lex::tokens::is_keyword;
-use kx_lex::{Keyword, MOST_TEXT_BYTES, Name, Row, Span, Token, TokenKind};
+use kx_lex::{Fault, Keyword, MOST_TEXT_BYTES, Name, Row, Span, Token, TokenKind, lex_front};
 use std::alloc::{AllocError, Global};
 
 /// The sections of a text without their statements, and where each stands, from its first token to its `;`.
@@ -348,12 +349,102 @@ fn pass_section<'t>(alloc: Global, text: &[u8], bytes: &'t [u8]) -> Outlined<'t,
     Ok(Some(((section, span), rest)))
 }
 
+/// The section of a file that stands at a place; nothing where none stands there.
+///
+/// # Errors
+/// `Memory`.
+fn section_at(alloc: Global, text: &[u8], place: Span) -> Result<Option<Section>, Fault>
+    requires { length text.now ≤ MOST_TEXT_BYTES }
+    ensures section { IfOk result (λ o. IfSome o (λ section. IsSectionAt text.now place section)) }
+    ensures none { IfOk result (λ o. IfNone o (HasNoSectionAt text.now place)) }
+    ensures err { IfErr result (λ e. e ≡ Memory) }
+{
+    let tokens = lex_front(alloc, text, place)?;
+    match read_section(alloc, text, tokens.as_slice()) {
+        Ok((section, _)) => Ok(Some(section)),
+        Err(fault) => {
+            if fault.is_memory() {
+                return Err(fault);
+            }
+            Ok(None)
+        }
+    }
+}
+
+/// The section of a number, counted from 0, of a file whose sections stand at these places; nothing where they don't.
+///
+/// # Errors
+/// `Memory`.
+fn numbered(
+    alloc: Global,
+    text: &[u8],
+    places: &[Span],
+    number: usize,
+) -> Result<Option<Section>, Fault>
+    requires short { length text.now ≤ MOST_TEXT_BYTES }
+    requires within { number < length places.now }
+    ensures section { IfOk result (λ o. IfSome o (λ section.
+        IsNumbered text.now places.now number section)) }
+    ensures none { IfOk result (λ o. IfNone o (StandElsewhere text.now places.now)) }
+    ensures err { IfErr result (λ e. e ≡ Memory) }
+{
+    match places.get(number) {
+        Some(place) => section_at(alloc, text, *place),
+        None => unreachable!(),
+    }
+}
+
+/// Puts a section in the place of another; nothing where there is none of that number.
+fn put(sections: &mut Vec<Section>, number: usize, section: Section)
+    ensures { sections.new.items ≡ slice_set sections.old.items number section }
+{
+    if let Some(held) = sections.get_mut(number) {
+        *held = section;
+    }
+}
+
+/// The sections of an outline of a text, which stand at these places: with their statements where they are wanted, and else
+/// with their includes alone. Nothing where the outline isn't the text's.
+///
+/// # Errors
+/// `Memory`.
+pub fn with_statements(
+    alloc: Global,
+    text: &[u8],
+    sections: Row<Section>,
+    places: &[Span],
+    wanted: &[bool],
+) -> Result<Option<Row<Section>>, Fault>
+    ensures held { IfOk result (λ o. IfSome o (λ held.
+        (is : IsOutline text.now (record { sections = sections; places = places.now }))
+        → held ≡ held_sections wanted.now (map (λ s. s.0) is.sections))) }
+    ensures none { IfOk result (λ o. IfNone o (length text.now ≤ MOST_TEXT_BYTES
+        → IsOutline text.now (record { sections = sections; places = places.now }) → ⊥)) }
+    ensures err { IfErr result (λ e. e ≡ Memory) }
+{
+    if text.len() > MOST_TEXT_BYTES {
+        return Ok(None);
+    }
+    let mut sections = sections.into_vec();
+    'sections: for number in 0..places.len().min(wanted.len()) {
+        if !wanted[number] {
+            continue;
+        }
+        let Some(section) = numbered(alloc, text, places, number)? else {
+            return Ok(None);
+        };
+        put(&mut sections, number, section);
+    }
+    Ok(Some(Row::of(sections)))
+}
+
 /// The outline of a file; nothing where the file has no tree.
 ///
 /// # Errors
 /// Where a growth is refused.
 pub fn outline_file(alloc: Global, text: &[u8]) -> Result<Option<Outline>, AllocError>
-    ensures { IfOk result (λ o. IfSome o (λ outline. IsOutline text.now outline)) }
+    ensures outline { IfOk result (λ o. IfSome o (λ outline. IsOutline text.now outline)) }
+    ensures short { IfOk result (λ o. IfSome o (λ _. length text.now ≤ MOST_TEXT_BYTES)) }
 {
     if text.len() > MOST_TEXT_BYTES {
         return Ok(None);

@@ -413,7 +413,11 @@ fn read_flagged<'a>(
 }
 
 #[tactic(auto, unfolding(crate::specs::Sections::section))]
-fn read_section<'a>(alloc: Global, text: &[u8], tokens: &'a [Token]) -> Parsed<'a, Section>
+pub(crate) fn read_section<'a>(
+    alloc: Global,
+    text: &[u8],
+    tokens: &'a [Token],
+) -> Parsed<'a, Section>
     ensures { Gives result ((section text.now).read tokens.now) }
 {
     let (flags, rest) = read_flags(alloc, text, tokens)?;

@@ -3,3 +3,4 @@ mod Joining
 mod Keymaps
 mod Mapped
 mod Refusals
+mod Standing

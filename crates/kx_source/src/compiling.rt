@@ -1,7 +1,9 @@
 //! From a source to tables.
 ghost use Rattle.std.specs.Prelude.{◌≡◌, ◌⊎◌, [], IfErr, IfOk, OnOk};
 ghost use Rattle.kx_include.specs.Bodies.{AreBodies};
+ghost use Rattle.kx_include.specs.Held.{StandsFor};
 ghost use Rattle.kx_include.specs.IncludeFaults.{IsWhole};
+ghost use Rattle.kx_include.specs.Library.{Library as LibraryValue};
 ghost use Rattle.kx_lex.specs.declared.fault.Fault.TheVariants.{Memory};
 ghost use Rattle.kx_virtual_mods.specs.Declarations.{AreModNames, modifier_bodies, modifier_faults};
 ghost use Rattle.kx_source.specs.Meaning.{keymap_in};
@@ -11,59 +13,77 @@ ghost use Rattle.kx_tables.specs.Keymap.{keymap_of};
 use crate::leaving::{Ending, GivenBack, Left};
 use crate::observer::{Nobody, Observer};
 use crate::parts::parts_of;
+use crate::sections::{Expanded, Sections};
 use ks_core::{NameTable, Notes};
 use kx_codes::codes;
-use kx_include::{Bodies, Files, Library};
+use kx_include::{Files, Library};
 use kx_lex::Fault;
 use kx_tables::Owned;
 use kx_types::types;
 use kx_virtual_mods::ModNames;
 use std::alloc::Global;
 
-/// The tables of what the bodies say that a source and its files expand to, and what was passed over.
-fn tables_over<'l, E: Ending, O: Observer>(
+/// The tables of what the bodies of any library say, and what was passed over.
+fn tables_over<E: Ending, O: Observer>(
     alloc: Global,
-    library: &Library,
-    names: &NameTable,
-    bodies: &Bodies<'l>,
-    modifiers: &ModNames,
+    expanded: Expanded,
     observer: &mut O,
 ) -> Result<(Owned, Notes), Fault>
-    requires whole { IsWhole library.now }
-    requires bodies { AreBodies library.now bodies.now }
-    requires names { AreModNames modifiers.now (modifier_bodies bodies.now) }
-    requires faultless { modifier_faults (modifier_bodies bodies.now) ≡ [] }
-    ensures faultless { OnOk result (statement_faults names.now library.now ≡ []) }
-    ensures holds { IfOk result (λ made. HoldsAll names.now library.now made.0) }
-    ensures keymap { IfOk result (λ made. keymap_of made.0 ≡ keymap_in names.now library.now) }
-    ensures fault { IfErr result (λ e. (e ≡ Memory) ⊎ HasFaultIn names.now library.now e) }
+    requires names { AreModNames expanded.modifiers.now (modifier_bodies expanded.bodies.now) }
+    requires faultless { modifier_faults (modifier_bodies expanded.bodies.now) ≡ [] }
+    ensures faultless { OnOk result ((library : LibraryValue)
+        → AreBodies library expanded.entry.bodies.now
+        → statement_faults expanded.entry.names.now library ≡ []) }
+    ensures holds { IfOk result (λ made. (library : LibraryValue)
+        → AreBodies library expanded.entry.bodies.now
+        → HoldsAll expanded.entry.names.now library made.0) }
+    ensures keymap { IfOk result (λ made. (library : LibraryValue)
+        → AreBodies library expanded.entry.bodies.now
+        → keymap_of made.0 ≡ keymap_in expanded.entry.names.now library) }
+    ensures fault { IfErr result (λ e. (library : LibraryValue) → IsWhole library
+        → AreBodies library expanded.entry.bodies.now
+        → (e ≡ Memory) ⊎ HasFaultIn expanded.entry.names.now library e) }
 {
-    let codes = codes(alloc, &bodies.keycodes)?;
-    let types = types(alloc, &bodies.types, modifiers)?;
-    let (parts, notes) = parts_of::<E, O>(
-        alloc, bodies, names, modifiers, &codes, &types, observer,
-    )?;
+    let codes = codes(alloc, &expanded.bodies.keycodes)?;
+    let types = types(alloc, &expanded.bodies.types, expanded.modifiers)?;
+    let sections = Sections {
+        expanded,
+        codes: &codes,
+        types: &types,
+    };
+    let (parts, notes) = parts_of::<E, O>(alloc, sections, observer)?;
     E::end(codes);
     E::end(types);
     Ok((Owned::from_sound(parts), notes))
 }
 
-/// The tables of what a source and its files say, and what was passed over.
+/// The tables of what a source and its files say, and what was passed over. The library may lack what no include reaches: it is
+/// the whole one that is spoken of.
 fn tables_of<E: Ending, O: Observer>(
     alloc: Global,
     library: &Library,
     names: &NameTable,
     observer: &mut O,
 ) -> Result<(Owned, Notes), Fault>
-    ensures whole { OnOk result (IsWhole library.now) }
-    ensures faultless { OnOk result (statement_faults names.now library.now ≡ []) }
-    ensures holds { IfOk result (λ made. HoldsAll names.now library.now made.0) }
-    ensures keymap { IfOk result (λ made. keymap_of made.0 ≡ keymap_in names.now library.now) }
-    ensures fault { IfErr result (λ e. (e ≡ Memory) ⊎ HasFaultIn names.now library.now e) }
+    ensures whole { OnOk result ((whole : LibraryValue) → StandsFor library.now whole
+        → IsWhole whole) }
+    ensures faultless { OnOk result ((whole : LibraryValue) → StandsFor library.now whole
+        → statement_faults names.now whole ≡ []) }
+    ensures holds { IfOk result (λ made. (whole : LibraryValue) → StandsFor library.now whole
+        → HoldsAll names.now whole made.0) }
+    ensures keymap { IfOk result (λ made. (whole : LibraryValue) → StandsFor library.now whole
+        → keymap_of made.0 ≡ keymap_in names.now whole) }
+    ensures fault { IfErr result (λ e. (whole : LibraryValue) → StandsFor library.now whole
+        → (e ≡ Memory) ⊎ HasFaultIn names.now whole e) }
 {
     let bodies = library.expand(alloc)?;
     let modifiers = ModNames::of(alloc, &bodies)?;
-    let made = tables_over::<E, O>(alloc, library, names, &bodies, &modifiers, observer);
+    let expanded = Expanded {
+        bodies: &bodies,
+        names,
+        modifiers: &modifiers,
+    };
+    let made = tables_over::<E, O>(alloc, expanded, observer);
     E::end(bodies);
     E::end(modifiers);
     made

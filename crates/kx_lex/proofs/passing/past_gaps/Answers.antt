@@ -1,8 +1,7 @@
-use Rattle.kx_lex.proofs.PassedOver.{Skips-self, Skips-on}
+use Rattle.std.proofs.Common.{◌∙◌, sym}
+use Rattle.kx_lex.proofs.PassedOver.{one-blank}
 use Rattle.kx_lex.proofs.passing.past_gaps.Goals as goal
 
-pub gaps-init : goal.gaps-init
-gaps-init c = Skips-self c.args.bytes.now
-
-pub gaps-preserved : goal.gaps-preserved
-gaps-preserved c = rw c.past-rest.ensures (Skips-on c.gaps.invariant c.in-Some.len c.in-Some.ensures.within c.in-Some.ensures.exact)
+pub returns-clause-skips : goal.returns-clause-skips
+returns-clause-skips c =
+    one-blank c.args.bytes.now c.in-Some.first.now c.in-Some.rest.now c.in-Some.ensures.cases.0 (sym c.is_blank.ensures ∙ c.if-is_blank.true) (c.front_may_be_gap-2.ensures c.if-not-front_may_be_gap-2.true)

@@ -51,8 +51,8 @@ is_none : (bs : List ℕ) → length bs ≡ 0 → bs ≡ []
 is_none [] e = refl
 is_none (b ∷ bs) e = absurd (cc)
 
-pub returns : goal.returns
-returns c =
+pub returns-clause-outline : goal.returns-clause-outline
+returns-clause-outline c =
     let text = c.args.text.now in
     let sections = c.sections.sections.items in
     let places = c.sections.places.items in

@@ -1,6 +1,9 @@
 use Rattle.std.proofs.Common.{◌≡◌, ◌⊎◌, ◌∷◌, [], Contains, ap, ◌∙◌, subst, sym}
 use Rattle.kx_codes.specs.CodeFaults.{faults_of as keycodes_faults}
 use Rattle.kx_codes.specs.Codes.{CodesShow}
+use Rattle.kx_include.specs.Bodies.{AreBodies}
+use Rattle.kx_include.specs.IncludeFaults.{IsWhole}
+use Rattle.kx_include.specs.Library.{Library}
 use Rattle.kx_lex.specs.declared.fault.Fault.{Fault}
 use Rattle.kx_lex.specs.declared.fault.Fault.TheVariants.{Memory}
 use Rattle.kx_virtual_mods.specs.Declarations.{modifier_faults}
@@ -15,55 +18,54 @@ use Rattle.kx_source.proofs.compiling.tables_over.Goals as goal
 
 pub returns-in_err-codes-clause-fault : goal.returns-in_err-codes-clause-fault
 returns-in_err-codes-clause-fault g c =
-    passed c.from_residual.result (λ (e : Fault). (e ≡ Memory) ⊎ HasFaultIn c.args.names.now c.args.library.now e) c.in_err-codes.field-0.0 c.from_residual.ensures.1
-    (keycodes_refused c.args.names.now c.args.library.now c.requires.whole c.in_err-codes.field-0.0
-    (subst (λ body. Contains (Memory ∷ keycodes_faults body) c.in_err-codes.field-0.0) c.requires.bodies.keycodes c.in_err-codes.ensures.faults.1))
+    let e = c.in_err-codes.field-0.0 in
+    passed c.from_residual.result (λ (e : Fault). (library : Library) → IsWhole library → AreBodies library c.args.expanded.bodies.now → (e ≡ Memory) ⊎ HasFaultIn c.args.expanded.names.now library e) e c.from_residual.ensures.1
+    (λ library whole are. keycodes_refused c.args.expanded.names.now library whole e
+    (subst (λ body. Contains (Memory ∷ keycodes_faults body) e) are.keycodes c.in_err-codes.ensures.faults.1))
 
 pub returns-in_err-types-clause-fault : goal.returns-in_err-types-clause-fault
 returns-in_err-types-clause-fault g c =
-    let same = modifiers_same c.args.library.now c.args.bodies.now c.requires.bodies c.args.modifiers.now c.requires.names in
-    passed c.from_residual-in_err-types.result (λ (e : Fault). (e ≡ Memory) ⊎ HasFaultIn c.args.names.now c.args.library.now e) c.in_err-types.field-0.0 c.from_residual-in_err-types.ensures.1
-    (types_refused c.args.names.now c.args.library.now c.requires.whole c.in_err-types.field-0.0
-    (subst (λ fs. Contains (Memory ∷ fs) c.in_err-types.field-0.0) (λ i. types_faults (same i) (c.requires.bodies.types i)) c.in_err-types.ensures.faults.1))
+    let e = c.in_err-types.field-0.0 in
+    passed c.from_residual-in_err-types.result (λ (e : Fault). (library : Library) → IsWhole library → AreBodies library c.args.expanded.bodies.now → (e ≡ Memory) ⊎ HasFaultIn c.args.expanded.names.now library e) e c.from_residual-in_err-types.ensures.1
+    (λ library whole are.
+    let same = modifiers_same library c.args.expanded.bodies.now are c.args.expanded.modifiers.now c.requires.names in
+    types_refused c.args.expanded.names.now library whole e
+    (subst (λ fs. Contains (Memory ∷ fs) e) (λ i. types_faults (same i) (are.types i)) c.in_err-types.ensures.faults.1))
 
 pub returns-in_err-parts-clause-fault : goal.returns-in_err-parts-clause-fault
 returns-in_err-parts-clause-fault g c =
-    let library = c.args.library.now in
-    let names = c.args.names.now in
-    let bodies = c.args.bodies.now in
-    let are = c.requires.bodies in
-    let m = c.args.modifiers.now in
+    let names = c.args.expanded.names.now in
+    let bodies = c.args.expanded.bodies.now in
+    let m = c.args.expanded.modifiers.now in
     let shows = c.requires.names in
-    let codes_show = subst (CodesShow c.in_ok-codes.codes) are.keycodes c.in_ok-codes.ensures.shows in
     let types = c.in_ok-types.types in
     let types_show = c.in_ok-types.ensures.shows in
-    passed c.from_residual-in_err-parts.result (λ (e : Fault). (e ≡ Memory) ⊎ HasFaultIn names library e) c.in_err-parts.field-0.0 c.from_residual-in_err-parts.ensures.1
-    (parts_refused names library c.requires.whole c.in_err-parts.field-0.0
-    (subst (λ fs. Contains (Memory ∷ fs) c.in_err-parts.field-0.0) (parts_faults_same library bodies are m shows types types_show c.in_ok-codes.codes codes_show names) c.in_err-parts.ensures.faults.1))
+    let e = c.in_err-parts.field-0.0 in
+    passed c.from_residual-in_err-parts.result (λ (e : Fault). (library : Library) → IsWhole library → AreBodies library c.args.expanded.bodies.now → (e ≡ Memory) ⊎ HasFaultIn c.args.expanded.names.now library e) e c.from_residual-in_err-parts.ensures.1
+    (λ library whole are.
+    let codes_show = subst (CodesShow c.in_ok-codes.codes) are.keycodes c.in_ok-codes.ensures.shows in
+    parts_refused names library whole e
+    (subst (λ fs. Contains (Memory ∷ fs) e) (parts_faults_same library bodies are m shows types types_show c.in_ok-codes.codes codes_show names) c.in_err-parts.ensures.faults.1))
 
 pub from_sound-requires : goal.from_sound-requires
 from_sound-requires g c = c.in_ok-parts.ensures.sound
 
 pub returns-clause-keymap : goal.returns-clause-keymap
-returns-clause-keymap g c =
-    let are = c.requires.bodies in
+returns-clause-keymap g c library are =
     let codes_show = subst (CodesShow c.in_ok-codes.codes) are.keycodes c.in_ok-codes.ensures.shows in
     ap keymap_of c.from_sound.ensures
-    ∙ made_keymap c.args.library.now c.args.bodies.now are c.args.modifiers.now c.requires.names c.in_ok-types.types c.in_ok-types.ensures.shows c.in_ok-codes.codes codes_show c.args.names.now (content_of c.in_ok-parts.parts) c.in_ok-parts.ensures.made
+    ∙ made_keymap library c.args.expanded.bodies.now are c.args.expanded.modifiers.now c.requires.names c.in_ok-types.types c.in_ok-types.ensures.shows c.in_ok-codes.codes codes_show c.args.expanded.names.now (content_of c.in_ok-parts.parts) c.in_ok-parts.ensures.made
 
 pub returns-clause-holds : goal.returns-clause-holds
-returns-clause-holds g c =
-    let are = c.requires.bodies in
+returns-clause-holds g c library are =
     let codes_show = subst (CodesShow c.in_ok-codes.codes) are.keycodes c.in_ok-codes.ensures.shows in
-    subst (HoldsAll c.args.names.now c.args.library.now) (sym c.from_sound.ensures) (made_holds c.args.library.now c.args.bodies.now are c.args.modifiers.now c.requires.names c.in_ok-types.types c.in_ok-types.ensures.shows c.in_ok-codes.codes codes_show c.args.names.now (content_of c.in_ok-parts.parts) c.in_ok-parts.ensures.made)
+    subst (HoldsAll c.args.expanded.names.now library) (sym c.from_sound.ensures) (made_holds library c.args.expanded.bodies.now are c.args.expanded.modifiers.now c.requires.names c.in_ok-types.types c.in_ok-types.ensures.shows c.in_ok-codes.codes codes_show c.args.expanded.names.now (content_of c.in_ok-parts.parts) c.in_ok-parts.ensures.made)
 
 pub returns-clause-faultless : goal.returns-clause-faultless
-returns-clause-faultless g c =
-    let library = c.args.library.now in
-    let names = c.args.names.now in
-    let bodies = c.args.bodies.now in
-    let are = c.requires.bodies in
-    let m = c.args.modifiers.now in
+returns-clause-faultless g c library are =
+    let names = c.args.expanded.names.now in
+    let bodies = c.args.expanded.bodies.now in
+    let m = c.args.expanded.modifiers.now in
     let shows = c.requires.names in
     let same = modifiers_same library bodies are m shows in
     let codes_show = subst (CodesShow c.in_ok-codes.codes) are.keycodes c.in_ok-codes.ensures.shows in
