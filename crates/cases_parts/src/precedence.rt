@@ -12,10 +12,10 @@ ghost use Rattle.cases_parts.specs.Sheet.{keycode_in, sheet_cell, sheet_moves, s
 use crate::sources::{bodies_of, library_of, text_of};
 use cases_kit::{Case, Trouble};
 use ks_core::{Note, Notes};
-use kx_include::{Expansion, Place};
+use kx_include::Expansion;
 use kx_lex::Fault;
-use kx_merge::{Fields, Merged, merge, merged_value};
-use kx_parse::{Mode, Stated, Statement};
+use kx_merge::{Fields, Merged, Placed, merge, merged_value};
+use kx_parse::{Mode, Statement};
 use std::alloc::Global;
 use std::fmt::Write;
 
@@ -106,12 +106,11 @@ impl Fields<()> for Sheet {
         alloc: Global,
         _context: &(),
         _defaults: (),
-        _place: Place,
-        stated: &Stated,
+        placed: &Placed,
         notes: &mut Notes,
     ) -> Result<(Vec<(u8, Sheet)>, ()), Fault> {
         notes.count(Note::UnknownKey);
-        let sheets = match keycode_in(&stated.statement) {
+        let sheets = match keycode_in(&placed.stated.statement) {
             None => no_sheets(alloc),
             Some((key, number)) => one_sheet(alloc, key, number)?,
         };

@@ -13,7 +13,7 @@ use Rattle.kx_include.specs.Expansion.{Body}
 use Rattle.kx_key_fields.specs.AttributeFields.{truth_in}
 use Rattle.kx_lex.specs.declared.fault.Fault.{Fault}
 use Rattle.kx_lex.specs.declared.name.Name.{Name}
-use Rattle.kx_merge.specs.Bodies.{Moves, Rules, faults_of, no_moves, offers_of}
+use Rattle.kx_merge.specs.Bodies.{Rules, faults_of, no_moves, offers_of}
 use Rattle.kx_merge.specs.Last.{last_given}
 use Rattle.kx_merge.specs.Offers.{Offer, offers_to, value_of}
 use Rattle.kx_parse.specs.declared.tree.Field.{Field}
@@ -67,6 +67,3 @@ module _ (table : KeysymTable) (names : List (List ℕ)) where
 
 abbrev pub all_match_faults : KeysymTable → List (List ℕ) → Body → List Fault
 all_match_faults table names body = faults_of same_match (truth_rules table names) no_moves body
-
-abbrev pub truth_moves : Moves InterpretationMatch (Unit {0})
-truth_moves = no_moves

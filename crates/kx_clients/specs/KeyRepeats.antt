@@ -7,7 +7,7 @@ use Rattle.kx_codes.specs.Codes.{Codes, code_of}
 use Rattle.kx_include.specs.Expansion.{Body}
 use Rattle.kx_key_fields.specs.Words.{is_key_word}
 use Rattle.kx_lex.specs.declared.name.Name.{Name}
-use Rattle.kx_merge.specs.Bodies.{Moves, Rules, no_moves, offers_of}
+use Rattle.kx_merge.specs.Bodies.{Rules, no_moves, offers_of}
 use Rattle.kx_merge.specs.Faults.{expression_in}
 use Rattle.kx_merge.specs.Last.{last_given}
 use Rattle.kx_merge.specs.Offers.{Offer, offers_to, value_of}
@@ -72,8 +72,3 @@ module _ (codes : Codes) where
   -- what a symbols body says of the key of a code, by precedence
   abbrev pub said_repeat : Body → ℕ → Option KeyRepeat
   said_repeat body code = value_of nat_eq (offers_of nat_eq repeat_rules no_moves body) code tt
-
--- ---- Under a name, for clauses
-
-abbrev pub repeat_moves : Moves ℕ (Unit {0})
-repeat_moves = no_moves

@@ -3,7 +3,9 @@ use Rattle.std.specs.Prelude.{ℕ, Bool, false, Option, nat_eq, unwrap_or}
 use Rattle.indexmap.specs.IndexMap.{IndexMap, get}
 use Rattle.kx_compat.specs.SameMatch.{same_match}
 use Rattle.kx_compat.specs.declared.interpretation_match.InterpretationMatch.{InterpretationMatch}
+use Rattle.kx_merge.specs.Plain.{plain_cell}
 use Rattle.kx_merge.specs.Records.{cell_in}
+use Rattle.kx_merge.specs.declared.plain.Plain.{Plain}
 use Rattle.kx_clients.specs.declared.interpretation_repeats.SaidOfMatch.{SaidOfMatch}
 use Rattle.kx_clients.specs.declared.key_repeat.KeyRepeat.{KeyRepeat}
 use Rattle.kx_clients.specs.declared.key_repeats.SaidOfKey.{SaidOfKey}
@@ -13,19 +15,13 @@ use Rattle.kx_clients.specs.declared.key_repeats.SaidOfKey.{SaidOfKey}
 abbrev pub repeat_cell : SaidOfKey → Unit {0} → Option KeyRepeat
 repeat_cell r c = r.said
 
-abbrev pub repeat_width : SaidOfKey → ℕ → ℕ
-repeat_width r group = 0
-
-abbrev pub repeat_recorded : {S : Type 0} → IndexMap ℕ SaidOfKey S → ℕ → Option KeyRepeat
-repeat_recorded records code = cell_in repeat_cell (get nat_eq records code) tt
+abbrev pub repeat_recorded : {S : Type 0} → IndexMap ℕ (Plain SaidOfKey) S → ℕ → Option KeyRepeat
+repeat_recorded records code = cell_in (plain_cell repeat_cell) (get nat_eq records code) tt
 
 -- of interpretations, by what they are told apart by
 
 abbrev pub truth_cell : SaidOfMatch → Unit {0} → Option Bool
 truth_cell r c = r.said
 
-abbrev pub truth_width : SaidOfMatch → ℕ → ℕ
-truth_width r group = 0
-
-abbrev pub truth_recorded : {S : Type 0} → IndexMap InterpretationMatch SaidOfMatch S → InterpretationMatch → Bool
-truth_recorded records interpretation_match = unwrap_or (cell_in truth_cell (get same_match records interpretation_match) tt) false
+abbrev pub truth_recorded : {S : Type 0} → IndexMap InterpretationMatch (Plain SaidOfMatch) S → InterpretationMatch → Bool
+truth_recorded records interpretation_match = unwrap_or (cell_in (plain_cell truth_cell) (get same_match records interpretation_match) tt) false

@@ -12,11 +12,11 @@ ghost use Rattle.kx_parse.specs.declared.tree.Mode.{Mode as ModeValue};
 ghost use Rattle.kx_clients.specs.IndicatorNames.{AreIndicatorNames, kept_number, name_at, name_recorded, name_offer, named_indicator, named_offers};
 
 use kx_basics::MOST_NAME_BYTES;
-use kx_include::{Expansion, Place};
+use kx_include::Expansion;
 use kx_lex::{Bytes, Fault};
-use kx_merge::{Single, SingleValue, merge, none_given, one_given};
+use kx_merge::{Placed, Single, SingleValue, merge, none_given, one_given};
 use kx_ordered::Ordered;
-use kx_parse::{Stated, Statement};
+use kx_parse::Statement;
 use std::alloc::{AllocError, Global};
 use std::marker::Model;
 
@@ -118,10 +118,9 @@ impl SingleValue<()> for IndicatorName {
     fn read(
         alloc: Global,
         _context: &(),
-        _place: Place,
-        stated: &Stated,
+        placed: &Placed,
     ) -> Result<Vec<(u8, Single<IndicatorName>)>, Fault> {
-        read_statement(alloc, &stated.statement)
+        read_statement(alloc, &placed.stated.statement)
     }
 
     fn try_clone(&self, alloc: Global) -> Result<IndicatorName, Fault> {

@@ -1,27 +1,29 @@
 //! Whether the keys of interpretations repeat, by the statements of a keymap's compat sections.
-ghost use Rattle.std.specs.Prelude.{◌≡◌, [], ℕ, IfErr, IfOk, None, OnOk, Some, unwrap_or};
-ghost use Rattle.std.specs.Option.{option_map};
-ghost use Rattle.std.proofs.Common.{◌∙◌, ap, rules, sym};
+ghost use Rattle.std.specs.Prelude.{◌≡◌, [], IfOk, None, Some};
+ghost use Rattle.std.proofs.Common.{rules};
 ghost use Rattle.kx_compat.specs.Sections.{interpretation_in, is_interpret};
 ghost use Rattle.kx_key_fields.specs.AttributeFields.{truth_in};
-ghost use Rattle.kx_lex.specs.declared.fault.Fault.TheVariants.{Memory};
 ghost use Rattle.kx_merge.specs.Last.{last_given};
-ghost use Rattle.kx_merge.specs.Moved.{moved_key, moved_value, moved_width};
-ghost use Rattle.kx_merge.specs.Offers.{merged_value, merged_width};
+ghost use Rattle.kx_merge.specs.Offers.{MergesCells};
+ghost use Rattle.kx_merge.specs.Plain.{plain_cell, plain_width};
 ghost use Rattle.kx_merge.specs.Records.{AreOffered};
 ghost use Rattle.kx_merge.specs.Reports.{ReportsOrRunsOut};
 ghost use Rattle.kx_merge.specs.Words.{meaning_among, truth_words};
 ghost use Rattle.kx_parse.specs.declared.tree.Mode.{Mode as ModeValue};
-ghost use Rattle.kx_clients.specs.InterpretationRepeats.{default_truth, field_truth, named_truth, next_truth, said_faults, truth_moves, truth_offers, truth_rules};
-ghost use Rattle.kx_clients.specs.Records.{truth_cell, truth_width};
+ghost use Rattle.kx_clients.specs.InterpretationRepeats.{default_truth, field_truth, named_truth, next_truth, said_faults, truth_offers, truth_rules};
+ghost use Rattle.kx_clients.specs.Records.{truth_cell};
 
 use ks_core::{NameTable, Notes};
-use kx_compat::{InterpretationMatch, read_match};
-use kx_include::{Expansion, Place};
-use kx_lex::{Boxed, Fault, Name, Row};
-use kx_merge::{Fields, lone_word, merge, merged_value, records_for, truth_named};
+use kx_compat::{
+    FileContext, InterpretationMatch, WrittenInterpretation, interpretation_in, read_match,
+};
+use kx_include::Expansion;
+use kx_lex::{Fault, Name};
+use kx_merge::{
+    Placed, Plain, PlainRecord, lone_word, merge, merged_value, records_for, truth_named,
+};
 use kx_ordered::Ordered;
-use kx_parse::{Expression, Field, Mode, Predicate, Setting, Stated, Statement, Symbol, Value};
+use kx_parse::{Expression, Field, Mode, Setting, Statement, Value};
 use kx_virtual_mods::ModNames;
 use std::alloc::Global;
 
@@ -115,26 +117,10 @@ pub(crate) struct Context<'a> {
     pub names: &'a ModNames,
 }
 
-/// The symbol, the predicate and the fields of an interpretation.
-fn interpretation_in(
-    statement: &Statement,
-) -> Option<(&Symbol, &Option<Boxed<Predicate>>, &Row<Field>)>
-    ensures { option_map (λ i. (i.0.now, i.1.now, i.2.now)) result
-        ≡ interpretation_in statement.now }
-{
-    match statement {
-        Statement::Interpretation {
-            symbol,
-            predicate,
-            fields,
-        } => Some((symbol, predicate, fields)),
-        _ => None,
-    }
-}
-
 #[tactic(auto, using(kx_merge::proofs::Offered::nothing_offered))]
-fn no_records(alloc: Global) -> Vec<(InterpretationMatch, SaidOfMatch)>
-    ensures { (mode : ModeValue) → AreOffered mode truth_cell truth_width result.items [] }
+fn no_records(alloc: Global) -> Vec<(InterpretationMatch, Plain<SaidOfMatch>)>
+    ensures { (mode : ModeValue)
+        → AreOffered mode (plain_cell truth_cell) plain_width result.items [] }
 {
     Vec::new(alloc)
 }
@@ -142,33 +128,24 @@ fn no_records(alloc: Global) -> Vec<(InterpretationMatch, SaidOfMatch)>
 /// What an interpretation gives.
 fn read_interpretation(
     alloc: Global,
-    context: &Context,
-    file: u32,
+    context: &FileContext,
     default: Option<bool>,
-    interpretation: (&Symbol, &Option<Boxed<Predicate>>, &Row<Field>),
-) -> Result<Vec<(InterpretationMatch, SaidOfMatch)>, Fault>
+    written: &WrittenInterpretation,
+) -> Result<Vec<(InterpretationMatch, Plain<SaidOfMatch>)>, Fault>
     ensures records { (mode : ModeValue)
-        → IfOk result (λ records. AreOffered mode truth_cell truth_width records.items
-        (truth_offers context.now.table.now context.now.names.now.names default mode
-        (Some (
-          interpretation.entry.0.now,
-          interpretation.entry.1.now,
-          interpretation.entry.2.now,
-        )))) }
+        → IfOk result (λ records. AreOffered mode (plain_cell truth_cell) plain_width records.items
+        (truth_offers context.now.keysyms.now context.now.modifiers.now.names default mode
+        (Some (written.now.symbol.now, written.now.predicate.now, written.now.fields.now)))) }
     ensures faults { ReportsOrRunsOut result
-        (said_faults context.now.names.now.names file
-        (Some (
-          interpretation.entry.0.now,
-          interpretation.entry.1.now,
-          interpretation.entry.2.now,
-        ))) }
+        (said_faults context.now.modifiers.now.names context.now.file
+        (Some (written.now.symbol.now, written.now.predicate.now, written.now.fields.now))) }
 {
-    let (symbol, predicate, fields) = interpretation;
-    let (table, names) = (context.table, context.names);
     let mut notes = Notes::new();
-    let key = read_match(table, names, file, symbol, predicate, &mut notes)?;
-    let said = last_truth(fields.as_slice(), default);
-    records_for(alloc, key, SaidOfMatch { said })
+    let key = read_match(context, written, &mut notes)?;
+    let values = SaidOfMatch {
+        said: last_truth(written.fields, default),
+    };
+    records_for(alloc, key, Plain { values })
 }
 
 /// The default after a statement that is no interpretation.
@@ -185,28 +162,35 @@ fn default_after(default: Option<bool>, statement: &Statement) -> Option<bool>
 fn read_statement(
     alloc: Global,
     context: &Context,
-    file: u32,
     default: Option<bool>,
-    statement: &Statement,
-) -> Result<(Vec<(InterpretationMatch, SaidOfMatch)>, Option<bool>), Fault>
+    placed: &Placed,
+) -> Result<(Vec<(InterpretationMatch, Plain<SaidOfMatch>)>, Option<bool>), Fault>
     ensures records { (mode : ModeValue)
-        → IfOk result (λ said. AreOffered mode truth_cell truth_width said.0.items
+        → IfOk result (λ said. AreOffered mode (plain_cell truth_cell) plain_width said.0.items
         (truth_offers context.now.table.now context.now.names.now.names default mode
-        (interpretation_in statement.now))) }
-    ensures next { IfOk result (λ said. said.1 ≡ next_truth default statement.now) }
+        (interpretation_in placed.now.stated.now.statement))) }
+    ensures next { IfOk result (λ said.
+        said.1 ≡ next_truth default placed.now.stated.now.statement) }
     ensures faults { ReportsOrRunsOut result
-        (said_faults context.now.names.now.names file (interpretation_in statement.now)) }
+        (said_faults context.now.names.now.names placed.now.place.file
+        (interpretation_in placed.now.stated.now.statement)) }
 {
+    let statement = &placed.stated.statement;
+    let context = FileContext {
+        file: placed.place.file,
+        keysyms: context.table,
+        modifiers: context.names,
+    };
     match interpretation_in(statement) {
         None => Ok((no_records(alloc), default_after(default, statement))),
-        Some(interpretation) => {
-            let records = read_interpretation(alloc, context, file, default, interpretation)?;
+        Some(written) => {
+            let records = read_interpretation(alloc, &context, default, &written)?;
             Ok((records, default_after(default, statement)))
         }
     }
 }
 
-impl<'a> Fields<Context<'a>> for SaidOfMatch {
+impl<'a> PlainRecord<Context<'a>> for SaidOfMatch {
     type Key = InterpretationMatch;
 
     type Cell = ();
@@ -217,13 +201,9 @@ impl<'a> Fields<Context<'a>> for SaidOfMatch {
 
     ghost rules = { λ context. truth_rules context.table.now context.names.now.names };
 
-    ghost moves = { truth_moves };
-
     ghost cell = { truth_cell };
 
-    ghost width = { truth_width };
-
-    fn start(_alloc: Global, _context: &Context<'a>) -> Option<bool> {
+    fn start(_context: &Context<'a>) -> Option<bool> {
         None
     }
 
@@ -231,59 +211,25 @@ impl<'a> Fields<Context<'a>> for SaidOfMatch {
         alloc: Global,
         context: &Context<'a>,
         default: Option<bool>,
-        place: Place,
-        stated: &Stated,
+        placed: &Placed,
         _notes: &mut Notes,
-    ) -> Result<(Vec<(InterpretationMatch, SaidOfMatch)>, Option<bool>), Fault> {
-        read_statement(alloc, context, place.file, default, &stated.statement)
+    ) -> Result<(Vec<(InterpretationMatch, Plain<SaidOfMatch>)>, Option<bool>), Fault> {
+        read_statement(alloc, context, default, placed)
     }
 
-    fn merge(&mut self, _alloc: Global, other: SaidOfMatch, mode: Mode) -> Result<(), Fault>
-        ensures cells { OnOk result ((c : Unit {0})
-            → truth_cell self.new c ≡ merged_value mode (truth_cell self.old c)
-            (truth_cell other c)) }
-        ensures widths { OnOk result ((g : ℕ)
-            → truth_width self.new g ≡ merged_width mode (truth_width self.old g)
-            (truth_width other g)) }
-        ensures err { IfErr result (λ e. e ≡ Memory) }
-    {
-        self.said = merged_value(mode, self.said, other.said);
-        Ok(())
-    }
-
-    fn none(_alloc: Global) -> SaidOfMatch
-        ensures cells { (c : Unit {0}) → truth_cell result c ≡ None }
-        ensures widths { (g : ℕ) → truth_width result g ≡ 0 }
+    fn none() -> SaidOfMatch
+        ensures { (c : Unit {0}) → truth_cell result c ≡ None }
     {
         SaidOfMatch { said: None }
     }
 
-    fn merge_moved(
-        &mut self,
-        _alloc: Global,
-        other: &SaidOfMatch,
-        _group: Option<u8>,
-        mode: Mode,
-    ) -> Result<(), Fault>
-        ensures cells { OnOk result ((c : Unit {0})
-            → truth_cell self.new c ≡ merged_value mode (truth_cell self.old c)
-            (moved_value truth_moves _group (truth_cell other.now) c)) }
-        ensures widths { OnOk result ((g : ℕ)
-            → truth_width self.new g ≡ merged_width mode (truth_width self.old g)
-            (moved_width truth_moves _group (truth_width other.now) g)) }
-        ensures err { IfErr result (λ e. e ≡ Memory) }
+    fn merged_with(self, other: SaidOfMatch, mode: Mode) -> SaidOfMatch
+        ensures { MergesCells mode (truth_cell self) (truth_cell other) (truth_cell result) }
     {
-        self.said = merged_value(mode, self.said, other.said);
-        Ok(())
+        SaidOfMatch {
+            said: merged_value(mode, self.said, other.said),
+        }
     }
-
-    fn key_in(key: &InterpretationMatch, _group: Option<u8>) -> Option<InterpretationMatch>
-        ensures { result ≡ moved_key truth_moves _group key.now }
-    {
-        Some(*key)
-    }
-
-    ghost apart = { λ n j k to one two. ap (λ key. unwrap_or key to) (one ∙ sym two) };
 
     ghost same = { λ j k e. Prim.search rules };
 }
@@ -293,7 +239,7 @@ impl<'a> Fields<Context<'a>> for SaidOfMatch {
 /// Whether the keys of interpretations repeat.
 #[derive(Drop)]
 pub(crate) struct InterpretationRepeats {
-    by_match: Ordered<InterpretationMatch, SaidOfMatch>,
+    by_match: Ordered<InterpretationMatch, Plain<SaidOfMatch>>,
 }
 
 impl InterpretationRepeats {
@@ -321,7 +267,7 @@ impl InterpretationRepeats {
             (all_match_faults table.now names.now.names (expanded_body expansion.now)) }
     {
         let context = Context { table, names };
-        let merged = merge::<Context, SaidOfMatch>(alloc, &context, expansion)?;
+        let merged = merge::<Context, Plain<SaidOfMatch>>(alloc, &context, expansion)?;
         Ok(InterpretationRepeats {
             by_match: merged.records,
         })
@@ -332,7 +278,7 @@ impl InterpretationRepeats {
         ensures { result ≡ truth_recorded self.now.by_match interpretation_match }
     {
         match self.by_match.get(&interpretation_match) {
-            Some(key) => key.said.unwrap_or(false),
+            Some(key) => key.values.said.unwrap_or(false),
             None => false,
         }
     }

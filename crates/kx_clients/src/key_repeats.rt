@@ -1,27 +1,27 @@
 //! What the statements of a keymap's symbols say of the repeating of keys.
-ghost use Rattle.std.specs.Prelude.{◌≡◌, [], ℕ, IfErr, IfOk, None, OnOk, Some, unwrap_or};
+ghost use Rattle.std.specs.Prelude.{◌≡◌, [], IfErr, IfOk, None, Some};
 ghost use Rattle.std.specs.Option.{option_map};
-ghost use Rattle.std.proofs.Common.{◌∙◌, ap, eqb-true, sym};
+ghost use Rattle.std.proofs.Common.{eqb-true};
 ghost use Rattle.kx_lex.specs.declared.fault.Fault.TheVariants.{Memory};
 ghost use Rattle.kx_merge.specs.Last.{last_given};
-ghost use Rattle.kx_merge.specs.Moved.{moved_key, moved_value, moved_width};
-ghost use Rattle.kx_merge.specs.Offers.{merged_value, merged_width};
+ghost use Rattle.kx_merge.specs.Offers.{MergesCells};
+ghost use Rattle.kx_merge.specs.Plain.{plain_cell, plain_width};
 ghost use Rattle.kx_merge.specs.Records.{AreOffered};
 ghost use Rattle.kx_merge.specs.Words.{among, meaning_among};
 ghost use Rattle.kx_parse.specs.declared.tree.Mode.{Mode as ModeValue};
 ghost use Rattle.kx_symbols.specs.KeyFaults.{key_in};
-ghost use Rattle.kx_clients.specs.KeyRepeats.{default_repeat, field_repeat, is_repeat_word, key_offers, named_repeat, next_default, own_repeat, repeat_in, repeat_moves, repeat_rules, repeat_words};
-ghost use Rattle.kx_clients.specs.Records.{repeat_cell, repeat_width};
+ghost use Rattle.kx_clients.specs.KeyRepeats.{default_repeat, field_repeat, is_repeat_word, key_offers, named_repeat, next_default, own_repeat, repeat_in, repeat_rules, repeat_words};
+ghost use Rattle.kx_clients.specs.Records.{repeat_cell};
 
 use crate::key_repeat::KeyRepeat;
 use ks_core::Notes;
 use kx_codes::Codes;
-use kx_include::{Expansion, Place};
+use kx_include::Expansion;
 use kx_key_fields::is_key_word;
 use kx_lex::{Fault, KeyName, Name, SmallRow};
-use kx_merge::{Fields, lone_word, merge, merged_value, records_for};
+use kx_merge::{Placed, Plain, PlainRecord, lone_word, merge, merged_value, records_for};
 use kx_ordered::Ordered;
-use kx_parse::{Expression, Field, KeyField, Mode, Setting, Stated, Statement, Value};
+use kx_parse::{Expression, Field, KeyField, Mode, Setting, Statement, Value};
 use std::alloc::Global;
 
 // ---- Fields
@@ -147,8 +147,9 @@ fn key_in(statement: &Statement) -> Option<(&KeyName, &SmallRow<KeyField>)>
 }
 
 #[tactic(auto, using(kx_merge::proofs::Offered::nothing_offered))]
-fn no_records(alloc: Global) -> Vec<(u16, SaidOfKey)>
-    ensures { (mode : ModeValue) → AreOffered mode repeat_cell repeat_width result.items [] }
+fn no_records(alloc: Global) -> Vec<(u16, Plain<SaidOfKey>)>
+    ensures { (mode : ModeValue)
+        → AreOffered mode (plain_cell repeat_cell) plain_width result.items [] }
 {
     Vec::new(alloc)
 }
@@ -160,14 +161,16 @@ fn read_key(
     default: Option<KeyRepeat>,
     name: &KeyName,
     fields: &SmallRow<KeyField>,
-) -> Result<Vec<(u16, SaidOfKey)>, Fault>
+) -> Result<Vec<(u16, Plain<SaidOfKey>)>, Fault>
     ensures records { (mode : ModeValue)
-        → IfOk result (λ records. AreOffered mode repeat_cell repeat_width records.items
+        → IfOk result (λ records. AreOffered mode (plain_cell repeat_cell) plain_width records.items
         (key_offers codes.now default mode (Some (name.now, fields.now)))) }
     ensures err { IfErr result (λ e. e ≡ Memory) }
 {
-    let said = last_repeat(fields.as_slice(), default);
-    records_for(alloc, codes.code_of(name.as_slice()), SaidOfKey { said })
+    let values = SaidOfKey {
+        said: last_repeat(fields.as_slice(), default),
+    };
+    records_for(alloc, codes.code_of(name.as_slice()), Plain { values })
 }
 
 /// The default after a statement that is about no key.
@@ -186,9 +189,9 @@ fn read_statement(
     codes: &Codes,
     default: Option<KeyRepeat>,
     statement: &Statement,
-) -> Result<(Vec<(u16, SaidOfKey)>, Option<KeyRepeat>), Fault>
+) -> Result<(Vec<(u16, Plain<SaidOfKey>)>, Option<KeyRepeat>), Fault>
     ensures records { (mode : ModeValue)
-        → IfOk result (λ said. AreOffered mode repeat_cell repeat_width said.0.items
+        → IfOk result (λ said. AreOffered mode (plain_cell repeat_cell) plain_width said.0.items
         (key_offers codes.now default mode (key_in statement.now))) }
     ensures next { IfOk result (λ said. said.1 ≡ next_default default statement.now) }
     ensures err { IfErr result (λ e. e ≡ Memory) }
@@ -202,7 +205,7 @@ fn read_statement(
     }
 }
 
-impl<'l> Fields<Codes<'l>> for SaidOfKey {
+impl<'l> PlainRecord<Codes<'l>> for SaidOfKey {
     type Key = u16;
 
     type Cell = ();
@@ -213,13 +216,9 @@ impl<'l> Fields<Codes<'l>> for SaidOfKey {
 
     ghost rules = { λ codes. repeat_rules codes };
 
-    ghost moves = { repeat_moves };
-
     ghost cell = { repeat_cell };
 
-    ghost width = { repeat_width };
-
-    fn start(_alloc: Global, _codes: &Codes<'l>) -> Option<KeyRepeat> {
+    fn start(_codes: &Codes<'l>) -> Option<KeyRepeat> {
         None
     }
 
@@ -227,59 +226,25 @@ impl<'l> Fields<Codes<'l>> for SaidOfKey {
         alloc: Global,
         codes: &Codes<'l>,
         default: Option<KeyRepeat>,
-        _place: Place,
-        stated: &Stated,
+        placed: &Placed,
         _notes: &mut Notes,
-    ) -> Result<(Vec<(u16, SaidOfKey)>, Option<KeyRepeat>), Fault> {
-        read_statement(alloc, codes, default, &stated.statement)
+    ) -> Result<(Vec<(u16, Plain<SaidOfKey>)>, Option<KeyRepeat>), Fault> {
+        read_statement(alloc, codes, default, &placed.stated.statement)
     }
 
-    fn merge(&mut self, _alloc: Global, other: SaidOfKey, mode: Mode) -> Result<(), Fault>
-        ensures cells { OnOk result ((c : Unit {0})
-            → repeat_cell self.new c ≡ merged_value mode (repeat_cell self.old c)
-            (repeat_cell other c)) }
-        ensures widths { OnOk result ((g : ℕ)
-            → repeat_width self.new g ≡ merged_width mode (repeat_width self.old g)
-            (repeat_width other g)) }
-        ensures err { IfErr result (λ e. e ≡ Memory) }
-    {
-        self.said = merged_value(mode, self.said, other.said);
-        Ok(())
-    }
-
-    fn none(_alloc: Global) -> SaidOfKey
-        ensures cells { (c : Unit {0}) → repeat_cell result c ≡ None }
-        ensures widths { (g : ℕ) → repeat_width result g ≡ 0 }
+    fn none() -> SaidOfKey
+        ensures { (c : Unit {0}) → repeat_cell result c ≡ None }
     {
         SaidOfKey { said: None }
     }
 
-    fn merge_moved(
-        &mut self,
-        _alloc: Global,
-        other: &SaidOfKey,
-        _group: Option<u8>,
-        mode: Mode,
-    ) -> Result<(), Fault>
-        ensures cells { OnOk result ((c : Unit {0})
-            → repeat_cell self.new c ≡ merged_value mode (repeat_cell self.old c)
-            (moved_value repeat_moves _group (repeat_cell other.now) c)) }
-        ensures widths { OnOk result ((g : ℕ)
-            → repeat_width self.new g ≡ merged_width mode (repeat_width self.old g)
-            (moved_width repeat_moves _group (repeat_width other.now) g)) }
-        ensures err { IfErr result (λ e. e ≡ Memory) }
+    fn merged_with(self, other: SaidOfKey, mode: Mode) -> SaidOfKey
+        ensures { MergesCells mode (repeat_cell self) (repeat_cell other) (repeat_cell result) }
     {
-        self.said = merged_value(mode, self.said, other.said);
-        Ok(())
+        SaidOfKey {
+            said: merged_value(mode, self.said, other.said),
+        }
     }
-
-    fn key_in(key: &u16, _group: Option<u8>) -> Option<u16>
-        ensures { result ≡ moved_key repeat_moves _group key.now }
-    {
-        Some(*key)
-    }
-
-    ghost apart = { λ n j k to one two. ap (λ key. unwrap_or key 0) (one ∙ sym two) };
 
     ghost same = { λ j k e. eqb-true j k e };
 }
@@ -289,7 +254,7 @@ impl<'l> Fields<Codes<'l>> for SaidOfKey {
 /// What the statements of a keymap's symbols say of the repeating of keys, by their codes.
 #[derive(Drop)]
 pub(crate) struct KeyRepeats {
-    by_code: Ordered<u16, SaidOfKey>,
+    by_code: Ordered<u16, Plain<SaidOfKey>>,
 }
 
 impl KeyRepeats {
@@ -312,7 +277,7 @@ impl KeyRepeats {
             ≡ said_repeat codes.now (expanded_body expansion.now) code) }
         ensures err { IfErr result (λ e. e ≡ Memory) }
     {
-        let merged = merge::<Codes, SaidOfKey>(alloc, codes, expansion)?;
+        let merged = merge::<Codes, Plain<SaidOfKey>>(alloc, codes, expansion)?;
         Ok(KeyRepeats {
             by_code: merged.records,
         })
@@ -323,7 +288,7 @@ impl KeyRepeats {
         ensures { result ≡ repeat_recorded self.now.by_code code }
     {
         match self.by_code.get(&code) {
-            Some(key) => key.said,
+            Some(key) => key.values.said,
             None => None,
         }
     }

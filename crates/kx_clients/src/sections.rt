@@ -9,7 +9,7 @@ use kx_compat::{Interpretations, interpretations};
 use kx_include::Bodies;
 use kx_lex::Fault;
 use kx_modmaps::modifier_maps;
-use kx_resolve::{KeyModmaps, Typing, virtual_modifier_masks};
+use kx_resolve::{InterpretedKeys, KeyModmaps, NamedKeys, Typing, virtual_modifier_masks};
 use kx_symbols::{Keys, symbols};
 use kx_types::Types;
 use kx_virtual_mods::ModNames;
@@ -86,7 +86,12 @@ impl<'a, 'l> Sections<'a, 'l> {
         let symbols_body = &self.bodies.symbols;
         let (keys, _) = symbols(alloc, symbols_body, self.codes, self.names, self.modifiers)?;
         let (maps, _) = modifier_maps(alloc, symbols_body, self.codes, self.names, self.modifiers)?;
-        let modmaps = KeyModmaps::of(alloc, self.codes, self.typing(), &keys, maps)?;
+        let named = NamedKeys {
+            codes: self.codes,
+            typing: self.typing(),
+            keys: &keys,
+        };
+        let modmaps = KeyModmaps::of(alloc, named, maps)?;
         Ok(MappedKeys { keys, modmaps })
     }
 
@@ -104,15 +109,17 @@ impl<'a, 'l> Sections<'a, 'l> {
             interpretations.now modifiers.items) }
         ensures err { IfErr result (λ e. e ≡ Memory) }
     {
-        let stands = virtual_modifier_masks(
-            alloc,
-            self.codes,
-            self.typing(),
-            &mapped.keys,
-            &mapped.modmaps,
+        let named = NamedKeys {
+            codes: self.codes,
+            typing: self.typing(),
+            keys: &mapped.keys,
+        };
+        let keys = InterpretedKeys {
+            named,
+            modmaps: &mapped.modmaps,
             interpretations,
-            self.modifiers.declared_masks(),
-        )?;
+        };
+        let stands = virtual_modifier_masks(alloc, keys, self.modifiers.declared_masks())?;
         Ok(virtual_modifiers(alloc, self.modifiers, stands.as_slice())?)
     }
 

@@ -13,11 +13,10 @@ ghost use Rattle.kx_merge.specs.Reports.{ReportsOrRunsOut};
 
 use crate::checks::check_name;
 use crate::name::AliasTarget;
-use kx_include::Place;
 use kx_lex::Fault;
-use kx_merge::{Single, SingleValue, none_given, one_given};
+use kx_merge::{Placed, Single, SingleValue, none_given, one_given};
 use kx_ordered::ShortName;
-use kx_parse::{KeyName, Stated, Statement};
+use kx_parse::{KeyName, Statement};
 use std::alloc::Global;
 
 /// The name and the target of an alias statement.
@@ -59,14 +58,13 @@ impl SingleValue<()> for AliasTarget {
     fn read(
         alloc: Global,
         _context: &(),
-        place: Place,
-        stated: &Stated,
+        placed: &Placed,
     ) -> Result<Vec<(ShortName, Single<AliasTarget>)>, Fault> {
-        match alias_in(&stated.statement) {
+        match alias_in(&placed.stated.statement) {
             None => Ok(none_given(alloc)),
             Some((name, target)) => {
-                let name = check_name(place.file, stated.span, name)?;
-                let target = check_name(place.file, stated.span, target)?;
+                let name = check_name(placed.place.file, placed.stated.span, name)?;
+                let target = check_name(placed.place.file, placed.stated.span, target)?;
                 one_record(alloc, name, target)
             }
         }

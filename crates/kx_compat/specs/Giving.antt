@@ -40,9 +40,6 @@ values_cell v cells.Action = option_map Action v.action
 values_cell v cells.Modifier = option_map Modifier v.modifier
 values_cell v cells.Levels = option_map FirstLevelOnly v.first_level_only
 
-abbrev pub values_width : FieldValues → ℕ → ℕ
-values_width v group = 0
-
 -- without `useModMapMods` it sees the modifiers of its key at any level
 abbrev pub interpretation_with : InterpretationMatch → FieldValues → Interpretation
 interpretation_with interpretation_match values = record { interpretation_match = interpretation_match; action = values.action; modifier = values.modifier; first_level_only = unwrap_or values.first_level_only false }

@@ -4,7 +4,7 @@ use Rattle.std.specs.Option.{option_and_then, option_map_or}
 use Rattle.ks_core.specs.Table.{KeysymTable}
 use Rattle.kx_include.specs.Expansion.{Body}
 use Rattle.kx_lex.specs.declared.fault.Fault.{Fault}
-use Rattle.kx_merge.specs.Bodies.{Moves, Rules, faults_of, offers_of, no_moves}
+use Rattle.kx_merge.specs.Bodies.{Rules, faults_of, offers_of, no_moves}
 use Rattle.kx_merge.specs.Offers.{Offer, names_of, offers_to, value_of}
 use Rattle.kx_parse.specs.declared.tree.Mode.{Mode}
 use Rattle.kx_compat.specs.Interpretations.{Interpretation}
@@ -55,8 +55,3 @@ module _ (table : KeysymTable) (names : List (List ℕ)) (body : Body) where
 
   abbrev pub compat_faults : List Fault
   compat_faults = faults_of same_match (compat_rules table names) no_moves body
-
--- ---- Under names, for clauses and proofs
-
-abbrev pub compat_moves : Moves InterpretationMatch Cell
-compat_moves = no_moves

@@ -7,13 +7,13 @@ ghost use Rattle.kx_symbols.specs.Keys.{field_in};
 ghost use Rattle.kx_merge.specs.Reports.{Reports};
 
 use crate::fields::read_field;
+use crate::statements::FileContext;
 use crate::values::FieldValues;
 use ks_core::Notes;
 use kx_actions::ActionDefaults;
 use kx_lex::{At, Fault};
 use kx_merge::unknown_field;
 use kx_parse::{Field, Stated, Statement};
-use kx_virtual_mods::ModNames;
 
 /// What the default statements of a section give.
 #[derive(Clone, Copy)]
@@ -76,20 +76,21 @@ impl CompatDefaults {
     /// Those after a default for a field of interpretations.
     fn after_member(
         self,
-        names: &ModNames,
-        file: u32,
+        context: &FileContext,
         field: &Field,
         notes: &mut Notes,
     ) -> Result<CompatDefaults, Fault>
         requires { is_interpret field.now.place.word.bytes ≡ true }
-        ensures next { IfOk result (λ d. d ≡ next_default names.now.names self (Some field.now)) }
+        ensures next { IfOk result (λ d.
+            d ≡ next_default context.now.modifiers.now.names self (Some field.now)) }
         ensures faults { Reports result
-            (member_faults file names.now.names field.now field.now.place.member) }
+            (member_faults context.now.file context.now.modifiers.now.names field.now
+            field.now.place.member) }
     {
         let Some(member) = &field.place.member else {
-            return Err(unknown_field(file, &field.place.word));
+            return Err(unknown_field(context.file, &field.place.word));
         };
-        let value = read_field(names, file, &self.actions, member.get(), field, notes)?;
+        let value = read_field(context, &self.actions, member.get(), field, notes)?;
         Ok(CompatDefaults {
             actions: self.actions,
             values: self.values.with(value),
@@ -99,25 +100,26 @@ impl CompatDefaults {
     /// Those after a field that stands alone.
     fn after_field(
         self,
-        names: &ModNames,
-        file: u32,
+        context: &FileContext,
         field: &Field,
         notes: &mut Notes,
     ) -> Result<CompatDefaults, Fault>
-        ensures next { IfOk result (λ d. d ≡ next_default names.now.names self (Some field.now)) }
-        ensures faults { Reports result (lone_faults file names.now.names field.now) }
+        ensures next { IfOk result (λ d.
+            d ≡ next_default context.now.modifiers.now.names self (Some field.now)) }
+        ensures faults { Reports result
+            (lone_faults context.now.file context.now.modifiers.now.names field.now) }
     {
         let word = field.place.word.bytes.as_slice();
         if is_interpret(word) {
-            return self.after_member(names, file, field, notes);
+            return self.after_member(context, field, notes);
         }
         if is_indicator(word) {
             if field.place.member.is_none() {
-                return Err(unknown_field(file, &field.place.word));
+                return Err(unknown_field(context.file, &field.place.word));
             }
             return Ok(self);
         }
-        let actions = self.actions.after(names, file, field)?;
+        let actions = self.actions.after(context.modifiers, context.file, field)?;
         Ok(CompatDefaults {
             actions,
             values: self.values,
@@ -127,25 +129,25 @@ impl CompatDefaults {
     /// Those after a statement that is no interpretation.
     pub(crate) fn after(
         self,
-        names: &ModNames,
-        file: u32,
+        context: &FileContext,
         stated: &Stated,
         notes: &mut Notes,
     ) -> Result<CompatDefaults, Fault>
         ensures next { IfOk result (λ d.
-            d ≡ next_default names.now.names self (field_in stated.now.statement)) }
-        ensures faults { Reports result
-            (alone_faults file names.now.names stated.now.statement (word_span stated.now)
+            d ≡ next_default context.now.modifiers.now.names self
             (field_in stated.now.statement)) }
+        ensures faults { Reports result
+            (alone_faults context.now.file context.now.modifiers.now.names stated.now.statement
+            (word_span stated.now) (field_in stated.now.statement)) }
     {
         match field_in(&stated.statement) {
-            Some(field) => self.after_field(names, file, field, notes),
+            Some(field) => self.after_field(context, field, notes),
             None => {
                 if is_other(&stated.statement) {
                     return Ok(self);
                 }
                 Err(Fault::UnknownField(At {
-                    file,
+                    file: context.file,
                     span: stated.word_span(),
                 }))
             }

@@ -8,6 +8,7 @@ ghost use Rattle.kx_merge.specs.Reports.{Reports};
 
 use crate::action::GivenAction;
 use crate::modifier::GivenModifier;
+use crate::statements::FileContext;
 use crate::values::FieldValue;
 use ks_core::{Note, Notes};
 use kx_actions::{ActionDefaults, KeyAction, is_action_word, read};
@@ -89,20 +90,20 @@ fn level_named(word: &[u8]) -> Option<bool>
 
 /// The action of a call, which is noted where it has no effect.
 fn read_action(
-    names: &ModNames,
-    file: u32,
+    context: &FileContext,
     actions: &ActionDefaults,
     call: &Call,
     notes: &mut Notes,
 ) -> Result<KeyAction, Fault>
     ensures value { IfOk result (λ action.
-        action ≡ action_of names.now.names actions.now call.now) }
-    ensures faults { Reports result (action_faults file names.now.names call.now) }
+        action ≡ action_of context.now.modifiers.now.names actions.now call.now) }
+    ensures faults { Reports result
+        (action_faults context.now.file context.now.modifiers.now.names call.now) }
 {
     if !is_action_word(call.word.bytes.as_slice()) {
         notes.count(Note::IdleAction);
     }
-    read(names, file, call, actions)
+    read(context.modifiers, context.file, call, actions)
 }
 
 /// The virtual modifier that a word names.
@@ -155,26 +156,28 @@ fn read_levels(file: u32, expression: &Expression) -> Result<bool, Fault>
 
 /// The action that a field is set to.
 fn action_setting(
-    names: &ModNames,
-    file: u32,
+    context: &FileContext,
     actions: &ActionDefaults,
-    whole: Span,
-    setting: &Setting,
+    field: &Field,
     notes: &mut Notes,
 ) -> Result<FieldValue, Fault>
-    ensures value { IfOk result (λ value.
-        Some value ≡ action_value names.now.names actions.now setting.now) }
+    ensures value { IfOk result (λ value. Some value
+        ≡ action_value context.now.modifiers.now.names actions.now field.now.setting) }
     ensures faults { Reports result
-        (call_faults file (action_faults file names.now.names) whole setting.now) }
+        (call_faults context.now.file
+        (action_faults context.now.file context.now.modifiers.now.names) field.now.span
+        field.now.setting) }
 {
-    match setting {
+    match &field.setting {
         Setting::To(Value::Call(call)) => {
-            let action = read_action(names, file, actions, call, notes)?;
+            let action = read_action(context, actions, call, notes)?;
             Ok(FieldValue::Action(GivenAction::of(action)))
         }
-        Setting::To(Value::Expression(expression)) => Err(bad_value(file, expression.span)),
-        Setting::To(Value::List(list)) => Err(bad_value(file, list.span)),
-        Setting::Off | Setting::On => Err(bad_value(file, whole)),
+        Setting::To(Value::Expression(expression)) => {
+            Err(bad_value(context.file, expression.span))
+        }
+        Setting::To(Value::List(list)) => Err(bad_value(context.file, list.span)),
+        Setting::Off | Setting::On => Err(bad_value(context.file, field.span)),
     }
 }
 
@@ -206,52 +209,44 @@ fn levels_setting(file: u32, whole: Span, setting: &Setting) -> Result<FieldValu
 
 /// What a field is given by its setting; nothing, where it is read and not used.
 fn known_setting(
-    names: &ModNames,
-    file: u32,
+    context: &FileContext,
     actions: &ActionDefaults,
     known: InterpretField,
-    whole: Span,
-    setting: &Setting,
+    field: &Field,
     notes: &mut Notes,
 ) -> Result<Option<FieldValue>, Fault>
-    ensures value { IfOk result (λ value.
-        value ≡ setting_value names.now.names actions.now setting.now known) }
-    ensures faults { Reports result (setting_faults file names.now.names whole setting.now known) }
+    ensures value { IfOk result (λ value. value
+        ≡ setting_value context.now.modifiers.now.names actions.now field.now.setting known) }
+    ensures faults { Reports result
+        (setting_faults context.now.file context.now.modifiers.now.names field.now.span
+        field.now.setting known) }
 {
+    let (file, whole, setting) = (context.file, field.span, &field.setting);
     match known {
-        InterpretField::Action => Ok(Some(action_setting(
-            names, file, actions, whole, setting, notes,
-        )?)),
-        InterpretField::Modifier => Ok(Some(modifier_setting(names, file, whole, setting)?)),
+        InterpretField::Action => Ok(Some(action_setting(context, actions, field, notes)?)),
+        InterpretField::Modifier => {
+            Ok(Some(modifier_setting(context.modifiers, file, whole, setting)?))
+        }
         InterpretField::Levels => Ok(Some(levels_setting(file, whole, setting)?)),
         InterpretField::Unused => Ok(None),
     }
 }
 
-/// What a field of a file gives that `word` names, under the defaults for actions before it. Actions without effect are
-/// noted.
+/// What a field gives that `word` names, under the defaults for actions before it. Actions without effect are noted.
 pub(crate) fn read_field(
-    names: &ModNames,
-    file: u32,
+    context: &FileContext,
     actions: &ActionDefaults,
     word: &Name,
     field: &Field,
     notes: &mut Notes,
 ) -> Result<Option<FieldValue>, Fault>
-    ensures value { IfOk result (λ value.
-        value ≡ field_value names.now.names actions.now word.now field.now) }
-    ensures faults { Reports result (field_faults file names.now.names word.now field.now) }
+    ensures value { IfOk result (λ value. value
+        ≡ field_value context.now.modifiers.now.names actions.now word.now field.now) }
+    ensures faults { Reports result
+        (field_faults context.now.file context.now.modifiers.now.names word.now field.now) }
 {
     match field_named(word.bytes.as_slice(), &field.place.index) {
-        None => Err(unknown_field(file, word)),
-        Some(known) => known_setting(
-            names,
-            file,
-            actions,
-            known,
-            field.span,
-            &field.setting,
-            notes,
-        ),
+        None => Err(unknown_field(context.file, word)),
+        Some(known) => known_setting(context, actions, known, field, notes),
     }
 }

@@ -22,4 +22,4 @@ pub use interpretation::Interpretation;
 pub use interpretation_match::{Condition, InterpretationMatch, WantedKeysym};
 pub use listing::interpretations;
 pub use modifier::GivenModifier;
-pub use statements::read_match;
+pub use statements::{FileContext, WrittenInterpretation, interpretation_in, read_match};

@@ -19,7 +19,7 @@ use crate::values::FieldValues;
 use ks_core::{NameTable, Notes};
 use kx_include::Expansion;
 use kx_lex::Fault;
-use kx_merge::merge;
+use kx_merge::{Plain, merge};
 use kx_ordered::Ordered;
 use kx_virtual_mods::ModNames;
 use std::alloc::Global;
@@ -41,14 +41,14 @@ fn interpretation_with(
 
 /// The interpretation that records have for the keys of one of them.
 fn interpretation_among(
-    records: &Ordered<InterpretationMatch, FieldValues>,
-    named: &(InterpretationMatch, FieldValues),
+    records: &Ordered<InterpretationMatch, Plain<FieldValues>>,
+    named: &(InterpretationMatch, Plain<FieldValues>),
 ) -> Interpretation
     ensures { result ≡ interpretation_recorded records.now named.now.0 }
 {
     let interpretation_match = named.0;
     match records.get(&interpretation_match) {
-        Some(values) => interpretation_with(interpretation_match, *values),
+        Some(record) => interpretation_with(interpretation_match, record.values),
         None => interpretation_with(interpretation_match, FieldValues::none()),
     }
 }
@@ -56,7 +56,7 @@ fn interpretation_among(
 /// The interpretations that records have, in order.
 fn listed(
     alloc: Global,
-    records: &Ordered<InterpretationMatch, FieldValues>,
+    records: &Ordered<InterpretationMatch, Plain<FieldValues>>,
 ) -> Result<Vec<Interpretation>, Fault>
     ensures value { IfOk result (λ all.
         all.items ≡ map (interpretation_recorded records.now) (keys records.now)) }
@@ -95,7 +95,7 @@ pub fn interpretations(
         keysyms: table,
         modifiers: names,
     };
-    let merged = merge::<Context, FieldValues>(alloc, &context, expansion)?;
+    let merged = merge::<Context, Plain<FieldValues>>(alloc, &context, expansion)?;
     let all = listed(alloc, &merged.records)?;
     let interpretations = Interpretations::of(alloc, all)?;
     Ok((interpretations, merged.notes))

@@ -9,8 +9,9 @@ ghost use Rattle.kx_compat.specs.Meaning.{said_offers};
 ghost use Rattle.kx_compat.specs.Sections.{interpretation_faults, interpretation_in, next_default, own_faults, own_value, stated_faults, values_of};
 ghost use Rattle.kx_symbols.specs.Keys.{field_in};
 ghost use Rattle.kx_compat.specs.Matches.{predicate_faults, match_of, match_with};
-ghost use Rattle.kx_compat.specs.Giving.{values_cell, values_width};
+ghost use Rattle.kx_compat.specs.Giving.{values_cell};
 ghost use Rattle.kx_mods.specs.Mods.{mask};
+ghost use Rattle.kx_merge.specs.Plain.{plain_cell, plain_width};
 ghost use Rattle.kx_merge.specs.Reports.{Reports, ReportsOrRunsOut};
 
 use crate::defaults::CompatDefaults;
@@ -19,10 +20,10 @@ use crate::interpretation_match::{Condition, InterpretationMatch, WantedKeysym};
 use crate::predicates::{read_keysym, read_predicate};
 use crate::values::{FieldValue, FieldValues};
 use ks_core::{NameTable, Notes};
-use kx_lex::{Boxed, Fault, Row};
-use kx_merge::{records_for, unknown_field};
+use kx_lex::{Boxed, Fault};
+use kx_merge::{Placed, Plain, records_for, unknown_field};
 use kx_mods::Mods;
-use kx_parse::{Field, Predicate, Stated, Statement, Symbol};
+use kx_parse::{Field, Predicate, Statement, Symbol};
 use kx_virtual_mods::ModNames;
 use std::alloc::Global;
 
@@ -33,11 +34,26 @@ pub struct Context<'a> {
     pub modifiers: &'a ModNames,
 }
 
-/// The symbol, the predicate and the fields of an interpretation.
-fn interpretation_in(
-    statement: &Statement,
-) -> Option<(&Symbol, &Option<Boxed<Predicate>>, &Row<Field>)>
-    ensures { option_map (λ i. (i.0.now, i.1.now, i.2.now)) result
+/// What the statements of a file's compat section are read against.
+#[derive(Clone, Copy)]
+pub struct FileContext<'a> {
+    /// The number of the file.
+    pub file: u32,
+    pub keysyms: &'a NameTable,
+    pub modifiers: &'a ModNames,
+}
+
+/// An interpretation as it is written.
+#[derive(Clone, Copy)]
+pub struct WrittenInterpretation<'s> {
+    pub symbol: &'s Symbol,
+    pub predicate: &'s Option<Boxed<Predicate>>,
+    pub fields: &'s [Field],
+}
+
+/// The interpretation that a statement is.
+pub fn interpretation_in<'s>(statement: &'s Statement) -> Option<WrittenInterpretation<'s>>
+    ensures { option_map (λ i. (i.symbol.now, i.predicate.now, i.fields.now)) result
         ≡ interpretation_in statement.now }
 {
     match statement {
@@ -45,7 +61,11 @@ fn interpretation_in(
             symbol,
             predicate,
             fields,
-        } => Some((symbol, predicate, fields)),
+        } => Some(WrittenInterpretation {
+            symbol,
+            predicate,
+            fields: fields.as_slice(),
+        }),
         _ => None,
     }
 }
@@ -70,66 +90,66 @@ fn match_with(
 /// For which keys an interpretation is; for none, where no keysym has its name, which is noted.
 ///
 /// # Errors
-/// A fault of the symbol or the predicate, with its place in the file of that number; `Memory`.
+/// A fault of the symbol or the predicate, with its place in the context's file; `Memory`.
 pub fn read_match(
-    table: &NameTable,
-    names: &ModNames,
-    file: u32,
-    symbol: &Symbol,
-    predicate: &Option<Boxed<Predicate>>,
+    context: &FileContext,
+    written: &WrittenInterpretation,
     notes: &mut Notes,
 ) -> Result<Option<InterpretationMatch>, Fault>
-    ensures value { IfOk result (λ interpretation_match.
-        interpretation_match ≡ match_of table.now symbol.now predicate.now) }
+    ensures value { IfOk result (λ interpretation_match. interpretation_match
+        ≡ match_of context.now.keysyms.now written.now.symbol.now written.now.predicate.now) }
     ensures faults { ReportsOrRunsOut result
-        (symbol_faults file symbol.now ++ predicate_faults file names.now.names predicate.now) }
+        (symbol_faults context.now.file written.now.symbol.now
+        ++ predicate_faults context.now.file context.now.modifiers.now.names
+        written.now.predicate.now) }
 {
-    let keysym = read_keysym(table, file, symbol, notes)?;
-    let (condition, mods) = read_predicate(names, file, predicate)?;
+    let keysym = read_keysym(context.keysyms, context.file, written.symbol, notes)?;
+    let (condition, mods) = read_predicate(context.modifiers, context.file, written.predicate)?;
     Ok(match_with(keysym, condition, mods))
 }
 
 /// What a field in an interpretation gives it.
 fn read_own(
-    names: &ModNames,
-    file: u32,
+    context: &FileContext,
     defaults: &CompatDefaults,
     field: &Field,
     notes: &mut Notes,
 ) -> Result<Option<FieldValue>, Fault>
     ensures value { IfOk result (λ value.
-        value ≡ own_value names.now.names defaults.now field.now) }
-    ensures faults { Reports result (own_faults file names.now.names field.now) }
+        value ≡ own_value context.now.modifiers.now.names defaults.now field.now) }
+    ensures faults { Reports result
+        (own_faults context.now.file context.now.modifiers.now.names field.now) }
 {
     let word = &field.place.word;
     if field.place.member.is_some() {
-        return Err(unknown_field(file, word));
+        return Err(unknown_field(context.file, word));
     }
-    read_field(names, file, &defaults.actions, word, field, notes)
+    read_field(context, &defaults.actions, word, field, notes)
 }
 
 /// What the fields of an interpretation give it, after the defaults.
 fn read_values(
-    names: &ModNames,
-    file: u32,
+    context: &FileContext,
     defaults: &CompatDefaults,
     fields: &[Field],
     notes: &mut Notes,
 ) -> Result<FieldValues, Fault>
     ensures value { IfOk result (λ values.
-        values ≡ values_of names.now.names defaults.now fields.now) }
-    ensures faults { Reports result (flat_map (own_faults file names.now.names) fields.now) }
+        values ≡ values_of context.now.modifiers.now.names defaults.now fields.now) }
+    ensures faults { Reports result
+        (flat_map (own_faults context.now.file context.now.modifiers.now.names) fields.now) }
 {
     let mut values = defaults.values;
     'fields: for field in fields {
-        values = values.with(read_own(names, file, defaults, field, notes)?);
+        values = values.with(read_own(context, defaults, field, notes)?);
     }
     Ok(values)
 }
 
 #[tactic(auto, using(kx_merge::proofs::Offered::nothing_offered))]
-fn no_records(alloc: Global) -> Vec<(InterpretationMatch, FieldValues)>
-    ensures { (mode : ModeValue) → AreOffered mode (values_cell) (values_width) result.items [] }
+fn no_records(alloc: Global) -> Vec<(InterpretationMatch, Plain<FieldValues>)>
+    ensures { (mode : ModeValue)
+        → AreOffered mode (plain_cell values_cell) plain_width result.items [] }
 {
     Vec::new(alloc)
 }
@@ -137,70 +157,61 @@ fn no_records(alloc: Global) -> Vec<(InterpretationMatch, FieldValues)>
 /// What an interpretation gives.
 fn read_interpretation(
     alloc: Global,
-    context: &Context,
-    file: u32,
+    context: &FileContext,
     defaults: &CompatDefaults,
-    symbol: &Symbol,
-    predicate: &Option<Boxed<Predicate>>,
-    fields: &[Field],
+    written: &WrittenInterpretation,
     notes: &mut Notes,
-) -> Result<Vec<(InterpretationMatch, FieldValues)>, Fault>
+) -> Result<Vec<(InterpretationMatch, Plain<FieldValues>)>, Fault>
     ensures records { (mode : ModeValue)
-        → IfOk result (λ records. AreOffered mode (values_cell) (values_width) records.items
+        → IfOk result (λ records. AreOffered mode (plain_cell values_cell) plain_width records.items
         (said_offers context.now.keysyms.now context.now.modifiers.now.names defaults.now mode
-        (Some (symbol.now, predicate.now, fields.now)))) }
+        (Some (written.now.symbol.now, written.now.predicate.now, written.now.fields.now)))) }
     ensures faults { ReportsOrRunsOut result
-        (interpretation_faults file context.now.modifiers.now.names
-        (symbol.now, predicate.now, fields.now)) }
+        (interpretation_faults context.now.file context.now.modifiers.now.names
+        (written.now.symbol.now, written.now.predicate.now, written.now.fields.now)) }
 {
-    let modifiers = context.modifiers;
-    let interpretation_match = read_match(
-        context.keysyms,
-        modifiers,
-        file,
-        symbol,
-        predicate,
-        notes,
-    )?;
-    let values = read_values(modifiers, file, defaults, fields, notes)?;
-    records_for(alloc, interpretation_match, values)
+    let interpretation_match = read_match(context, written, notes)?;
+    let values = read_values(context, defaults, written.fields, notes)?;
+    records_for(alloc, interpretation_match, Plain { values })
 }
 
 /// What a statement gives, under the defaults before it in its section, and the defaults after it.
 pub(crate) fn read_statement(
     alloc: Global,
     context: &Context,
-    file: u32,
     defaults: CompatDefaults,
-    stated: &Stated,
+    placed: &Placed,
     notes: &mut Notes,
-) -> Result<(Vec<(InterpretationMatch, FieldValues)>, CompatDefaults), Fault>
+) -> Result<
+    (
+        Vec<(InterpretationMatch, Plain<FieldValues>)>,
+        CompatDefaults,
+    ),
+    Fault,
+>
     ensures records { (mode : ModeValue)
-        → IfOk result (λ said. AreOffered mode (values_cell) (values_width) said.0.items
+        → IfOk result (λ said. AreOffered mode (plain_cell values_cell) plain_width said.0.items
         (said_offers context.now.keysyms.now context.now.modifiers.now.names defaults mode
-        (interpretation_in stated.now.statement))) }
+        (interpretation_in placed.now.stated.now.statement))) }
     ensures next { IfOk result (λ said.
         said.1 ≡ next_default context.now.modifiers.now.names defaults
-        (field_in stated.now.statement)) }
+        (field_in placed.now.stated.now.statement)) }
     ensures faults { ReportsOrRunsOut result
-        (stated_faults file context.now.modifiers.now.names stated.now) }
+        (stated_faults placed.now.place.file context.now.modifiers.now.names
+        placed.now.stated.now) }
 {
-    match interpretation_in(&stated.statement) {
-        Some((symbol, predicate, fields)) => {
-            let records = read_interpretation(
-                alloc,
-                context,
-                file,
-                &defaults,
-                symbol,
-                predicate,
-                fields.as_slice(),
-                notes,
-            )?;
+    let context = FileContext {
+        file: placed.place.file,
+        keysyms: context.keysyms,
+        modifiers: context.modifiers,
+    };
+    match interpretation_in(&placed.stated.statement) {
+        Some(written) => {
+            let records = read_interpretation(alloc, &context, &defaults, &written, notes)?;
             Ok((records, defaults))
         }
         None => {
-            let next = defaults.after(context.modifiers, file, stated, notes)?;
+            let next = defaults.after(&context, placed.stated, notes)?;
             Ok((no_records(alloc), next))
         }
     }

@@ -52,9 +52,8 @@ impl Model for FieldValues {
 
 impl FieldValues {
     ghost use Rattle.std.specs.Prelude.{◌≡◌};
-    ghost use Rattle.kx_merge.specs.Offers.{merged_value};
+    ghost use Rattle.kx_merge.specs.Offers.{MergesCells};
     ghost use Rattle.kx_compat.specs.Giving.{no_values, values_cell, with_value};
-    ghost use Rattle.kx_compat.specs.declared.values.Cell.{Cell as CellName};
 
     /// Nothing is given.
     pub(crate) fn none() -> FieldValues
@@ -122,8 +121,7 @@ impl FieldValues {
 
     /// What is given once more is given under a mode.
     pub(crate) fn merged_with(self, other: FieldValues, mode: Mode) -> FieldValues
-        ensures { (c : CellName) → values_cell result c
-            ≡ merged_value mode (values_cell self c) (values_cell other c) }
+        ensures { MergesCells mode (values_cell self) (values_cell other) (values_cell result) }
     {
         FieldValues {
             action: merged_value(mode, self.action, other.action),

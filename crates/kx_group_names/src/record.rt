@@ -14,10 +14,9 @@ ghost use Rattle.kx_merge.specs.Reports.{ReportsOrRunsOut};
 
 use crate::fields::{name_in, read_name};
 use crate::text::NameText;
-use kx_include::Place;
 use kx_lex::{Fault, Span};
-use kx_merge::{Single, SingleValue, none_given, one_given};
-use kx_parse::{Field, Stated};
+use kx_merge::{Placed, Single, SingleValue, none_given, one_given};
+use kx_parse::Field;
 use std::alloc::Global;
 
 fn one_record(alloc: Global, group: u8, text: &[u8]) -> Result<Vec<(u8, Single<NameText>)>, Fault>
@@ -59,12 +58,11 @@ impl SingleValue<()> for NameText {
     fn read(
         alloc: Global,
         _context: &(),
-        place: Place,
-        stated: &Stated,
+        placed: &Placed,
     ) -> Result<Vec<(u8, Single<NameText>)>, Fault> {
-        match name_in(&stated.statement) {
+        match name_in(&placed.stated.statement) {
             None => Ok(none_given(alloc)),
-            Some(field) => read_field(alloc, place.file, stated.span, field),
+            Some(field) => read_field(alloc, placed.place.file, placed.stated.span, field),
         }
     }
 

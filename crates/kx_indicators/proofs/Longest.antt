@@ -13,7 +13,7 @@ use Rattle.kx_lex.specs.declared.fault.Fault.TheVariants.{TooMany}
 use Rattle.kx_lex.specs.declared.name.Name.{Name}
 use Rattle.kx_lex.specs.declared.token.Span.{Span}
 use Rattle.kx_virtual_mods.specs.Counted.{Said, names_behind, names_of, statements_of, with_names}
-use Rattle.kx_merge.specs.Bodies.{faults, faults_of}
+use Rattle.kx_merge.specs.Bodies.{faults, faults_of, no_moves}
 use Rattle.kx_merge.specs.Offers.{with_name}
 use Rattle.kx_parse.specs.declared.tree.Field.{Field}
 use Rattle.kx_parse.specs.declared.tree.Statement.{Statement}
@@ -22,7 +22,7 @@ use Rattle.kx_indicators.specs.Bounds.{NamesAreValid}
 use Rattle.kx_indicators.specs.declared.limits.TheConstants.{MOST_INDICATORS}
 use Rattle.kx_indicators.specs.Given.{IndicatorMapValues}
 use Rattle.kx_indicators.specs.Giving.{no_values}
-use Rattle.kx_indicators.specs.Meaning.{indicator_map_moves, indicator_map_rules}
+use Rattle.kx_indicators.specs.Meaning.{indicator_map_rules}
 
 none_left : {X : Type 0} (xs ys : List X) → xs ++ ys ≡ [] → xs ≡ []
 none_left [] ys h = refl
@@ -54,16 +54,16 @@ each_append [] ts h g = g
 each_append (s ∷ ss) ts h g = (h.0, each_append ss ts h.1 g)
 
 module _ (indicator_maps names : List (List ℕ)) where
-  body_short : (body : Body) (d : IndicatorMapValues) → faults nat_eq (indicator_map_rules indicator_maps names) indicator_map_moves d body ≡ [] → EachShort (statements_of body)
+  body_short : (body : Body) (d : IndicatorMapValues) → faults nat_eq (indicator_map_rules indicator_maps names) no_moves d body ≡ [] → EachShort (statements_of body)
   body_short End d h = tt
   body_short (Begin rest) d h = body_short rest no_values h
   body_short (Own place stated rest) d h =
       let own = said_faults place.file names stated.statement stated.span (indicator_in stated.statement) in
-      let more = faults nat_eq (indicator_map_rules indicator_maps names) indicator_map_moves (next_default names d stated.statement) rest in
+      let more = faults nat_eq (indicator_map_rules indicator_maps names) no_moves (next_default names d stated.statement) rest in
       (said_short place.file names stated.statement stated.span (indicator_in stated.statement) (none_left own more h), body_short rest (next_default names d stated.statement) (none_right own more h))
   body_short (Inc mode group body rest) d h =
-      let inner = faults nat_eq (indicator_map_rules indicator_maps names) indicator_map_moves no_values body in
-      let more = faults nat_eq (indicator_map_rules indicator_maps names) indicator_map_moves d rest in
+      let inner = faults nat_eq (indicator_map_rules indicator_maps names) no_moves no_values body in
+      let more = faults nat_eq (indicator_map_rules indicator_maps names) no_moves d rest in
       each_append (statements_of body) (statements_of rest) (body_short body no_values (none_left inner more h)) (body_short rest d (none_right inner more h))
 
 -- ---- Each once
@@ -84,7 +84,7 @@ behind_short : (ks : List (List ℕ)) (saids : List Said) → All IsShort ks →
 behind_short ks [] all h = all
 behind_short ks (s ∷ ss) all h = behind_short (with_names ks (indicator_map_names s.1.statement)) ss (with_all ks (indicator_map_names s.1.statement) all h.0) h.1
 
-pub names_short : (indicator_maps names : List (List ℕ)) (body : Body) → faults_of nat_eq (indicator_map_rules indicator_maps names) indicator_map_moves body ≡ [] → All IsShort (names_of indicator_map_names (statements_of body))
+pub names_short : (indicator_maps names : List (List ℕ)) (body : Body) → faults_of nat_eq (indicator_map_rules indicator_maps names) no_moves body ≡ [] → All IsShort (names_of indicator_map_names (statements_of body))
 names_short indicator_maps names body h = behind_short [] (statements_of body) (All-nil IsShort) (body_short indicator_maps names body no_values h)
 
 all-push : (P : List ℕ → Type 0) (ks : List (List ℕ)) (k : List ℕ) → AllByRecursion P ks → P k → AllByRecursion P (ks ++ k ∷ [])
@@ -124,7 +124,7 @@ pub names_apart : (saids : List Said) → IsDistinct bytes_eq (names_of indicato
 unfolding IsDistinct
 names_apart saids = distinct-behind [] saids tt
 
-pub names_valid : (indicator_maps names : List (List ℕ)) (body : Body) (ks : List (List ℕ)) → ks ≡ names_of indicator_map_names (statements_of body) → length ks ≤ MOST_INDICATORS → faults_of nat_eq (indicator_map_rules indicator_maps names) indicator_map_moves body ≡ [] → NamesAreValid ks
+pub names_valid : (indicator_maps names : List (List ℕ)) (body : Body) (ks : List (List ℕ)) → ks ≡ names_of indicator_map_names (statements_of body) → length ks ≤ MOST_INDICATORS → faults_of nat_eq (indicator_map_rules indicator_maps names) no_moves body ≡ [] → NamesAreValid ks
 names_valid indicator_maps names body ks are few h = record {
   few = few;
   short = subst (All IsShort) (sym are) (names_short indicator_maps names body h);

@@ -40,9 +40,6 @@ values_cell v fields.ModStates = option_map ModStates v.mod_states
 values_cell v fields.GroupStates = option_map GroupStates v.group_states
 values_cell v fields.Groups = option_map Groups v.groups
 
-abbrev pub values_width : IndicatorMapValues → ℕ → ℕ
-values_width v group = 0
-
 -- ---- Under names, for proofs
 
 abbrev pub value_modifiers : IndicatorMapValue → Option ℕ

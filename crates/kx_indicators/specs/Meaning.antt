@@ -6,7 +6,7 @@ use Rattle.kx_include.specs.Expansion.{Body}
 use Rattle.kx_lex.specs.declared.fault.Fault.{Fault}
 use Rattle.kx_lex.specs.declared.name.Name.{Name}
 use Rattle.kx_virtual_mods.specs.Counted.{count_faults, names_of, statements_of}
-use Rattle.kx_merge.specs.Bodies.{Moves, Rules, faults_of, offers_of, no_moves}
+use Rattle.kx_merge.specs.Bodies.{Rules, faults_of, offers_of, no_moves}
 use Rattle.kx_merge.specs.Offers.{Offer, offers_to, value_of}
 use Rattle.kx_parse.specs.declared.tree.Field.{Field}
 use Rattle.kx_parse.specs.declared.tree.Mode.{Mode}
@@ -68,8 +68,3 @@ pub record AreIndicators (is : Indicators) (names : List (List ℕ)) (body : Bod
   pub few : length is.names ≤ MOST_INDICATORS
   pub as_many : length is.indicator_maps ≡ length is.names
   pub indicator_maps_are : (number : ℕ) → number < length is.names → slice_get is.indicator_maps number ≡ Some (indicator_map_of names body number)
-
--- ---- Under a name, for clauses and proofs
-
-abbrev pub indicator_map_moves : Moves ℕ IndicatorMapField
-indicator_map_moves = no_moves

@@ -4,19 +4,20 @@ ghost use Rattle.std.specs.List.{flat_map};
 ghost use Rattle.kx_parse.specs.declared.tree.Mode.{Mode as ModeValue};
 ghost use Rattle.kx_merge.specs.Records.{AreOffered};
 ghost use Rattle.kx_indicators.specs.Blocks.{default_faults, default_in, given_value, indicator_in, next_default, own_faults, own_value, said_faults, values_of};
-ghost use Rattle.kx_indicators.specs.Giving.{values_cell, values_width, with_value};
+ghost use Rattle.kx_indicators.specs.Giving.{values_cell, with_value};
 ghost use Rattle.kx_indicators.specs.Meaning.{said_offers};
 ghost use Rattle.kx_merge.specs.Faults.{name_faults};
+ghost use Rattle.kx_merge.specs.Plain.{plain_cell, plain_width};
 ghost use Rattle.kx_merge.specs.Reports.{Reports, ReportsOrRunsOut};
 
 use crate::defaults::default_in;
 use crate::fields::read_field;
-use crate::naming::indicator_in;
+use crate::naming::{DeclaredIndicator, indicator_in};
 use crate::values::{IndicatorMapValue, IndicatorMapValues};
 use kx_basics::MOST_NAME_BYTES;
-use kx_lex::{At, Fault, Name};
-use kx_merge::records_for;
-use kx_parse::{Field, Stated, Statement};
+use kx_lex::{At, Fault};
+use kx_merge::{Placed, Plain, records_for};
+use kx_parse::{Field, Statement};
 use kx_virtual_mods::{ModNames, Names};
 use std::alloc::Global;
 
@@ -57,8 +58,9 @@ fn read_values(
 }
 
 #[tactic(auto, using(kx_merge::proofs::Offered::nothing_offered))]
-fn no_records(alloc: Global) -> Vec<(usize, IndicatorMapValues)>
-    ensures { (mode : ModeValue) → AreOffered mode (values_cell) (values_width) result.items [] }
+fn no_records(alloc: Global) -> Vec<(usize, Plain<IndicatorMapValues>)>
+    ensures { (mode : ModeValue)
+        → AreOffered mode (plain_cell values_cell) plain_width result.items [] }
 {
     Vec::new(alloc)
 }
@@ -69,23 +71,23 @@ fn read_indicator(
     context: &Context,
     defaults: IndicatorMapValues,
     whole: At,
-    name: &Name,
-    fields: &[Field],
-) -> Result<Vec<(usize, IndicatorMapValues)>, Fault>
+    declared: &DeclaredIndicator,
+) -> Result<Vec<(usize, Plain<IndicatorMapValues>)>, Fault>
     ensures records { (mode : ModeValue)
-        → IfOk result (λ records. AreOffered mode (values_cell) (values_width) records.items
+        → IfOk result (λ records. AreOffered mode (plain_cell values_cell) plain_width records.items
         (said_offers context.now.indicators.now context.now.modifiers.now.names defaults mode
-        (Some (name.now, fields.now)))) }
+        (Some (declared.now.name.now, declared.now.fields.now)))) }
     ensures faults { ReportsOrRunsOut result
-        (name_faults whole.file whole.span name.now
-        ++ flat_map (own_faults whole.file context.now.modifiers.now.names) fields.now) }
+        (name_faults whole.file whole.span declared.now.name.now
+        ++ flat_map (own_faults whole.file context.now.modifiers.now.names)
+        declared.now.fields.now) }
 {
-    let bytes = name.bytes.as_slice();
+    let bytes = declared.name.bytes.as_slice();
     if bytes.len() > MOST_NAME_BYTES {
         return Err(Fault::TooMany(whole));
     }
-    let values = read_values(context.modifiers, whole.file, defaults, fields)?;
-    records_for(alloc, context.indicators.number_of(bytes), values)
+    let values = read_values(context.modifiers, whole.file, defaults, declared.fields)?;
+    records_for(alloc, context.indicators.number_of(bytes), Plain { values })
 }
 
 /// The defaults after a statement that is no indicator.
@@ -110,31 +112,29 @@ fn read_default(
 pub(crate) fn read_statement(
     alloc: Global,
     context: &Context,
-    file: u32,
     defaults: IndicatorMapValues,
-    stated: &Stated,
-) -> Result<(Vec<(usize, IndicatorMapValues)>, IndicatorMapValues), Fault>
+    placed: &Placed,
+) -> Result<(Vec<(usize, Plain<IndicatorMapValues>)>, IndicatorMapValues), Fault>
     ensures records { (mode : ModeValue)
-        → IfOk result (λ said. AreOffered mode (values_cell) (values_width) said.0.items
+        → IfOk result (λ said. AreOffered mode (plain_cell values_cell) plain_width said.0.items
         (said_offers context.now.indicators.now context.now.modifiers.now.names defaults mode
-        (indicator_in stated.now.statement))) }
+        (indicator_in placed.now.stated.now.statement))) }
     ensures next { IfOk result (λ said.
-        said.1 ≡ next_default context.now.modifiers.now.names defaults stated.now.statement) }
+        said.1 ≡ next_default context.now.modifiers.now.names defaults
+        placed.now.stated.now.statement) }
     ensures faults { ReportsOrRunsOut result
-        (said_faults file context.now.modifiers.now.names stated.now.statement stated.now.span
-        (indicator_in stated.now.statement)) }
+        (said_faults placed.now.place.file context.now.modifiers.now.names
+        placed.now.stated.now.statement placed.now.stated.now.span
+        (indicator_in placed.now.stated.now.statement)) }
 {
-    match indicator_in(&stated.statement) {
-        Some((name, fields)) => {
-            let whole = At {
-                file,
-                span: stated.span,
-            };
-            let records = read_indicator(alloc, context, defaults, whole, name, fields.as_slice())?;
+    let statement = &placed.stated.statement;
+    match indicator_in(statement) {
+        Some(declared) => {
+            let records = read_indicator(alloc, context, defaults, placed.whole(), &declared)?;
             Ok((records, defaults))
         }
         None => {
-            let next = read_default(context.modifiers, file, defaults, &stated.statement)?;
+            let next = read_default(context.modifiers, placed.place.file, defaults, statement)?;
             Ok((no_records(alloc), next))
         }
     }

@@ -18,17 +18,20 @@ use crate::table::Indicators;
 use crate::values::IndicatorMapValues;
 use kx_include::Expansion;
 use kx_lex::Fault;
-use kx_merge::merge;
+use kx_merge::{Plain, merge};
 use kx_ordered::Ordered;
 use kx_virtual_mods::{ModNames, Names, count_names};
 use std::alloc::Global;
 
 /// The indicator that records have for a number.
-fn indicator_map_among(records: &Ordered<usize, IndicatorMapValues>, number: usize) -> IndicatorMap
+fn indicator_map_among(
+    records: &Ordered<usize, Plain<IndicatorMapValues>>,
+    number: usize,
+) -> IndicatorMap
     ensures { result ≡ indicator_map_recorded records.now number }
 {
     match records.get(&number) {
-        Some(values) => IndicatorMap::of(*values),
+        Some(record) => IndicatorMap::of(record.values),
         None => IndicatorMap::of(IndicatorMapValues::none()),
     }
 }
@@ -36,7 +39,7 @@ fn indicator_map_among(records: &Ordered<usize, IndicatorMapValues>, number: usi
 /// The indicators that records have for the numbers below a limit.
 fn indicator_maps_below(
     alloc: Global,
-    records: &Ordered<usize, IndicatorMapValues>,
+    records: &Ordered<usize, Plain<IndicatorMapValues>>,
     limit: usize,
 ) -> Result<Vec<IndicatorMap>, Fault>
     ensures as_many { IfOk result (λ indicator_maps. length indicator_maps.items ≡ limit) }
@@ -97,7 +100,7 @@ fn list_indicators(
         indicators: &indicator_maps,
         modifiers: names,
     };
-    let merged = merge::<Context, IndicatorMapValues>(alloc, &context, expansion)?;
+    let merged = merge::<Context, Plain<IndicatorMapValues>>(alloc, &context, expansion)?;
     let shown = indicator_maps_below(alloc, &merged.records, indicator_maps.len())?;
     Ok(Indicators::of(indicator_maps, shown))
 }

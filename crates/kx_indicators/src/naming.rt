@@ -5,17 +5,26 @@ ghost use Rattle.kx_indicators.specs.Blocks.{indicator_in, indicator_map_names};
 ghost use Rattle.kx_lex.specs.declared.fault.Fault.TheVariants.{Memory};
 ghost use Rattle.kx_virtual_mods.specs.Counted.{with_names};
 
-use kx_lex::{Fault, Name, Row};
+use kx_lex::{Fault, Name};
 use kx_parse::{Field, Statement};
 use kx_virtual_mods::{Names, Naming};
 use std::alloc::Global;
 
-/// The name and the fields of an indicator.
-pub(crate) fn indicator_in(statement: &Statement) -> Option<(&Name, &Row<Field>)>
-    ensures { option_map (λ i. (i.0.now, i.1.now)) result ≡ indicator_in statement.now }
+/// What a statement declares of an indicator.
+#[derive(Clone, Copy)]
+pub(crate) struct DeclaredIndicator<'s> {
+    pub(crate) name: &'s Name,
+    pub(crate) fields: &'s [Field],
+}
+
+pub(crate) fn indicator_in<'s>(statement: &'s Statement) -> Option<DeclaredIndicator<'s>>
+    ensures { option_map (λ i. (i.name.now, i.fields.now)) result ≡ indicator_in statement.now }
 {
     match statement {
-        Statement::Indicator { name, fields } => Some((name, fields)),
+        Statement::Indicator { name, fields } => Some(DeclaredIndicator {
+            name,
+            fields: fields.as_slice(),
+        }),
         _ => None,
     }
 }
@@ -26,7 +35,7 @@ fn written_name(statement: &Statement) -> Option<&[u8]>
 {
     match indicator_in(statement) {
         None => None,
-        Some((name, _)) => Some(name.bytes.as_slice()),
+        Some(declared) => Some(declared.name.bytes.as_slice()),
     }
 }
 

@@ -57,9 +57,8 @@ impl Model for IndicatorMapValues {
 
 impl IndicatorMapValues {
     ghost use Rattle.std.specs.Prelude.{◌≡◌, Some, unwrap_or};
-    ghost use Rattle.kx_merge.specs.Offers.{merged_value};
+    ghost use Rattle.kx_merge.specs.Offers.{MergesCells};
     ghost use Rattle.kx_indicators.specs.Giving.{no_values, values_cell, with_value};
-    ghost use Rattle.kx_indicators.specs.declared.values.IndicatorMapField.{IndicatorMapField as FieldName};
 
     /// Nothing is given.
     pub(crate) fn none() -> IndicatorMapValues
@@ -98,8 +97,7 @@ impl IndicatorMapValues {
 
     /// What is given once more is given under a mode.
     pub(crate) fn merged_with(self, other: IndicatorMapValues, mode: Mode) -> IndicatorMapValues
-        ensures { (c : FieldName) → values_cell result c
-            ≡ merged_value mode (values_cell self c) (values_cell other c) }
+        ensures { MergesCells mode (values_cell self) (values_cell other) (values_cell result) }
     {
         IndicatorMapValues {
             modifiers: merged_value(mode, self.modifiers, other.modifiers),

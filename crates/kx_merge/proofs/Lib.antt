@@ -14,3 +14,4 @@ pub mod Picking
 pub mod Joining
 pub mod Passing
 pub mod Parting
+pub mod Entries

@@ -16,8 +16,9 @@ use Rattle.kx_include.specs.declared.expansion.Link.{Link}
 use Rattle.kx_include.specs.declared.place.Place.{Place}
 use Rattle.kx_parse.specs.declared.tree.Mode.{Mode}
 use Rattle.kx_parse.specs.declared.tree.Mode.TheVariants.{Augment, Override, Replace}
-use Rattle.kx_merge.specs.Bodies.{Rules, Moves, gathered, offers, faults, offers_of, faults_of}
+use Rattle.kx_merge.specs.Bodies.{Rules, Moves, gathered, offers, faults, offers_of}
 use Rattle.kx_merge.specs.Gatherings.{AddsBehind, StandsBetween, StoodAt, included_at, included_by, entry_offers, entry_faults, entry_next}
+use Rattle.kx_merge.specs.Joins.{included_faults, included_offers}
 use Rattle.kx_merge.specs.Renewals.{AreGentleTo, TakesBack, TakesUp, keys_since}
 use Rattle.kx_merge.specs.Offers.{Offer, is_replace, is_strong, names_behind, names_of, value_of, width_of}
 use Rattle.kx_merge.specs.Records.{Shows}
@@ -41,13 +42,6 @@ included-behind (suc j) (x ∷ xs) zero le = absurd (omega (arith, le))
 included-behind (suc j) (x ∷ xs) (suc n) le = included-behind j xs n (omega (arith, le))
 
 -- ---- What includes offer
-
--- an include's mode and parts offer this, and have these faults
-abbrev pub included_offers : {K C V D : Type 0} → (K → K → Bool) → Rules K C V D → Moves K C → List Body → Mode × List Link → List (Offer K C V)
-included_offers eq rules moves bodies x = gathered eq x.0 (offers_of eq rules moves (links_body bodies x.1))
-
-abbrev pub included_faults : {K C V D : Type 0} → (K → K → Bool) → Rules K C V D → Moves K C → List Body → Mode × List Link → List Fault
-included_faults eq rules moves bodies x = faults_of eq rules moves (links_body bodies x.1)
 
 module _ {K C V D : Type 0} (eq : K → K → Bool) (rules : Rules K C V D) (moves : Moves K C) (bodies : List Body) (place : Place) where
   ends-with : (base : List (Offer K C V)) (d : D) (e : Entry) → (front : List (Offer K C V)) × (base ++ entry_offers eq rules moves bodies place d e ≡ front ++ included_offers eq rules moves bodies (included_by e))

@@ -13,9 +13,10 @@ use Rattle.kx_include.specs.declared.place.Place.{Place}
 use Rattle.kx_parse.specs.declared.tree.Mode.{Mode}
 use Rattle.kx_parse.specs.declared.tree.Mode.TheVariants.{Augment}
 use Rattle.kx_merge.specs.declared.gathering.Merged.{Merged}
+use Rattle.kx_merge.specs.declared.placed.Placed.{Placed}
 use Rattle.kx_merge.specs.Bodies.{Rules, Moves, gathered, offers_of, faults_of}
 use Rattle.kx_merge.specs.Offers.{Offer, is_strong}
-use Rattle.kx_merge.specs.Records.{Shows}
+use Rattle.kx_merge.specs.Records.{Shows, TableShows}
 
 module _ {K C V R : Type 0} (cell : R → C → Option V) (width : R → ℕ → ℕ) (eq : K → K → Bool) where
   -- offers are merged into records, unless a fault among some is met
@@ -30,13 +31,20 @@ module _ {K C V R : Type 0} (cell : R → C → Option V) (width : R → ℕ →
     pub faultless : OnOk answer (blamed ≡ [])
     pub fault : IfErr answer (λ e. Contains (Memory ∷ blamed) e)
 
-  -- the same of a table of records
+  -- the same of a table of records, and whether or not a fault is met
   module _ {X S : Type 0} (old : IndexMap K R S) (answer : Result X Fault) (new : IndexMap K R S) where
     abbrev pub TableAdds : List (Offer K C V) → List Fault → Type 0
     TableAdds added blamed = Adds (keys old) (get eq old) answer (keys new) (get eq new) added blamed
 
     abbrev pub TableAddsBehind : List (Offer K C V) → List (Offer K C V) → List Fault → Type 0
     TableAddsBehind last added blamed = AddsBehind last (keys old) (get eq old) answer (keys new) (get eq new) added blamed
+
+    abbrev pub Merges : List (Offer K C V) → Type 0
+    Merges added = (os : List (Offer K C V)) → TableShows cell width eq old os → OnOk answer (TableShows cell width eq new (os ++ added))
+
+    -- what another table shows is joined and merged
+    abbrev pub MergesTable : IndexMap K R S → (List (Offer K C V) → List (Offer K C V)) → Type 0
+    MergesTable given join = (inner : List (Offer K C V)) → TableShows cell width eq given inner → Merges (join inner)
 
 module _ {K C V D R : Type 0} (cell : R → C → Option V) (width : R → ℕ → ℕ) (eq : K → K → Bool) (rules : Rules K C V D) (moves : Moves K C) where
   -- a map's records show its body, or a fault of its stands in their place
@@ -48,6 +56,17 @@ module _ {K C V D R : Type 0} (cell : R → C → Option V) (width : R → ℕ �
   pub data AreGathered : List (Result (Merged K R) Fault) → List Body → Type 0 where
     none : AreGathered [] []
     more : {r : Result (Merged K R) Fault} {b : Body} {rs : List (Result (Merged K R) Fault)} {bs : List Body} → IsGathered r b → AreGathered rs bs → AreGathered (r ∷ rs) (b ∷ bs)
+
+-- a statement where it stands, under the defaults before it
+module _ {K C V D : Type 0} (rules : Rules K C V D) (d : D) (placed : Placed) where
+  abbrev pub placed_offers : List (Offer K C V)
+  placed_offers = rules.offers d placed.place placed.stated.now
+
+  abbrev pub placed_faults : List Fault
+  placed_faults = rules.faults d placed.place placed.stated.now
+
+  abbrev pub placed_next : D
+  placed_next = rules.next d placed.stated.now
 
 -- an entry of a map, under the defaults before it
 module _ {K C V D : Type 0} (eq : K → K → Bool) (rules : Rules K C V D) (moves : Moves K C) (bodies : List Body) (place : Place) where

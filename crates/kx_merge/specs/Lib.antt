@@ -10,5 +10,7 @@ pub mod Bodies
 pub mod Records
 pub mod Moved
 pub mod Single
+pub mod Plain
 pub mod Renewals
 pub mod Gatherings
+pub mod Joins

@@ -1,6 +1,6 @@
 -- Precedence: what the items of a body offer to records, and the value that a cell has by them, as libxkbcommon's merge
 -- modes have it.
-use Rattle.std.specs.Prelude.{ℕ, Bool, true, false, not, ◌&&◌, max, List, [], ◌∷◌, ◌++◌, Option, None, if◌then◌else◌}
+use Rattle.std.specs.Prelude.{◌≡◌, ℕ, Bool, true, false, not, ◌&&◌, max, List, [], ◌∷◌, ◌++◌, Option, None, if◌then◌else◌}
 use Rattle.std.specs.List.{list_any}
 use Rattle.std.specs.Option.{option_map_or, option_or}
 use Rattle.kx_parse.specs.declared.tree.Mode.{Mode}
@@ -83,3 +83,10 @@ abbrev pub merged_width : Mode → ℕ → ℕ → ℕ
 merged_width Augment old new = max old new
 merged_width Override old new = max old new
 merged_width Replace old new = new
+
+-- a record's cells, or the widths of its groups, are those of before with what a later record gives
+abbrev pub MergesCells : {C X : Type 0} → Mode → (C → Option X) → (C → Option X) → (C → Option X) → Type 0
+MergesCells {C = C} mode old given new = (c : C) → new c ≡ merged_value mode (old c) (given c)
+
+abbrev pub MergesWidths : Mode → (ℕ → ℕ) → (ℕ → ℕ) → (ℕ → ℕ) → Type 0
+MergesWidths mode old given new = (g : ℕ) → new g ≡ merged_width mode (old g) (given g)

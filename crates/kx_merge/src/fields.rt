@@ -1,17 +1,18 @@
 //! What a kind of statement gives records: the trait of each kind.
 ghost use Rattle.std.specs.Prelude.{◌≡◌, ℕ, true, Option, None, Some, IfOk, IfErr, OnOk};
-ghost use Rattle.kx_merge.specs.Records.{AreOffered};
 ghost use Rattle.kx_lex.specs.declared.fault.Fault.TheVariants.{Memory};
 ghost use Rattle.kx_merge.specs.Bodies.{Rules, Moves};
+ghost use Rattle.kx_merge.specs.Gatherings.{placed_faults, placed_next, placed_offers};
 ghost use Rattle.kx_merge.specs.Moved.{moved_key, moved_value, moved_width};
-ghost use Rattle.kx_merge.specs.Offers.{merged_value, merged_width};
+ghost use Rattle.kx_merge.specs.Offers.{MergesCells, MergesWidths};
+ghost use Rattle.kx_merge.specs.Records.{AreOffered};
 ghost use Rattle.kx_merge.specs.Reports.{ReportsOrRunsOut};
 
+use crate::placed::Placed;
 use ks_core::Notes;
-use kx_include::Place;
 use kx_lex::Fault;
 use kx_ordered::TableKey;
-use kx_parse::{Mode, Stated};
+use kx_parse::Mode;
 use std::alloc::Global;
 
 /// What the statements of a section kind make of records, under a context `C`.
@@ -43,24 +44,22 @@ pub trait Fields<C>: Drop {
         alloc: Global,
         context: &C,
         defaults: Self::Defaults,
-        place: Place,
-        stated: &Stated,
+        placed: &Placed,
         notes: &mut Notes,
     ) -> Result<(Vec<(Self::Key, Self)>, Self::Defaults), Fault>
-        ensures records { IfOk result (λ said.
-            AreOffered stated.now.mode (cell) (width) said.0.items
-            ((rules context.now).offers defaults place stated.now)) }
+        ensures records { IfOk result (λ said. AreOffered placed.now.stated.now.mode (cell) (width)
+            said.0.items (placed_offers (rules context.now) defaults placed.now)) }
         ensures next { IfOk result (λ said.
-            said.1 ≡ (rules context.now).next defaults stated.now) }
+            said.1 ≡ placed_next (rules context.now) defaults placed.now) }
         ensures faults { ReportsOrRunsOut result
-            ((rules context.now).faults defaults place stated.now) };
+            (placed_faults (rules context.now) defaults placed.now) };
 
     /// Merges what a later record gives.
     fn merge(&mut self, alloc: Global, other: Self, mode: Mode) -> Result<(), Fault>
-        ensures cells { OnOk result ((c : Self.Cell)
-            → cell self.new c ≡ merged_value mode (cell self.old c) (cell other c)) }
-        ensures widths { OnOk result ((g : ℕ)
-            → width self.new g ≡ merged_width mode (width self.old g) (width other g)) }
+        ensures cells { OnOk result
+            (MergesCells mode (cell self.old) (cell other) (cell self.new)) }
+        ensures widths { OnOk result
+            (MergesWidths mode (width self.old) (width other) (width self.new)) }
         ensures err { IfErr result (λ e. e ≡ Memory) };
 
     /// A record that nothing was given yet.
@@ -77,12 +76,10 @@ pub trait Fields<C>: Drop {
         group: Option<u8>,
         mode: Mode,
     ) -> Result<(), Fault>
-        ensures cells { OnOk result ((c : Self.Cell)
-            → cell self.new c ≡ merged_value mode (cell self.old c)
-            (moved_value moves group (cell other.now) c)) }
-        ensures widths { OnOk result ((g : ℕ)
-            → width self.new g ≡ merged_width mode (width self.old g)
-            (moved_width moves group (width other.now) g)) }
+        ensures cells { OnOk result (MergesCells mode (cell self.old)
+            (moved_value moves group (cell other.now)) (cell self.new)) }
+        ensures widths { OnOk result (MergesWidths mode (width self.old)
+            (moved_width moves group (width other.now)) (width self.new)) }
         ensures err { IfErr result (λ e. e ≡ Memory) };
 
     /// What a record is told apart by where its map is moved to a group; `None` where none is left of it.

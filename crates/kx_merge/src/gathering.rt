@@ -1,22 +1,24 @@
 //! The walk over a body and its includes.
 ghost use Rattle.std.specs.Prelude.{◌≡◌, ◌+◌, ◌<◌, ◌^◌, [], List, IfOk, OnOk, IfErr, IsTrue, Some, ℕ, false, true, if◌then◌else◌};
 ghost use Rattle.kx_include.specs.Expansion.{Body, End};
-ghost use Rattle.kx_include.specs.Shared.{bodies_behind, body_at, expanded_body, links_body, shared_body};
+ghost use Rattle.kx_include.specs.Shared.{bodies_behind, expanded_body, shared_body};
 ghost use Rattle.kx_lex.specs.declared.fault.Fault.TheVariants.{Memory};
 ghost use Rattle.kx_parse.specs.declared.tree.Mode.TheVariants.{Augment};
-ghost use Rattle.kx_merge.specs.Bodies.{Rules, moved, gathered, faults_of, offers_of};
-ghost use Rattle.kx_merge.specs.Gatherings.{AreGathered, IsGathered, TableAdds, TableAddsBehind, entry_faults, entry_next, entry_offers, included_by};
-ghost use Rattle.kx_merge.specs.Renewals.{TableTakesUp, TakesBack, keys_since};
+ghost use Rattle.kx_merge.specs.Bodies.{gathered, faults_of, offers_of};
+ghost use Rattle.kx_merge.specs.Gatherings.{AreGathered, IsGathered, included_by};
+ghost use Rattle.kx_merge.specs.Joins.{GivesAgain, Joins, JoinsBehind, MergesBody, TakesUpBody, include_of, linked, map_of, parts};
+ghost use Rattle.kx_merge.specs.Renewals.{keys_since};
 ghost use Rattle.kx_merge.specs.Offers.{is_replace};
 ghost use Rattle.kx_merge.specs.Records.{TableShows};
 ghost use Rattle.kx_merge.specs.Reports.{ReportsOrRunsOut};
 
 use crate::fields::Fields;
 use crate::merging::{add_again, add_included, add_joined, are_kept, merge_own};
+use crate::placed::Placed;
 use crate::repeats::{PartRepeats, Repeats};
 use crate::replaced::Replaced;
 use ks_core::Notes;
-use kx_include::{Entry, Expansion, Link, Map, Place};
+use kx_include::{Entry, Expansion, Link, Map};
 use kx_lex::Fault;
 use kx_ordered::{Ordered, TableKey};
 use kx_parse::Mode;
@@ -28,6 +30,33 @@ pub struct Merged<K: Ord + TableKey + Drop, R> {
     /// By what tells them apart, in the order in which they were first named.
     pub records: Ordered<K, R>,
     pub notes: Notes,
+}
+
+/// What going over the items of a map made so far.
+#[derive(Drop)]
+pub(crate) struct Walk<K: Ord + TableKey + Drop, R> {
+    pub(crate) merged: Merged<K, R>,
+    pub(crate) replaced: Replaced<K>,
+}
+
+/// No records, of which nothing is noted.
+fn nothing_merged<K: Ord + TableKey + Drop, R: Drop>(alloc: Global) -> Merged<K, R>
+    ensures { result.records.entries ≡ [] }
+{
+    Merged {
+        records: Ordered::new(alloc),
+        notes: Notes::new(),
+    }
+}
+
+/// A walk that is at no item yet.
+fn new_walk<K: Ord + TableKey + Drop, R: Drop>(alloc: Global) -> Walk<K, R>
+    ensures { result.merged.records.entries ≡ [] }
+{
+    Walk {
+        merged: nothing_merged(alloc),
+        replaced: Replaced::new(alloc),
+    }
 }
 
 /// The records of a section kind in the order in which the items of its expanded body name them: each cell has its value
@@ -47,19 +76,11 @@ pub fn merge<C, R: Fields<C>>(
         (faults_of R.Key.eq (R.rules context.now) R.moves (expanded_body expansion.now)) }
 {
     let done = gather_maps::<C, R>(alloc, context, expansion.maps.as_slice())?;
-    let mut records = Ordered::new(alloc);
-    let mut notes = Notes::new();
+    let mut walk = new_walk(alloc);
     'sections: for section in &expansion.sections {
-        merge_map::<C, R>(
-            alloc,
-            context,
-            done.as_slice(),
-            section,
-            &mut records,
-            &mut notes,
-        )?;
+        merge_map::<C, R>(alloc, context, done.as_slice(), section, &mut walk)?;
     }
-    Ok(Merged { records, notes })
+    Ok(walk.merged)
 }
 
 /// The records of each map, of which each may include those before it; in their place a map's fault, which is one of the
@@ -93,10 +114,9 @@ fn gather_map<C, R: Fields<C>>(
         → IsGathered R.cell R.width R.Key.eq (R.rules context.now) R.moves result
         (shared_body bodies map.now End) }
 {
-    let mut records = Ordered::new(alloc);
-    let mut notes = Notes::new();
-    merge_map::<C, R>(alloc, context, done, map, &mut records, &mut notes)?;
-    Ok(Merged { records, notes })
+    let mut walk = new_walk(alloc);
+    merge_map::<C, R>(alloc, context, done, map, &mut walk)?;
+    Ok(walk.merged)
 }
 
 /// What the items of a map make of records. An include that isn't under augment is passed over where the same stands before
@@ -107,14 +127,10 @@ fn merge_map<C, R: Fields<C>>(
     context: &C,
     done: &[Result<Merged<R::Key, R>, Fault>],
     map: &Map,
-    records: &mut Ordered<R::Key, R>,
-    notes: &mut Notes,
+    walk: &mut Walk<R::Key, R>,
 ) -> Result<(), Fault>
-    ensures { (bodies : List Body)
-        → AreGathered R.cell R.width R.Key.eq (R.rules context.now) R.moves done.now bodies
-        → TableAdds R.cell R.width R.Key.eq records.old result records.new
-        (offers_of R.Key.eq (R.rules context.now) R.moves (shared_body bodies map.now End))
-        (faults_of R.Key.eq (R.rules context.now) R.moves (shared_body bodies map.now End)) }
+    ensures { MergesBody R.cell R.width R.Key.eq (R.rules context.now) R.moves done.now
+        walk.old.merged result walk.new.merged (λ bodies. shared_body bodies map.now End) }
 {
     let entries = map.entries.as_slice();
     let mut repeats = Repeats::of(alloc, entries)?;
@@ -124,32 +140,32 @@ fn merge_map<C, R: Fields<C>>(
         links: &[],
     };
     let mut since = 0;
-    let mut replaced = Replaced::new(alloc);
+    walk.replaced = Replaced::new(alloc);
     'entries: for place in 0..entries.len() {
         let entry = &entries[place];
         let included = included_by(entry);
         let stood = repeats.stood_since(entries, since, place, included);
         if repeats.stands_between(entries, place, included) {
-            note_links::<C, R>(done, included.links, notes);
-        } else if merge_again::<C, R>(alloc, done, included.links, stood, &replaced, records)? {
-            note_links::<C, R>(done, included.links, notes);
+            note_links::<C, R>(done, included.links, &mut walk.merged.notes);
+        } else if merge_again::<C, R>(alloc, done, included.links, stood, walk)? {
+            note_links::<C, R>(done, included.links, &mut walk.merged.notes);
             last = included;
         } else {
-            defaults = merge_entry::<C, R>(
-                alloc,
-                context,
-                done,
-                map.place,
-                last,
-                entry,
-                defaults,
-                records,
-                &mut replaced.keys,
-                notes,
-            )?;
+            match entry {
+                Entry::Own(stated) => {
+                    let placed = Placed {
+                        place: map.place,
+                        stated,
+                    };
+                    defaults = merge_own::<C, R>(alloc, context, defaults, &placed, walk)?;
+                }
+                Entry::Include { .. } => {
+                    merge_after::<C, R>(alloc, done, last, included, &mut walk.merged)?;
+                }
+            }
             last = included;
         }
-        replaced.pass()?;
+        walk.replaced.pass()?;
         since = since_after(since, place, included.mode);
     }
     Ok(())
@@ -164,7 +180,7 @@ pub(crate) struct Included<'l> {
 
 /// What an entry includes; no parts where it is a statement.
 pub(crate) fn included_by<'m>(entry: &'m Entry) -> Included<'m>
-    ensures { (result.mode, result.links.now) ≡ included_by entry.now }
+    ensures { include_of result ≡ included_by entry.now }
 {
     match entry {
         Entry::Own(_) => Included {
@@ -190,52 +206,6 @@ fn since_after(since: usize, place: usize, mode: Mode) -> usize
     }
 }
 
-/// What an item makes of records, and the defaults after it. Where it includes what the item before it does, the records
-/// stay as they are. The keys of records whose values a statement takes back are noted.
-fn merge_entry<C, R: Fields<C>>(
-    alloc: Global,
-    context: &C,
-    done: &[Result<Merged<R::Key, R>, Fault>],
-    place: Place,
-    last: Included,
-    entry: &Entry,
-    defaults: R::Defaults,
-    records: &mut Ordered<R::Key, R>,
-    replaced: &mut Vec<R::Key>,
-    notes: &mut Notes,
-) -> Result<R::Defaults, Fault>
-    ensures adds { (bodies : List Body)
-        → AreGathered R.cell R.width R.Key.eq (R.rules context.now) R.moves done.now bodies
-        → faults_of R.Key.eq (R.rules context.now) R.moves
-        (links_body bodies last.entry.links.now) ≡ []
-        → TableAddsBehind R.cell R.width R.Key.eq records.old result records.new
-        (gathered R.Key.eq last.entry.mode
-        (offers_of R.Key.eq (R.rules context.now) R.moves (links_body bodies last.entry.links.now)))
-        (entry_offers R.Key.eq (R.rules context.now) R.moves bodies place defaults entry.now)
-        (entry_faults R.Key.eq (R.rules context.now) R.moves bodies place defaults entry.now) }
-    ensures back { OnOk result ((bodies : List Body)
-        → TakesBack R.Key.eq (is_replace (included_by entry.now).0)
-        replaced.old.items replaced.new.items
-        (entry_offers R.Key.eq (R.rules context.now) R.moves bodies place defaults entry.now)) }
-    ensures next { IfOk result (λ d. d ≡ entry_next (R.rules context.now) defaults entry.now) }
-{
-    match entry {
-        Entry::Own(stated) => {
-            merge_own::<C, R>(
-                alloc, context, defaults, place, stated, records, replaced, notes,
-            )
-        }
-        Entry::Include { mode, links } => {
-            let included = Included {
-                mode: *mode,
-                links: links.as_slice(),
-            };
-            merge_after::<C, R>(alloc, done, last, included, records, notes)?;
-            Ok(defaults)
-        }
-    }
-}
-
 pub(crate) fn is_same_link(one: Link, other: Link) -> bool
     ensures { IsTrue result → one ≡ other }
 {
@@ -254,6 +224,17 @@ pub(crate) fn are_same_links(some: &[Link], others: &[Link]) -> bool
         }
     }
     true
+}
+
+/// A part of an include under another mode.
+fn link_under(mode: Mode, link: Link) -> Link
+    ensures { result ≡ record link { mode = mode } }
+{
+    Link {
+        mode,
+        group: link.group,
+        map: link.map,
+    }
 }
 
 /// Adds what is noted with the map of a part.
@@ -284,24 +265,16 @@ fn merge_after<C, R: Fields<C>>(
     done: &[Result<Merged<R::Key, R>, Fault>],
     last: Included,
     included: Included,
-    records: &mut Ordered<R::Key, R>,
-    notes: &mut Notes,
+    merged: &mut Merged<R::Key, R>,
 ) -> Result<(), Fault>
-    ensures { (rules : Rules R.Key R.Cell R.Value R.Defaults) (bodies : List Body)
-        → AreGathered R.cell R.width R.Key.eq rules R.moves done.now bodies
-        → faults_of R.Key.eq rules R.moves (links_body bodies last.entry.links.now) ≡ []
-        → TableAddsBehind R.cell R.width R.Key.eq records.old result records.new
-        (gathered R.Key.eq last.entry.mode
-        (offers_of R.Key.eq rules R.moves (links_body bodies last.entry.links.now)))
-        (gathered R.Key.eq included.entry.mode
-        (offers_of R.Key.eq rules R.moves (links_body bodies included.entry.links.now)))
-        (faults_of R.Key.eq rules R.moves (links_body bodies included.entry.links.now)) }
+    ensures { JoinsBehind R.Defaults R.cell R.width R.Key.eq R.moves done.now
+        merged.old result merged.new (include_of last.entry) (include_of included.entry) }
 {
     if included.mode == last.mode && are_same_links(included.links, last.links) {
-        note_links::<C, R>(done, included.links, notes);
+        note_links::<C, R>(done, included.links, &mut merged.notes);
         return Ok(());
     }
-    merge_include::<C, R>(alloc, done, included.mode, included.links, records, notes)
+    merge_include::<C, R>(alloc, done, included, merged)
 }
 
 /// What an include under augment makes of records where the same stood before: only the records are gone over that were
@@ -311,22 +284,24 @@ fn merge_again<C, R: Fields<C>>(
     done: &[Result<Merged<R::Key, R>, Fault>],
     links: &[Link],
     stood: Option<usize>,
-    replaced: &Replaced<R::Key>,
-    records: &mut Ordered<R::Key, R>,
+    walk: &mut Walk<R::Key, R>,
 ) -> Result<bool, Fault>
     ensures again { IfOk result (λ again. again ≡ true → (before : ℕ) × (stood ≡ Some before)
-        × ((rules : Rules R.Key R.Cell R.Value R.Defaults) (bodies : List Body)
-        → AreGathered R.cell R.width R.Key.eq rules R.moves done.now bodies
-        → TableTakesUp R.cell R.width R.Key.eq
-        (keys_since replaced.now.marks.items replaced.now.keys.items before) records.old records.new
-        (gathered R.Key.eq Augment
-        (offers_of R.Key.eq rules R.moves (links_body bodies links.now))))) }
-    ensures whole { IfOk result (λ again. again ≡ false → records.new ≡ records.old) }
+        × TakesUpBody R.Defaults R.cell R.width R.Key.eq R.moves done.now
+        (keys_since walk.old.replaced.marks.items walk.old.replaced.keys.items before)
+        walk.old.merged.records walk.new.merged.records (gathered R.Key.eq Augment)
+        (parts links.now)) }
+    ensures whole { IfOk result (λ again. again ≡ false
+        → walk.new.merged.records ≡ walk.old.merged.records) }
+    ensures replaced { walk.new.replaced ≡ walk.old.replaced }
     ensures err { IfErr result (λ e. e ≡ Memory) }
 {
     match stood {
         None => Ok(false),
-        Some(before) => { merge_keys::<C, R>(alloc, done, links, replaced.since(before), records) }
+        Some(before) => {
+            let renewed = walk.replaced.since(before);
+            merge_keys::<C, R>(alloc, done, links, renewed, &mut walk.merged.records)
+        }
     }
 }
 
@@ -339,12 +314,8 @@ fn merge_keys<C, R: Fields<C>>(
     renewed: &[R::Key],
     records: &mut Ordered<R::Key, R>,
 ) -> Result<bool, Fault>
-    ensures again { IfOk result (λ again. again ≡ true
-        → (rules : Rules R.Key R.Cell R.Value R.Defaults) (bodies : List Body)
-        → AreGathered R.cell R.width R.Key.eq rules R.moves done.now bodies
-        → TableTakesUp R.cell R.width R.Key.eq renewed.now records.old records.new
-        (gathered R.Key.eq Augment
-        (offers_of R.Key.eq rules R.moves (links_body bodies links.now)))) }
+    ensures again { GivesAgain R.Defaults R.cell R.width R.Key.eq R.moves done.now renewed.now
+        records.old result records.new (gathered R.Key.eq Augment) (parts links.now) }
     ensures whole { IfOk result (λ again. again ≡ false → records.new ≡ records.old) }
     ensures err { IfErr result (λ e. e ≡ Memory) }
 {
@@ -356,7 +327,10 @@ fn merge_keys<C, R: Fields<C>>(
         return Ok(false);
     }
     match links {
-        [link] => merge_link_keys::<C, R>(alloc, done, Mode::Augment, *link, renewed, records),
+        [link] => {
+            let link = link_under(Mode::Augment, *link);
+            merge_link_keys::<C, R>(alloc, done, link, renewed, records)
+        }
         _ => merge_joined_keys::<C, R>(alloc, done, links, renewed, records),
     }
 }
@@ -394,12 +368,8 @@ fn merge_joined_keys<C, R: Fields<C>>(
     renewed: &[R::Key],
     records: &mut Ordered<R::Key, R>,
 ) -> Result<bool, Fault>
-    ensures again { IfOk result (λ again. again ≡ true
-        → (rules : Rules R.Key R.Cell R.Value R.Defaults) (bodies : List Body)
-        → AreGathered R.cell R.width R.Key.eq rules R.moves done.now bodies
-        → TableTakesUp R.cell R.width R.Key.eq renewed.now records.old records.new
-        (gathered R.Key.eq Augment
-        (offers_of R.Key.eq rules R.moves (links_body bodies links.now)))) }
+    ensures again { GivesAgain R.Defaults R.cell R.width R.Key.eq R.moves done.now renewed.now
+        records.old result records.new (gathered R.Key.eq Augment) (parts links.now) }
     ensures whole { IfOk result (λ again. again ≡ false → records.new ≡ records.old) }
     ensures err { IfErr result (λ e. e ≡ Memory) }
 {
@@ -420,37 +390,29 @@ fn merge_links_keys<C, R: Fields<C>>(
     renewed: &[R::Key],
     records: &mut Ordered<R::Key, R>,
 ) -> Result<bool, Fault>
-    ensures again { IfOk result (λ again. again ≡ true
-        → (rules : Rules R.Key R.Cell R.Value R.Defaults) (bodies : List Body)
-        → AreGathered R.cell R.width R.Key.eq rules R.moves done.now bodies
-        → TableTakesUp R.cell R.width R.Key.eq renewed.now records.old records.new
-        (offers_of R.Key.eq rules R.moves (links_body bodies links.now))) }
+    ensures again { GivesAgain R.Defaults R.cell R.width R.Key.eq R.moves done.now renewed.now
+        records.old result records.new (λ offers. offers) (parts links.now) }
     ensures err { IfErr result (λ e. e ≡ Memory) }
 {
     'links: for link in links {
-        if !merge_link_keys::<C, R>(alloc, done, link.mode, *link, renewed, records)? {
+        if !merge_link_keys::<C, R>(alloc, done, *link, renewed, records)? {
             return Ok(false);
         }
     }
     Ok(true)
 }
 
-/// What the records of some keys get of a part under a mode. `false` where the part has to be gone over whole: where
-/// records become others as its map is moved.
+/// What the records of some keys get of a part. `false` where the part has to be gone over whole: where records become
+/// others as its map is moved.
 fn merge_link_keys<C, R: Fields<C>>(
     alloc: Global,
     done: &[Result<Merged<R::Key, R>, Fault>],
-    mode: Mode,
     link: Link,
     renewed: &[R::Key],
     records: &mut Ordered<R::Key, R>,
 ) -> Result<bool, Fault>
-    ensures again { IfOk result (λ again. again ≡ true
-        → (rules : Rules R.Key R.Cell R.Value R.Defaults) (bodies : List Body)
-        → AreGathered R.cell R.width R.Key.eq rules R.moves done.now bodies
-        → TableTakesUp R.cell R.width R.Key.eq renewed.now records.old records.new
-        (moved R.moves link.group (gathered R.Key.eq mode
-        (offers_of R.Key.eq rules R.moves (body_at bodies link.map))))) }
+    ensures again { GivesAgain R.Defaults R.cell R.width R.Key.eq R.moves done.now renewed.now
+        records.old result records.new (linked R.Key.eq R.moves link) (map_of link) }
     ensures whole { IfOk result (λ again. again ≡ false → records.new ≡ records.old) }
     ensures err { IfErr result (λ e. e ≡ Memory) }
 {
@@ -460,7 +422,7 @@ fn merge_link_keys<C, R: Fields<C>>(
     if !are_kept::<C, R>(renewed, link.group) {
         return Ok(false);
     }
-    add_again::<C, R>(alloc, records, mode, &found.records, renewed, link.group)?;
+    add_again::<C, R>(alloc, records, link, &found.records, renewed)?;
     Ok(true)
 }
 
@@ -468,20 +430,15 @@ fn merge_link_keys<C, R: Fields<C>>(
 fn merge_include<C, R: Fields<C>>(
     alloc: Global,
     done: &[Result<Merged<R::Key, R>, Fault>],
-    mode: Mode,
-    links: &[Link],
-    records: &mut Ordered<R::Key, R>,
-    notes: &mut Notes,
+    included: Included,
+    merged: &mut Merged<R::Key, R>,
 ) -> Result<(), Fault>
-    ensures { (rules : Rules R.Key R.Cell R.Value R.Defaults) (bodies : List Body)
-        → AreGathered R.cell R.width R.Key.eq rules R.moves done.now bodies
-        → TableAdds R.cell R.width R.Key.eq records.old result records.new
-        (gathered R.Key.eq mode (offers_of R.Key.eq rules R.moves (links_body bodies links.now)))
-        (faults_of R.Key.eq rules R.moves (links_body bodies links.now)) }
+    ensures { Joins R.Defaults R.cell R.width R.Key.eq R.moves done.now merged.old result merged.new
+        (gathered R.Key.eq included.entry.mode) (parts included.entry.links.now) }
 {
-    match links {
-        [link] => merge_link::<C, R>(alloc, done, mode, *link, records, notes),
-        _ => merge_joined::<C, R>(alloc, done, mode, links, records, notes),
+    match included.links {
+        [link] => { merge_link::<C, R>(alloc, done, link_under(included.mode, *link), merged) }
+        _ => merge_joined::<C, R>(alloc, done, included, merged),
     }
 }
 
@@ -489,20 +446,16 @@ fn merge_include<C, R: Fields<C>>(
 fn merge_joined<C, R: Fields<C>>(
     alloc: Global,
     done: &[Result<Merged<R::Key, R>, Fault>],
-    mode: Mode,
-    links: &[Link],
-    records: &mut Ordered<R::Key, R>,
-    notes: &mut Notes,
+    included: Included,
+    merged: &mut Merged<R::Key, R>,
 ) -> Result<(), Fault>
-    ensures { (rules : Rules R.Key R.Cell R.Value R.Defaults) (bodies : List Body)
-        → AreGathered R.cell R.width R.Key.eq rules R.moves done.now bodies
-        → TableAdds R.cell R.width R.Key.eq records.old result records.new
-        (gathered R.Key.eq mode (offers_of R.Key.eq rules R.moves (links_body bodies links.now)))
-        (faults_of R.Key.eq rules R.moves (links_body bodies links.now)) }
+    ensures { Joins R.Defaults R.cell R.width R.Key.eq R.moves done.now merged.old result merged.new
+        (gathered R.Key.eq included.entry.mode) (parts included.entry.links.now) }
 {
-    let mut joined = Ordered::new(alloc);
-    merge_links::<C, R>(alloc, done, links, &mut joined, notes)?;
-    add_joined::<C, R>(alloc, records, mode, joined)
+    let mut joined = nothing_merged(alloc);
+    merge_links::<C, R>(alloc, done, included.links, &mut joined)?;
+    merged.notes = merged.notes.saturating_add(joined.notes);
+    add_joined::<C, R>(alloc, &mut merged.records, included.mode, joined.records)
 }
 
 /// What the parts of an include make of records, each under its own mode. One under augment is passed over where the same
@@ -511,23 +464,19 @@ fn merge_links<C, R: Fields<C>>(
     alloc: Global,
     done: &[Result<Merged<R::Key, R>, Fault>],
     links: &[Link],
-    records: &mut Ordered<R::Key, R>,
-    notes: &mut Notes,
+    merged: &mut Merged<R::Key, R>,
 ) -> Result<(), Fault>
-    ensures { (rules : Rules R.Key R.Cell R.Value R.Defaults) (bodies : List Body)
-        → AreGathered R.cell R.width R.Key.eq rules R.moves done.now bodies
-        → TableAdds R.cell R.width R.Key.eq records.old result records.new
-        (offers_of R.Key.eq rules R.moves (links_body bodies links.now))
-        (faults_of R.Key.eq rules R.moves (links_body bodies links.now)) }
+    ensures { Joins R.Defaults R.cell R.width R.Key.eq R.moves done.now merged.old result merged.new
+        (λ offers. offers) (parts links.now) }
 {
     let mut repeats = PartRepeats::new(alloc);
     let mut since = 0;
     'links: for place in 0..links.len() {
         let link = links[place];
         if repeats.stands_since(links, since, place, link) {
-            note_link::<C, R>(done, link, notes);
+            note_link::<C, R>(done, link, &mut merged.notes);
         } else {
-            merge_link::<C, R>(alloc, done, link.mode, link, records, notes)?;
+            merge_link::<C, R>(alloc, done, link, merged)?;
             repeats.add(place, link)?;
         }
         since = since_after(since, place, link.mode);
@@ -535,28 +484,22 @@ fn merge_links<C, R: Fields<C>>(
     Ok(())
 }
 
-/// What a part of an include makes of records under a mode.
+/// What a part of an include makes of records.
 fn merge_link<C, R: Fields<C>>(
     alloc: Global,
     done: &[Result<Merged<R::Key, R>, Fault>],
-    mode: Mode,
     link: Link,
-    records: &mut Ordered<R::Key, R>,
-    notes: &mut Notes,
+    merged: &mut Merged<R::Key, R>,
 ) -> Result<(), Fault>
-    ensures { (rules : Rules R.Key R.Cell R.Value R.Defaults) (bodies : List Body)
-        → AreGathered R.cell R.width R.Key.eq rules R.moves done.now bodies
-        → TableAdds R.cell R.width R.Key.eq records.old result records.new
-        (moved R.moves link.group (gathered R.Key.eq mode
-        (offers_of R.Key.eq rules R.moves (body_at bodies link.map))))
-        (faults_of R.Key.eq rules R.moves (body_at bodies link.map)) }
+    ensures { Joins R.Defaults R.cell R.width R.Key.eq R.moves done.now merged.old result merged.new
+        (linked R.Key.eq R.moves link) (map_of link) }
 {
     match done.get(link.map) {
         None => Ok(()),
         Some(Err(fault)) => Err(*fault),
         Some(Ok(found)) => {
-            *notes = notes.saturating_add(found.notes);
-            add_included::<C, R>(alloc, records, mode, &found.records, link.group)
+            merged.notes = merged.notes.saturating_add(found.notes);
+            add_included::<C, R>(alloc, &mut merged.records, link, &found.records)
         }
     }
 }

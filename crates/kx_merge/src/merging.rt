@@ -1,21 +1,23 @@
 //! What a mode makes of values and records.
-ghost use Rattle.std.specs.Prelude.{◌≡◌, ◌++◌, ◌∷◌, [], List, IfOk, OnOk, IfErr, IsTrue, Some, All, map, false, if◌then◌else◌};
+ghost use Rattle.std.specs.Prelude.{◌≡◌, ◌++◌, ◌∷◌, [], List, IfOk, OnOk, IfErr, IsTrue, Some, All, false, if◌then◌else◌};
 ghost use Rattle.std.specs.Map.{keys_of};
 ghost use Rattle.indexmap.specs.IndexMap.{keys};
 ghost use Rattle.kx_lex.specs.declared.fault.Fault.TheVariants.{Memory};
-ghost use Rattle.kx_merge.specs.Bodies.{moved, gather, gathered};
-ghost use Rattle.kx_merge.specs.Gatherings.{TableAdds};
+ghost use Rattle.kx_merge.specs.Bodies.{gathered};
+ghost use Rattle.kx_merge.specs.Gatherings.{Merges, MergesTable, TableAdds, placed_faults, placed_next, placed_offers};
+ghost use Rattle.kx_merge.specs.Joins.{linked, linked_to};
 ghost use Rattle.kx_merge.specs.Renewals.{TakesBack, held};
 ghost use Rattle.kx_merge.specs.Moved.{IsOfferedMoved, moved_key};
 ghost use Rattle.kx_merge.specs.Offers.{Offer, is_replace, merged_value};
-ghost use Rattle.kx_merge.specs.Records.{AreOffered, IsGood, IsOffered, TableShows};
+ghost use Rattle.kx_merge.specs.Records.{AreOffered, IsGood, IsOffered};
 
 use crate::fields::Fields;
-use ks_core::Notes;
-use kx_include::Place;
+use crate::gathering::Walk;
+use crate::placed::Placed;
+use kx_include::Link;
 use kx_lex::Fault;
 use kx_ordered::{Ordered, TableKey};
-use kx_parse::{Mode, Stated};
+use kx_parse::Mode;
 use std::alloc::Global;
 
 /// What a value under a mode makes of the one before it.
@@ -38,10 +40,8 @@ fn add_one<C, R: Fields<C>>(
     key: R::Key,
     given: R,
 ) -> Result<(), Fault>
-    ensures shows { (os : List (Offer R.Key R.Cell R.Value)) (o : Offer R.Key R.Cell R.Value)
-        → TableShows R.cell R.width R.Key.eq records.old os
-        → IsOffered mode R.cell R.width key given o
-        → OnOk result (TableShows R.cell R.width R.Key.eq records.new (os ++ o ∷ [])) }
+    ensures shows { (o : Offer R.Key R.Cell R.Value) → IsOffered mode R.cell R.width key given o
+        → Merges R.cell R.width R.Key.eq records.old result records.new (o ∷ []) }
     ensures err { IfErr result (λ e. e ≡ Memory) }
 {
     match records.push_new(key, given)? {
@@ -59,10 +59,9 @@ pub(crate) fn add_all<C, R: Fields<C>>(
     mode: Mode,
     given: Vec<(R::Key, R)>,
 ) -> Result<(), Fault>
-    ensures shows { (os added : List (Offer R.Key R.Cell R.Value))
-        → TableShows R.cell R.width R.Key.eq records.old os
-        → AreOffered mode R.cell R.width given.items added
-        → OnOk result (TableShows R.cell R.width R.Key.eq records.new (os ++ added)) }
+    ensures shows { (os : List (Offer R.Key R.Cell R.Value))
+        → AreOffered mode R.cell R.width given.items os
+        → Merges R.cell R.width R.Key.eq records.old result records.new os }
     ensures err { IfErr result (λ e. e ≡ Memory) }
 {
     'records: for (key, one) in given {
@@ -78,81 +77,68 @@ pub(crate) fn add_joined<C, R: Fields<C>>(
     mode: Mode,
     given: Ordered<R::Key, R>,
 ) -> Result<(), Fault>
-    ensures shows { (os inner : List (Offer R.Key R.Cell R.Value))
-        → TableShows R.cell R.width R.Key.eq records.old os
-        → TableShows R.cell R.width R.Key.eq given inner
-        → OnOk result (TableShows R.cell R.width R.Key.eq records.new
-        (os ++ gathered R.Key.eq mode inner)) }
+    ensures shows { MergesTable R.cell R.width R.Key.eq records.old result records.new given
+        (gathered R.Key.eq mode) }
     ensures err { IfErr result (λ e. e ≡ Memory) }
 {
     add_all::<C, R>(alloc, records, mode, given.into_entries())
 }
 
-/// Merges under a mode, as the record of a key, what a record of an included map gives where its map is moved to a
-/// group.
+/// Merges, as the record of a key, what a record of an included map gives as a part of the include's text says.
 fn add_moved<C, R: Fields<C>>(
     alloc: Global,
     records: &mut Ordered<R::Key, R>,
-    mode: Mode,
+    link: Link,
     key: R::Key,
     one: &R,
-    group: Option<u8>,
 ) -> Result<(), Fault>
-    ensures shows { (os : List (Offer R.Key R.Cell R.Value)) (o : Offer R.Key R.Cell R.Value)
-        → TableShows R.cell R.width R.Key.eq records.old os
-        → IsOfferedMoved R.cell R.width R.moves mode group key one.now o
-        → OnOk result (TableShows R.cell R.width R.Key.eq records.new (os ++ o ∷ [])) }
+    ensures shows { (o : Offer R.Key R.Cell R.Value)
+        → IsOfferedMoved R.cell R.width R.moves link.mode link.group key one.now o
+        → Merges R.cell R.width R.Key.eq records.old result records.new (o ∷ []) }
     ensures err { IfErr result (λ e. e ≡ Memory) }
 {
     if let Some(old) = records.get_mut(&key) {
-        return old.merge_moved(alloc, one, group, mode);
+        return old.merge_moved(alloc, one, link.group, link.mode);
     }
     let mut made = R::none(alloc);
-    made.merge_moved(alloc, one, group, mode)?;
+    made.merge_moved(alloc, one, link.group, link.mode)?;
     records.push(key, made)?;
     Ok(())
 }
 
-/// Merges a record of an included map under a mode, as it stands where the map is moved to a group.
+/// Merges a record of an included map as a part of the include's text says.
 fn add_found<C, R: Fields<C>>(
     alloc: Global,
     records: &mut Ordered<R::Key, R>,
-    mode: Mode,
+    link: Link,
     key: &R::Key,
     one: &R,
-    group: Option<u8>,
 ) -> Result<(), Fault>
-    ensures shows { (os inner : List (Offer R.Key R.Cell R.Value))
-        → TableShows R.cell R.width R.Key.eq records.old os
+    ensures shows { (inner : List (Offer R.Key R.Cell R.Value))
         → IsGood R.cell R.width R.Key.eq inner key.now one.now
-        → OnOk result (TableShows R.cell R.width R.Key.eq records.new
-        (os ++ moved R.moves group (gather R.Key.eq mode inner key.now ∷ []))) }
+        → Merges R.cell R.width R.Key.eq records.old result records.new
+        (linked_to R.Key.eq R.moves link (key.now ∷ []) inner) }
     ensures err { IfErr result (λ e. e ≡ Memory) }
 {
-    match R::key_in(key, group) {
+    match R::key_in(key, link.group) {
         None => Ok(()),
-        Some(to) => add_moved::<C, R>(alloc, records, mode, to, one, group),
+        Some(to) => add_moved::<C, R>(alloc, records, link, to, one),
     }
 }
 
-/// Merges records of an included map under a mode, as they stand where the map is moved to a group, with those that
-/// are there.
+/// Merges the records of an included map as a part of the include's text says, with those that are there.
 pub(crate) fn add_included<C, R: Fields<C>>(
     alloc: Global,
     records: &mut Ordered<R::Key, R>,
-    mode: Mode,
+    link: Link,
     given: &Ordered<R::Key, R>,
-    group: Option<u8>,
 ) -> Result<(), Fault>
-    ensures shows { (os inner : List (Offer R.Key R.Cell R.Value))
-        → TableShows R.cell R.width R.Key.eq records.old os
-        → TableShows R.cell R.width R.Key.eq given.now inner
-        → OnOk result (TableShows R.cell R.width R.Key.eq records.new
-        (os ++ moved R.moves group (gathered R.Key.eq mode inner))) }
+    ensures shows { MergesTable R.cell R.width R.Key.eq records.old result records.new given.now
+        (linked R.Key.eq R.moves link) }
     ensures err { IfErr result (λ e. e ≡ Memory) }
 {
     'records: for entry in given.as_slice() {
-        add_found::<C, R>(alloc, records, mode, &entry.0, &entry.1, group)?;
+        add_found::<C, R>(alloc, records, link, &entry.0, &entry.1)?;
     }
     Ok(())
 }
@@ -174,26 +160,22 @@ pub(crate) fn are_kept<C, R: Fields<C>>(keys: &[R::Key], group: Option<u8>) -> b
     true
 }
 
-/// Merges under a mode what an included map gives to the records of some keys, as it stands where the map is moved to a
-/// group, with those that are there.
+/// Merges what an included map gives to the records of some keys as a part of the include's text says, with those that
+/// are there.
 pub(crate) fn add_again<C, R: Fields<C>>(
     alloc: Global,
     records: &mut Ordered<R::Key, R>,
-    mode: Mode,
+    link: Link,
     given: &Ordered<R::Key, R>,
     renewed: &[R::Key],
-    group: Option<u8>,
 ) -> Result<(), Fault>
-    ensures shows { (os inner : List (Offer R.Key R.Cell R.Value))
-        → TableShows R.cell R.width R.Key.eq records.old os
-        → TableShows R.cell R.width R.Key.eq given.now inner
-        → OnOk result (TableShows R.cell R.width R.Key.eq records.new (os ++ moved R.moves group
-        (map (gather R.Key.eq mode inner) (held R.Key.eq (keys given.now) renewed.now)))) }
+    ensures shows { MergesTable R.cell R.width R.Key.eq records.old result records.new given.now
+        (linked_to R.Key.eq R.moves link (held R.Key.eq (keys given.now) renewed.now)) }
     ensures err { IfErr result (λ e. e ≡ Memory) }
 {
     'keys: for key in renewed {
         if let Some(one) = given.get(key) {
-            add_found::<C, R>(alloc, records, mode, key, one, group)?;
+            add_found::<C, R>(alloc, records, link, key, one)?;
         }
     }
     Ok(())
@@ -237,21 +219,20 @@ pub(crate) fn merge_own<C, R: Fields<C>>(
     alloc: Global,
     context: &C,
     defaults: R::Defaults,
-    place: Place,
-    stated: &Stated,
-    records: &mut Ordered<R::Key, R>,
-    replaced: &mut Vec<R::Key>,
-    notes: &mut Notes,
+    placed: &Placed,
+    walk: &mut Walk<R::Key, R>,
 ) -> Result<R::Defaults, Fault>
-    ensures adds { TableAdds R.cell R.width R.Key.eq records.old result records.new
-        ((R.rules context.now).offers defaults place stated.now)
-        ((R.rules context.now).faults defaults place stated.now) }
-    ensures back { OnOk result (TakesBack R.Key.eq false replaced.old.items replaced.new.items
-        ((R.rules context.now).offers defaults place stated.now)) }
-    ensures next { IfOk result (λ d. d ≡ (R.rules context.now).next defaults stated.now) }
+    ensures adds { TableAdds R.cell R.width R.Key.eq walk.old.merged.records result
+        walk.new.merged.records (placed_offers (R.rules context.now) defaults placed.now)
+        (placed_faults (R.rules context.now) defaults placed.now) }
+    ensures back { OnOk result (TakesBack R.Key.eq false walk.old.replaced.keys.items
+        walk.new.replaced.keys.items (placed_offers (R.rules context.now) defaults placed.now)) }
+    ensures marks { walk.new.replaced.marks ≡ walk.old.replaced.marks }
+    ensures next { IfOk result (λ d. d ≡ placed_next (R.rules context.now) defaults placed.now) }
 {
-    let (given, next) = R::read(alloc, context, defaults, place, stated, notes)?;
-    note_replaced::<C, R>(replaced, stated.mode, given.as_slice())?;
-    add_all::<C, R>(alloc, records, stated.mode, given)?;
+    let mode = placed.stated.mode;
+    let (given, next) = R::read(alloc, context, defaults, placed, &mut walk.merged.notes)?;
+    note_replaced::<C, R>(&mut walk.replaced.keys, mode, given.as_slice())?;
+    add_all::<C, R>(alloc, &mut walk.merged.records, mode, given)?;
     Ok(next)
 }

@@ -2,6 +2,7 @@
 ghost use Rattle.std.specs.Prelude.{◌≡◌, IfErr, IfSome, IsTrue, Some, slice_get};
 ghost use Rattle.kx_lex.specs.declared.fault.Fault.TheVariants.{Memory};
 ghost use Rattle.kx_merge.specs.Gatherings.{PartStandsSince, StandsBetween, StoodAt, included_at};
+ghost use Rattle.kx_merge.specs.Joins.{include_of};
 
 use crate::gathering::{Included, are_same_links, included_by, is_same_link};
 use kx_include::{Entry, Link};
@@ -94,7 +95,7 @@ fn add_place(
 /// Whether this include stands at a place.
 fn stands_at(entries: &[Entry], place: usize, included: Included) -> bool
     ensures { IsTrue result
-        → included_at entries.now place ≡ Some (included.entry.mode, included.entry.links.now) }
+        → included_at entries.now place ≡ Some (include_of included.entry) }
 {
     match entries.get(place) {
         None => false,
@@ -120,8 +121,7 @@ impl Repeats {
     /// statement without a call.
     #[inline(always)]
     pub(crate) fn stands_between(&self, entries: &[Entry], place: usize, included: Included) -> bool
-        ensures { IsTrue result
-            → StandsBetween entries.now place (included.entry.mode, included.entry.links.now) }
+        ensures { IsTrue result → StandsBetween entries.now place (include_of included.entry) }
     {
         if included.mode == Mode::Augment {
             return false;
@@ -147,8 +147,8 @@ impl Repeats {
         place: usize,
         included: Included,
     ) -> Option<usize>
-        ensures { IfSome result (λ before. StoodAt entries.now since place before
-            (included.entry.mode, included.entry.links.now)) }
+        ensures { IfSome result (λ before.
+            StoodAt entries.now since place before (include_of included.entry)) }
     {
         if included.mode != Mode::Augment || included.links.is_empty() {
             return None;

@@ -13,11 +13,11 @@ ghost use Rattle.kx_merge.specs.Reports.{ReportsOrRunsOut};
 
 use crate::fields::Fields;
 use crate::merging::merged_value;
+use crate::placed::Placed;
 use ks_core::Notes;
-use kx_include::Place;
 use kx_lex::Fault;
 use kx_ordered::TableKey;
-use kx_parse::{Mode, Stated};
+use kx_parse::Mode;
 use std::alloc::Global;
 
 /// A record of one value, where statements give it one.
@@ -42,13 +42,13 @@ pub trait SingleValue<C>: Drop {
     fn read(
         alloc: Global,
         context: &C,
-        place: Place,
-        stated: &Stated,
+        placed: &Placed,
     ) -> Result<Vec<(Self::Key, Single<Self>)>, Fault>
         ensures records { IfOk result (λ records.
-            AreOffered stated.now.mode single_cell single_width records.items
-            (offers context.now place stated.now)) }
-        ensures faults { ReportsOrRunsOut result (faults context.now place stated.now) };
+            AreOffered placed.now.stated.now.mode single_cell single_width records.items
+            (offers context.now placed.now.place placed.now.stated.now)) }
+        ensures faults { ReportsOrRunsOut result
+            (faults context.now placed.now.place placed.now.stated.now) };
 
     /// The same value.
     fn try_clone(&self, alloc: Global) -> Result<Self, Fault>
@@ -126,11 +126,10 @@ impl<C, V: SingleValue<C>> Fields<C> for Single<V> {
         alloc: Global,
         context: &C,
         _defaults: (),
-        place: Place,
-        stated: &Stated,
+        placed: &Placed,
         _notes: &mut Notes,
     ) -> Result<(Vec<(V::Key, Single<V>)>, ()), Fault> {
-        Ok((V::read(alloc, context, place, stated)?, ()))
+        Ok((V::read(alloc, context, placed)?, ()))
     }
 
     fn merge(&mut self, _alloc: Global, other: Single<V>, mode: Mode) -> Result<(), Fault> {

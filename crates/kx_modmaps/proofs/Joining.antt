@@ -1,5 +1,5 @@
 -- What modifier maps give more than once.
-use Rattle.std.proofs.Common.{◌≡◌, ℕ, ◌^◌, ◌==◌, ◌||◌, Bool, true, false, cond, Option, Some, None, bit_or, refl, sym, ap, ◌∙◌}
+use Rattle.std.proofs.Common.{◌≡◌, ℕ, ◌^◌, ◌||◌, Bool, true, false, cond, Option, Some, None, bit_or, refl, sym, ap, ◌∙◌}
 use Rattle.std.specs.Option.{option_map, option_or}
 use Rattle.kx_virtual_mods.specs.Sets.{has}
 use Rattle.kx_merge.specs.Offers.{merged_value}

@@ -14,10 +14,12 @@ use Rattle.kx_include.specs.Expansion.{Body}
 use Rattle.kx_merge.proofs.Going.{drop_next, read_again}
 use Rattle.kx_merge.specs.Bodies.{offers_of}
 use Rattle.kx_merge.specs.Offers.{Offer}
+use Rattle.kx_merge.specs.Plain.{plain_cell, plain_width}
 use Rattle.kx_merge.specs.Records.{Shows, cell_in}
+use Rattle.kx_merge.specs.declared.plain.Plain.{Plain}
 use Rattle.kx_mods.specs.Mods.{mask}
 use Rattle.kx_modmaps.specs.Entries.{same_target}
-use Rattle.kx_modmaps.specs.Maps.{AreModifierMaps, assigned_cell, assigned_width, keysym_given, map_moves, map_offers_of, map_rules, present, shown_entry}
+use Rattle.kx_modmaps.specs.Maps.{AreModifierMaps, assigned_cell, keysym_given, map_moves, map_offers_of, map_rules, present, shown_entry}
 use Rattle.kx_modmaps.specs.Shown.{keysym_recorded}
 use Rattle.kx_modmaps.specs.contracts.target.TargetPartialEq.TheImpl.{ghosts}
 use Rattle.kx_modmaps.specs.declared.maps.KeysymEntry.{KeysymEntry}
@@ -33,22 +35,22 @@ nothing-present modifier =
     let none : bit_at 0 modifier ≡ 0 = bit_at_above 0 0 modifier (omega arith) (omega arith) in
     ap (λ b. cond (b == 1) (Some (2 ^ modifier)) None) none
 
-key-cell : (o : Option Assigned) (modifier : ℕ) → present (option_map_or (λ (a : Assigned). mask a.present) o 0) modifier ≡ cell_in assigned_cell o (Present modifier)
+key-cell : (o : Option (Plain Assigned)) (modifier : ℕ) → present (option_map_or (λ (a : Plain Assigned). mask a.values.present) o 0) modifier ≡ cell_in (plain_cell assigned_cell) o (Present modifier)
 key-cell None modifier = nothing-present modifier
 key-cell (Some a) modifier = refl
 
-module _ {S : Type 0} (records : IndexMap Target Assigned S) (codes : Codes) (names : KeysymTable) (modifiers : List (List ℕ)) (body : Body) where
+module _ {S : Type 0} (records : IndexMap Target (Plain Assigned) S) (codes : Codes) (names : KeysymTable) (modifiers : List (List ℕ)) (body : Body) where
   abbrev offers : List (Offer Target Cell ℕ)
   offers = map_offers_of codes names modifiers body
 
-  as-said : Shows {K = Target} {C = Cell} {V = ℕ} {R = Assigned} assigned_cell assigned_width ghosts.eq (keys records) (get ghosts.eq records) (offers_of ghosts.eq (map_rules codes names modifiers) map_moves body) → Shows {K = Target} {C = Cell} {V = ℕ} {R = Assigned} assigned_cell assigned_width same_target (keys records) (get same_target records) offers
-  as-said shows = subst (λ eq. Shows {K = Target} {C = Cell} {V = ℕ} {R = Assigned} assigned_cell assigned_width eq (keys records) (get eq records) (offers_of eq (map_rules codes names modifiers) map_moves body)) told_as_said shows
+  as-said : Shows {K = Target} {C = Cell} {V = ℕ} {R = Plain Assigned} (plain_cell assigned_cell) plain_width ghosts.eq (keys records) (get ghosts.eq records) (offers_of ghosts.eq (map_rules codes names modifiers) map_moves body) → Shows {K = Target} {C = Cell} {V = ℕ} {R = Plain Assigned} (plain_cell assigned_cell) plain_width same_target (keys records) (get same_target records) offers
+  as-said shows = subst (λ eq. Shows {K = Target} {C = Cell} {V = ℕ} {R = Plain Assigned} (plain_cell assigned_cell) plain_width eq (keys records) (get eq records) (offers_of eq (map_rules codes names modifiers) map_moves body)) told_as_said shows
 
-  keysym-same : Shows {K = Target} {C = Cell} {V = ℕ} {R = Assigned} assigned_cell assigned_width same_target (keys records) (get same_target records) offers → (target : Target) → keysym_recorded records target ≡ keysym_given offers target
+  keysym-same : Shows {K = Target} {C = Cell} {V = ℕ} {R = Plain Assigned} (plain_cell assigned_cell) plain_width same_target (keys records) (get same_target records) offers → (target : Target) → keysym_recorded records target ≡ keysym_given offers target
   keysym-same shows (Key code) = refl
   keysym-same shows (Keysym keysym) = ap (λ o. (keysym, unwrap_or o 0) ∷ []) (shows.cells_are (Keysym keysym) Only)
 
-  pub maps_are : (entries : List KeysymEntry) → Shows {K = Target} {C = Cell} {V = ℕ} {R = Assigned} assigned_cell assigned_width ghosts.eq (keys records) (get ghosts.eq records) (offers_of ghosts.eq (map_rules codes names modifiers) map_moves body)
+  pub maps_are : (entries : List KeysymEntry) → Shows {K = Target} {C = Cell} {V = ℕ} {R = Plain Assigned} (plain_cell assigned_cell) plain_width ghosts.eq (keys records) (get ghosts.eq records) (offers_of ghosts.eq (map_rules codes names modifiers) map_moves body)
       → map shown_entry entries ≡ flat_map (keysym_recorded records) (keys records) → AreModifierMaps (record { by_target = records.entries; by_keysym = entries }) codes names modifiers body
   maps_are entries derived is =
       let shows = as-said derived in

@@ -11,7 +11,9 @@ use Rattle.kx_lex.specs.declared.name.Name.{Name}
 use Rattle.kx_virtual_mods.specs.Sets.{has}
 use Rattle.kx_merge.specs.Bodies.{Rules, Moves, faults_of, offers_of, no_moves}
 use Rattle.kx_merge.specs.Offers.{Offer, names_of, value_of, plain_offer}
+use Rattle.kx_merge.specs.Plain.{plain_cell, plain_width}
 use Rattle.kx_merge.specs.Records.{AreOffered}
+use Rattle.kx_merge.specs.declared.plain.Plain.{Plain}
 use Rattle.kx_mods.specs.Mods.{mask}
 use Rattle.kx_parse.specs.declared.tree.Entry.{Entry}
 use Rattle.kx_parse.specs.declared.tree.Mode.{Mode}
@@ -53,17 +55,14 @@ abbrev pub assigned_cell : Assigned → Cell → Option ℕ
 assigned_cell a (Present modifier) = present (mask a.present) modifier
 assigned_cell a Only = option_map mask a.only
 
-abbrev pub assigned_width : Assigned → ℕ → ℕ
-assigned_width a group = 0
-
 -- what modifier maps give: records by target, and the keysyms among them in order
 pub record Maps : Type 0 where
-  pub by_target : List (Target × Assigned)
+  pub by_target : List (Target × Plain Assigned)
   pub by_keysym : List KeysymEntry
 
 -- the mask of the modifiers of a key
 abbrev pub key_mask : Maps → ℕ → ℕ
-key_mask maps code = option_map_or (λ (a : Assigned). mask a.present) (lookup (same_target (Key code)) maps.by_target) 0
+key_mask maps code = option_map_or (λ (a : Plain Assigned). mask a.values.present) (lookup (same_target (Key code)) maps.by_target) 0
 
 -- a keysym and the mask of its modifier
 abbrev pub shown_entry : KeysymEntry → ℕ × ℕ
@@ -95,5 +94,5 @@ abbrev pub map_faults_of : Codes → KeysymTable → List (List ℕ) → Body �
 map_faults_of codes names modifiers body = faults_of same_target (map_rules codes names modifiers) map_moves body
 
 -- records of targets are offers in order
-abbrev pub AreAssigned : Mode → List (Target × Assigned) → List (Offer Target Cell ℕ) → Type 0
-AreAssigned mode records os = AreOffered {K = Target} {C = Cell} {V = ℕ} {R = Assigned} mode assigned_cell assigned_width records os
+abbrev pub AreAssigned : Mode → List (Target × Plain Assigned) → List (Offer Target Cell ℕ) → Type 0
+AreAssigned mode records os = AreOffered {K = Target} {C = Cell} {V = ℕ} {R = Plain Assigned} mode (plain_cell assigned_cell) plain_width records os

@@ -17,7 +17,7 @@ use kx_codes::Codes;
 use kx_lex::{At, Fault, KeyName, Name};
 use kx_mods::Mods;
 use kx_ordered::OrderedSet;
-use kx_parse::{Entry, Row, Statement};
+use kx_parse::{Entry, Statement};
 use kx_symbols::symbol_keysym;
 use kx_virtual_mods::{ModNames, real_mask};
 use std::alloc::Global;
@@ -30,12 +30,21 @@ pub struct Context<'a, 'l> {
     pub modifiers: &'a ModNames,
 }
 
-/// The word and the entries of a modifier map statement.
-pub(crate) fn map_in(statement: &Statement) -> Option<(&Name, &Row<Entry>)>
-    ensures { option_map (λ m. (m.0.now, m.1.now)) result ≡ map_in statement.now }
+/// What a modifier map statement names.
+#[derive(Clone, Copy)]
+pub(crate) struct ModifierMap<'s> {
+    pub(crate) word: &'s Name,
+    pub(crate) entries: &'s [Entry],
+}
+
+pub(crate) fn map_in<'s>(statement: &'s Statement) -> Option<ModifierMap<'s>>
+    ensures { option_map (λ m. (m.word.now, m.entries.now)) result ≡ map_in statement.now }
 {
     match statement {
-        Statement::ModifierMap { modifier, entries } => Some((modifier, entries)),
+        Statement::ModifierMap { modifier, entries } => Some(ModifierMap {
+            word: modifier,
+            entries: entries.as_slice(),
+        }),
         _ => None,
     }
 }

@@ -16,7 +16,7 @@ use ks_core::{NameTable, Notes};
 use kx_codes::Codes;
 use kx_include::Expansion;
 use kx_lex::Fault;
-use kx_merge::merge;
+use kx_merge::{Plain, merge};
 use kx_mods::Mods;
 use kx_ordered::Ordered;
 use kx_virtual_mods::ModNames;
@@ -33,7 +33,7 @@ pub struct KeysymEntry {
 /// The modifiers that modifier maps give keys and keysyms.
 #[derive(Drop)]
 pub struct ModifierMaps {
-    records: Ordered<Target, Assigned>,
+    records: Ordered<Target, Plain<Assigned>>,
     keysyms: Vec<KeysymEntry>,
 }
 
@@ -52,7 +52,7 @@ impl ModifierMaps {
     {
         match self.records.get(&Target::Key(code)) {
             None => Mods::NONE,
-            Some(assigned) => assigned.present,
+            Some(assigned) => assigned.values.present,
         }
     }
 
@@ -65,19 +65,19 @@ impl ModifierMaps {
 }
 
 /// The modifier that records have for a keysym.
-fn only_among(records: &Ordered<Target, Assigned>, target: Target) -> Mods
+fn only_among(records: &Ordered<Target, Plain<Assigned>>, target: Target) -> Mods
     ensures { mask result ≡ only_recorded records.now target }
 {
     match records.get(&target) {
         None => Mods::NONE,
-        Some(assigned) => assigned.only.unwrap_or(Mods::NONE),
+        Some(assigned) => assigned.values.only.unwrap_or(Mods::NONE),
     }
 }
 
 /// Adds the target of a record after others, where it is a keysym.
 fn add_keysym(
-    records: &Ordered<Target, Assigned>,
-    named: &(Target, Assigned),
+    records: &Ordered<Target, Plain<Assigned>>,
+    named: &(Target, Plain<Assigned>),
     entries: &mut Vec<KeysymEntry>,
 ) -> Result<(), Fault>
     ensures added { OnOk result
@@ -98,7 +98,7 @@ fn add_keysym(
 /// The keysyms among the targets of records, in order.
 fn keysym_entries(
     alloc: Global,
-    records: &Ordered<Target, Assigned>,
+    records: &Ordered<Target, Plain<Assigned>>,
 ) -> Result<Vec<KeysymEntry>, Fault>
     ensures entries { IfOk result (λ entries. map shown_entry entries.items
         ≡ flat_map (keysym_recorded records.now) (keys records.now)) }
@@ -136,7 +136,7 @@ pub fn modifier_maps(
         keysyms: names,
         modifiers,
     };
-    let merged = merge::<Context, Assigned>(alloc, &context, expansion)?;
+    let merged = merge::<Context, Plain<Assigned>>(alloc, &context, expansion)?;
     let keysyms = keysym_entries(alloc, &merged.records)?;
     let maps = ModifierMaps {
         records: merged.records,

@@ -1,5 +1,5 @@
 -- What was built is whole and valid, and its keymap is the one that is meant.
-use Rattle.std.proofs.Common.{ℕ, ◌≡◌, ◌≤◌, All, List, Option, length, sym, subst}
+use Rattle.std.proofs.Common.{ℕ, ◌≡◌, ◌≤◌, All, List, length, sym, subst}
 use Rattle.kx_builder.specs.Agreement.{ShowsSame}
 use Rattle.kx_builder.specs.Valid.{IsValid}
 use Rattle.kx_builder.specs.IndicatorMaps.{ResolvedIndicator, keymap_with}

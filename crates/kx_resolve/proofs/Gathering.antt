@@ -1,5 +1,5 @@
 -- What is gathered of the codes with names is all that there is.
-use Rattle.std.proofs.Common.{◌≡◌, ℕ, ◌+◌, ◌<◌, arith, nat_lt, Bool, true, false, refl, List, ◌++◌, append-nil, Option, Some, ap, sym, ◌∙◌}
+use Rattle.std.proofs.Common.{◌≡◌, ℕ, ◌<◌, arith, nat_lt, Bool, true, false, refl, List, ◌++◌, append-nil, Option, Some, ap, sym, ◌∙◌}
 use Rattle.std.proofs.lemmas.Bool.Decides.{nat_tests}
 use Rattle.std.proofs.lemmas.Option.{none-some}
 use Rattle.kx_codes.proofs.Ends.{all_gathered}

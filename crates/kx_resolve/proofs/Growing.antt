@@ -126,14 +126,6 @@ small_with_group r g small group few = record {
   small_keys = small_keys_group g r.keys group few small.small_keys;
 }
 
-pub small_with_key : (r : Resolved) (k : ResolvedKey) → IsWithinLimits r → length r.keys < 4096 → KeyIsWithinLimits k → IsWithinLimits (with_key r k)
-small_with_key r k small few key_small = record {
-  few_types = small.few_types;
-  small_types = small.small_types;
-  few_keys = omega (arith, few, length-append r.keys (k ∷ []));
-  small_keys = All-push KeyIsWithinLimits r.keys k small.small_keys key_small;
-}
-
 pub bare_groups : (ks : List ResolvedKey) (k : ResolvedKey) → last_groups (ks ++ k ∷ []) ≡ k.groups
 bare_groups [] k = refl
 bare_groups (l ∷ ks) k = last_behind l (ks ++ k ∷ []) (omega (arith, length-append ks (k ∷ []))) ∙ bare_groups ks k

@@ -20,6 +20,7 @@ mod Bounded
 mod Gathering
 mod Growing
 mod IndicatorMaps
+mod Named
 mod Names
 mod Order
 mod TypesInUse

@@ -1,10 +1,9 @@
 -- What holds of the key of a code, by what was found for the code.
-use Rattle.std.proofs.Common.{ℕ, ◌≡◌, ◌<◌, ◌^◌, ◌++◌, List, [], Option, None, Some, subst, sym, ◌∙◌}
+use Rattle.std.proofs.Common.{ℕ, ◌≡◌, ◌<◌, ◌^◌, ◌++◌, List, Option, Some, subst, ◌∙◌}
 use Rattle.std.proofs.lemmas.Option.{same_Some}
 use Rattle.kx_basics.specs.KeyNames.{IsKeyName}
 use Rattle.kx_builder.specs.Pushes.{with_key}
 use Rattle.kx_builder.specs.Resolved.{Resolved}
-use Rattle.kx_resolve.proofs.Steps.{none_groups}
 use Rattle.kx_resolve.specs.Bounds.{GroupsAreValid, KeepsBounds}
 use Rattle.kx_resolve.specs.Keys.{key_if_named, key_of}
 use Rattle.kx_resolve.specs.LevelActions.{level_actions_of}
@@ -14,7 +13,6 @@ use Rattle.kx_mods.specs.Mods.{mask}
 use Rattle.kx_mods.specs.declared.mods.Mods.{Mods}
 use Rattle.kx_symbols.specs.Keys.{KeyContent}
 use Rattle.kx_tables.specs.Sound.{RangeHolds}
-use Rattle.kx_tables.specs.declared.rows.Range.TheVariants.{Wrap}
 use Rattle.kx_resolve.specs.Given.{given_in}
 use Rattle.kx_resolve.specs.Typing.{Typing}
 use Rattle.kx_resolve.specs.GroupTypes.{group_count}
@@ -32,8 +30,3 @@ module _ (typing : Typing) (used : List (List ℕ)) (real : ℕ → RealSet) (in
   pub pushed_of : (old new : Resolved) (code : ℕ) (of_code : Option (List ℕ)) (key found : Option KeyContent) (of_key : List ℕ) (modmap mapped : Mods) → Some of_key ≡ of_code → found ≡ key → mapped ≡ modmap → new ≡ with_key old (key_of typing used (level_actions_of real interpretations mapped (given_in found)) (given_in found) code of_key mapped) → new ≡ record old { keys = old.keys ++ key_if_named typing used (level_actions_of real interpretations modmap (given_in key)) (given_in key) code of_code modmap }
   pushed_of old new code of_code key found of_key modmap mapped named at same pushed =
       pushed ∙ (λ i. record old { keys = old.keys ++ key_if_named typing used (level_actions_of real interpretations (same i) (given_in (at i))) (given_in (at i)) code (named i) (same i) })
-
-  pub bare_of : (old new : Resolved) (code : ℕ) (of_code : Option (List ℕ)) (key : Option KeyContent) (of_key : List ℕ) (modmap mapped : Mods) → Some of_key ≡ of_code → None ≡ key → mapped ≡ modmap → new ≡ with_key old (record { code = code; name = of_key; modmap = mapped; range = Wrap; groups = [] }) → new ≡ record old { keys = old.keys ++ key_if_named typing used (level_actions_of real interpretations modmap (given_in key)) (given_in key) code of_code modmap }
-  bare_of old new code of_code key of_key modmap mapped named at same pushed =
-      pushed_of old new code of_code key None of_key modmap mapped named at same
-      (pushed ∙ (λ i. with_key old (record { code = code; name = of_key; modmap = mapped; range = Wrap; groups = sym (none_groups typing used (level_actions_of real interpretations mapped (given_in None))) i })))

@@ -11,7 +11,6 @@ use Rattle.std.proofs.lemmas.List.Elements.{All-append, All-cons, All-head, All-
 use Rattle.std.proofs.lemmas.Map.Made.{length-le_from_is_member}
 use mathlib.Core.Bool.{or-true}
 use Rattle.kx_builder.specs.Valid.{TypeIsValid}
-use Rattle.kx_builder.specs.WithinLimits.{IsWithinLimits, KeyIsWithinLimits, TypeIsWithinLimits}
 use Rattle.kx_resolve.specs.Selecting.{RealSet}
 use Rattle.kx_virtual_mods.specs.Counted.{with_names}
 use Rattle.kx_merge.specs.Offers.{with_name}
@@ -107,19 +106,9 @@ used_few types letters name key =
     let fewer = length-le_from_is_member nat_list_eq_equiv used (one_level_name ∷ names_in types) (used_distinct (typing_by types letters) name key) (λ q there. usable_is_among types letters q (found_holds (IsUsable (typing_by types letters)) used q (used_usable (typing_by types letters) name key) there)) in
     omega (arith, fewer, length-map types (λ (t : List ℕ × Option Definition). t.0))
 
--- ---- Types that hold are small
+-- ---- Types that hold are valid
 
 module _ (real : ℕ → RealSet) (typing : Typing) where
-  type_small : (name : List ℕ) → TypeHolds real typing name → TypeIsWithinLimits (type_of real typing name)
-  type_small name holds = record { few_entries = holds.valid.entries_fit; short_name = holds.valid.name_fits }
-
-  types_small : (names : List (List ℕ)) → All (TypeHolds real typing) names → All TypeIsWithinLimits (map (type_of real typing) names)
-  types_small [] all = All-nil TypeIsWithinLimits
-  types_small (name ∷ names) all = All-cons TypeIsWithinLimits (type_of real typing name) (map (type_of real typing) names) (type_small name (All-head (TypeHolds real typing) name names all)) (types_small names (All-tail (TypeHolds real typing) name names all))
-
-  pub tree_small : (names : List (List ℕ)) → length names ≤ 4097 → All (TypeHolds real typing) names → IsWithinLimits (record { types = map (type_of real typing) names; keys = [] })
-  tree_small names few all = record { few_types = omega (arith, few, length-map names (type_of real typing)); small_types = types_small names all; few_keys = omega arith; small_keys = All-nil KeyIsWithinLimits }
-
   pub types_valid : (names : List (List ℕ)) → All (TypeHolds real typing) names → All TypeIsValid (map (type_of real typing) names)
   types_valid [] all = All-nil TypeIsValid
   types_valid (name ∷ names) all =

@@ -1,5 +1,5 @@
 -- What keys bear.
-use Rattle.std.proofs.Common.{◌≡◌, ◌&&◌, ◌||◌, ◌+◌, ℕ, Bool, true, false, List, Option, None, is_some, refl, ap, ◌∙◌}
+use Rattle.std.proofs.Common.{◌≡◌, ◌&&◌, ◌||◌, ◌+◌, ℕ, Bool, false, List, None, is_some, refl, ap, ◌∙◌}
 use mathlib.Core.Bool.{or-false}
 use Rattle.std.specs.Option.{option_map_or}
 use Rattle.kx_resolve.specs.Vmodmap.{ReadKeymap, is_in_vmodmap, brings, gives, interpretation_at, is_given}
@@ -25,15 +25,8 @@ module _ (interpretations : List Interpretation) (modmap : Mods) where
       let test : ℕ → Bool = λ group. any_below (group_levels typing (given_in None) group) (λ level. gives number group level (interpretation_at interpretations modmap (given_in None) (content_group (given_in None) group) level)) in
       ap (λ n. any_below n test) none_count ∙ any_none test
 
-and_false : (b : Bool) → (b && false) ≡ false
-and_false true = refl
-and_false false = refl
-
-pub absent_brings : (r : ReadKeymap) (number real code : ℕ) → r.key code ≡ given_in None → brings r number real code ≡ false
-absent_brings r number real code absent =
-    ap (λ key. is_some (r.name code) && (is_in_vmodmap r.interpretations (r.modmap code) key r.typing number && has (mask (r.modmap code)) real)) absent
-    ∙ ap (λ b. is_some (r.name code) && (b && has (mask (r.modmap code)) real)) (none_in_vmodmap r.interpretations (r.modmap code) r.typing number)
-    ∙ and_false (is_some (r.name code))
+  pub none_brings : (typing : Typing) (number real : ℕ) → (is_in_vmodmap interpretations modmap (given_in None) typing number && has (mask modmap) real) ≡ false
+  none_brings typing number real = ap (λ b. b && has (mask modmap) real) (none_in_vmodmap typing number)
 
 -- a code without a name brings nothing
 pub unnamed_brings : (r : ReadKeymap) (number real code : ℕ) → r.name code ≡ None → any_below (code + 1) (brings r number real) ≡ any_below code (brings r number real)

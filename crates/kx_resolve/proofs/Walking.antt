@@ -1,5 +1,5 @@
 -- What keysyms have visited on the way over the levels of groups, the groups of keys and the keys of codes.
-use Rattle.std.proofs.Common.{ℕ, ◌+◌, ◌≡◌, ◌++◌, ◌∷◌, Bool, true, false, List, [], Option, None, Some, fold, nat_eq, refl, sym, subst, ap, ◌∙◌, if◌then◌else◌}
+use Rattle.std.proofs.Common.{ℕ, ◌+◌, ◌≡◌, ◌++◌, ◌∷◌, Bool, true, false, List, [], None, Some, fold, nat_eq, refl, sym, subst, ap, ◌∙◌, if◌then◌else◌}
 use Rattle.std.specs.Option.{IfSome, option_map}
 use Rattle.std.specs.Set.{is_member}
 use Rattle.kx_resolve.specs.Given.{KeyGiven}

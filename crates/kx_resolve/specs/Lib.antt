@@ -3,6 +3,7 @@ pub mod Rows
 pub mod Going
 pub mod Given
 pub mod Typing
+pub mod Standing
 pub mod GroupTypes
 pub mod Finding
 pub mod Mapping
@@ -15,5 +16,11 @@ pub mod MappedKeys
 pub mod Keys
 pub mod Shown
 pub mod Bounds
+pub mod Bare
+pub mod NamedKeys
 pub mod TypesInUse
+pub mod UsedTypes
+pub mod InterpretedKey
+pub mod TypedKeys
 pub mod Lit
+pub mod Read

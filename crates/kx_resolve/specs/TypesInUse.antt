@@ -1,5 +1,5 @@
 -- The types of groups as they are made out once: of each its place among the types in use, and how many levels it has.
-use Rattle.std.specs.Prelude.{◌≡◌, ◌<◌, ◌%◌, ◌^◌, ℕ, zero, suc, All, List, [], ◌∷◌, ◌++◌, Option, get_or, map, true}
+use Rattle.std.specs.Prelude.{◌≡◌, ◌<◌, ◌%◌, ◌^◌, ℕ, zero, suc, All, List, [], ◌∷◌, ◌++◌, get_or, map, true}
 use Rattle.std.specs.List.{list_any}
 use Rattle.std.specs.Str.{bytes_eq}
 use Rattle.kx_builder.specs.Resolved.{ResolvedGroup}

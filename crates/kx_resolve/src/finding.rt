@@ -4,26 +4,23 @@ ghost use Rattle.std.specs.List.{list_any};
 ghost use Rattle.std.specs.Set.{is_member};
 ghost use Rattle.indexmap.specs.IndexMap.{get};
 ghost use Rattle.kx_basics.specs.declared.limits.TheConstants.{CODES};
-ghost use Rattle.kx_codes.specs.Codes.{name_of};
 ghost use Rattle.kx_lex.specs.declared.fault.Fault.TheVariants.{Memory};
 ghost use Rattle.kx_modmaps.specs.Maps.{Maps, shown_entry};
-ghost use Rattle.kx_symbols.specs.Keys.{key_at};
 ghost use Rattle.kx_resolve.specs.Typing.{typing_of};
-ghost use Rattle.kx_resolve.specs.Given.{given, given_in};
-ghost use Rattle.kx_resolve.specs.GroupTypes.{group_count};
-ghost use Rattle.kx_resolve.specs.Finding.{IsFirstOrNone, Visits};
-ghost use Rattle.kx_resolve.specs.Mapping.{first_place, group_places, key_places, level_places, places_below};
-ghost use Rattle.kx_resolve.specs.ReadMapping.{mapping_of};
+ghost use Rattle.kx_resolve.specs.Given.{given};
+ghost use Rattle.kx_resolve.specs.Finding.{IsFirstOrNone, Visited};
+ghost use Rattle.kx_resolve.specs.Mapping.{first_place, level_places, places_below};
+ghost use Rattle.kx_resolve.specs.NamedKeys.{mapping_in, places_of_key, places_on};
 
 use crate::given::keysyms_at;
 use crate::group_types::{content_group, group_count, group_type};
+use crate::named_keys::NamedKeys;
 use crate::places::LevelPlace;
 use crate::typing::Typing;
-use kx_codes::Codes;
 use kx_lex::Fault;
 use kx_modmaps::ModifierMaps;
 use kx_ordered::Ordered;
-use kx_symbols::{KeyRecord, Keys};
+use kx_symbols::KeyRecord;
 use std::alloc::Global;
 
 /// The first places of the keysyms that are looked for, by the keysyms' numbers; none where none is found.
@@ -31,8 +28,7 @@ pub(crate) type FirstPlaces = Ordered<u32, Option<LevelPlace>>;
 
 /// Visits a place of a keysym, which counts where the keysym is looked for.
 fn visit_keysym(firsts: &mut FirstPlaces, keysym: u32, place: LevelPlace)
-    ensures { Visits (λ k. if nat_eq keysym k then place ∷ [] else []) (get nat_eq firsts.old)
-        (get nat_eq firsts.new) }
+    ensures { Visited (λ k. if nat_eq keysym k then place ∷ [] else []) firsts.old firsts.new }
 {
     if let Some(first) = firsts.get_mut(&keysym) {
         *first = Some(place.earlier(*first));
@@ -41,8 +37,8 @@ fn visit_keysym(firsts: &mut FirstPlaces, keysym: u32, place: LevelPlace)
 
 /// Visits the keysyms of a level, at its place.
 fn visit_level(firsts: &mut FirstPlaces, keysyms: &[u32], place: LevelPlace)
-    ensures { Visits (λ k. if is_member nat_eq keysyms.now k then place ∷ [] else [])
-        (get nat_eq firsts.old) (get nat_eq firsts.new) }
+    ensures { Visited (λ k. if is_member nat_eq keysyms.now k then place ∷ [] else []) firsts.old
+        firsts.new }
 {
     'keysyms: for keysym in keysyms {
         visit_keysym(firsts, *keysym, place);
@@ -51,8 +47,8 @@ fn visit_level(firsts: &mut FirstPlaces, keysyms: &[u32], place: LevelPlace)
 
 /// Visits a number of levels of a group of a key.
 fn visit_group(firsts: &mut FirstPlaces, key: &KeyRecord, code: u16, group: usize, levels: usize)
-    ensures { Visits (λ k. level_places k (given key.now) code group levels) (get nat_eq firsts.old)
-        (get nat_eq firsts.new) }
+    ensures { Visited (λ k. level_places k (given key.now) code group levels) firsts.old
+        firsts.new }
 {
     let content = content_group(key, group);
     'levels: for level in 0..levels {
@@ -63,8 +59,8 @@ fn visit_group(firsts: &mut FirstPlaces, key: &KeyRecord, code: u16, group: usiz
 
 /// Visits the groups of a key, each with the levels of its type.
 fn visit_key(firsts: &mut FirstPlaces, typing: Typing, key: &KeyRecord, code: u16)
-    ensures { Visits (λ k. group_places k (typing_of typing.entry) (given key.now) code
-        (group_count (given key.now))) (get nat_eq firsts.old) (get nat_eq firsts.new) }
+    ensures { Visited (places_on (typing_of typing.entry) (given key.now) code) firsts.old
+        firsts.new }
 {
     'groups: for group in 0..group_count(key) {
         visit_group(
@@ -78,29 +74,26 @@ fn visit_key(firsts: &mut FirstPlaces, typing: Typing, key: &KeyRecord, code: u1
 }
 
 /// Visits the key of a code, where the code has a name.
-fn visit_code(firsts: &mut FirstPlaces, codes: &Codes, typing: Typing, keys: &Keys, code: u16)
-    ensures { Visits (λ k. key_places k (typing_of typing.entry) code (name_of codes.now code)
-        (given_in (key_at keys.now code))) (get nat_eq firsts.old) (get nat_eq firsts.new) }
+fn visit_code(firsts: &mut FirstPlaces, keys: NamedKeys, code: u16)
+    ensures { Visited (places_of_key keys.entry code) firsts.old firsts.new }
 {
-    match (codes.name_of(code), keys.key(code)) {
-        (Some(_), Some(key)) => visit_key(firsts, typing, key, code),
-        (Some(_), None) => {}
-        (None, _) => {}
+    match keys.key(code) {
+        Some(key) => visit_key(firsts, keys.typing, key, code),
+        None => {}
     }
 }
 
 /// Visits the keys of all codes.
-fn visit_codes(firsts: &mut FirstPlaces, codes: &Codes, typing: Typing, keys: &Keys)
-    ensures { (maps : Maps) → Visits (λ k.
-        places_below k (mapping_of codes.now (typing_of typing.entry) keys.now maps) CODES) (get nat_eq firsts.old)
-        (get nat_eq firsts.new) }
+fn visit_codes(firsts: &mut FirstPlaces, keys: NamedKeys)
+    ensures { (maps : Maps) → Visited (λ k. places_below k (mapping_in keys.entry maps) CODES)
+        firsts.old firsts.new }
 {
     let count = firsts.len();
     if count == 0 {
         return;
     }
-    'codes: for code in 0..codes.end() {
-        visit_code(firsts, codes, typing, keys, code);
+    'codes: for code in 0..keys.codes.end() {
+        visit_code(firsts, keys, code);
     }
 }
 
@@ -121,21 +114,17 @@ fn unplaced_keysyms(alloc: Global, maps: &ModifierMaps) -> Result<FirstPlaces, F
 /// The first places of the keysyms that modifier maps name.
 pub(crate) fn first_places(
     alloc: Global,
-    codes: &Codes,
-    typing: Typing,
-    keys: &Keys,
+    keys: NamedKeys,
     maps: &ModifierMaps,
 ) -> Result<FirstPlaces, Fault>
-    ensures firsts { IfOk result (λ firsts.
-        let m = mapping_of codes.now (typing_of typing.entry) keys.now maps.now in (k : ℕ)
+    ensures firsts { IfOk result (λ firsts. let m = mapping_in keys.entry maps.now in (k : ℕ)
         → get nat_eq firsts k ≡ (if list_any (λ (e : ℕ × ℕ). e.0 == k) m.keysym_maps
         then Some (first_place k m) else None)) }
-    ensures least { IfOk result (λ firsts. (k : ℕ)
-        → IfSome (get nat_eq firsts k)
-        (IsFirstOrNone (places_below k (mapping_of codes.now (typing_of typing.entry) keys.now maps.now) CODES))) }
+    ensures least { IfOk result (λ firsts. (k : ℕ) → IfSome (get nat_eq firsts k)
+        (IsFirstOrNone (places_below k (mapping_in keys.entry maps.now) CODES))) }
     ensures err { IfErr result (λ e. e ≡ Memory) }
 {
     let mut firsts = unplaced_keysyms(alloc, maps)?;
-    visit_codes(&mut firsts, codes, typing, keys);
+    visit_codes(&mut firsts, keys);
     Ok(firsts)
 }

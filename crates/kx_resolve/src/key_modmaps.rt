@@ -8,16 +8,14 @@ ghost use Rattle.kx_virtual_mods.specs.Sets.{has};
 ghost use Rattle.kx_modmaps.specs.Maps.{shown_entry};
 ghost use Rattle.kx_mods.specs.Mods.{mask};
 ghost use Rattle.kx_resolve.specs.Mapping.{is_at};
-ghost use Rattle.kx_resolve.specs.Typing.{typing_of};
+ghost use Rattle.kx_resolve.specs.Modmaps.{is_mapped};
 
 use crate::finding::{FirstPlaces, first_places};
-use crate::typing::Typing;
+use crate::named_keys::NamedKeys;
 use indexmap::IndexMap;
-use kx_codes::Codes;
 use kx_lex::Fault;
 use kx_modmaps::ModifierMaps;
 use kx_mods::Mods;
-use kx_symbols::Keys;
 use std::alloc::Global;
 use std::marker::Model;
 
@@ -43,7 +41,7 @@ impl KeyModmaps {
     ghost use Rattle.kx_lex.specs.declared.fault.Fault.TheVariants.{Memory};
     ghost use Rattle.kx_resolve.specs.Mapping.{modmap_of};
     ghost use Rattle.kx_resolve.specs.Modmaps.{modmap_at};
-    ghost use Rattle.kx_resolve.specs.ReadMapping.{mapping_of};
+    ghost use Rattle.kx_resolve.specs.NamedKeys.{mapping_in};
 
     /// The real modifiers that the key of a code is mapped to.
     #[inline(always)]
@@ -57,19 +55,12 @@ impl KeyModmaps {
     ///
     /// # Errors
     /// `Memory` where a growth is refused.
-    pub fn of(
-        alloc: Global,
-        codes: &Codes,
-        typing: Typing,
-        keys: &Keys,
-        maps: ModifierMaps,
-    ) -> Result<KeyModmaps, Fault>
+    pub fn of(alloc: Global, keys: NamedKeys, maps: ModifierMaps) -> Result<KeyModmaps, Fault>
         ensures mapped { IfOk result (λ made. (code : ℕ)
-            → modmap_at made code
-            ≡ modmap_of (mapping_of codes.now (typing_of typing.entry) keys.now maps) code) }
+            → modmap_at made code ≡ modmap_of (mapping_in keys.entry maps) code) }
         ensures err { IfErr result (λ e. e ≡ Memory) }
     {
-        let firsts = first_places(alloc, codes, typing, keys, &maps)?;
+        let firsts = first_places(alloc, keys, &maps)?;
         let by_keysym = mods_by_code(alloc, &firsts, &maps)?;
         Ok(KeyModmaps { maps, by_keysym })
     }
@@ -87,10 +78,8 @@ fn mods_at(by_code: &IndexMap<u16, Mods>, code: u16) -> Mods
 
 /// Adds modifiers to those of a code.
 fn add_mods(by_code: &mut IndexMap<u16, Mods>, code: u16, mods: Mods) -> Result<(), Fault>
-    ensures added { OnOk result ((c real : ℕ)
-        → has (option_map_or mask (get nat_eq by_code.new c) 0) real
-        ≡ (has (option_map_or mask (get nat_eq by_code.old c) 0) real || code == c
-        && has (mask mods) real)) }
+    ensures added { OnOk result ((c real : ℕ) → is_mapped by_code.new c real
+        ≡ (is_mapped by_code.old c real || code == c && has (mask mods) real)) }
     ensures err { IfErr result (λ e. e ≡ Memory) }
 {
     let mods = mods_at(by_code, code).with(mods);
@@ -105,9 +94,8 @@ fn add_entry(
     keysym: u32,
     modifier: Mods,
 ) -> Result<(), Fault>
-    ensures added { OnOk result ((c real : ℕ)
-        → has (option_map_or mask (get nat_eq by_code.new c) 0) real
-        ≡ (has (option_map_or mask (get nat_eq by_code.old c) 0) real
+    ensures added { OnOk result ((c real : ℕ) → is_mapped by_code.new c real
+        ≡ (is_mapped by_code.old c real
         || is_at c (unwrap_or (get nat_eq firsts.now keysym) None) && has (mask modifier) real)) }
     ensures err { IfErr result (λ e. e ≡ Memory) }
 {
@@ -123,8 +111,7 @@ fn mods_by_code(
     firsts: &FirstPlaces,
     maps: &ModifierMaps,
 ) -> Result<IndexMap<u16, Mods>, Fault>
-    ensures mods { IfOk result (λ by_code. (c real : ℕ)
-        → has (option_map_or mask (get nat_eq by_code c) 0) real
+    ensures mods { IfOk result (λ by_code. (c real : ℕ) → is_mapped by_code c real
         ≡ list_any (λ (e : ℕ × ℕ). is_at c (unwrap_or (get nat_eq firsts.now e.0) None)
         && has e.1 real) (map shown_entry maps.now.by_keysym)) }
     ensures err { IfErr result (λ e. e ≡ Memory) }

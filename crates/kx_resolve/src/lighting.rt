@@ -3,26 +3,27 @@ ghost use Rattle.std.specs.Prelude.{◌≡◌, ◌≤◌, ◌<◌, ◌∷◌, �
 ghost use Rattle.kx_basics.specs.declared.limits.TheConstants.{MOST_NAME_BYTES};
 ghost use Rattle.kx_builder.specs.Agreement.{ShowsSame};
 ghost use Rattle.kx_builder.specs.Valid.{IsValid};
-ghost use Rattle.kx_builder.specs.IndicatorMaps.{GroupNameIsValid, IndicatorIsValid, IndicatorMapsAreValid, indicator_of, keymap_with, with_indicator_maps};
+ghost use Rattle.kx_builder.specs.IndicatorMaps.{GroupNameIsValid, IndicatorIsValid, indicator_of, keymap_with, with_indicator_maps};
 ghost use Rattle.kx_builder.specs.Placed.{content_of_resolved};
 ghost use Rattle.kx_builder.specs.Resolved.{keymap_of_resolved};
-ghost use Rattle.kx_builder.specs.WithinLimits.{IsWithinLimits};
 ghost use Rattle.kx_builder.specs.Whole.{IsWhole};
 ghost use Rattle.kx_group_names.specs.Names.{AreCut};
 ghost use Rattle.kx_indicators.specs.Bounds.{AreValid};
 ghost use Rattle.kx_indicators.specs.IndicatorMaps.{IndicatorMap as IndicatorMapValue};
 ghost use Rattle.kx_resolve.specs.Rows.{mods_of};
 ghost use Rattle.kx_lex.specs.declared.fault.Fault.TheVariants.{Memory};
-ghost use Rattle.kx_virtual_mods.specs.Sets.{real_of};
-ghost use Rattle.kx_virtual_mods.specs.Standing.{stands_for};
 ghost use Rattle.kx_mods.specs.Mods.{mask};
 ghost use Rattle.kx_resolve.specs.Lit.{indicator_lit, indicators_of};
+ghost use Rattle.kx_resolve.specs.Read.{lit_in};
+ghost use Rattle.kx_resolve.specs.Standing.{real_by};
 ghost use Rattle.kx_tables.specs.Keymap.{keymap_of};
 ghost use Rattle.kx_tables.specs.RawTables.{content_of};
 ghost use Rattle.kx_tables.specs.Sound.{Sound};
 
-use crate::keys::refused;
-use kx_builder::{Builder, Indicator};
+use crate::read::Read;
+use crate::tables_builder::TablesBuilder;
+use ks_core::Notes;
+use kx_builder::Indicator;
 use kx_group_names::GroupNames;
 use kx_indicators::{IndicatorMap, Indicators};
 use kx_lex::Fault;
@@ -33,7 +34,7 @@ use std::alloc::Global;
 
 /// The real modifiers that a set stands for.
 fn real_mods(set: NameSet, stands: &[Mods]) -> Mods
-    ensures value { result ≡ mods_of (real_of (stands_for stands.now) set) }
+    ensures value { result ≡ mods_of (real_by stands.now set) }
     ensures fits { mask result < 2 ^ 8 }
 {
     stood_for(set, stands)
@@ -43,7 +44,7 @@ fn real_mods(set: NameSet, stands: &[Mods]) -> Mods
 fn indicator<'n>(name: &'n [u8], indicator_map: &IndicatorMap, stands: &[Mods]) -> Indicator<'n>
     requires { length name.now ≤ MOST_NAME_BYTES }
     ensures lit { indicator_of result
-        ≡ indicator_lit (real_of (stands_for stands.now)) name.now indicator_map.now }
+        ≡ indicator_lit (real_by stands.now) name.now indicator_map.now }
     ensures valid { IndicatorIsValid (indicator_of result) }
 {
     Indicator {
@@ -68,7 +69,7 @@ fn push_indicator<'a>(
         → slice_get indicators.now.indicator_maps number ≡ Some indicator_map
         → map indicator_of lit.new.items
         ≡ map indicator_of lit.old.items
-        ++ indicator_lit (real_of (stands_for stands.now)) name indicator_map ∷ []) }
+        ++ indicator_lit (real_by stands.now) name indicator_map ∷ []) }
     ensures valid { OnOk result (All IndicatorIsValid (map indicator_of lit.old.items)
         → All IndicatorIsValid (map indicator_of lit.new.items)) }
     ensures err { IfErr result (λ e. e ≡ Memory) }
@@ -89,9 +90,8 @@ fn indicators_lit<'a>(
     indicators: &'a Indicators,
     stands: &[Mods],
 ) -> Result<Vec<Indicator<'a>>, Fault>
-    ensures lit { IfOk result (λ lit.
-        map indicator_of lit.items ≡ indicators_of (real_of (stands_for stands.now))
-        indicators.now) }
+    ensures lit { IfOk result (λ lit. map indicator_of lit.items
+        ≡ indicators_of (real_by stands.now) indicators.now) }
     ensures valid { IfOk result (λ lit. All IndicatorIsValid (map indicator_of lit.items)) }
     ensures numbered { AreValid indicators.now }
     ensures err { IfErr result (λ e. e ≡ Memory) }
@@ -129,44 +129,23 @@ fn names_in_order<'a>(alloc: Global, group_names: &'a GroupNames) -> Result<Vec<
     Ok(names)
 }
 
-/// The tables of what is built, with these indicators and names of groups.
-#[tactic(auto, using(crate::proofs::IndicatorMaps::indicator_maps_refused))]
-fn with_these(builder: Builder, lit: &[Indicator<'_>], names: &[&[u8]]) -> Result<RawTables, Fault>
-    requires small { IsWithinLimits builder }
-    requires valid { IndicatorMapsAreValid (map indicator_of lit.now) (map (λ g. g.now) names.now) }
-    ensures content { IfOk result (λ parts.
-        content_of parts ≡ with_indicator_maps (content_of_resolved builder)
-        (map indicator_of lit.now) (map (λ g. g.now) names.now)) }
-    ensures agrees { IsWhole builder
-        → IfOk result (λ parts. ShowsSame (keymap_of (content_of parts))
-        (keymap_with (keymap_of_resolved builder) (map indicator_of lit.now))) }
-    ensures sound { IsValid builder → IfOk result (λ parts. Sound (content_of parts)) }
-    ensures err { IfErr result (λ e. e ≡ Memory) }
-{
-    builder.with_indicator_maps(lit, names).map_err(refused)
-}
-
-/// The tables of what is built, with a keymap's indicators and the names of its groups.
+/// The tables of what is built, with a keymap's indicators and the names of its groups, and what was passed over.
 pub(crate) fn with_indicator_maps(
     alloc: Global,
-    builder: Builder,
-    indicators: &Indicators,
-    group_names: &GroupNames,
-    stands: &[Mods],
-) -> Result<RawTables, Fault>
-    requires small { IsWithinLimits builder }
-    ensures content { IfOk result (λ parts.
-        content_of parts ≡ with_indicator_maps (content_of_resolved builder)
-        (indicators_of (real_of (stands_for stands.now)) indicators.now) group_names.now) }
-    ensures agrees { IsWhole builder
-        → IfOk result (λ parts. ShowsSame (keymap_of (content_of parts))
-        (keymap_with (keymap_of_resolved builder)
-        (indicators_of (real_of (stands_for stands.now)) indicators.now))) }
-    ensures sound { IsValid builder → IfOk result (λ parts. Sound (content_of parts)) }
+    builder: TablesBuilder,
+    read: Read,
+) -> Result<(RawTables, Notes), Fault>
+    ensures content { IfOk result (λ made. content_of made.0
+        ≡ with_indicator_maps (content_of_resolved builder) (lit_in read.entry)
+        read.entry.group_names.now) }
+    ensures agrees { IsWhole builder → IfOk result (λ made.
+        ShowsSame (keymap_of (content_of made.0))
+        (keymap_with (keymap_of_resolved builder) (lit_in read.entry))) }
+    ensures sound { IsValid builder → IfOk result (λ made. Sound (content_of made.0)) }
     ensures err { IfErr result (λ e. e ≡ Memory) }
 {
-    let lit = indicators_lit(alloc, indicators, stands)?;
-    let names = names_in_order(alloc, group_names)?;
-    let parts = with_these(builder, lit.as_slice(), names.as_slice())?;
-    Ok(parts)
+    let lit = indicators_lit(alloc, read.indicators, read.stands)?;
+    let names = names_in_order(alloc, read.group_names)?;
+    let made = builder.with_indicator_maps(lit.as_slice(), names.as_slice())?;
+    Ok(made)
 }

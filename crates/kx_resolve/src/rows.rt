@@ -1,12 +1,12 @@
 //! The rows of a key type.
 ghost use Rattle.std.specs.Prelude.{◌≡◌, ◌++◌, ◌∷◌, [], ℕ, ◌==◌, ◌<◌, ◌^◌, Bool, IfOk, List, OnOk};
 ghost use Rattle.std.specs.List.{list_any};
-ghost use Rattle.kx_virtual_mods.specs.Sets.{has, real_of as stood_for};
-ghost use Rattle.kx_virtual_mods.specs.Standing.{stands_for};
+ghost use Rattle.kx_virtual_mods.specs.Sets.{has};
 ghost use Rattle.kx_mods.specs.Mods.{mask};
 ghost use Rattle.kx_tables.specs.declared.rows.EntryRow.{EntryRow as RowValue};
 ghost use Rattle.kx_resolve.specs.Rows.{RowsAreValid, RowsShow, entry_rows, mods_of, with_entry};
 ghost use Rattle.kx_resolve.specs.Selecting.{is_live};
+ghost use Rattle.kx_resolve.specs.Standing.{real_by};
 
 use kx_mods::Mods;
 use kx_tables::EntryRow;
@@ -42,8 +42,8 @@ fn has_row(rows: &[EntryRow], mods: Mods) -> bool
 /// The real modifiers that a set stands for.
 #[tactic(auto, using(crate::proofs::Bits::mods_is))]
 fn real_mods(set: NameSet, stands: &[Mods]) -> Mods
-    ensures value { result ≡ mods_of (stood_for (stands_for stands.now) set) }
-    ensures bits { (r : ℕ) → has (mask result) r ≡ stood_for (stands_for stands.now) set r }
+    ensures value { result ≡ mods_of (real_by stands.now set) }
+    ensures bits { (r : ℕ) → has (mask result) r ≡ real_by stands.now set r }
     ensures fits { mask result < 2 ^ 8 }
 {
     real_of(set, stands)
@@ -51,8 +51,7 @@ fn real_mods(set: NameSet, stands: &[Mods]) -> Mods
 
 /// Adds an entry after others.
 fn add_row(rows: &mut Vec<EntryRow>, entry: TypeEntry, stands: &[Mods]) -> Result<(), AllocError>
-    ensures { OnOk result (rows.new.items
-        ≡ with_entry (stood_for (stands_for stands.now)) rows.old.items entry) }
+    ensures { OnOk result (rows.new.items ≡ with_entry (real_by stands.now) rows.old.items entry) }
 {
     let mods = real_mods(entry.mask, stands);
     if !is_live(entry.mask, mods) {
@@ -75,8 +74,7 @@ fn entry_rows(
     entries: &[TypeEntry],
     stands: &[Mods],
 ) -> Result<Vec<EntryRow>, AllocError>
-    ensures { IfOk result (λ rows.
-        rows.items ≡ entry_rows (stood_for (stands_for stands.now)) entries.now) }
+    ensures { IfOk result (λ rows. rows.items ≡ entry_rows (real_by stands.now) entries.now) }
 {
     let mut rows = Vec::new(alloc);
     'entries: for entry in entries {
@@ -93,12 +91,12 @@ impl TypeRows {
     /// Where a growth is refused.
     pub fn of(alloc: Global, key_type: &KeyType, stands: &[Mods]) -> Result<TypeRows, AllocError>
         ensures mods { IfOk result (λ rows.
-            rows.mods ≡ mods_of (stood_for (stands_for stands.now) key_type.now.modifiers)) }
+            rows.mods ≡ mods_of (real_by stands.now key_type.now.modifiers)) }
         ensures entries { IfOk result (λ rows.
-            rows.entries.items ≡ entry_rows (stood_for (stands_for stands.now))
+            rows.entries.items ≡ entry_rows (real_by stands.now)
             key_type.now.entries) }
         ensures shows { IfOk result (λ rows.
-            RowsShow (stood_for (stands_for stands.now)) key_type.now rows.mods
+            RowsShow (real_by stands.now) key_type.now rows.mods
             rows.entries.items) }
         ensures valid { IfOk result (λ rows.
             RowsAreValid key_type.now rows.mods rows.entries.items) }

@@ -1,21 +1,21 @@
 //! The key types that groups have, made out once.
-ghost use Rattle.std.specs.Prelude.{◌≡◌, ◌≤◌, ◌+◌, ◌%◌, ◌^◌, ◌++◌, ◌∷◌, [], ℕ, IfErr, IfOk, List, OnOk, length, map};
+ghost use Rattle.std.specs.Prelude.{◌≡◌, ◌≤◌, ◌+◌, ◌%◌, ◌^◌, ◌∷◌, [], IfErr, IfOk, OnOk, length, map};
 ghost use Rattle.kx_basics.specs.declared.limits.TheConstants.{CODES, MOST_LEVELS};
-ghost use Rattle.kx_codes.specs.Codes.{name_of};
 ghost use Rattle.kx_lex.specs.declared.fault.Fault.TheVariants.{Memory};
-ghost use Rattle.kx_resolve.specs.TypesInUse.{AreUsed, type_in_use};
-ghost use Rattle.kx_resolve.specs.Given.{given, given_in};
+ghost use Rattle.kx_resolve.specs.TypesInUse.{type_in_use};
+ghost use Rattle.kx_resolve.specs.Given.{given};
 ghost use Rattle.kx_resolve.specs.GroupTypes.{group_count, group_type_name};
-ghost use Rattle.kx_resolve.specs.Keys.{type_names, type_names_below, type_names_if, types_used};
-ghost use Rattle.kx_symbols.specs.Keys.{key_at};
+ghost use Rattle.kx_resolve.specs.Keys.{type_names};
+ghost use Rattle.kx_resolve.specs.NamedKeys.{names_at, names_used, typing_in, used_in};
+ghost use Rattle.kx_resolve.specs.UsedTypes.{Adds};
 ghost use Rattle.kx_resolve.specs.Typing.{typing_of};
 ghost use Rattle.kx_types.specs.declared.limits.TheConstants.{MOST_TYPES};
 
 use crate::group_types::{GroupType, group_count, group_type};
+use crate::named_keys::NamedKeys;
 use crate::typing::Typing;
-use kx_codes::Codes;
 use kx_lex::Fault;
-use kx_symbols::{KeyRecord, Keys};
+use kx_symbols::KeyRecord;
 use kx_virtual_mods::Names;
 use std::alloc::Global;
 use std::marker::Model;
@@ -89,11 +89,8 @@ fn use_group(
     group: usize,
     used: &mut UsedTypes,
 ) -> Result<(), Fault>
-    ensures used { OnOk result ((names : List (List ℕ))
-        → AreUsed (typing_of typing.entry) names used.old.names used.old.group_types.items
-        → AreUsed (typing_of typing.entry)
-        (names ++ group_type_name (typing_of typing.entry) (given key.now) group ∷ []) used.new.names
-        used.new.group_types.items) }
+    ensures used { OnOk result (Adds (typing_of typing.entry)
+        (group_type_name (typing_of typing.entry) (given key.now) group ∷ []) used.old used.new) }
     ensures err { IfErr result (λ e. e ≡ Memory) }
 {
     let group_type = group_type(typing, key, group);
@@ -109,11 +106,9 @@ fn use_key(
     key: &KeyRecord,
     used: &mut UsedTypes,
 ) -> Result<(), Fault>
-    ensures used { OnOk result ((names : List (List ℕ))
-        → AreUsed (typing_of typing.entry) names used.old.names used.old.group_types.items
-        → AreUsed (typing_of typing.entry)
-        (names ++ type_names (typing_of typing.entry) (given key.now) (group_count (given key.now)))
-        used.new.names used.new.group_types.items) }
+    ensures used { OnOk result (Adds (typing_of typing.entry)
+        (type_names (typing_of typing.entry) (given key.now) (group_count (given key.now))) used.old
+        used.new) }
     ensures err { IfErr result (λ e. e ≡ Memory) }
 {
     'groups: for group in 0..group_count(key) {
@@ -123,42 +118,22 @@ fn use_key(
 }
 
 /// Adds the types of the key of a code, where the code has a name.
-fn use_code(
-    alloc: Global,
-    codes: &Codes,
-    typing: Typing,
-    keys: &Keys,
-    code: u16,
-    used: &mut UsedTypes,
-) -> Result<(), Fault>
-    ensures used { OnOk result ((names : List (List ℕ))
-        → AreUsed (typing_of typing.entry) names used.old.names used.old.group_types.items
-        → AreUsed (typing_of typing.entry)
-        (names ++ type_names_if (typing_of typing.entry) (name_of codes.now code)
-        (given_in (key_at keys.now code))) used.new.names used.new.group_types.items) }
+fn use_code(alloc: Global, keys: NamedKeys, code: u16, used: &mut UsedTypes) -> Result<(), Fault>
+    ensures used { OnOk result (Adds (typing_in keys.entry) (names_at keys.entry code) used.old
+        used.new) }
     ensures err { IfErr result (λ e. e ≡ Memory) }
 {
-    match (codes.name_of(code), keys.key(code)) {
-        (Some(_), Some(key)) => use_key(alloc, typing, key, used),
-        (Some(_), None) => Ok(()),
-        (None, _) => Ok(()),
+    match keys.key(code) {
+        Some(key) => use_key(alloc, keys.typing, key, used),
+        None => Ok(()),
     }
 }
 
 /// The types that keys use.
-pub(crate) fn types_used(
-    alloc: Global,
-    codes: &Codes,
-    typing: Typing,
-    keys: &Keys,
-) -> Result<UsedTypes, Fault>
-    ensures used { IfOk result (λ used.
-        used.names ≡ types_used (typing_of typing.entry) (name_of codes.now) (λ c.
-        given_in (key_at keys.now c))) }
-    ensures group_types { IfOk result (λ used.
-        used.group_types.items ≡ map (type_in_use (typing_of typing.entry) used.names)
-        (type_names_below (typing_of typing.entry) (name_of codes.now) (λ c.
-        given_in (key_at keys.now c)) CODES)) }
+pub(crate) fn types_used(alloc: Global, keys: NamedKeys) -> Result<UsedTypes, Fault>
+    ensures used { IfOk result (λ used. used.names ≡ used_in keys.entry) }
+    ensures group_types { IfOk result (λ used. used.group_types.items
+        ≡ map (type_in_use (typing_in keys.entry) used.names) (names_used keys.entry CODES)) }
     ensures few { IfOk result (λ used. length used.names ≤ MOST_TYPES + 1) }
     ensures err { IfErr result (λ e. e ≡ Memory) }
 {
@@ -166,9 +141,9 @@ pub(crate) fn types_used(
         names: Names::new(alloc),
         group_types: Vec::new(alloc),
     };
-    'codes: for code in 0..codes.end() {
-        use_code(alloc, codes, typing, keys, code, &mut used)?;
+    'codes: for code in 0..keys.codes.end() {
+        use_code(alloc, keys, code, &mut used)?;
     }
-    prove!(used.names.len() <= typing.types.len() + 1);
+    prove!(used.names.len() <= keys.typing.types.len() + 1);
     Ok(used)
 }

@@ -1,28 +1,23 @@
 //! What virtual modifiers stand for.
-ghost use Rattle.std.specs.Prelude.{◌≡◌, ◌<◌, ◌&&◌, ◌||◌, ℕ, IfErr, IfOk, OnOk, [], slice_get};
+ghost use Rattle.std.specs.Prelude.{◌≡◌, ◌<◌, ◌&&◌, ◌||◌, ℕ, IfErr, IfOk, OnOk, slice_get};
 ghost use Rattle.std.specs.Option.{option_map_or};
-ghost use Rattle.kx_resolve.specs.MappedKeys.{is_brought};
-ghost use Rattle.kx_resolve.specs.Vmodmap.{is_in_vmodmap, brings, stands};
-ghost use Rattle.kx_resolve.specs.ReadVmodmap.{read_keymap_of};
+ghost use Rattle.kx_resolve.specs.InterpretedKey.{brings_by};
+ghost use Rattle.kx_resolve.specs.MappedKeys.{BringsMore, is_brought};
+ghost use Rattle.kx_resolve.specs.Read.{brings_at, brings_of, keymap_read};
+ghost use Rattle.kx_resolve.specs.Vmodmap.{stands};
 ghost use Rattle.kx_lex.specs.declared.fault.Fault.TheVariants.{Memory};
-ghost use Rattle.kx_resolve.specs.Modmaps.{modmap_at};
 ghost use Rattle.kx_virtual_mods.specs.Sets.{any_below, has, has_virtual};
 ghost use Rattle.kx_virtual_mods.specs.Standing.{stands_for};
 ghost use Rattle.kx_mods.specs.Mods.{mask};
-ghost use Rattle.kx_resolve.specs.Given.{given};
-ghost use Rattle.kx_resolve.specs.GroupTypes.{has_action};
 ghost use Rattle.kx_resolve.specs.Typing.{typing_of};
 ghost use Rattle.kx_basics.specs.declared.limits.TheConstants.{CODES};
 
-use crate::group_types::has_action;
-use crate::key_modmaps::KeyModmaps;
-use crate::level_actions::InterpretedKey;
+use crate::interpreted_key::InterpretedKey;
+use crate::read::InterpretedKeys;
 use crate::typing::Typing;
-use kx_codes::Codes;
-use kx_compat::Interpretations;
 use kx_lex::Fault;
 use kx_mods::Mods;
-use kx_symbols::{KeyRecord, Keys};
+use kx_symbols::KeyRecord;
 use kx_virtual_mods::{MOST_VIRTUAL_MODIFIERS, NameSet};
 use std::alloc::Global;
 
@@ -41,104 +36,64 @@ struct MappedKey {
 fn push_mapped_key(
     mapped_keys: &mut Vec<MappedKey>,
     typing: Typing,
-    key: InterpretedKey,
+    key: &InterpretedKey,
 ) -> Result<(), Fault>
-    requires { key.own ≡ has_action (given key.key.now) }
-    ensures added { OnOk result ((number real : ℕ)
-        → is_brought mapped_keys.new.items number real
-        ≡ (is_brought mapped_keys.old.items number real
-        || (is_in_vmodmap key.entry.interpretations.now key.entry.modmap (given key.entry.key.now)
-        (typing_of typing.entry) number && has (mask key.entry.modmap) real))) }
+    ensures added { OnOk result (BringsMore (brings_by key.now (typing_of typing.entry))
+        mapped_keys.old.items mapped_keys.new.items) }
     ensures err { IfErr result (λ e. e ≡ Memory) }
 {
     mapped_keys.push(MappedKey {
-        mods: key.modmap,
+        mods: key.modmap(),
         vmodmap: key.vmodmap(typing),
     })?;
     Ok(())
 }
 
-/// Adds a key that is mapped to these modifiers, where there are any.
+/// Adds the key of a code, where it is mapped to modifiers.
 fn add_key(
     mapped_keys: &mut Vec<MappedKey>,
-    typing: Typing,
-    interpretations: &Interpretations,
+    keys: InterpretedKeys,
     key: &KeyRecord,
-    modmap: Mods,
+    code: u16,
 ) -> Result<(), Fault>
-    ensures added { OnOk result ((number real : ℕ)
-        → is_brought mapped_keys.new.items number real
-        ≡ (is_brought mapped_keys.old.items number real
-        || (is_in_vmodmap interpretations.now modmap (given key.now) (typing_of typing.entry) number
-        && has (mask modmap) real))) }
+    ensures added { OnOk result (BringsMore (brings_of keys.entry key.now code)
+        mapped_keys.old.items mapped_keys.new.items) }
     ensures err { IfErr result (λ e. e ≡ Memory) }
 {
+    let modmap = keys.modmaps.key(code);
     if modmap.is_none() {
         return Ok(());
     }
-    let key = InterpretedKey {
-        interpretations,
-        key,
-        own: has_action(key),
-        modmap,
-    };
-    push_mapped_key(mapped_keys, typing, key)?;
+    let key = InterpretedKey::of(key, modmap, keys.interpretations, &[]);
+    push_mapped_key(mapped_keys, keys.named.typing, &key)?;
     Ok(())
 }
 
 /// Adds the key of a code, where the code has a name.
-fn add_code(
-    mapped_keys: &mut Vec<MappedKey>,
-    codes: &Codes,
-    typing: Typing,
-    keys: &Keys,
-    modmaps: &KeyModmaps,
-    interpretations: &Interpretations,
-    code: u16,
-) -> Result<(), Fault>
-    ensures added { OnOk result ((number real : ℕ)
-        → is_brought mapped_keys.new.items number real
-        ≡ (is_brought mapped_keys.old.items number real
-        || brings (read_keymap_of codes.now (typing_of typing.entry) keys.now (modmap_at modmaps.now)
-        interpretations.now []) number real code)) }
+fn add_code(mapped_keys: &mut Vec<MappedKey>, keys: InterpretedKeys, code: u16) -> Result<(), Fault>
+    ensures added { OnOk result (BringsMore (brings_at keys.entry code) mapped_keys.old.items
+        mapped_keys.new.items) }
     ensures err { IfErr result (λ e. e ≡ Memory) }
 {
-    match (codes.name_of(code), keys.key(code)) {
-        (Some(_), Some(key)) => {
-            add_key(mapped_keys, typing, interpretations, key, modmaps.key(code))?;
+    match keys.named.key(code) {
+        Some(key) => {
+            add_key(mapped_keys, keys, key, code)?;
             Ok(())
         }
-        (Some(_), None) => Ok(()),
-        (None, _) => Ok(()),
+        None => Ok(()),
     }
 }
 
 /// The keys that are mapped to modifiers.
-fn mapped_keys_of(
-    alloc: Global,
-    codes: &Codes,
-    typing: Typing,
-    keys: &Keys,
-    modmaps: &KeyModmaps,
-    interpretations: &Interpretations,
-) -> Result<Vec<MappedKey>, Fault>
+fn mapped_keys_of(alloc: Global, keys: InterpretedKeys) -> Result<Vec<MappedKey>, Fault>
     ensures all { IfOk result (λ mapped_keys. (number real : ℕ)
         → is_brought mapped_keys.items number real
-        ≡ any_below CODES (brings (read_keymap_of codes.now (typing_of typing.entry) keys.now
-        (modmap_at modmaps.now) interpretations.now []) number real)) }
+        ≡ any_below CODES (λ code. brings_at keys.entry code number real)) }
     ensures err { IfErr result (λ e. e ≡ Memory) }
 {
     let mut mapped_keys = Vec::new(alloc);
-    'codes: for code in 0..codes.end() {
-        add_code(
-            &mut mapped_keys,
-            codes,
-            typing,
-            keys,
-            modmaps,
-            interpretations,
-            code,
-        )?;
+    'codes: for code in 0..keys.named.codes.end() {
+        add_code(&mut mapped_keys, keys, code)?;
     }
     Ok(mapped_keys)
 }
@@ -206,20 +161,15 @@ fn stands_of(
 /// `Memory`.
 pub fn virtual_modifier_masks(
     alloc: Global,
-    codes: &Codes,
-    typing: Typing,
-    keys: &Keys,
-    modmaps: &KeyModmaps,
-    interpretations: &Interpretations,
+    keys: InterpretedKeys,
     declared: &[Mods],
 ) -> Result<Vec<Mods>, Fault>
     ensures stands { IfOk result (λ made. (number real : ℕ) → number < MOST_VIRTUAL_MODIFIERS
         → stands_for made.items number real
-        ≡ stands (read_keymap_of codes.now (typing_of typing.entry) keys.now (modmap_at modmaps.now)
-        interpretations.now declared.now) number real) }
+        ≡ stands (keymap_read keys.entry declared.now) number real) }
     ensures err { IfErr result (λ e. e ≡ Memory) }
 {
-    let mapped_keys = mapped_keys_of(alloc, codes, typing, keys, modmaps, interpretations)?;
+    let mapped_keys = mapped_keys_of(alloc, keys)?;
     let stands = stands_of(alloc, mapped_keys.as_slice(), declared)?;
     Ok(stands)
 }

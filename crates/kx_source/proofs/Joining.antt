@@ -27,6 +27,7 @@ use Rattle.kx_resolve.specs.Mapping.{modmap_of}
 use Rattle.kx_virtual_mods.specs.Declarations.{AreModNames, ModNames, declared_mask, modifier_bodies, virtual_names}
 use Rattle.kx_virtual_mods.specs.Sets.{any_below, has, has_virtual, real_of, real_part}
 use Rattle.kx_virtual_mods.specs.Standing.{stands_for}
+use Rattle.kx_virtual_mods.specs.declared.limits.TheConstants.{MOST_VIRTUAL_MODIFIERS}
 use Rattle.kx_merge.specs.Bodies.{Rules, faults_of, offers_of}
 use Rattle.kx_merge.specs.Offers.{value_of, width_of}
 use Rattle.kx_modmaps.specs.Entries.{entry_target, map_in, stated_faults as map_faults, targets_of, with_target, word_mask}
@@ -134,7 +135,7 @@ module _ (library : Library) (bodies : Bodies) (are : AreBodies library bodies) 
     pub modifiers_same : m.names ≡ modifiers_of library
     modifiers_same = shows.names_are ∙ ap virtual_names bodies_same
 
-    masks_same : (n real : ℕ) → n < 24 → stands_for m.masks n real ≡ declared_masks_of library n real
+    masks_same : (n real : ℕ) → n < MOST_VIRTUAL_MODIFIERS → stands_for m.masks n real ≡ declared_masks_of library n real
     masks_same n real less = ap (λ k. has k real) (shows.masks_are n less ∙ (λ i. declared_mask (modifiers_same i) (bodies_same i) n))
 
     pub indicators_same : (found : Indicators) → AreIndicators found m.names (expanded_body bodies.compat) → found ≡ indicators_by (modifiers_of library) (body_of library Compat)
@@ -221,15 +222,15 @@ module _ (library : Library) (bodies : Bodies) (are : AreBodies library bodies) 
                 masks = declared_masks_of library;
               }
 
-              module _ (found : List Mods) (stand : (n real : ℕ) → n < 24 → stands_for found n real ≡ stands (read_keymap_of c (typing_by types names.letters) keys modmaps interpretations m.masks) n real) where
-                stands_same : (n real : ℕ) → n < 24 → stands_for found n real ≡ stands (read_keymap_in names library) n real
+              module _ (found : List Mods) (stand : (n real : ℕ) → n < MOST_VIRTUAL_MODIFIERS → stands_for found n real ≡ stands (read_keymap_of c (typing_by types names.letters) keys modmaps interpretations m.masks) n real) where
+                stands_same : (n real : ℕ) → n < MOST_VIRTUAL_MODIFIERS → stands_for found n real ≡ stands (read_keymap_in names library) n real
                 stands_same n real less =
                     stand n real less
                     ∙ ap (λ b. b || any_below 4096 (brings (read_with (declared_masks_of library)) n real)) (masks_same n real less)
                     ∙ ap (λ r. stands r n real) read_same
 
                 pub real_same : real_of (stands_for found) ≡ real_in names library
-                real_same = fun_ext (λ set. fun_ext (λ real. ap (λ b. has (real_part set) real || b) (any_same 24 (λ n. has_virtual set n && stands_for found n real) (λ n. has_virtual set n && stands (read_keymap_in names library) n real) (λ n less. ap (λ b. has_virtual set n && b) (stands_same n real less)))))
+                real_same = fun_ext (λ set. fun_ext (λ real. ap (λ b. has (real_part set) real || b) (any_same MOST_VIRTUAL_MODIFIERS (λ n. has_virtual set n && stands_for found n real) (λ n. has_virtual set n && stands (read_keymap_in names library) n real) (λ n less. ap (λ b. has_virtual set n && b) (stands_same n real less)))))
 
                 keyed_same : keyed_of (real_of (stands_for found)) c keys modmaps interpretations ≡ keyed_in names library
                 keyed_same = λ i. record {

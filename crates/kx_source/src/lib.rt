@@ -6,6 +6,7 @@ mod keys;
 mod leaving;
 mod observer;
 mod parts;
+mod sections;
 
 pub use compiling::{tables, tables_once, tables_seen};
 pub use observer::{Observer, ReadSource};

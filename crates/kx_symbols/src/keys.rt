@@ -24,9 +24,9 @@ use crate::settings::read_besides;
 use ks_core::{NameTable, Note, Notes};
 use kx_basics::MOST_NAME_BYTES;
 use kx_codes::Codes;
-use kx_include::{Expansion, Place};
+use kx_include::Expansion;
 use kx_lex::{At, Fault};
-use kx_merge::{Fields, merge};
+use kx_merge::{Fields, Placed, merge};
 use kx_ordered::Ordered;
 use kx_parse::{KeyField, KeyName, Mode, SmallRow, Stated, Statement};
 use kx_virtual_mods::ModNames;
@@ -189,11 +189,17 @@ impl<'a, 'l> Fields<Context<'a, 'l>> for KeyRecord {
         alloc: Global,
         context: &Context<'a, 'l>,
         defaults: SectionDefaults,
-        place: Place,
-        stated: &Stated,
+        placed: &Placed,
         notes: &mut Notes,
     ) -> Result<(Vec<(u16, KeyRecord)>, SectionDefaults), Fault> {
-        read_statement(alloc, context, defaults, place.file, stated, notes)
+        read_statement(
+            alloc,
+            context,
+            defaults,
+            placed.place.file,
+            placed.stated,
+            notes,
+        )
     }
 
     fn merge(&mut self, _alloc: Global, other: KeyRecord, mode: Mode) -> Result<(), Fault>

@@ -21,9 +21,9 @@ use crate::fields::read_fields;
 use crate::limits::MOST_TYPES;
 use crate::table::Types;
 use kx_basics::MOST_NAME_BYTES;
-use kx_include::{Expansion, Place};
+use kx_include::Expansion;
 use kx_lex::{At, Fault, Span};
-use kx_merge::{Single, SingleValue, merge, none_given, one_given};
+use kx_merge::{Placed, Single, SingleValue, merge, none_given, one_given};
 use kx_ordered::ShortName;
 use kx_parse::{Field, Name, Row, Stated, Statement};
 use kx_virtual_mods::{ModNames, Names, count_names};
@@ -113,10 +113,9 @@ impl SingleValue<ModNames> for KeyType {
     fn read(
         alloc: Global,
         modifiers: &ModNames,
-        place: Place,
-        stated: &Stated,
+        placed: &Placed,
     ) -> Result<Vec<(ShortName, Single<KeyType>)>, Fault> {
-        read_statement(alloc, modifiers, place.file, stated)
+        read_statement(alloc, modifiers, placed.place.file, placed.stated)
     }
 
     fn try_clone(&self, alloc: Global) -> Result<KeyType, Fault> {

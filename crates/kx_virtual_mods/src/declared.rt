@@ -17,10 +17,9 @@ use crate::counted::Naming;
 use crate::masks::real_mask_of;
 use crate::names::Names;
 use crate::real_words::real_mask;
-use kx_include::Place;
 use kx_lex::{At, Fault, Name};
-use kx_merge::{Single, SingleValue};
-use kx_parse::{Declaration, Expression, Stated, Statement};
+use kx_merge::{Placed, Single, SingleValue};
+use kx_parse::{Declaration, Expression, Statement};
 use std::alloc::Global;
 
 /// The names of virtual modifiers.
@@ -235,11 +234,10 @@ impl SingleValue<Names> for u8 {
     fn read(
         alloc: Global,
         names: &Names,
-        place: Place,
-        stated: &Stated,
+        placed: &Placed,
     ) -> Result<Vec<(usize, Single<u8>)>, Fault> {
-        let declarations = declarations_in(&stated.statement);
-        let given = read_declarations(alloc, names, place.file, declarations)?;
+        let declarations = declarations_in(&placed.stated.statement);
+        let given = read_declarations(alloc, names, placed.place.file, declarations)?;
         records_of(alloc, given.as_slice())
     }
 

@@ -6,6 +6,6 @@ use Rattle.kx_compat.proofs.statements.read_values.Given as goal
 
 abbrev pub invariant-fields : goal.invariant-fields
 invariant-fields l = record {
-  value : last_values (own_value l.names.names l.defaults) l.defaults.values l.fields ≡ last_values (own_value l.names.names l.defaults) l.values (drop l.field-index l.fields);
-  faultless : flat_map (own_faults l.file l.names.names) l.fields ≡ flat_map (own_faults l.file l.names.names) (drop l.field-index l.fields);
+  value : last_values (own_value l.context.modifiers.now.names l.defaults) l.defaults.values l.fields ≡ last_values (own_value l.context.modifiers.now.names l.defaults) l.values (drop l.field-index l.fields);
+  faultless : flat_map (own_faults l.context.file l.context.modifiers.now.names) l.fields ≡ flat_map (own_faults l.context.file l.context.modifiers.now.names) (drop l.field-index l.fields);
 }

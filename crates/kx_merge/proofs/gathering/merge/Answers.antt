@@ -10,7 +10,7 @@ use Rattle.kx_merge.proofs.gathering.merge.Goals as goal
 pub sections-init : goal.sections-init
 sections-init g c =
     let rules = g.R.Fields.rules c.args.context.now in
-    left_all g.R.Fields.cell g.R.Fields.width g.R.Key.PartialEq.eq rules g.R.Fields.moves (keys c.new-records.result) (get g.R.Key.PartialEq.eq c.new-records.result) rules.start (expanded_body c.args.expansion.now)
+    left_all g.R.Fields.cell g.R.Fields.width g.R.Key.PartialEq.eq rules g.R.Fields.moves (keys c.new_walk-walk.result.merged.records) (get g.R.Key.PartialEq.eq c.new_walk-walk.result.merged.records) rules.start (expanded_body c.args.expansion.now)
 
 pub returns-in_err-merge_map-clause-faults : goal.returns-in_err-merge_map-clause-faults
 returns-in_err-merge_map-clause-faults g c =
@@ -48,4 +48,4 @@ returns-clause-shows g c =
     let eq = g.R.Key.PartialEq.eq in
     let over = subst (λ ys. length ys ≤ c.sections.section-index) c.deref-section-items.ensures.value c.sections-test.false in
     left_shown (left_over (bodies_behind [] c.args.expansion.now.maps.items) c.sections.section-index c.args.expansion.now.sections.items over c.sections.invariant) []
-    (shows_none g.R.Fields.cell g.R.Fields.width eq c.new-records.result [] c.new-records.ensures.empty refl)
+    (shows_none g.R.Fields.cell g.R.Fields.width eq c.new_walk-walk.result.merged.records [] c.new_walk-walk.ensures refl)

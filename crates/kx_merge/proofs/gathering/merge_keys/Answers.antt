@@ -6,6 +6,7 @@ use Rattle.kx_include.specs.Shared.{body_at, links_body}
 use Rattle.kx_include.specs.declared.expansion.Link.{Link}
 use Rattle.kx_parse.specs.declared.tree.Mode.TheVariants.{Augment}
 use Rattle.kx_merge.specs.Bodies.{gathered, offers_of}
+use Rattle.kx_merge.specs.Joins.{linked, map_of}
 use Rattle.kx_merge.specs.Records.{Shows}
 use Rattle.kx_merge.specs.Renewals.{Picks, TakesUp}
 use Rattle.kx_merge.proofs.Behind.{empty, only}
@@ -40,4 +41,5 @@ returns-in-len1-clause-again g c = IfOk-weaker c.merge_link_keys.result _ _ (λ 
     let single = sym (single_part eq g.met.R.Key.Eq.laws g.met.R.Fields.same moves g.met.R.Fields.apart inner x.group x.mode Augment) in
     subst (λ ls. TakesUp cell width eq c.args.renewed.now (keys old) (get eq old) (keys new) (get eq new) (gathered eq Augment (offers_of eq rules moves (links_body bodies ls))))
     (sym (only xs none c.in-len1.len_at_least c.in-len1.len_below))
-    (subst (TakesUp cell width eq c.args.renewed.now (keys old) (get eq old) (keys new) (get eq new)) single (taken yes rules bodies are))) c.merge_link_keys.ensures.again
+    (subst (TakesUp cell width eq c.args.renewed.now (keys old) (get eq old) (keys new) (get eq new)) single
+    (subst (λ (y : Link). TakesUp cell width eq c.args.renewed.now (keys old) (get eq old) (keys new) (get eq new) (linked eq moves y (offers_of eq rules moves (map_of y bodies)))) c.link_under-link.ensures (taken yes rules bodies are)))) c.merge_link_keys.ensures.again

@@ -12,7 +12,7 @@ use Rattle.kx_merge.proofs.gathering.merge_links.Goals as goal
 use Rattle.kx_merge.proofs.gathering.merge_links.Goals.{then-stands_since, else-stands_since+in_ok-merge_link+in_ok-add}
 
 pub links-init : goal.links-init
-links-init g c = λ rules bodies are. parted_first g.R.Fields.cell g.R.Fields.width g.R.Key.PartialEq.eq g.met.R.Key.Eq.laws rules g.R.Fields.moves bodies c.args.links.now (keys c.args.records.now) (get g.R.Key.PartialEq.eq c.args.records.now)
+links-init g c = λ rules bodies are. parted_first g.R.Fields.cell g.R.Fields.width g.R.Key.PartialEq.eq g.met.R.Key.Eq.laws rules g.R.Fields.moves bodies c.args.links.now (keys c.args.merged.now.records) (get g.R.Key.PartialEq.eq c.args.merged.now.records)
 
 pub returns-in_err-merge_link : goal.returns-in_err-merge_link
 returns-in_err-merge_link g c = λ rules bodies are.
@@ -37,15 +37,15 @@ links-preserved g c = λ rules bodies are.
     let within = c.links-test.true in
     let is = read_again xs i none within in
     let p = c.links.invariant rules bodies are in
-    let old = c.args.records.now in
+    let old = c.args.merged.now.records in
     let new = c.if-stands_since in
     let since = cond (is_replace x.mode) (i + 1) c.links.since in
-    subst (λ s. Parted cell width eq laws rules moves bodies xs (keys old) (get eq old) s (i + 1) (keys new.records) (get eq new.records)) (sym c.since_after-since.ensures)
+    subst (λ s. Parted cell width eq laws rules moves bodies xs (keys old) (get eq old) s (i + 1) (keys new.merged.records) (get eq new.merged.records)) (sym c.since_after-since.ensures)
     (elim new.branch [
       | then-stands_since w ↦
-          subst (λ records. Parted cell width eq laws rules moves bodies xs (keys old) (get eq old) since (i + 1) (keys records) (get eq records)) (sym w.records-is)
+          subst (λ m. Parted cell width eq laws rules moves bodies xs (keys old) (get eq old) since (i + 1) (keys m.records) (get eq m.records)) (sym w.merged-is)
           (parted_past cell width eq laws rules moves bodies xs x p within is (c.stands_since.ensures w.if-stands_since.true))
       | else-stands_since+in_ok-merge_link+in_ok-add w ↦
-          subst (λ records. Parted cell width eq laws rules moves bodies xs (keys old) (get eq old) since (i + 1) (keys records) (get eq records)) (sym w.records-is)
+          subst (λ m. Parted cell width eq laws rules moves bodies xs (keys old) (get eq old) since (i + 1) (keys m.records) (get eq m.records)) (sym w.merged-is)
           (parted_on cell width eq laws rules moves bodies xs x p within is (w.in_ok-merge_link.ensures rules bodies are))
     ])

@@ -17,10 +17,10 @@ returns g c =
     let new = c.add_all.new.records in
     let is = c.into_entries.ensures.value in
     record {
-      shows = λ os inner shows shown.
+      shows = λ inner shown os shows.
           let offers = λ (es : List (g.row.R-Key.Denot × g.row.R.Denot)). map (gather eq mode inner) (keys_of es) in
           let are = all_offered cell width eq inner mode given.entries (shown_good cell width eq inner g.met.R.Key.Eq.laws given c.into_entries.ensures.unique shown) in
           subst (λ added. OnOk c.add_all.result (Shows cell width eq (keys new) (get eq new) (os ++ added))) (ap offers is ∙ ap (map (gather eq mode inner)) shown.names_are)
-          (c.add_all.ensures.shows os (offers made) shows (subst (λ es. AreOffered mode cell width es (offers es)) (sym is) are));
+          (c.add_all.ensures.shows (offers made) (subst (λ es. AreOffered mode cell width es (offers es)) (sym is) are) os shows);
       err = c.add_all.ensures.err;
     }

@@ -12,7 +12,7 @@ use Rattle.kx_ordered.proofs.KeyPlaces.{found, keys-with_value, missing, place_i
 use Rattle.kx_merge.proofs.merging.add_one.Goals as goal
 
 pub returns-in-Some-clause-shows : goal.returns-in-Some-clause-shows
-returns-in-Some-clause-shows g c = λ os o shows is.
+returns-in-Some-clause-shows g c = λ o is os shows.
     let eq = g.R.Key.PartialEq.eq in
     let cell = g.R.Fields.cell in
     let width = g.R.Fields.width in
@@ -33,7 +33,7 @@ returns-in-Some-clause-shows g c = λ os o shows is.
     (λ group. widths group ∙ ap (λ found. merged_width mode (width_in width found group) (width c.in-Some.given group)) old ∙ ap (λ given. merged_width mode (width_in width (lookup (eq key) es) group) (width given group)) back.0))
 
 pub returns-in-None-clause-shows : goal.returns-in-None-clause-shows
-returns-in-None-clause-shows g c = λ os o shows is.
+returns-in-None-clause-shows g c = λ o is os shows.
     let eq = g.R.Key.PartialEq.eq in
     let key = c.args.key in
     let before = c.args.records.now in

@@ -3,9 +3,8 @@ use Rattle.indexmap.specs.IndexMap.{get}
 use Rattle.kx_modmaps.specs.Maps.{Maps}
 use Rattle.kx_resolve.specs.Finding.{Visits}
 use Rattle.kx_resolve.specs.Mapping.{places_below}
-use Rattle.kx_resolve.specs.ReadMapping.{mapping_of}
-use Rattle.kx_resolve.specs.Typing.{typing_of}
+use Rattle.kx_resolve.specs.NamedKeys.{mapping_in}
 use Rattle.kx_resolve.proofs.finding.visit_codes.Given as goal
 
 abbrev pub invariant-codes : goal.invariant-codes
-invariant-codes l = (maps : Maps) → Visits (λ k. places_below k (mapping_of l.codes (typing_of l.typing) l.keys maps) l.code) (get nat_eq l.fn.firsts) (get nat_eq l.firsts)
+invariant-codes l = (maps : Maps) → Visits (λ k. places_below k (mapping_in l.keys maps) l.code) (get nat_eq l.fn.firsts) (get nat_eq l.firsts)

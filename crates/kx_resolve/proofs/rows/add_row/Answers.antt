@@ -1,8 +1,7 @@
-use Rattle.std.proofs.Common.{◌==◌, ◌&&◌, ap, sym, ◌∙◌, ◌++◌, ◌∷◌, [], not, true, false, if◌then◌else◌}
+use Rattle.std.proofs.Common.{◌==◌, ◌&&◌, ap, sym, ◌∙◌, ◌++◌, ◌∷◌, [], not, if◌then◌else◌}
 use Rattle.kx_virtual_mods.specs.Sets.{real_of as stood_for}
 use Rattle.kx_virtual_mods.specs.Standing.{stands_for}
 use Rattle.kx_resolve.specs.Rows.{has_row, row_of, set_mask}
-use Rattle.kx_resolve.specs.Selecting.{is_live}
 use Rattle.std.specs.List.{list_any}
 use Rattle.kx_mods.specs.Mods.{mask}
 use Rattle.kx_tables.specs.declared.rows.EntryRow.{EntryRow}

@@ -1,15 +1,25 @@
-use Rattle.std.proofs.Common.{[], ap, sym}
-use Rattle.kx_resolve.proofs.VmodmapShown.{absent_brings}
+use Rattle.std.proofs.Common.{◌||◌, ap, false, refl, sym, ◌∙◌}
+use Rattle.kx_symbols.specs.Keys.{key_at}
 use Rattle.kx_resolve.proofs.NameBits.{or_false}
+use Rattle.kx_resolve.proofs.Named.{of_named, of_none}
+use Rattle.kx_resolve.proofs.VmodmapShown.{none_brings}
 use Rattle.kx_resolve.specs.MappedKeys.{is_brought}
-use Rattle.kx_resolve.specs.Vmodmap.{ReadKeymap, brings}
-use Rattle.kx_resolve.specs.ReadVmodmap.{read_keymap_of}
 use Rattle.kx_resolve.specs.Modmaps.{modmap_at}
-use Rattle.kx_resolve.specs.Given.{given_in}
-use Rattle.kx_resolve.specs.Typing.{typing_of}
+use Rattle.kx_resolve.specs.NamedKeys.{name_in, typing_in}
+use Rattle.kx_resolve.specs.Read.{brings_at, brings_if, brings_of}
 use Rattle.kx_resolve.proofs.virtual_modifiers.add_code.Goals as goal
 
-pub returns-in-Some-None-clause-added : goal.returns-in-Some-None-clause-added
-returns-in-Some-None-clause-added c = λ number real.
-    let r : ReadKeymap = read_keymap_of c.args.codes.now (typing_of c.args.typing) c.args.keys.now (modmap_at c.args.modmaps.now) c.args.interpretations.now [] in
-    or_false (is_brought c.args.mapped_keys.now.items number real) (brings r number real c.args.code) (absent_brings r number real c.args.code (ap given_in (sym c.in-Some-None.ensures')))
+pub returns-in_ok-add_key-in-Some-clause-added : goal.returns-in_ok-add_key-in-Some-clause-added
+returns-in_ok-add_key-in-Some-clause-added c = λ number real.
+    let keys = c.args.keys in
+    let code = c.args.code in
+    let key = c.in-Some.key.now in
+    c.in_ok-add_key-in-Some.ensures.added number real
+    ∙ ap (λ b. is_brought c.args.mapped_keys.now.items number real || b) (sym (of_named (brings_if keys code number real) (name_in keys.named code) (key_at keys.named.keys.now code) key (brings_of keys key code number real) c.in-Some.ensures (λ name. refl)))
+
+pub returns-in-None-clause-added : goal.returns-in-None-clause-added
+returns-in-None-clause-added c = λ number real.
+    let keys = c.args.keys in
+    let code = c.args.code in
+    or_false (is_brought c.args.mapped_keys.now.items number real) (brings_at keys code number real)
+    (of_none (brings_if keys code number real) (name_in keys.named code) (key_at keys.named.keys.now code) false c.in-None.ensures (λ key. refl) (λ name. none_brings keys.interpretations.now (modmap_at keys.modmaps.now code) (typing_in keys.named) number real))

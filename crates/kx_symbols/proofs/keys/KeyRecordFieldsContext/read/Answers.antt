@@ -1,4 +1,4 @@
 use Rattle.kx_symbols.proofs.keys.KeyRecordFieldsContext.read.Goals as goal
 
 pub returns-clause-records : goal.returns-clause-records
-returns-clause-records c = c.read_statement.ensures.records c.args.stated.now.mode
+returns-clause-records c = c.read_statement.ensures.records c.args.placed.now.stated.now.mode

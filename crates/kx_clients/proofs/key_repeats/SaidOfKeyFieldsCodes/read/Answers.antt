@@ -1,4 +1,0 @@
-use Rattle.kx_clients.proofs.key_repeats.SaidOfKeyFieldsCodes.read.Goals as goal
-
-pub returns-clause-records : goal.returns-clause-records
-returns-clause-records c = c.read_statement.ensures.records c.args.stated.now.mode
