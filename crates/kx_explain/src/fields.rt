@@ -2,18 +2,14 @@
 use crate::actions::action_named;
 use crate::quotes::quoted;
 use crate::site::{Owner, Site, argument_at, call_in_field, call_in_list, site_at};
-use crate::wanted::{is_list_word, wanted_value};
+use crate::wanted::wanted_value;
+use kx_key_fields::{is_attribute_word, is_key_word, is_list_word, usual_words};
 use kx_lex::Span;
 use kx_parse::{Call, Field, Kind, Predicate, Statement};
 use kx_reach::kind_name;
 use std::alloc::AllocError;
-
-const OF_KEY: &str = "type, symbols, actions, vmods, groupsWrap, groupsClamp, groupsRedirect, \
-repeat, lock, radioGroup, allowNone, overlay";
-
-const OF_KEY_DEFAULT: &str =
-    "type, vmods, groupsWrap, groupsClamp, groupsRedirect, repeat, lock, radioGroup, allowNone, \
-overlay";
+use std::fmt;
+use std::fmt::{Formatter, Write};
 
 const OF_INTERPRETATION: &str = "action, virtualModifier, useModMapMods, repeat, locking";
 
@@ -23,23 +19,52 @@ const OF_TYPE: &str = "modifiers, map[..], preserve[..], level_name[..]";
 
 const CONDITIONS: &str = "Exactly, AllOf, NoneOf, AnyOf, AnyOfOrNone";
 
+/// The words that a place has.
+#[derive(Clone, Copy)]
+enum Known {
+    Words(&'static str),
+    /// Those of the fields of a key.
+    OfKey,
+    /// Those of the fields of a key that have defaults.
+    OfKeyDefault,
+}
+
+/// Lists the words of a key's fields, those of its lists too or not.
+fn write_key_words<W: Write>(f: &mut Formatter<W>, has_lists: bool) -> fmt::Result {
+    let mut before = "";
+    for word in usual_words() {
+        if has_lists || !is_list_word(word.as_bytes()) {
+            f.write_str(before)?;
+            f.write_str(word)?;
+            before = ", ";
+        }
+    }
+    Ok(())
+}
+
+impl fmt::Display for Known {
+    fn fmt<W: Write>(&self, f: &mut Formatter<W>) -> fmt::Result {
+        match self {
+            Known::Words(words) => f.write_str(words),
+            Known::OfKey => write_key_words(f, true),
+            Known::OfKeyDefault => write_key_words(f, false),
+        }
+    }
+}
+
 /// A word, what it isn't of what, and what that has.
 #[derive(Clone, Copy)]
 struct Unknown<'a> {
     word: &'a [u8],
     what: &'static str,
-    known: &'static str,
+    known: Known,
 }
 
 fn write_unknown(out: &mut String, unknown: Unknown) -> Result<(), AllocError> {
     let word = quoted(unknown.word);
     let what = unknown.what;
     let known = unknown.known;
-    if known.is_empty() {
-        write!(out, "{word} is no {what}, which has none")
-    } else {
-        write!(out, "{word} is no {what}; there are {known}")
-    }
+    write!(out, "{word} is no {what}; there are {known}")
 }
 
 /// Says that a field stands with an index or without one where that can't be.
@@ -77,24 +102,33 @@ fn write_statement(out: &mut String, kind: Kind, word: &[u8]) -> Result<(), Allo
 }
 
 /// The fields of what has them.
-fn fields_of(owner: Owner) -> (&'static str, &'static str) {
+fn fields_of(owner: Owner) -> (&'static str, Known) {
     match owner {
-        Owner::Type => ("field of a type", OF_TYPE),
-        Owner::Key => ("field of a key", OF_KEY),
-        Owner::Interpretation => ("field of an interpretation", OF_INTERPRETATION),
-        Owner::Indicator => ("field of an indicator", OF_INDICATOR),
-        Owner::Section => ("default", "key.FIELD, ACTION.ARGUMENT"),
+        Owner::Type => ("field of a type", Known::Words(OF_TYPE)),
+        Owner::Key => ("field of a key", Known::OfKey),
+        Owner::Interpretation => (
+            "field of an interpretation",
+            Known::Words(OF_INTERPRETATION),
+        ),
+        Owner::Indicator => ("field of an indicator", Known::Words(OF_INDICATOR)),
+        Owner::Section => ("default", Known::Words("key.FIELD, ACTION.ARGUMENT")),
     }
 }
 
-/// Whether what has fields has one of a word, with an index or without.
-fn has_field(owner: Owner, word: &[u8]) -> bool {
-    let (_, known) = fields_of(owner);
+fn is_among(known: &'static str, word: &[u8]) -> bool {
     known.split(", ").any(|name| {
         let name = name.as_bytes();
         let name = name.strip_suffix(b"[..]").unwrap_or(name);
         name.eq_ignore_ascii_case(word)
     })
+}
+
+/// Whether what has fields has one of a word, with an index or without.
+fn has_field(owner: Owner, word: &[u8]) -> bool {
+    match fields_of(owner) {
+        (_, Known::Words(known)) => is_among(known, word),
+        (_, Known::OfKey | Known::OfKeyDefault) => is_attribute_word(word),
+    }
 }
 
 /// Says that an action doesn't have an argument.
@@ -130,14 +164,12 @@ fn write_default(out: &mut String, field: &Field, word: &[u8]) -> Result<(), All
     if action_named(owner).is_some() {
         return write_argument(out, owner, word);
     }
-    let is_key = owner.eq_ignore_ascii_case(b"key");
-    let is_interpretation = owner.eq_ignore_ascii_case(b"interpret");
-    let known = if is_key {
-        OF_KEY_DEFAULT
-    } else if is_interpretation {
-        OF_INTERPRETATION
+    let known = if is_key_word(owner) {
+        Known::OfKeyDefault
+    } else if owner.eq_ignore_ascii_case(b"interpret") {
+        Known::Words(OF_INTERPRETATION)
     } else {
-        OF_INDICATOR
+        Known::Words(OF_INDICATOR)
     };
     if wanted_value(word).is_some() && field.place.index.is_some() {
         return write_index(out, word, true);
@@ -192,7 +224,7 @@ pub(crate) fn write_unknown_field(
         },
         Site::Condition(Predicate::Call(_)) => {
             let what = "condition";
-            let known = CONDITIONS;
+            let known = Known::Words(CONDITIONS);
             write_unknown(out, Unknown { word, what, known })
         }
         _ => write_statement(out, kind, word),

@@ -2,24 +2,23 @@
 #![tactic(auto)]
 
 mod actions;
-mod cursor;
 mod explaining;
 mod fields;
 mod found;
+mod front;
 mod includes;
 mod lexemes;
 mod limits;
 mod modifiers;
+mod naming;
 mod near;
 mod plain;
 mod quotes;
 mod ranges;
-mod section_rules;
+mod shortening;
 mod site;
 mod slips;
-mod statement_rules;
 mod syntax;
-mod value_rules;
 mod values;
 mod wanted;
 

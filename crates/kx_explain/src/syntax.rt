@@ -1,40 +1,18 @@
 //! What stands where no tree goes on, and what could.
-use crate::cursor::Cursor;
 use crate::found::Found;
-use crate::section_rules::{take_file, take_source};
+use crate::front::Front;
+use crate::naming::write_wanted;
 use crate::slips::likely_slip;
-use kx_lex::{At, Fault, Span, Token, lex};
+use kx_lex::At;
 use std::alloc::{AllocError, Global};
 
-/// Whether the tokens that are left begin at a place; none are left at the end of the text.
-fn begins_at(rest: &[Token], span: Span) -> bool {
-    match rest.first() {
-        Some(token) => token.span == span,
-        None => span.start == span.stop,
+/// What could stand at a place where a source, or a file, spells no tree; nothing where that isn't known.
+fn wanted_at(alloc: Global, text: &[u8], at: At) -> Result<String, AllocError> {
+    let mut wanted = String::new(alloc);
+    if let Some((front, found)) = Front::before(alloc, text, at)? {
+        write_wanted(&mut wanted, alloc, &front, found)?;
     }
-}
-
-/// What could stand at a place where the tokens of a source, or of a file, spell no tree.
-fn wanted_at(tokens: &[Token], at: At) -> Option<&'static str> {
-    let mut cursor = Cursor::new(tokens);
-    let outcome = if at.file == 0 {
-        take_source(&mut cursor)
-    } else {
-        take_file(&mut cursor)
-    };
-    match outcome {
-        Err(wanted) if begins_at(cursor.rest(), at.span) => Some(wanted),
-        _ => None,
-    }
-}
-
-/// The tokens of a text; none where it has no reading.
-fn tokens_of(alloc: Global, text: &[u8]) -> Result<Vec<Token>, AllocError> {
-    match lex(alloc, text) {
-        Ok(tokens) => Ok(tokens),
-        Err(Fault::Memory) => Err(AllocError),
-        Err(_) => Ok(Vec::new(alloc)),
-    }
+    Ok(wanted)
 }
 
 /// Says what stands at a place where no tree goes on, and what could.
@@ -44,16 +22,16 @@ pub(crate) fn write_syntax(
     text: &[u8],
     at: At,
 ) -> Result<(), AllocError> {
-    let tokens = tokens_of(alloc, text)?;
     let found = Found {
         text,
         span: at.span,
     };
-    let Some(wanted) = wanted_at(tokens.as_slice(), at) else {
+    let wanted = wanted_at(alloc, text, at)?;
+    if wanted.as_str().is_empty() {
         return write!(out, "{found} can't stand here");
-    };
+    }
     write!(out, "expected {wanted}, found {found}")?;
-    match likely_slip(wanted, text, at.span) {
+    match likely_slip(wanted.as_str(), text, at.span) {
         Some(slip) => write!(out, "; {slip}"),
         None => Ok(()),
     }

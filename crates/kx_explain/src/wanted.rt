@@ -73,8 +73,3 @@ pub(crate) fn wanted_index(word: &[u8]) -> &'static str {
         GROUP
     }
 }
-
-/// Whether a field of a word gives lists.
-pub(crate) fn is_list_word(word: &[u8]) -> bool {
-    word.eq_ignore_ascii_case(b"symbols") || word.eq_ignore_ascii_case(b"actions")
-}

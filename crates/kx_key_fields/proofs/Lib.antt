@@ -6,3 +6,4 @@ mod LaterLists
 mod Settling
 mod Values
 mod Widening
+mod Usual

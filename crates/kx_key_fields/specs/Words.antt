@@ -1,6 +1,7 @@
 -- The words of a key's fields, which are read without regard to case.
-use Rattle.std.specs.Prelude.{ℕ, Bool, not, is_some, ◌&&◌, ◌||◌, List, [], ◌∷◌, Option, Some, if◌then◌else◌, codes}
-use Rattle.std.specs.List.{list_any}
+use Rattle.std.specs.Prelude.{◌≡◌, ℕ, Any, Bool, not, true, is_some, ◌&&◌, ◌||◌, List, [], ◌∷◌, Option, Some, if◌then◌else◌, codes, map}
+use Rattle.std.specs.Borrow.{Bor}
+use Rattle.std.specs.List.{list_all, list_any}
 use Rattle.std.specs.Str.{str_eq_ignore_ascii_case}
 use Rattle.kx_parse.specs.declared.tree.FieldPlace.{FieldPlace}
 use Rattle.kx_merge.specs.Words.{among}
@@ -31,6 +32,12 @@ field_named word = if list_any (str_eq_ignore_ascii_case word) unused_words then
 abbrev pub is_list_word : List ℕ → Bool
 is_list_word word = str_eq_ignore_ascii_case word (codes "symbols") || str_eq_ignore_ascii_case word (codes "actions")
 
+-- words by which people are told of all fields: each is read as one, and each that gives something is told
+pub record AreUsual (words : List (List ℕ)) : Type 0 where
+  pub read : list_all (λ w. is_list_word w || is_some (field_named w)) words ≡ true
+  pub lists : (word : List ℕ) → is_list_word word ≡ true → list_any (str_eq_ignore_ascii_case word) words ≡ true
+  pub fields : (field : AttributeField) → Any (λ w. field_named w ≡ Some field) words
+
 -- the word before the point of a default for keys, as `key.type`
 abbrev pub is_key_word : List ℕ → Bool
 is_key_word word = str_eq_ignore_ascii_case word (codes "key")
@@ -40,6 +47,9 @@ abbrev pub is_group_name : FieldPlace → Bool
 is_group_name place = not (is_some place.member) && str_eq_ignore_ascii_case place.word.bytes (codes "name")
 
 -- ---- Under names, for clauses and proofs
+
+abbrev pub texts_of : List (Bor (List ℕ)) → List (List ℕ)
+texts_of words = map (λ (w : Bor (List ℕ)). w.now) words
 
 abbrev pub is_unused_word : List ℕ → Bool
 is_unused_word word = list_any (str_eq_ignore_ascii_case word) unused_words

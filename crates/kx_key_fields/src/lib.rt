@@ -28,4 +28,4 @@ pub use key_lists::GroupLists;
 pub use levels::{LevelValue, Levels};
 pub use placing::{group_for, put_list};
 pub use statement::read_settings;
-pub use words::{is_attribute_word, is_group_name, is_key_word, is_list_word};
+pub use words::{is_attribute_word, is_group_name, is_key_word, is_list_word, usual_words};

@@ -1,6 +1,6 @@
 //! The words of a key's fields.
 ghost use Rattle.std.specs.Prelude.{◌≡◌, is_some};
-ghost use Rattle.kx_key_fields.specs.Words.{field_named, is_group_name, is_key_word, is_list_word, is_unused_word, used_words};
+ghost use Rattle.kx_key_fields.specs.Words.{AreUsual, field_named, is_group_name, is_key_word, is_list_word, is_unused_word, texts_of, used_words};
 ghost use Rattle.kx_merge.specs.Words.{among};
 
 use kx_parse::FieldPlace;
@@ -92,6 +92,30 @@ pub fn is_list_word(word: &[u8]) -> bool
     ensures { result ≡ is_list_word word.now }
 {
     word.eq_ignore_ascii_case(b"symbols") || word.eq_ignore_ascii_case(b"actions")
+}
+
+/// The words of fields as they are usually written.
+static USUAL: [&str; 12] = [
+    "type",
+    "symbols",
+    "actions",
+    "vmods",
+    "groupsWrap",
+    "groupsClamp",
+    "groupsRedirect",
+    "repeat",
+    "lock",
+    "radioGroup",
+    "allowNone",
+    "overlay",
+];
+
+/// The words of a key's fields as they are usually written. Each is read as a field, and each thing that a field can give a key is
+/// given by one of them.
+pub fn usual_words() -> &'static [&'static str]
+    ensures { AreUsual (texts_of result.now) }
+{
+    &USUAL
 }
 
 /// Whether this word, in capital letters or small, stands before the point of a default for keys, as in `key.type`.
