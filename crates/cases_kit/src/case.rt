@@ -1,7 +1,7 @@
 //! What the lines of a case say: the source, what it may include, the names of keysyms, and the events.
 use crate::trouble::Trouble;
 use ks_core::{NameFault, NameTable};
-use kx_basics::digits_value;
+use kx_basics::hex_value;
 use kx_include::Files;
 use std::alloc::{AllocError, Global};
 
@@ -93,7 +93,7 @@ impl Case {
 
 /// The byte of two hexadecimal digits.
 fn byte_of(high: u8, low: u8) -> u8 {
-    (digits_value(&[high, low], 16) & 0xff) as u8
+    (hex_value(&[high, low]) & 0xff) as u8
 }
 
 /// The byte that a text begins with, and what is after it: `\x` and two digits are a byte, `\n` and `\r` the ends of lines.

@@ -6,9 +6,14 @@ use Rattle.kx_parse.specs.declared.tree.Statement.{Statement}
 use Rattle.kx_parse.specs.declared.tree.Statement.TheVariants.{Keycode}
 use Rattle.kx_merge.specs.Bodies.{Rules, Moves}
 use Rattle.kx_merge.specs.Offers.{Offer}
+use Rattle.kx_merge.specs.Records.{Form}
+use Rattle.cases_parts.specs.declared.precedence.Sheet.{Sheet}
 
 abbrev pub sheet_cell : Option ℕ → Option ℕ → ℕ → Option ℕ
 sheet_cell one two cell = if cell == 0 then one else (if cell == 1 then two else None)
+
+abbrev pub sheet_form : Form Sheet ℕ ℕ
+sheet_form = record { cell = λ s c. sheet_cell s.one s.two c; width = λ s g. 0 }
 
 abbrev pub sheet_value : ℕ → Option ℕ
 sheet_value number = if number == 0 then None else Some number

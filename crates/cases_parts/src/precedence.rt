@@ -7,7 +7,7 @@ ghost use Rattle.kx_parse.specs.declared.tree.Mode.{Mode as ModeValue};
 ghost use Rattle.kx_merge.specs.Moved.{moved_value};
 ghost use Rattle.kx_merge.specs.Offers.{merged_value};
 ghost use Rattle.kx_merge.specs.Records.{AreOffered};
-ghost use Rattle.cases_parts.specs.Sheet.{keycode_in, sheet_cell, sheet_moves, sheet_offer, sheet_rules};
+ghost use Rattle.cases_parts.specs.Sheet.{keycode_in, sheet_cell, sheet_form, sheet_moves, sheet_offer, sheet_rules};
 
 use crate::sources::{bodies_of, library_of, text_of};
 use cases_kit::{Case, Trouble};
@@ -64,8 +64,8 @@ impl Sheet {
 #[tactic(auto, using(crate::proofs::Sheets::one_offered))]
 fn one_sheet(alloc: Global, key: u8, number: u32) -> Result<Vec<(u8, Sheet)>, Fault>
     ensures given { (mode : ModeValue)
-        → IfOk result (λ records. AreOffered mode (λ s c. sheet_cell s.one s.two c) (λ s g. 0)
-        records.items (sheet_offer mode key number ∷ [])) }
+        → IfOk result (λ records. AreOffered mode sheet_form records.items
+        (sheet_offer mode key number ∷ [])) }
     ensures err { IfErr result (λ e. e ≡ Memory) }
 {
     let one = if number == 0 { None } else { Some(number) };
@@ -77,8 +77,7 @@ fn one_sheet(alloc: Global, key: u8, number: u32) -> Result<Vec<(u8, Sheet)>, Fa
 /// No records.
 #[tactic(auto, using(kx_merge::proofs::Offered::nothing_offered))]
 fn no_sheets(alloc: Global) -> Vec<(u8, Sheet)>
-    ensures { (mode : ModeValue) → AreOffered mode (λ s c. sheet_cell s.one s.two c) (λ s g. 0)
-        result.items [] }
+    ensures { (mode : ModeValue) → AreOffered mode sheet_form result.items [] }
 {
     Vec::new(alloc)
 }
@@ -96,9 +95,7 @@ impl Fields<()> for Sheet {
 
     ghost moves = { sheet_moves };
 
-    ghost cell = { λ s c. sheet_cell s.one s.two c };
-
-    ghost width = { λ s g. 0 };
+    ghost form = { sheet_form };
 
     fn start(_alloc: Global, _context: &()) {}
 

@@ -322,7 +322,7 @@ all_sound = both_all is_named is_new x11_names all_named all_new
 is_word-ascii : (c : ℕ) → is_word_byte c ≡ true → c < 128
 is_word-ascii c h = grind (arith, nat_tests)
 
-word-ascii : (name : List ℕ) → is_word name ≡ true → IsAscii name
+pub word-ascii : (name : List ℕ) → is_word name ≡ true → IsAscii name
 unfolding is_word
 word-ascii name h = IsAscii-from_all name (λ k d within. is_word-ascii (get_or name k d) (AllPass-from_list_all is_word_byte name (and_parts (is_word_start (slice_index name 0)) (list_all is_word_byte name) h).1 k d within))
 

@@ -1,10 +1,7 @@
 -- Which keysyms are letters in lower and upper case, and which are a keypad's.
-use Rattle.std.specs.Prelude.{ℕ, ◌+◌, Bool, true, false, ◌&&◌, ◌||◌, List, [], ◌∷◌, nat_eq, nat_lt, nat_le}
+use Rattle.std.specs.Prelude.{ℕ, ◌+◌, Bool, ◌&&◌, ◌||◌, List, [], ◌∷◌, nat_eq, nat_lt, nat_le}
 use Rattle.std.specs.List.{list_any}
-use Rattle.ks_core.specs.MoreLetters.{more_lower, more_upper}
 use Rattle.ks_core.specs.declared.letters.LetterRow.{LetterRow}
-use Rattle.ks_core.specs.declared.letters.Letters.{Letters}
-use Rattle.ks_core.specs.declared.letters.Letters.TheVariants.{BuiltIn, Unicode}
 
 -- letters in a row, each in lower case against the same in upper case: the first of each, and how many
 abbrev pub letters : ℕ → ℕ → ℕ → LetterRow
@@ -21,16 +18,16 @@ case_pairs = letters 0x61 0x41 26 ∷ letters 0xe0 0xc0 23 ∷ letters 0xf8 0xd8
 abbrev pub is_within : ℕ → ℕ → ℕ → Bool
 is_within first count k = nat_le first k && nat_lt k (first + count)
 
--- whether those of Unicode are letters too
-abbrev pub has_more : Letters → Bool
-has_more BuiltIn = false
-has_more Unicode = true
+-- the further letters that a table has in each case
+pub record FurtherLetters : Type 0 where
+  pub lower : List ℕ
+  pub upper : List ℕ
 
-abbrev pub is_lower : Letters → ℕ → Bool
-is_lower letters k = list_any (λ row. is_within row.lower row.count k) case_pairs || has_more letters && list_any (nat_eq k) more_lower
+abbrev pub is_lower : FurtherLetters → ℕ → Bool
+is_lower further k = list_any (λ row. is_within row.lower row.count k) case_pairs || list_any (nat_eq k) further.lower
 
-abbrev pub is_upper : Letters → ℕ → Bool
-is_upper letters k = list_any (λ row. is_within row.upper row.count k) case_pairs || has_more letters && list_any (nat_eq k) more_upper
+abbrev pub is_upper : FurtherLetters → ℕ → Bool
+is_upper further k = list_any (λ row. is_within row.upper row.count k) case_pairs || list_any (nat_eq k) further.upper
 
 abbrev pub is_keypad : ℕ → Bool
 is_keypad k = nat_le 0xff80 k && nat_le k 0xffbd

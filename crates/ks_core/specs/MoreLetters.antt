@@ -3,7 +3,7 @@
 use Rattle.std.specs.Prelude.{ℕ, zero, suc, ◌+◌, List, [], ◌∷◌}
 use Rattle.std.specs.List.{flat_map}
 
--- so many keysyms from the first on, each so far behind the one before it
+-- so many keysyms from the first on, each so far after the one before it
 unfoldable pub steps_from : ℕ → ℕ → ℕ → List ℕ
 steps_from zero step first = []
 steps_from (suc count) step first = first ∷ steps_from count step (first + step)

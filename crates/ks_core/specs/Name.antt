@@ -39,8 +39,7 @@ is_between first last n = nat_le first n && nat_le n last
 abbrev pub keysym_of_character : ℕ → Option ℕ
 keysym_of_character c =
     if is_between 0x20 0x7e c || is_between 0xa0 0xff c then Some c
-    else if is_between 0x100 0x10ffff c then Some (0x1000000 + c)
-    else None
+    else if is_between 0x100 0x10ffff c then Some (0x1000000 + c) else None
 
 -- the keysym of a name of the U form
 unfoldable pub u_keysym : List ℕ → Option ℕ

@@ -10,21 +10,34 @@ ghost use Rattle.ks_core.specs.Name.{is_hex};
 ghost use Rattle.ks_core.specs.Names.{hex_digits};
 
 use arrayvec::ArrayString;
-use kx_basics::digits_value;
+use kx_basics::{decimal_value, hex_value};
 
-/// The number that the digits spell in the base, where it fits 32 bits.
+/// A number, where it fits 32 bits.
 #[tactic(auto, unfolding(crate::specs::Digits::in_32_bits))]
-pub(crate) fn number_of(digits: &[u8], radix: u32) -> Option<u32>
-    requires base { 2 ≤ radix }
-    requires letters { radix ≤ 36 }
-    ensures { result ≡ in_32_bits (digits_value radix digits.now) }
+fn in_32_bits(value: u64) -> Option<u32>
+    ensures { result ≡ in_32_bits value }
 {
-    let value = digits_value(digits, u64::from(radix));
     if value < 1 << 32 {
         Some(value as u32)
     } else {
         None
     }
+}
+
+/// The number that decimal digits spell, where it fits 32 bits.
+#[tactic(auto, unfolding(crate::specs::Digits::in_32_bits))]
+pub(crate) fn decimal_number(digits: &[u8]) -> Option<u32>
+    ensures { result ≡ in_32_bits (digits_value 10 digits.now) }
+{
+    in_32_bits(decimal_value(digits))
+}
+
+/// The number that hexadecimal digits spell, where it fits 32 bits.
+#[tactic(auto, unfolding(crate::specs::Digits::in_32_bits))]
+pub(crate) fn whole_hex_number(digits: &[u8]) -> Option<u32>
+    ensures { result ≡ in_32_bits (digits_value 16 digits.now) }
+{
+    in_32_bits(hex_value(digits))
 }
 
 /// The number that at most 8 hexadecimal digits spell.
@@ -33,7 +46,7 @@ pub(crate) fn hex_number(digits: &[u8]) -> u32
     requires few { length digits.now ≤ 8 }
     ensures { result ≡ digits_value 16 digits.now }
 {
-    match number_of(digits, 16) {
+    match whole_hex_number(digits) {
         Some(number) => number,
         None => unreachable!(),
     }

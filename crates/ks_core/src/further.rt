@@ -2,7 +2,7 @@
 ghost use Rattle.std.specs.Prelude.{◌≡◌, IfSome, Some, slice_get};
 ghost use Rattle.std.specs.Option.{option_map};
 ghost use Rattle.ks_core.specs.Entry.{keysym_in, name_in};
-ghost use Rattle.ks_core.specs.Table.{table_of};
+ghost use Rattle.ks_core.specs.Table.{letters_of, table_of};
 
 use crate::given::Given;
 use crate::letters::Letters;
@@ -25,6 +25,17 @@ impl Further {
             Further::None => None,
             Further::Lines(given) => given.keysym_of(name),
             Further::X11 => x11::keysym_of(name.as_bytes()),
+        }
+    }
+
+    /// The keysym of the name, given as bytes, where it is found without a look whether these are text.
+    pub(crate) fn keysym_of_bytes(&self, name: &[u8]) -> Option<u32>
+        ensures { IfSome result (λ keysym.
+            Some keysym ≡ keysym_in (table_of self.now).names name.now) }
+    {
+        match self {
+            Further::X11 => x11::keysym_of(name),
+            _ => None,
         }
     }
 
@@ -56,7 +67,7 @@ impl Further {
 
     /// The letters that go with the names.
     pub(crate) fn letters(&self) -> Letters
-        ensures { result ≡ (table_of self.now).letters }
+        ensures { letters_of result ≡ (table_of self.now).letters }
     {
         match self {
             Further::X11 => Letters::Unicode,

@@ -1,9 +1,10 @@
 //! Which keysyms are letters in lower and in upper case.
 ghost use Rattle.std.specs.Prelude.{◌≡◌, nat_eq};
 ghost use Rattle.std.specs.List.{list_any};
-ghost use Rattle.ks_core.specs.Keysym.{case_pairs, is_within, is_lower, is_upper, has_more};
+ghost use Rattle.ks_core.specs.Keysym.{case_pairs, is_within, is_lower, is_upper};
 ghost use Rattle.ks_core.specs.MoreLetters.{more_lower, more_upper};
 ghost use Rattle.ks_core.specs.Rising.{IsRising};
+ghost use Rattle.ks_core.specs.Table.{letters_of};
 
 use crate::keysym::Keysym;
 use crate::letter_table::{LOWER, UPPER};
@@ -52,24 +53,37 @@ static LETTERS: [LetterRow; 21] = [
 impl Letters {
     /// Whether the keysym is a letter in lower case that has one in upper case.
     pub fn is_lower(self, keysym: Keysym) -> bool
-        ensures { result ≡ is_lower self keysym.0 }
+        ensures { result ≡ is_lower (letters_of self) keysym.0 }
     {
-        any_lower(all_letters(), keysym.0) || (self.has_more() && stands_in(lower(), keysym.0))
+        any_lower(all_letters(), keysym.0) || stands_in(self.lower(), keysym.0)
     }
 
     /// Whether the keysym is a letter in upper case that has one in lower case.
     pub fn is_upper(self, keysym: Keysym) -> bool
-        ensures { result ≡ is_upper self keysym.0 }
+        ensures { result ≡ is_upper (letters_of self) keysym.0 }
     {
-        any_upper(all_letters(), keysym.0) || (self.has_more() && stands_in(upper(), keysym.0))
+        any_upper(all_letters(), keysym.0) || stands_in(self.upper(), keysym.0)
     }
 
-    fn has_more(self) -> bool
-        ensures { result ≡ has_more self }
+    /// Further letters in lower case.
+    fn lower(self) -> &'static [u32]
+        ensures members { result.now ≡ (letters_of self).lower }
+        ensures rising { IsRising result.now }
     {
         match self {
-            Letters::BuiltIn => false,
-            Letters::Unicode => true,
+            Letters::BuiltIn => &[],
+            Letters::Unicode => lower(),
+        }
+    }
+
+    /// Further letters in upper case.
+    fn upper(self) -> &'static [u32]
+        ensures members { result.now ≡ (letters_of self).upper }
+        ensures rising { IsRising result.now }
+    {
+        match self {
+            Letters::BuiltIn => &[],
+            Letters::Unicode => upper(),
         }
     }
 }
@@ -102,7 +116,7 @@ fn is_within(first: u32, count: u32, number: u32) -> bool
     first <= number && number - first < count
 }
 
-/// Further letters in lower case.
+/// Unicode's other letters in lower case.
 fn lower() -> &'static [u32]
     ensures members { result.now ≡ more_lower }
     ensures rising { IsRising result.now }
@@ -110,7 +124,7 @@ fn lower() -> &'static [u32]
     &LOWER
 }
 
-/// Further letters in upper case.
+/// Unicode's other letters in upper case.
 fn upper() -> &'static [u32]
     ensures members { result.now ≡ more_upper }
     ensures rising { IsRising result.now }

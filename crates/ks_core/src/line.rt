@@ -9,7 +9,7 @@ ghost use Rattle.ks_core.specs.Lines.{lines_of, lines_left, is_skipped, is_blank
 ghost use Rattle.ks_core.specs.Name.{is_word, is_word_start, is_word_byte, is_u_form, is_hex_form, is_decimal};
 ghost use Rattle.kx_basics.specs.Keysyms.{is_keysym};
 
-use crate::digits::{is_hex, number_of};
+use crate::digits::{decimal_number, is_hex, whole_hex_number};
 use crate::fault::NameFault;
 use kx_basics::is_keysym;
 use std::str;
@@ -244,7 +244,7 @@ fn number_in(text: &[u8]) -> Option<u32>
     ensures { result ≡ in_32_bits (number_in text.now) }
 {
     match hex_digits(text) {
-        Some(digits) => number_of(digits, 16),
-        None => number_of(text, 10),
+        Some(digits) => whole_hex_number(digits),
+        None => decimal_number(text),
     }
 }

@@ -1,13 +1,13 @@
 //! The names of keysyms.
-ghost use Rattle.std.specs.Prelude.{◌≡◌, ◌<◌, ◌≤◌, ◌⊎◌, true, false, Some, [], ◌∷◌, length, IfOk, IfErr, IfSome, OnOk, slice_get};
+ghost use Rattle.std.specs.Prelude.{◌≡◌, ◌<◌, ◌≤◌, ◌⊎◌, true, false, None, Some, [], ◌∷◌, length, IfOk, IfErr, IfSome, OnOk, slice_get, if◌then◌else◌};
 ghost use Rattle.std.specs.List.{list_all};
 ghost use Rattle.std.specs.Option.{option_map, option_or};
-ghost use Rattle.std.specs.Str.{IsAscii};
+ghost use Rattle.std.specs.Str.{IsAscii, is_utf8};
 ghost use Rattle.ks_core.specs.BuiltIn.{built_in};
 ghost use Rattle.ks_core.specs.Entry.{keysym_in, name_in};
 ghost use Rattle.ks_core.specs.Lines.{lines_of, given_by, is_sound, AreFaultless, IsFirstFault};
 ghost use Rattle.ks_core.specs.Name.{u_keysym, hex_keysym};
-ghost use Rattle.ks_core.specs.Table.{with_names, x11_table};
+ghost use Rattle.ks_core.specs.Table.{letters_of, with_names, x11_table};
 ghost use Rattle.ks_core.specs.Names.{four_digits, hex_digits, keysym_named, name_of_keysym, name_of_number, is_word_or_number, is_written_back};
 
 use crate::builtin;
@@ -80,7 +80,7 @@ impl NameTable {
 
     /// Which keysyms are letters.
     pub fn letters(&self) -> Letters
-        ensures { result ≡ self.now.letters }
+        ensures { letters_of result ≡ self.now.letters }
     {
         self.further.letters()
     }
@@ -135,6 +135,25 @@ impl NameTable {
         }
     }
 
+    /// The same of a name that is given as bytes; none where these are no text.
+    #[tactic(auto, using(crate::proofs::TextLemmas::built_in_text, crate::proofs::TextLemmas::of_text))]
+    pub fn by_bytes(&self, name: &[u8]) -> Option<Keysym>
+        ensures value { option_map (λ keysym. keysym.0) result
+            ≡ (if is_utf8 name.now then keysym_named self.now name.now else None) }
+        ensures within { IfSome result (λ keysym. is_written_back keysym.0 ≡ true) }
+    {
+        if let Some(keysym) = NameTable::built_in(name) {
+            return Some(keysym);
+        }
+        if let Some(keysym) = self.further_keysym_of_bytes(name) {
+            return Some(Keysym(keysym));
+        }
+        match str::from_utf8(name) {
+            Ok(text) => self.by_name(text),
+            Err(_) => None,
+        }
+    }
+
     /// Sets `text` to the name of the keysym: its first name, else the U form of its character, else
     /// the 0x form of its number.
     #[tactic(auto, unfolding(crate::specs::Names::name_of_keysym))]
@@ -175,6 +194,13 @@ impl NameTable {
         ensures within { IfSome result (λ keysym. is_written_back keysym ≡ true) }
     {
         self.further.keysym_of(name)
+    }
+
+    fn further_keysym_of_bytes(&self, name: &[u8]) -> Option<u32>
+        ensures value { IfSome result (λ keysym. Some keysym ≡ keysym_in self.now.names name.now) }
+        ensures sound { list_all is_sound self.now.names ≡ true }
+    {
+        self.further.keysym_of_bytes(name)
     }
 
     fn further_name(&self, keysym: u32) -> Option<&str>

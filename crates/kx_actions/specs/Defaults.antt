@@ -76,12 +76,9 @@ module _ (names : List (List ℕ)) where
   defaults_after statements = fold next_defaults no_defaults statements
 
 module _ (file : ℕ) (names : List (List ℕ)) (field : Field) where
-  abbrev pub unknown_faults : List Fault
-  unknown_faults = UnknownField (at file field.place.word.span) ∷ []
-
   -- of a field as a default for an action
   abbrev pub default_faults : List Fault
-  default_faults = option_map_or (λ member. option_map_or (λ kind. member_faults file names kind member field.place.index field.span field.setting) (kind_of field) unknown_faults) field.place.member unknown_faults
+  default_faults = option_map_or (λ member. option_map_or (λ kind. member_faults file names kind member field.place.index field.span field.setting) (kind_of field) (UnknownField (at file field.place.word.span) ∷ [])) field.place.member (UnknownField (at file field.place.word.span) ∷ [])
 
 -- ---- Under names, for clauses and proofs
 

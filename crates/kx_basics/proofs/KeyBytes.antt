@@ -1,5 +1,5 @@
 -- Bytes of keys' names are small.
-use Rattle.std.proofs.Common.{ℕ, ◌≡◌, ◌≤◌, ◌==◌, not, nat_le, true, ◌&&◌}
+use Rattle.std.proofs.Common.{ℕ, ◌≤◌, ◌==◌, not, nat_le, ◌&&◌}
 use Rattle.std.proofs.lemmas.Bool.{and_parts, leb-true}
 use Rattle.kx_basics.specs.KeyNames.{IsKeyByte}
 

@@ -4,9 +4,9 @@ ghost use Rattle.std.specs.Char.{digit_value};
 ghost use Rattle.std.specs.Str.Parse.{digits_value};
 
 /// The number that digits write in a base, or 2^32 where it is greater. A byte that is no digit counts as 36.
-pub fn digits_value(digits: &[u8], base: u64) -> u64
+fn digits_value(digits: &[u8], base: u64) -> u64
     requires some { 1 ≤ base }
-    requires small { base ≤ 36 }
+    requires written { base ≤ 36 }
     ensures { result ≡ min (digits_value base digits.now) (2 ^ 32) }
 {
     let mut value = 0;
@@ -17,6 +17,21 @@ pub fn digits_value(digits: &[u8], base: u64) -> u64
         value = value * base + digit_of(*digit);
     }
     value.min(1 << 32)
+}
+
+/// The number that decimal digits write, or 2^32 where it is greater. A byte that is no digit counts as 36, a letter as its digit.
+pub fn decimal_value(digits: &[u8]) -> u64
+    ensures { result ≡ min (digits_value 10 digits.now) (2 ^ 32) }
+{
+    digits_value(digits, 10)
+}
+
+/// The number that hexadecimal digits write, or 2^32 where it is greater. A byte that is no digit counts as 36, a letter as
+/// its digit.
+pub fn hex_value(digits: &[u8]) -> u64
+    ensures { result ≡ min (digits_value 16 digits.now) (2 ^ 32) }
+{
+    digits_value(digits, 16)
 }
 
 /// The value of a digit; 36 of another byte.

@@ -7,7 +7,7 @@ mod key_names;
 mod keysyms;
 mod limits;
 
-pub use digits::digits_value;
+pub use digits::{decimal_value, hex_value};
 pub use key_names::is_key_byte;
 pub use keysyms::is_keysym;
 pub use limits::{

@@ -1,4 +1,4 @@
--- The fields of a key behind the first.
+-- The fields of a key after the first.
 use Rattle.std.proofs.Common.{◌≡◌, ◌==◌, ℕ, zero, suc, ◌<◌, List, [], ◌∷◌, ◌++◌, ap, ◌∙◌, arith, codes, cond, length, map, refl}
 use Rattle.std.proofs.Math.Dec.{eqb-suc-zero}
 use Rattle.kx_print.specs.Phrases.{joined, numbered}
@@ -11,7 +11,7 @@ use Rattle.kx_tables.specs.declared.rows.Range.{Range}
 use Rattle.kx_tables.specs.declared.rows.Range.TheVariants.{Wrap, Clamp, Redirect}
 use Rattle.kx_client_text.specs.Written.{comma_before, range_comma}
 
--- fields behind one, with the comma between them
+-- fields after one, with the comma between them
 pub behind_first : (first : List ℕ) (fields : List (List ℕ)) → on_new_line first ++ (lead (codes ",") fields ++ joined (codes ",") (map on_new_line fields)) ≡ joined (codes ",") (map on_new_line (first ∷ fields))
 behind_first first [] = refl
 behind_first first (field ∷ fields) = refl

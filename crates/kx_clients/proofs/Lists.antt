@@ -12,7 +12,7 @@ use Rattle.kx_clients.specs.VirtualModifiers.{mods_among, names_among, stands_am
 use Rattle.kx_clients.specs.declared.virtual_modifier.VirtualModifier.{VirtualModifier}
 use borrow.Author.Count.{below_more}
 
--- what stands in front is found where it stood, and the last behind it
+-- what stands in front is found where it stood, and the last after it
 at_front : {X : Type 0} (xs ys : List X) (k : ℕ) → k < length xs → slice_get (xs ++ ys) k ≡ slice_get xs k
 at_front [] ys k less = absurd (omega (arith, less))
 at_front (x ∷ xs) ys zero less = refl
@@ -52,7 +52,7 @@ stands_at (m ∷ modifiers) (suc number) = stands_at modifiers number
 pub stands_all : (modifiers : List VirtualModifier) → stands_for (stands_among modifiers) ≡ mods_among modifiers
 stands_all modifiers = fun_ext (stands_at modifiers)
 
--- nothing is left behind the end
+-- nothing is left after the end
 pub none_left : {X : Type 0} (xs : List X) (k : ℕ) → length xs ≤ k → drop k xs ≡ []
 none_left [] zero past = refl
 none_left [] (suc k) past = refl

@@ -35,7 +35,7 @@ module _ (names : KeysymTable) (library : Library) where
   abbrev pub of_types : List Fault
   of_types = types_faults (modifiers_of library) (body_of library Types)
 
-  -- those of what stands behind keycodes and types
+  -- those of what stands after keycodes and types
   abbrev pub of_parts : List Fault
   of_parts = parts_faults (codes_in library) names (modifiers_of library) (body_of library Compat) (body_of library Symbols)
 
@@ -65,7 +65,7 @@ module _ (names : KeysymTable) (library : Library) where
   abbrev pub of_told : List Fault
   of_told = told_faults (codes_in library) names (modifiers_of library) (body_of library Compat) (body_of library Symbols)
 
-  -- those of keys, modifier maps and interpretations are among those of what stands behind keycodes and types
+  -- those of keys, modifier maps and interpretations are among those of what stands after keycodes and types
   told_among : (e : Fault) → Contains of_told e → Contains of_parts e
   told_among e has =
       let maps = mapped_faults (codes_in library) names (modifiers_of library) (body_of library Symbols) in

@@ -7,7 +7,7 @@ use Rattle.kx_include.specs.Expansion.{Body}
 use Rattle.kx_merge.specs.Bodies.{Moves, Rules, offers_of}
 use Rattle.kx_merge.specs.Offers.{Offer, plain_offer, value_of}
 use Rattle.kx_merge.specs.Records.{cell_in}
-use Rattle.kx_merge.specs.Single.{single_cell, single_moves, single_rules}
+use Rattle.kx_merge.specs.Single.{single_form, single_moves, single_rules}
 use Rattle.kx_merge.specs.declared.single.Single.{Single}
 use Rattle.kx_parse.specs.declared.tree.Mode.{Mode}
 use Rattle.kx_parse.specs.declared.tree.Statement.{Statement}
@@ -49,4 +49,4 @@ abbrev pub name_offer : Mode → ℕ → List ℕ → Offer ℕ (Unit {0}) (List
 name_offer mode number name = plain_offer mode number (λ _. Some name)
 
 abbrev pub name_recorded : {S : Type 0} → IndexMap ℕ (Single (List ℕ)) S → ℕ → List ℕ
-name_recorded records number = unwrap_or (cell_in single_cell (get nat_eq records number) tt) []
+name_recorded records number = unwrap_or (cell_in single_form (get nat_eq records number) tt) []

@@ -7,7 +7,7 @@ ghost use Rattle.kx_lex.specs.declared.fault.Fault.TheVariants.{Memory};
 ghost use Rattle.kx_merge.specs.Moved.{moved_key};
 ghost use Rattle.kx_merge.specs.Records.{AreOffered};
 ghost use Rattle.kx_merge.specs.Reports.{ReportsOrRunsOut};
-ghost use Rattle.kx_merge.specs.Single.{single_cell, single_moves, single_width};
+ghost use Rattle.kx_merge.specs.Single.{single_form, single_moves};
 ghost use Rattle.kx_parse.specs.declared.tree.Mode.{Mode as ModeValue};
 ghost use Rattle.kx_clients.specs.IndicatorNames.{AreIndicatorNames, kept_number, name_at, name_recorded, name_offer, named_indicator, named_offers};
 
@@ -80,9 +80,8 @@ fn one_record(
     number: u8,
     name: &[u8],
 ) -> Result<Vec<(u8, Single<IndicatorName>)>, Fault>
-    ensures records { (mode : ModeValue)
-        → IfOk result (λ records. AreOffered mode single_cell single_width records.items
-        (name_offer mode number name.now ∷ [])) }
+    ensures records { (mode : ModeValue) → IfOk result (λ records. AreOffered mode single_form
+        records.items (name_offer mode number name.now ∷ [])) }
     ensures err { IfErr result (λ e. e ≡ Memory) }
 {
     let name = IndicatorName::of(alloc, name)?;
@@ -94,9 +93,8 @@ fn read_statement(
     alloc: Global,
     statement: &Statement,
 ) -> Result<Vec<(u8, Single<IndicatorName>)>, Fault>
-    ensures records { (mode : ModeValue)
-        → IfOk result (λ records. AreOffered mode single_cell single_width records.items
-        (named_offers mode (named_indicator statement.now))) }
+    ensures records { (mode : ModeValue) → IfOk result (λ records. AreOffered mode single_form
+        records.items (named_offers mode (named_indicator statement.now))) }
     ensures err { IfErr result (λ e. e ≡ Memory) }
 {
     match named_indicator(statement) {

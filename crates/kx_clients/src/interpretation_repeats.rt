@@ -5,7 +5,7 @@ ghost use Rattle.kx_compat.specs.Sections.{interpretation_in, is_interpret};
 ghost use Rattle.kx_key_fields.specs.AttributeFields.{truth_in};
 ghost use Rattle.kx_merge.specs.Last.{last_given};
 ghost use Rattle.kx_merge.specs.Offers.{MergesCells};
-ghost use Rattle.kx_merge.specs.Plain.{plain_cell, plain_width};
+ghost use Rattle.kx_merge.specs.Plain.{plain_form};
 ghost use Rattle.kx_merge.specs.Records.{AreOffered};
 ghost use Rattle.kx_merge.specs.Reports.{ReportsOrRunsOut};
 ghost use Rattle.kx_merge.specs.Words.{meaning_among, truth_words};
@@ -119,8 +119,7 @@ pub(crate) struct Context<'a> {
 
 #[tactic(auto, using(kx_merge::proofs::Offered::nothing_offered))]
 fn no_records(alloc: Global) -> Vec<(InterpretationMatch, Plain<SaidOfMatch>)>
-    ensures { (mode : ModeValue)
-        → AreOffered mode (plain_cell truth_cell) plain_width result.items [] }
+    ensures { (mode : ModeValue) → AreOffered mode (plain_form truth_cell) result.items [] }
 {
     Vec::new(alloc)
 }
@@ -133,7 +132,7 @@ fn read_interpretation(
     written: &WrittenInterpretation,
 ) -> Result<Vec<(InterpretationMatch, Plain<SaidOfMatch>)>, Fault>
     ensures records { (mode : ModeValue)
-        → IfOk result (λ records. AreOffered mode (plain_cell truth_cell) plain_width records.items
+        → IfOk result (λ records. AreOffered mode (plain_form truth_cell) records.items
         (truth_offers context.now.keysyms.now context.now.modifiers.now.names default mode
         (Some (written.now.symbol.now, written.now.predicate.now, written.now.fields.now)))) }
     ensures faults { ReportsOrRunsOut result
@@ -166,7 +165,7 @@ fn read_statement(
     placed: &Placed,
 ) -> Result<(Vec<(InterpretationMatch, Plain<SaidOfMatch>)>, Option<bool>), Fault>
     ensures records { (mode : ModeValue)
-        → IfOk result (λ said. AreOffered mode (plain_cell truth_cell) plain_width said.0.items
+        → IfOk result (λ said. AreOffered mode (plain_form truth_cell) said.0.items
         (truth_offers context.now.table.now context.now.names.now.names default mode
         (interpretation_in placed.now.stated.now.statement))) }
     ensures next { IfOk result (λ said.

@@ -5,7 +5,7 @@ ghost use Rattle.std.proofs.Common.{eqb-true};
 ghost use Rattle.kx_lex.specs.declared.fault.Fault.TheVariants.{Memory};
 ghost use Rattle.kx_merge.specs.Last.{last_given};
 ghost use Rattle.kx_merge.specs.Offers.{MergesCells};
-ghost use Rattle.kx_merge.specs.Plain.{plain_cell, plain_width};
+ghost use Rattle.kx_merge.specs.Plain.{plain_form};
 ghost use Rattle.kx_merge.specs.Records.{AreOffered};
 ghost use Rattle.kx_merge.specs.Words.{among, meaning_among};
 ghost use Rattle.kx_parse.specs.declared.tree.Mode.{Mode as ModeValue};
@@ -148,8 +148,7 @@ fn key_in(statement: &Statement) -> Option<(&KeyName, &SmallRow<KeyField>)>
 
 #[tactic(auto, using(kx_merge::proofs::Offered::nothing_offered))]
 fn no_records(alloc: Global) -> Vec<(u16, Plain<SaidOfKey>)>
-    ensures { (mode : ModeValue)
-        → AreOffered mode (plain_cell repeat_cell) plain_width result.items [] }
+    ensures { (mode : ModeValue) → AreOffered mode (plain_form repeat_cell) result.items [] }
 {
     Vec::new(alloc)
 }
@@ -163,7 +162,7 @@ fn read_key(
     fields: &SmallRow<KeyField>,
 ) -> Result<Vec<(u16, Plain<SaidOfKey>)>, Fault>
     ensures records { (mode : ModeValue)
-        → IfOk result (λ records. AreOffered mode (plain_cell repeat_cell) plain_width records.items
+        → IfOk result (λ records. AreOffered mode (plain_form repeat_cell) records.items
         (key_offers codes.now default mode (Some (name.now, fields.now)))) }
     ensures err { IfErr result (λ e. e ≡ Memory) }
 {
@@ -191,7 +190,7 @@ fn read_statement(
     statement: &Statement,
 ) -> Result<(Vec<(u16, Plain<SaidOfKey>)>, Option<KeyRepeat>), Fault>
     ensures records { (mode : ModeValue)
-        → IfOk result (λ said. AreOffered mode (plain_cell repeat_cell) plain_width said.0.items
+        → IfOk result (λ said. AreOffered mode (plain_form repeat_cell) said.0.items
         (key_offers codes.now default mode (key_in statement.now))) }
     ensures next { IfOk result (λ said. said.1 ≡ next_default default statement.now) }
     ensures err { IfErr result (λ e. e ≡ Memory) }

@@ -1,6 +1,7 @@
 -- What maps of pairs stand for, and what stands for what a change leaves.
-use Rattle.std.proofs.Common.{◌≡◌, ℕ, ◌+◌, ◌<◌, zero, suc, length, take, get_or, arith, IsSome, Bool, true, false, cond, ◌||◌, ◌&&◌, not, List, [], ◌∷◌, ◌++◌, is_some, Option, None, Some, refl, sym, ap, ◌∙◌, subst, filter, fold, nat_eq}
+use Rattle.std.proofs.Common.{◌≡◌, ℕ, ◌+◌, ◌<◌, zero, suc, length, take, get_or, arith, IsSome, Bool, true, false, cond, ◌==◌, ◌||◌, ◌&&◌, not, List, [], ◌∷◌, ◌++◌, is_some, Option, None, Some, refl, sym, ap, ◌∙◌, subst, filter, fold, nat_eq}
 use Rattle.std.specs.Cmp.{unsigned_Decides}
+use Rattle.std.proofs.lemmas.Bool.Decides.{Decides-eqb}
 use Rattle.std.proofs.lemmas.List.Sums.{fold_more}
 use Rattle.std.specs.List.{slice_get, list_any, AllByRecursion, IsDistinct}
 use Rattle.std.specs.Map.{keys_of}
@@ -336,3 +337,28 @@ alone-names mode qs d code = option_same (name_in qs code) (name_in (all_taken m
 
 pub once_stands : (mode inner : Mode) (x : Indexed) (ps qs : List Pair) → distinct ps ≡ true → distinct qs ≡ true → Stands x (all_taken mode ps qs) → Stands x (all_taken mode ps (all_taken inner [] qs))
 once_stands mode inner x ps qs dp d s = order_stands ps qs (all_taken inner [] qs) d (all_distinct inner [] qs refl) (alone-codes inner qs d) (alone-names inner qs d) mode x dp s
+
+-- taken where there are none, they are the same
+stands_alone : (mode : Mode) (x : Indexed) (qs : List Pair) → Stands x qs → Stands x (all_taken mode [] qs)
+stands_alone mode x qs s = record {
+  distinct_are = all_distinct mode [] qs refl;
+  codes_are = λ name. s.codes_are name ∙ alone-codes mode qs s.distinct_are name;
+  names_are = λ code. s.names_are code ∙ alone-names mode qs s.distinct_are code;
+}
+
+absent_at : (vs : List Pair) → length vs ≡ 0 → (code : ℕ) → name_in vs code ≡ None
+absent_at [] none code = refl
+absent_at (v ∷ vs) none code = absurd (omega arith)
+
+first_at : (p : Pair) (ps : List Pair) → name_in (p ∷ ps) p.code ≡ Some p.name
+first_at p ps = let same : (p.code == p.code) ≡ true = (Decides-eqb p.code p.code).1 refl in rw same refl
+
+none_stands : (x : Indexed) (ps : List Pair) → length x.by_code ≡ 0 → Stands x ps → ps ≡ []
+none_stands x [] none s = refl
+none_stands x (p ∷ ps) none s =
+    let is : None ≡ Some p.name = sym (absent_at x.by_code none p.code) ∙ s.names_are p.code ∙ first_at p ps in
+    absurd (false≢true (ap is_some is))
+
+-- taken where nothing stands, they are the same
+pub stands_first : (mode : Mode) (x given : Indexed) (ps qs : List Pair) → length x.by_code ≡ 0 → Stands x ps → Stands given qs → Stands given (all_taken mode ps qs)
+stands_first mode x given ps qs none s t = subst (λ rs. Stands given (all_taken mode rs qs)) (sym (none_stands x ps none s)) (stands_alone mode given qs t)

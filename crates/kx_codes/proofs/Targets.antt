@@ -8,7 +8,7 @@ use Rattle.indexmap.specs.IndexMap.{IndexMap, get, keys}
 use Rattle.kx_include.specs.Expansion.{Body}
 use Rattle.kx_merge.specs.Offers.{first_weak, is_hidden, last_strong, seen}
 use Rattle.kx_merge.specs.Records.{Shows, cell_in}
-use Rattle.kx_merge.specs.Single.{single_cell, single_width}
+use Rattle.kx_merge.specs.Single.{single_form}
 use Rattle.kx_merge.specs.declared.single.Single.{Single}
 use Rattle.kx_codes.specs.Aliases.{AliasOffer, Aliases, alias_offers, aliases_of, target_in, target_of}
 use Rattle.kx_codes.specs.Codes.{Codes, CodesShow, name_of, paired}
@@ -35,20 +35,20 @@ aliases_found body name = found_in (target_of body) name (alias_offers body) (ap
 
 -- ---- Records
 
-looked_up : (test : List ℕ → Bool) (es : List (List ℕ × Single (List ℕ))) → option_and_then (λ t. t) (lookup test (map shown_alias es)) ≡ cell_in single_cell (lookup test es) tt
+looked_up : (test : List ℕ → Bool) (es : List (List ℕ × Single (List ℕ))) → option_and_then (λ t. t) (lookup test (map shown_alias es)) ≡ cell_in single_form (lookup test es) tt
 looked_up test [] = refl
 looked_up test (e ∷ es) = by (test e.0) (looked_up test es)
   where
-    by : (b : Bool) → option_and_then (λ t. t) (lookup test (map shown_alias es)) ≡ cell_in single_cell (lookup test es) tt → option_and_then (λ t. t) (cond b (Some e.1.value) (lookup test (map shown_alias es))) ≡ cell_in single_cell (cond b (Some e.1) (lookup test es)) tt
+    by : (b : Bool) → option_and_then (λ t. t) (lookup test (map shown_alias es)) ≡ cell_in single_form (lookup test es) tt → option_and_then (λ t. t) (cond b (Some e.1.value) (lookup test (map shown_alias es))) ≡ cell_in single_form (cond b (Some e.1) (lookup test es)) tt
     by true rest = refl
     by false rest = rest
 
 -- what is found by a name among aliases is what its record holds
-pub target_is : (name : List ℕ) (aliases : Aliases) (es : List (List ℕ × Single (List ℕ))) (o : Option (Single (List ℕ))) → map shown_alias es ≡ aliases → lookup (bytes_eq name) es ≡ o → target_in aliases name ≡ cell_in single_cell o tt
-target_is name aliases es o shown found = ap (λ given. target_in given name) (sym shown) ∙ looked_up (bytes_eq name) es ∙ ap (λ r. cell_in single_cell r tt) found
+pub target_is : (name : List ℕ) (aliases : Aliases) (es : List (List ℕ × Single (List ℕ))) (o : Option (Single (List ℕ))) → map shown_alias es ≡ aliases → lookup (bytes_eq name) es ≡ o → target_in aliases name ≡ cell_in single_form o tt
+target_is name aliases es o shown found = ap (λ given. target_in given name) (sym shown) ∙ looked_up (bytes_eq name) es ∙ ap (λ r. cell_in single_form r tt) found
 
 -- pairs and records that show a body are its codes
-pub codes_show : {S : Type 0} (c : Codes) (pairs : Indexed) (m : IndexMap (List ℕ) (Single (List ℕ)) S) (body : Body) → c ≡ record { by_name = pairs.by_name; by_code = pairs.by_code; aliases = map shown_alias m.entries } → Stands pairs (pairs_of body) → Shows single_cell single_width bytes_eq (keys m) (get bytes_eq m) (alias_offers body) → CodesShow c body
+pub codes_show : {S : Type 0} (c : Codes) (pairs : Indexed) (m : IndexMap (List ℕ) (Single (List ℕ)) S) (body : Body) → c ≡ record { by_name = pairs.by_name; by_code = pairs.by_code; aliases = map shown_alias m.entries } → Stands pairs (pairs_of body) → Shows single_form bytes_eq (keys m) (get bytes_eq m) (alias_offers body) → CodesShow c body
 codes_show c pairs m body is stands shows = record {
   codes_are = λ name. ap (λ x. paired x name) is ∙ stands.codes_are name;
   names_are = λ code. ap (λ x. name_of x code) is ∙ stands.names_are code;

@@ -6,7 +6,7 @@ ghost use Rattle.std.proofs.Common.{◌∙◌, ap, sym};
 ghost use Rattle.kx_basics.specs.KeyNames.{IsKeyName};
 ghost use Rattle.kx_lex.specs.declared.fault.Fault.TheVariants.{Memory};
 ghost use Rattle.kx_merge.specs.Records.{AreOffered};
-ghost use Rattle.kx_merge.specs.Single.{single_cell, single_width};
+ghost use Rattle.kx_merge.specs.Single.{single_form};
 ghost use Rattle.kx_parse.specs.declared.tree.Mode.{Mode as ModeValue};
 ghost use Rattle.kx_codes.specs.Aliases.{alias_faults, alias_in, alias_offer, stated_offers};
 ghost use Rattle.kx_merge.specs.Reports.{ReportsOrRunsOut};
@@ -36,9 +36,8 @@ fn one_record(
 ) -> Result<Vec<(ShortName, Single<AliasTarget>)>, Fault>
     requires name { IsKeyName name.now }
     requires target { IsKeyName target.now }
-    ensures records { (mode : ModeValue)
-        → IfOk result (λ records. AreOffered mode single_cell single_width records.items
-        (alias_offer mode name.now target.now ∷ [])) }
+    ensures records { (mode : ModeValue) → IfOk result (λ records. AreOffered mode single_form
+        records.items (alias_offer mode name.now target.now ∷ [])) }
     ensures err { IfErr result (λ e. e ≡ Memory) }
 {
     let target = AliasTarget::of(alloc, target)?;

@@ -197,6 +197,19 @@ impl Pairs {
         Ok(())
     }
 
+    /// Takes others, which are handed over: where there are none yet, they are these.
+    pub(crate) fn take_joined(&mut self, mode: Mode, given: Pairs) -> Result<(), Fault>
+        ensures took { OnOk result ((ps qs : List PairValue) → Stands self.old ps
+            → Stands given qs → Stands self.new (all_taken mode ps qs)) }
+        ensures err { IfErr result (λ e. e ≡ Memory) }
+    {
+        if self.len() == 0 {
+            *self = given;
+            return Ok(());
+        }
+        self.take_all(mode, &given)
+    }
+
     /// How many pairs there are.
     pub(crate) fn len(&self) -> usize
         ensures len { result ≡ length self.now.by_code }

@@ -134,8 +134,16 @@ fn gather_include(
         return Ok(());
     }
     let joined = gather_links(alloc, done, links)?;
-    gathered.take_all(mode, &joined)?;
+    gathered.take_joined(mode, joined)?;
     Ok(())
+}
+
+/// How many pairs the first part of an include's text leaves.
+fn first_count(done: &[Result<Pairs, Fault>], links: &[Link]) -> usize {
+    match links.first().and_then(|link| done.get(link.map)) {
+        Some(Ok(brought)) => brought.len(),
+        _ => 0,
+    }
 }
 
 /// What the parts of an include's text leave together.
@@ -147,7 +155,7 @@ fn gather_links(
     ensures { (names : List (List ℕ)) (bodies : List Body) → AreGathered names done.now bodies
         → IsGathered names (links_body bodies links.now) result }
 {
-    let mut joined = Pairs::new(alloc);
+    let mut joined = Pairs::with_room(alloc, first_count(done, links))?;
     'links: for link in links {
         gather_link(done, *link, &mut joined)?;
     }

@@ -8,7 +8,7 @@ use Rattle.ks_core.specs.Table.{KeysymTable}
 use Rattle.kx_actions.specs.declared.action.KeyAction.{KeyAction}
 use Rattle.kx_include.specs.Expansion.{Body}
 use Rattle.kx_merge.specs.Bodies.{no_moves, offers_of}
-use Rattle.kx_merge.specs.Plain.{plain_cell, plain_width}
+use Rattle.kx_merge.specs.Plain.{plain_form}
 use Rattle.kx_merge.specs.Records.{Shows, cell_in}
 use Rattle.kx_merge.specs.declared.plain.Plain.{Plain}
 use Rattle.kx_compat.specs.Interpretations.{Interpretation}
@@ -25,7 +25,7 @@ use Rattle.kx_compat.specs.declared.values.Cell.TheVariants as cells
 use Rattle.kx_compat.specs.declared.values.FieldValue.{FieldValue}
 use Rattle.kx_compat.specs.declared.values.FieldValue.TheVariants.{Action, Modifier, FirstLevelOnly}
 
-action_shown : (o : Option (Plain FieldValues)) → (option_map_or (λ (r : Plain FieldValues). r.values) o no_values).action ≡ option_and_then value_action (cell_in (plain_cell values_cell) o cells.Action)
+action_shown : (o : Option (Plain FieldValues)) → (option_map_or (λ (r : Plain FieldValues). r.values) o no_values).action ≡ option_and_then value_action (cell_in (plain_form values_cell) o cells.Action)
 action_shown None = refl
 action_shown (Some v) = one v.values.action
   where
@@ -33,7 +33,7 @@ action_shown (Some v) = one v.values.action
     one None = refl
     one (Some x) = refl
 
-modifier_shown : (o : Option (Plain FieldValues)) → (option_map_or (λ (r : Plain FieldValues). r.values) o no_values).modifier ≡ option_and_then value_modifier (cell_in (plain_cell values_cell) o cells.Modifier)
+modifier_shown : (o : Option (Plain FieldValues)) → (option_map_or (λ (r : Plain FieldValues). r.values) o no_values).modifier ≡ option_and_then value_modifier (cell_in (plain_form values_cell) o cells.Modifier)
 modifier_shown None = refl
 modifier_shown (Some v) = one v.values.modifier
   where
@@ -41,7 +41,7 @@ modifier_shown (Some v) = one v.values.modifier
     one None = refl
     one (Some x) = refl
 
-levels_shown : (o : Option (Plain FieldValues)) → (option_map_or (λ (r : Plain FieldValues). r.values) o no_values).first_level_only ≡ option_and_then value_first_level_only (cell_in (plain_cell values_cell) o cells.Levels)
+levels_shown : (o : Option (Plain FieldValues)) → (option_map_or (λ (r : Plain FieldValues). r.values) o no_values).first_level_only ≡ option_and_then value_first_level_only (cell_in (plain_form values_cell) o cells.Levels)
 levels_shown None = refl
 levels_shown (Some v) = one v.values.first_level_only
   where
@@ -50,11 +50,11 @@ levels_shown (Some v) = one v.values.first_level_only
     one (Some x) = refl
 
 module _ {S : Type 0} (records : IndexMap InterpretationMatch (Plain FieldValues) S) (table : KeysymTable) (names : List (List ℕ)) (body : Body) where
-  as-said : Shows {K = InterpretationMatch} {C = Cell} {V = FieldValue} {R = Plain FieldValues} (plain_cell values_cell) plain_width ghosts.eq (keys records) (get ghosts.eq records) (offers_of ghosts.eq (compat_rules table names) no_moves body)
-      → Shows {K = InterpretationMatch} {C = Cell} {V = FieldValue} {R = Plain FieldValues} (plain_cell values_cell) plain_width same_match (keys records) (get same_match records) (interpretation_offers table names body)
-  as-said shows = subst (λ eq. Shows {K = InterpretationMatch} {C = Cell} {V = FieldValue} {R = Plain FieldValues} (plain_cell values_cell) plain_width eq (keys records) (get eq records) (offers_of eq (compat_rules table names) no_moves body)) told_as_said shows
+  as-said : Shows {K = InterpretationMatch} {C = Cell} {V = FieldValue} {R = Plain FieldValues} (plain_form values_cell) ghosts.eq (keys records) (get ghosts.eq records) (offers_of ghosts.eq (compat_rules table names) no_moves body)
+      → Shows {K = InterpretationMatch} {C = Cell} {V = FieldValue} {R = Plain FieldValues} (plain_form values_cell) same_match (keys records) (get same_match records) (interpretation_offers table names body)
+  as-said shows = subst (λ eq. Shows {K = InterpretationMatch} {C = Cell} {V = FieldValue} {R = Plain FieldValues} (plain_form values_cell) eq (keys records) (get eq records) (offers_of eq (compat_rules table names) no_moves body)) told_as_said shows
 
-  shown-by : Shows {K = InterpretationMatch} {C = Cell} {V = FieldValue} {R = Plain FieldValues} (plain_cell values_cell) plain_width same_match (keys records) (get same_match records) (interpretation_offers table names body) → (interpretation_match : InterpretationMatch) → interpretation_recorded records interpretation_match ≡ interpretation_by (interpretation_offers table names body) interpretation_match
+  shown-by : Shows {K = InterpretationMatch} {C = Cell} {V = FieldValue} {R = Plain FieldValues} (plain_form values_cell) same_match (keys records) (get same_match records) (interpretation_offers table names body) → (interpretation_match : InterpretationMatch) → interpretation_recorded records interpretation_match ≡ interpretation_by (interpretation_offers table names body) interpretation_match
   shown-by shows interpretation_match =
       let o = get same_match records interpretation_match in
       let a = action_shown o ∙ ap (option_and_then value_action) (shows.cells_are interpretation_match cells.Action) in
@@ -62,7 +62,7 @@ module _ {S : Type 0} (records : IndexMap InterpretationMatch (Plain FieldValues
       let l = levels_shown o ∙ ap (option_and_then value_first_level_only) (shows.cells_are interpretation_match cells.Levels) in
       λ i. record { interpretation_match = interpretation_match; action = a i; modifier = m i; first_level_only = unwrap_or (l i) false }
 
-  pub listed_are : (all : List Interpretation) → Shows {K = InterpretationMatch} {C = Cell} {V = FieldValue} {R = Plain FieldValues} (plain_cell values_cell) plain_width ghosts.eq (keys records) (get ghosts.eq records) (offers_of ghosts.eq (compat_rules table names) no_moves body)
+  pub listed_are : (all : List Interpretation) → Shows {K = InterpretationMatch} {C = Cell} {V = FieldValue} {R = Plain FieldValues} (plain_form values_cell) ghosts.eq (keys records) (get ghosts.eq records) (offers_of ghosts.eq (compat_rules table names) no_moves body)
       → all ≡ map (interpretation_recorded records) (keys records) → all ≡ interpretations_of table names body
   listed_are all derived is =
       let shows = as-said derived in

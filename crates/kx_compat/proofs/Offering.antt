@@ -2,7 +2,7 @@
 use Rattle.std.proofs.Common.{◌≡◌, ℕ, List, Option, Result, IfOk, subst}
 use Rattle.ks_core.specs.Table.{KeysymTable}
 use Rattle.kx_lex.specs.declared.fault.Fault.{Fault}
-use Rattle.kx_merge.specs.Plain.{plain_cell, plain_width}
+use Rattle.kx_merge.specs.Plain.{plain_form}
 use Rattle.kx_merge.specs.Records.{AreOffered}
 use Rattle.kx_merge.specs.declared.plain.Plain.{Plain}
 use Rattle.kx_parse.specs.declared.tree.Mode.{Mode}
@@ -16,7 +16,7 @@ use Rattle.kx_compat.specs.declared.values.Cell.{Cell}
 use Rattle.kx_compat.specs.declared.values.FieldValue.{FieldValue}
 
 abbrev Offered : Mode → List (InterpretationMatch × Plain FieldValues) → List InterpretationOffer → Type 0
-Offered mode records os = AreOffered {K = InterpretationMatch} {C = Cell} {V = FieldValue} {R = Plain FieldValues} mode (plain_cell values_cell) plain_width records os
+Offered mode records os = AreOffered {K = InterpretationMatch} {C = Cell} {V = FieldValue} {R = Plain FieldValues} mode (plain_form values_cell) records os
 
 pub said_offered : {X : Type 0} (items : X → List (InterpretationMatch × Plain FieldValues)) (r : Result X Fault) (mode : Mode) (table : KeysymTable) (names : List (List ℕ)) (d : CompatDefaults) (i o : Option Interpreted) → i ≡ o
     → IfOk r (λ x. Offered mode (items x) (said_offers table names d mode i)) → IfOk r (λ x. Offered mode (items x) (said_offers table names d mode o))

@@ -11,7 +11,7 @@ ghost use Rattle.kx_symbols.specs.Keys.{field_in};
 ghost use Rattle.kx_compat.specs.Matches.{predicate_faults, match_of, match_with};
 ghost use Rattle.kx_compat.specs.Giving.{values_cell};
 ghost use Rattle.kx_mods.specs.Mods.{mask};
-ghost use Rattle.kx_merge.specs.Plain.{plain_cell, plain_width};
+ghost use Rattle.kx_merge.specs.Plain.{plain_form};
 ghost use Rattle.kx_merge.specs.Reports.{Reports, ReportsOrRunsOut};
 
 use crate::defaults::CompatDefaults;
@@ -148,8 +148,7 @@ fn read_values(
 
 #[tactic(auto, using(kx_merge::proofs::Offered::nothing_offered))]
 fn no_records(alloc: Global) -> Vec<(InterpretationMatch, Plain<FieldValues>)>
-    ensures { (mode : ModeValue)
-        → AreOffered mode (plain_cell values_cell) plain_width result.items [] }
+    ensures { (mode : ModeValue) → AreOffered mode (plain_form values_cell) result.items [] }
 {
     Vec::new(alloc)
 }
@@ -163,7 +162,7 @@ fn read_interpretation(
     notes: &mut Notes,
 ) -> Result<Vec<(InterpretationMatch, Plain<FieldValues>)>, Fault>
     ensures records { (mode : ModeValue)
-        → IfOk result (λ records. AreOffered mode (plain_cell values_cell) plain_width records.items
+        → IfOk result (λ records. AreOffered mode (plain_form values_cell) records.items
         (said_offers context.now.keysyms.now context.now.modifiers.now.names defaults.now mode
         (Some (written.now.symbol.now, written.now.predicate.now, written.now.fields.now)))) }
     ensures faults { ReportsOrRunsOut result
@@ -190,7 +189,7 @@ pub(crate) fn read_statement(
     Fault,
 >
     ensures records { (mode : ModeValue)
-        → IfOk result (λ said. AreOffered mode (plain_cell values_cell) plain_width said.0.items
+        → IfOk result (λ said. AreOffered mode (plain_form values_cell) said.0.items
         (said_offers context.now.keysyms.now context.now.modifiers.now.names defaults mode
         (interpretation_in placed.now.stated.now.statement))) }
     ensures next { IfOk result (λ said.

@@ -1,7 +1,7 @@
 //! What a person reads of a fault.
 use crate::fields::write_unknown_field;
 use crate::includes::{
-    include_at, write_bad_include, write_file_missing, write_map_missing, write_too_deep,
+    Included, include_at, write_bad_include, write_file_missing, write_map_missing, write_too_deep,
 };
 use crate::lexemes::{
     write_bad_byte, write_number, write_open_name, write_open_text, write_too_long,
@@ -69,13 +69,16 @@ fn write_of_include(out: &mut String, context: &Context, fault: Fault) -> Result
     let Some(parts) = include_parts(context.alloc, bytes)? else {
         return write_bad_include(out, context.alloc, bytes);
     };
-    let parts = parts.as_slice();
+    let included = Included {
+        kind,
+        parts: parts.as_slice(),
+    };
     let alloc = context.alloc;
     let trees = context.trees;
     match fault {
-        Fault::FileMissing(_) => write_file_missing(out, alloc, trees, kind, parts),
-        Fault::MapMissing(_) => write_map_missing(out, alloc, trees, kind, parts),
-        Fault::DepthOver16(at) => write_too_deep(out, alloc, trees, kind, parts, at),
+        Fault::FileMissing(_) => write_file_missing(out, alloc, trees, included),
+        Fault::MapMissing(_) => write_map_missing(out, alloc, trees, included),
+        Fault::DepthOver16(at) => write_too_deep(out, alloc, trees, included, at),
         _ => Ok(()),
     }
 }

@@ -6,7 +6,6 @@ use crate::wanted::wanted_value;
 use kx_key_fields::{is_attribute_word, is_key_word, is_list_word, usual_words};
 use kx_lex::Span;
 use kx_parse::{Call, Field, Kind, Predicate, Statement};
-use kx_reach::kind_name;
 use std::alloc::AllocError;
 use std::fmt;
 use std::fmt::{Formatter, Write};
@@ -93,7 +92,7 @@ ACTION.ARGUMENT"
 /// Says that a section doesn't have a statement.
 fn write_statement(out: &mut String, kind: Kind, word: &[u8]) -> Result<(), AllocError> {
     let word = quoted(word);
-    let section = kind_name(kind);
+    let section = kind.word();
     let known = statements_of(kind);
     write!(
         out,
@@ -178,21 +177,14 @@ fn write_default(out: &mut String, field: &Field, word: &[u8]) -> Result<(), All
     write_unknown(out, Unknown { word, what, known })
 }
 
-/// Says that a field isn't one that its place has.
+/// Says that a field isn't one that its place has: `word` is the field's.
 fn write_in_field(
     out: &mut String,
     kind: Kind,
     owner: Owner,
     field: &Field,
     word: &[u8],
-    span: Span,
 ) -> Result<(), AllocError> {
-    if let Some(call) = call_in_field(field, span) {
-        return write_in_call(out, call, word, span);
-    }
-    if field.place.word.span != span {
-        return write_default(out, field, word);
-    }
     if owner == Owner::Section {
         let is_name = word.eq_ignore_ascii_case(b"name") && kind == Kind::Symbols;
         return match is_name && field.place.member.is_none() {
@@ -217,7 +209,11 @@ pub(crate) fn write_unknown_field(
     span: Span,
 ) -> Result<(), AllocError> {
     match site_at(statement, span) {
-        Site::Field(owner, field) => write_in_field(out, kind, owner, field, word, span),
+        Site::Field(owner, field) => match call_in_field(field, span) {
+            Some(call) => write_in_call(out, call, word, span),
+            None if field.place.word.span != span => write_default(out, field, word),
+            None => write_in_field(out, kind, owner, field, word),
+        },
         Site::List(list) => match call_in_list(list, span) {
             Some(call) => write_in_call(out, call, word, span),
             None => Ok(()),

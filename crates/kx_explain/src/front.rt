@@ -1,4 +1,4 @@
-//! The tokens before a place where reading stops. What may stand behind them is asked of the parser, which reads them again with
+//! The tokens before a place where reading stops. What may stand after them is asked of the parser, which reads them again with
 //! one token more.
 use crate::plain::place_of;
 use crate::shortening::shortened;
@@ -7,7 +7,7 @@ use kx_parse::{parse, parse_file};
 use kx_reach::bytes_in;
 use std::alloc::{AllocError, Global};
 
-/// Where a token stands that is tried: behind each text.
+/// Where a token stands that is tried: after each text.
 const TRIED: Span = Span {
     start: u32::MAX - 1,
     stop: u32::MAX,
@@ -104,7 +104,7 @@ impl<'t> Front<'t> {
         })
     }
 
-    /// The same, where the parser stops behind them at this place, at the token that stands there or at the end of the text.
+    /// The same, where the parser stops after them at this place, at the token that stands there or at the end of the text.
     fn stopped(self, found: Option<Token>, span: Span) -> Result<Option<Front<'t>>, AllocError> {
         if self.tokens.len() > MOST_TOKENS {
             return Ok(None);
@@ -153,7 +153,7 @@ impl<'t> Front<'t> {
         Ok(self.stop()?.is_none())
     }
 
-    /// The kinds of tokens that may stand behind them.
+    /// The kinds of tokens that may stand after them.
     pub(crate) fn allowed(&self) -> Result<Vec<TokenKind>, AllocError> {
         let mut allowed = Vec::new(self.alloc);
         for kind in &CANDIDATES {

@@ -3,7 +3,7 @@ use crate::quotes::quoted;
 use kx_include::{Part, Place, include_parts};
 use kx_lex::At;
 use kx_parse::{Item, Kind, Section};
-use kx_reach::{Reached, Trees, holds, is_in, kind_name, place_named, reached_from};
+use kx_reach::{Reached, Trees, holds, is_in, place_named, reached_from};
 use std::alloc::{AllocError, Global};
 
 /// So many names of maps are listed of a kind.
@@ -50,21 +50,28 @@ pub(crate) fn write_bad_include(
     Ok(())
 }
 
+/// The parts of an include in a section of a kind.
+#[derive(Clone, Copy)]
+pub(crate) struct Included<'t> {
+    pub(crate) kind: Kind,
+    pub(crate) parts: &'t [Part<'t>],
+}
+
 /// Says which file isn't handed in.
 pub(crate) fn write_file_missing(
     out: &mut String,
     alloc: Global,
     trees: &Trees,
-    kind: Kind,
-    parts: &[Part],
+    included: Included,
 ) -> Result<(), AllocError> {
-    for part in parts {
+    let kind = included.kind;
+    for part in included.parts {
         if trees.file_named(alloc, kind, part.file())?.is_some() {
             continue;
         }
         let file = quoted(part.file());
         write!(out, "no file {file} is handed in")?;
-        let folder = kind_name(kind);
+        let folder = kind.word();
         return match str::from_utf8(part.file()) {
             Ok(name) if !name.contains('=') => write!(
                 out,
@@ -97,7 +104,7 @@ fn write_maps_of(
     let mut count: usize = 0;
     for section in sections.iter().filter(|section| section.kind == kind) {
         if count == 0 {
-            let word = kind_name(kind);
+            let word = kind.word();
             write!(out, "{before}{word} ")?;
         } else if count <= MOST_LISTED {
             out.push_str(", ")?;
@@ -128,10 +135,10 @@ pub(crate) fn write_map_missing(
     out: &mut String,
     alloc: Global,
     trees: &Trees,
-    kind: Kind,
-    parts: &[Part],
+    included: Included,
 ) -> Result<(), AllocError> {
-    for part in parts {
+    let kind = included.kind;
+    for part in included.parts {
         let Some(file) = trees.file_named(alloc, kind, part.file())? else {
             continue;
         };
@@ -139,7 +146,7 @@ pub(crate) fn write_map_missing(
             continue;
         }
         let name = quoted(part.file());
-        let word = kind_name(kind);
+        let word = kind.word();
         write!(out, "the file {name} has no {word}")?;
         if let Some(map) = part.map() {
             let map = quoted(map);
@@ -198,15 +205,14 @@ pub(crate) fn write_too_deep(
     out: &mut String,
     alloc: Global,
     trees: &Trees,
-    kind: Kind,
-    parts: &[Part],
+    included: Included,
     at: At,
 ) -> Result<(), AllocError> {
-    let Some(part) = parts.first() else {
+    let Some(part) = included.parts.first() else {
         return Ok(());
     };
     let name = quoted(part.file());
-    if leads_back(alloc, trees, kind, part, at)? {
+    if leads_back(alloc, trees, included.kind, part, at)? {
         return write!(
             out,
             "{name} leads back to this include, so that includes go more than 16 deep"

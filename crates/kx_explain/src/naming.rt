@@ -152,7 +152,7 @@ fn write_before(out: &mut String, front: &Front, name: Option<&str>) -> Result<(
     }
 }
 
-/// Says that `};` is missing before the last word, where what was found behind that word would go on from it then.
+/// Says that `};` is missing before the last word, where what was found after that word would go on from it then.
 fn write_missing_end(
     out: &mut String,
     front: &Front,
@@ -172,7 +172,7 @@ fn write_missing_end(
     out.push_str("'};' of the section before the next one")
 }
 
-/// Says what could stand behind the front of a text; nothing where that has no name.
+/// Says what could stand after the front of a text; nothing where that has no name.
 pub(crate) fn write_wanted(
     out: &mut String,
     alloc: Global,

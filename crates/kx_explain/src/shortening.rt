@@ -1,14 +1,14 @@
-//! Tokens without those that have no part in what may stand behind them.
+//! Tokens without those that have no part in what may stand after them.
 use kx_lex::{Token, TokenKind};
 use std::alloc::{AllocError, Global};
 
-/// What is kept behind an opening mark whose closing one isn't reached.
+/// What is kept after an opening mark whose closing one isn't reached.
 #[derive(Clone, Copy, Debug)]
 struct Open {
     mark: u8,
     /// So many tokens are kept up to the mark.
     start: usize,
-    /// So many are kept up to the first comma behind it, where there is one.
+    /// So many are kept up to the first comma after it, where there is one.
     first: Option<usize>,
 }
 
@@ -53,7 +53,7 @@ impl Kept {
         }
     }
 
-    /// A `,` stands behind a piece, of which the first is kept.
+    /// A `,` stands after a piece, of which the first is kept.
     fn part(&mut self) {
         let count = self.tokens.len();
         if let Some(open) = self.open.last_mut() {

@@ -52,7 +52,7 @@ pub enum FileKind {
     Other,
 }
 
-/// What an image's bytes behind the first four are.
+/// What an image's bytes after the first four are.
 fn kind_of_image(behind: &[u8]) -> FileKind {
     match behind {
         [low, high, ..] => match u16::from_le_bytes([*low, *high]) {
@@ -67,7 +67,7 @@ fn begins_with(line: &[u8], words: &[&str]) -> bool {
     words.iter().any(|word| line.starts_with(word.as_bytes()))
 }
 
-/// Whether a keymap's word stands in a line, behind blanks or none.
+/// Whether a keymap's word stands in a line, after blanks or none.
 fn has_keymap(line: &[u8]) -> bool {
     for word in line.split(|byte| byte.is_ascii_whitespace()) {
         if word.starts_with(b"xkb_keymap") {

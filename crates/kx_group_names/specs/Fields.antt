@@ -24,10 +24,6 @@ abbrev pub name_in : Statement → Option Field
 name_in (statements.Field field) = if is_group_name field.place then Some field else None
 name_in _ = None
 
--- a group is counted from 1
-abbrev pub indexed_group : Option Index → Option ℕ
-indexed_group index = option_and_then (λ i. number_at Group i.value) index
-
 -- a name is one text
 abbrev pub set_text : Setting → Option (List ℕ)
 set_text s = option_and_then lone_text (expression_in s)
@@ -46,7 +42,11 @@ module _ (file : ℕ) where
   abbrev pub stated_faults : Stated → List Fault
   stated_faults stated = option_map_or (field_faults stated.span) (name_in stated.statement) []
 
--- ---- Under a name, for clauses
+-- ---- Under names, for clauses
+
+-- a group is counted from 1
+abbrev pub indexed_group : Option Index → Option ℕ
+indexed_group index = option_and_then (λ i. number_at Group i.value) index
 
 abbrev pub named_faults : ℕ → Span → Option Field → List Fault
 named_faults file whole field = option_map_or (field_faults file whole) field []

@@ -1,13 +1,15 @@
 -- The names of groups by precedence.
 use Rattle.std.specs.Prelude.{◌≡◌, ℕ, ◌+◌, ◌-◌, ◌<◌, ◌≤◌, ◌==◌, nat_eq, List, [], ◌∷◌, length, slice_get, Option, None, Some, unwrap_or, if◌then◌else◌}
-use Rattle.std.specs.Option.{option_map_or}
+use Rattle.std.specs.Option.{option_and_then, option_map_or}
 use Rattle.indexmap.specs.IndexMap.{IndexMap, get}
 use Rattle.kx_basics.specs.declared.limits.TheConstants.{MOST_GROUPS}
 use Rattle.kx_include.specs.Expansion.{Body}
 use Rattle.kx_merge.specs.Bodies.{Rules, Moves, offers_of}
+use Rattle.kx_merge.specs.Numbers.{number_at}
 use Rattle.kx_merge.specs.Offers.{Offer, value_of, plain_offer}
 use Rattle.kx_merge.specs.Records.{cell_in}
-use Rattle.kx_merge.specs.Single.{single_cell, single_moves, single_rules}
+use Rattle.kx_merge.specs.Single.{single_form, single_moves, single_rules}
+use Rattle.kx_merge.specs.declared.numbers.Counted.TheVariants.{Group}
 use Rattle.kx_merge.specs.declared.single.Single.{Single}
 use Rattle.kx_parse.specs.declared.tree.Field.{Field}
 use Rattle.kx_parse.specs.declared.tree.Mode.{Mode}
@@ -20,17 +22,14 @@ offered mode (Some group) (Some text) = plain_offer mode group (λ _. Some text)
 offered mode _ _ = []
 
 abbrev pub stated_offers : Stated → List (Offer ℕ (Unit {0}) (List ℕ))
-stated_offers stated = option_map_or (λ field. offered stated.mode (indexed_group field.place.index) (set_text field.setting)) (name_in stated.statement) []
+stated_offers stated = option_map_or (λ field. offered stated.mode (option_and_then (λ i. number_at Group i.value) field.place.index) (set_text field.setting)) (name_in stated.statement) []
 
 abbrev pub name_rules : Rules ℕ (Unit {0}) (List ℕ) (Unit {0})
 name_rules = single_rules (λ place stated. stated_offers stated) (λ place stated. stated_faults place.file stated)
 
 -- the name of group 1 becomes that of the group of the move, and the others go
-abbrev pub moved_group : ℕ → ℕ → Option ℕ
-moved_group n group = if group == 1 then Some n else None
-
 abbrev pub name_moves : Moves ℕ (Unit {0})
-name_moves = single_moves moved_group
+name_moves = single_moves (λ n group. if group == 1 then Some n else None)
 
 -- the name that a symbols body gives a group, counted from 1; no bytes where it gives none
 abbrev pub group_name : Body → ℕ → List ℕ
@@ -53,9 +52,12 @@ pub record AreGroupNames (names : List (List ℕ)) (body : Body) : Type 0 where
 
 -- the name that records by group hold; no bytes where they hold none
 abbrev pub name_recorded : {S : Type 0} → IndexMap ℕ (Single (List ℕ)) S → ℕ → List ℕ
-name_recorded records group = unwrap_or (cell_in single_cell (get nat_eq records group) tt) []
+name_recorded records group = unwrap_or (cell_in single_form (get nat_eq records group) tt) []
 
 -- ---- Under names, for clauses
+
+abbrev pub moved_group : ℕ → ℕ → Option ℕ
+moved_group n group = if group == 1 then Some n else None
 
 abbrev pub name_offer : Mode → ℕ → List ℕ → Offer ℕ (Unit {0}) (List ℕ)
 name_offer mode group text = plain_offer mode group (λ _. Some text)

@@ -7,7 +7,7 @@ ghost use Rattle.kx_lex.specs.declared.fault.Fault.TheVariants.{Memory};
 ghost use Rattle.kx_parse.specs.declared.tree.Mode.{Mode as ModeValue};
 ghost use Rattle.kx_merge.specs.Moved.{moved_key};
 ghost use Rattle.kx_merge.specs.Records.{AreOffered};
-ghost use Rattle.kx_merge.specs.Single.{single_cell, single_moves, single_width};
+ghost use Rattle.kx_merge.specs.Single.{single_form, single_moves};
 ghost use Rattle.kx_group_names.specs.Fields.{field_faults, stated_faults};
 ghost use Rattle.kx_group_names.specs.Names.{moved_group, name_offer, named_offers, stated_offers};
 ghost use Rattle.kx_merge.specs.Reports.{ReportsOrRunsOut};
@@ -21,9 +21,8 @@ use std::alloc::Global;
 
 fn one_record(alloc: Global, group: u8, text: &[u8]) -> Result<Vec<(u8, Single<NameText>)>, Fault>
     requires { length text.now ≤ MOST_NAME_BYTES }
-    ensures records { (mode : ModeValue)
-        → IfOk result (λ records. AreOffered mode single_cell single_width records.items
-        (name_offer mode group text.now ∷ [])) }
+    ensures records { (mode : ModeValue) → IfOk result (λ records. AreOffered mode single_form
+        records.items (name_offer mode group text.now ∷ [])) }
     ensures err { IfErr result (λ e. e ≡ Memory) }
 {
     let text = NameText::of(alloc, text)?;
@@ -37,9 +36,8 @@ fn read_field(
     whole: Span,
     field: &Field,
 ) -> Result<Vec<(u8, Single<NameText>)>, Fault>
-    ensures records { (mode : ModeValue)
-        → IfOk result (λ records. AreOffered mode single_cell single_width records.items
-        (named_offers mode (Some field.now))) }
+    ensures records { (mode : ModeValue) → IfOk result (λ records. AreOffered mode single_form
+        records.items (named_offers mode (Some field.now))) }
     ensures faults { ReportsOrRunsOut result (field_faults file whole field.now) }
 {
     let (group, text) = read_name(file, whole, field)?;

@@ -12,5 +12,6 @@ pub mod Reached
 pub mod Outlining
 pub mod Standing
 pub mod Sketching
+pub mod FileTexts
 pub mod Wanting
 pub mod Answering

@@ -17,10 +17,14 @@ length-mapped f (x ∷ xs) = ap suc (length-mapped f xs)
 position-map : {X Y : Type 0} (f : X → Y) (p : Y → Bool) (xs : List X) → position p (map f xs) ≡ position (λ x. p (f x)) xs
 position-map f p xs = rw (prefix_len-map f (λ y. not (p y)) xs, length-mapped f xs) refl
 
+-- the place of a name among the keys is that among the files
+pub place_of-at : {V : Type 0} (g : V → List ℕ) (es : List (List ℕ × V)) (files : List (List ℕ × List ℕ)) (name : List ℕ) (o : Option ℕ) → map {B = List ℕ × List ℕ} (λ e. (e.0, g e.1)) es ≡ files → o ≡ position (bytes_eq name) (map {A = List ℕ × V} (λ e. e.0) es) → o ≡ position (bytes_eq name) (map {A = List ℕ × List ℕ} (λ p. p.0) files)
+place_of-at {V = V} g es files name o same found =
+    found ∙ position-map {X = List ℕ × V} (λ e. e.0) (bytes_eq name) es ∙ sym (position-map {Y = List ℕ × List ℕ} (λ e. (e.0, g e.1)) (λ p. bytes_eq name p.0) es) ∙ sym (position-map (λ p. p.0) (bytes_eq name) (map {B = List ℕ × List ℕ} (λ e. (e.0, g e.1)) es))
+    ∙ ap (λ fs. position (bytes_eq name) (map {A = List ℕ × List ℕ} (λ p. p.0) fs)) same
+
 pub number_of-at : {V : Type 0} (g : V → List ℕ) (es : List (List ℕ × V)) (files : List (List ℕ × List ℕ)) (name : List ℕ) (o : Option ℕ) → map {B = List ℕ × List ℕ} (λ e. (e.0, g e.1)) es ≡ files → o ≡ position (bytes_eq name) (map {A = List ℕ × V} (λ e. e.0) es) → option_map (λ n. n + 1) o ≡ number_of (map {A = List ℕ × List ℕ} (λ p. p.0) files) name
-number_of-at {V = V} g es files name o same found =
-    ap (option_map (λ n. n + 1)) (found ∙ position-map {X = List ℕ × V} (λ e. e.0) (bytes_eq name) es ∙ sym (position-map {Y = List ℕ × List ℕ} (λ e. (e.0, g e.1)) (λ p. bytes_eq name p.0) es) ∙ sym (position-map (λ p. p.0) (bytes_eq name) (map {B = List ℕ × List ℕ} (λ e. (e.0, g e.1)) es)))
-    ∙ ap (λ fs. number_of (map {A = List ℕ × List ℕ} (λ p. p.0) fs) name) same
+number_of-at g es files name o same found = ap (option_map (λ n. n + 1)) (place_of-at g es files name o same found)
 
 -- files where one is put into a map
 pub put-file : {V : Type 0} (g : V → List ℕ) (es : List (List ℕ × V)) (key : List ℕ) (value : V) → map {B = List ℕ × List ℕ} (λ e. (e.0, g e.1)) (insert_entry bytes_eq es key value) ≡ with_file (map {B = List ℕ × List ℕ} (λ e. (e.0, g e.1)) es) key (g value)

@@ -4,16 +4,15 @@ use Rattle.std.proofs.lemmas.Iterator.Adapters.{position_from-zero}
 use Rattle.std.specs.List.{list_all, list_any, position, position_from, slice_get}
 use Rattle.std.specs.Option.{option_and_then, option_map, option_map_or, option_or}
 use Rattle.std.specs.Prelude.{filter}
-use Rattle.kx_parse.specs.Outline.{held_section, held_sections, is_include, outline_of}
+use Rattle.kx_parse.specs.Outline.{is_include, outline_of}
 use Rattle.kx_parse.specs.declared.tree.Item.{Item}
 use Rattle.kx_parse.specs.declared.tree.Item.TheVariants.{Include, Statement}
 use Rattle.kx_parse.specs.declared.tree.Kind.{Kind}
 use Rattle.kx_parse.specs.declared.tree.Section.{Section}
-use Rattle.kx_include.specs.Held.{AreHeld, Flags, Holds, IsClosed, all, closed_item, closed_part, closed_text, flags_of, held_more, held_none, is_wanted, some}
+use Rattle.kx_include.specs.Held.{AreHeld, Flags, Holds, IsClosed, all, closed_item, closed_part, closed_text, flags_of, held_more, held_none, held_section, held_sections, is_wanted, some}
 use Rattle.kx_include.specs.IncludeFaults.{fault_in}
 use Rattle.kx_include.specs.IncludeText.{Part, parts_of}
 use Rattle.kx_include.specs.Library.{Library, Text, file_of, has_name, is_default_flag, is_of, items_in, map_of, place_in, place_of, sections_in, sections_of}
-use Rattle.kx_include.specs.MapIndex.{IsIndex, MapIndex}
 use Rattle.kx_include.specs.declared.place.Place.{Place}
 use Rattle.kx_include.proofs.Reached.{Agrees, EachIncluded, EachOfText, EachPart, Reaches}
 use Rattle.kx_include.proofs.Sections.{kind-is_of}
@@ -55,19 +54,8 @@ outlined-held : (ss : List Section) → held_sections [] ss ≡ map outline_of s
 outlined-held [] = refl
 outlined-held (s ∷ ss) = ap (λ (hs : List Section). outline_of s ∷ hs) (outlined-held ss)
 
-outlined-map_of : (ss : List Section) (kind : Kind) (name : Option (List ℕ)) → map_of (map outline_of ss) kind name ≡ map_of ss kind name
+pub outlined-map_of : (ss : List Section) (kind : Kind) (name : Option (List ℕ)) → map_of (map outline_of ss) kind name ≡ map_of ss kind name
 outlined-map_of ss kind name = ap (λ (hs : List Section). map_of hs kind name) (sym (outlined-held ss)) ∙ held-map_of [] ss kind name
-
--- so an outline's index is that of its sections with statements
-pub IsIndex-held : (index : MapIndex) (ws : List Bool) (ss : List Section) → IsIndex index (map outline_of ss) → IsIndex index (held_sections ws ss)
-IsIndex-held index ws ss is = record {
-  named = λ kind name. is.named kind name ∙ outlined-map_of ss kind (Some name) ∙ sym (held-map_of ws ss kind (Some name));
-  flagged = λ kind. is.flagged kind ∙ ap (λ (hs : List Section). position (flagged_test kind) hs) (sym (outlined-held ss)) ∙ held-position (flagged_test kind) (λ s. refl) [] ss ∙ sym (held-position (flagged_test kind) (λ s. refl) ws ss);
-  first = λ kind. is.first kind ∙ ap (λ (hs : List Section). position (is_of kind) hs) (sym (outlined-held ss)) ∙ held-position (is_of kind) (λ s. refl) [] ss ∙ sym (held-position (is_of kind) (λ s. refl) ws ss);
-}
-  where
-    flagged_test : Kind → Section → Bool
-    flagged_test kind s = is_of kind s && list_any is_default_flag s.flags
 
 -- ---- Where a test finds a place, something stands there that passes it
 
@@ -268,7 +256,7 @@ module _ (names : List (List ℕ)) (flags : Flags) (outlined held whole : List T
   closed-at : (kind : Kind) (place : Place) → IsReached kind place → EachIncluded (Reaches W IsReached kind) (items_in W place)
   closed-at kind place (wanted, (s, found, is)) =
       let o = outlined-at (flags_of flags place.file) (slice_get O.texts place.file) (slice_get H.texts place.file) (slice_get W.texts place.file) (at_file place.file) place.section s found in
-      let there = (closed place.file).closed place.section o.0 wanted o.1 in
+      let there = (closed place.file place.section).closed o.0 wanted o.1 in
       let all_closed = o.2.1 (closed_item O flags o.0.kind) (λ stated. refl) there in
       let kinds : o.0.kind ≡ kind = o.2.0 ∙ is in
       let each = each-item kind s.items (subst (λ (k : Kind). list_all (closed_item O flags k) s.items ≡ true) kinds all_closed) in
@@ -278,7 +266,7 @@ module _ (names : List (List ℕ)) (flags : Flags) (outlined held whole : List T
   source-wanted : (n : ℕ) (s : Section) → slice_get (sections_in W 0) n ≡ Some s → is_wanted flags (record { file = 0; section = n }) ≡ true
   source-wanted n s found =
       let o = outlined-at (flags_of flags 0) (slice_get O.texts 0) (slice_get H.texts 0) (slice_get W.texts 0) (at_file 0) n s found in
-      (closed 0).source n o.0 refl o.1
+      (closed 0 n).source o.0 refl o.1
 
   pub agrees : Agrees H W IsReached
   agrees = record {

@@ -1,6 +1,7 @@
 -- The source's sections, each of which is added to the body of its kind.
-use Rattle.std.proofs.Common.{◌≡◌, ◌⊎◌, ℕ, ◌+◌, ◌≤◌, Bool, true, false, cond, suc, List, [], ◌∷◌, ◌++◌, length, refl, sym, ap, ◌∙◌, subst, arith, inl, inr}
+use Rattle.std.proofs.Common.{◌≡◌, ◌⊎◌, ℕ, ◌+◌, ◌≤◌, Bool, true, false, cond, zero, suc, List, [], ◌∷◌, ◌++◌, Some, drop, length, length-drop, refl, sym, ap, ◌∙◌, subst, arith, inl, inr}
 use Rattle.std.proofs.lemmas.List.{append_assoc, append-nil}
+use Rattle.std.specs.List.{slice_get}
 use Rattle.kx_lex.specs.declared.fault.Fault.{Fault}
 use Rattle.kx_parse.specs.declared.tree.Kind.{Kind}
 use Rattle.kx_parse.specs.declared.tree.Kind.TheVariants.{Keycodes, Types, Compat, Symbols, Geometry}
@@ -126,3 +127,16 @@ all_bodies library n seen [] b none are = record { keycodes = body Keycodes; typ
         ap (λ bs. shared_sections bs x.sections.items) (sym (append-nil (bodies_of x.maps.items)))
         ∙ ap (shared_sections (bodies_of x.maps.items ++ [])) (sym (append-nil x.sections.items))
         ∙ (are.grown kind).joins [] [] refl
+
+-- the section of a number, and those after it
+drop-at : {X : Type 0} (xs : List X) (n : ℕ) (x : X) → slice_get xs n ≡ Some x → drop n xs ≡ x ∷ drop (suc n) xs
+drop-at [] n x e = cc
+drop-at (y ∷ ys) zero x e = let same : y ≡ x = cc in ap (λ (z : _). z ∷ ys) same
+drop-at (y ∷ ys) (suc n) x e = drop-at ys n x e
+
+pub drop-found : {X : Type 0} (xs : List X) (n : ℕ) (x : X) → slice_get xs n ≡ Some x → drop n xs ≡ x ∷ drop (n + 1) xs
+drop-found xs n x e = let next : suc n ≡ n + 1 = omega arith in drop-at xs n x e ∙ ap (λ (k : ℕ). x ∷ drop k xs) next
+
+-- none is left after the last
+pub none-left : {X : Type 0} (xs : List X) (n : ℕ) → length xs ≤ n → length (drop n xs) ≡ 0
+none-left xs n h = let count = length-drop n xs in omega arith

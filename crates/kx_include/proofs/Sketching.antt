@@ -1,89 +1,81 @@
 -- Outlined texts, one after another.
-use Rattle.std.proofs.Common.{◌≡◌, ◌+◌, ◌<◌, ℕ, zero, suc, [], ◌∷◌, ◌++◌, Bool, List, Option, None, Some, Ok, length, map, take, refl, sym, subst, ap, ◌∙◌, arith}
-use Rattle.std.specs.List.{slice_get}
-use Rattle.std.specs.Option.{option_map}
+use Rattle.std.proofs.Common.{◌≡◌, ℕ, [], ◌∷◌, ◌++◌, Bool, true, false, List, Option, None, Some, Ok, map, refl, sym, subst, ap, ◌∙◌}
+use Rattle.std.specs.Prelude.{if◌then◌else◌, unwrap_or}
 use Rattle.kx_lex.specs.declared.token.Span.{Span}
-use Rattle.kx_parse.specs.declared.tree.Tree.{Tree}
-use Rattle.kx_parse.specs.Outline.{IsOutline, held_sections, outline_of}
+use Rattle.kx_parse.specs.Outline.{IsOutline, built_from, outline_of}
+use Rattle.kx_parse.specs.declared.outline.Outline.{Outline}
+use Rattle.kx_parse.specs.declared.tree.Kind.{Kind}
 use Rattle.kx_parse.specs.declared.tree.Section.{Section}
-use Rattle.kx_include.specs.Held.{AreSketches, Holds, IsSketch, all, sketch_more, sketch_none, some}
-use Rattle.kx_include.specs.Library.{Text, sections_of}
-use Rattle.kx_include.specs.MapIndex.{IsIndex, MapIndex}
-use Rattle.kx_include.specs.Texts.{IsShort}
-use Rattle.kx_include.proofs.Outlining.{IsIndex-held}
+use Rattle.kx_parse.specs.declared.tree.Tree.{Tree}
+use Rattle.kx_include.specs.FileText.{FileText}
+use Rattle.kx_include.specs.Held.{AreSketches, Holds, IsSketch, all, held_section, held_sections, sketch_more, sketch_none, some}
+use Rattle.kx_include.specs.Kept.{built_over}
+use Rattle.kx_include.specs.Library.{Text, map_of}
+use Rattle.kx_include.proofs.Outlining.{held-map_of, outlined-map_of}
 
-pub sketch_one : (tree : Tree) (texts : List Text) (places : List (Option (List Span))) → texts ≡ Ok tree ∷ [] → places ≡ None ∷ [] → AreSketches ([] ∷ []) texts places (Ok tree ∷ [])
-sketch_one tree texts places e f =
-    subst (λ (ts : List Text). AreSketches ([] ∷ []) ts places (Ok tree ∷ [])) (sym e)
-    (subst (λ (ps : List (Option (List Span))). AreSketches ([] ∷ []) (Ok tree ∷ []) ps (Ok tree ∷ [])) (sym f) (sketch_more refl sketch_none))
+pub sketch_one : (tree : Tree) (texts : List Text) (files : List (Option FileText)) → texts ≡ Ok tree ∷ [] → files ≡ None ∷ [] → AreSketches texts files (Ok tree ∷ [])
+sketch_one tree texts files e f =
+    subst (λ (ts : List Text). AreSketches ts files (Ok tree ∷ [])) (sym e)
+    (subst (λ (fs : List (Option FileText)). AreSketches (Ok tree ∷ []) fs (Ok tree ∷ [])) (sym f) (sketch_more refl sketch_none))
 
 -- with one more
-pub sketched-more : {bytes : List (List ℕ)} {texts : List Text} {places : List (Option (List Span))} {wholes : List Text} (b : List ℕ) (t : Text) (p : Option (List Span)) (w : Text) → AreSketches bytes texts places wholes → IsSketch b t p w → AreSketches (bytes ++ b ∷ []) (texts ++ t ∷ []) (places ++ p ∷ []) (wholes ++ w ∷ [])
-sketched-more b t p w sketch_none is = sketch_more is sketch_none
-sketched-more b t p w (sketch_more one rest) is = sketch_more one (sketched-more b t p w rest is)
+sketched-more : {texts : List Text} {files : List (Option FileText)} {wholes : List Text} (t : Text) (f : Option FileText) (w : Text) → AreSketches texts files wholes → IsSketch t f w → AreSketches (texts ++ t ∷ []) (files ++ f ∷ []) (wholes ++ w ∷ [])
+sketched-more t f w sketch_none is = sketch_more is sketch_none
+sketched-more t f w (sketch_more one rest) is = sketch_more one (sketched-more t f w rest is)
 
--- the bytes of one more file
-pub bytes-more : (files : List (List ℕ × List ℕ)) (i : ℕ) (file : List ℕ × List ℕ) → slice_get files i ≡ Some file → map (λ f. f.1) (take (suc i) files) ≡ map (λ f. f.1) (take i files) ++ file.1 ∷ []
-bytes-more [] i file e = cc
-bytes-more (f ∷ fs) zero file e = let same : f ≡ file = cc in ap (λ (g : List ℕ × List ℕ). g.1 ∷ []) same
-bytes-more (f ∷ fs) (suc i) file e = ap (λ (bs : List (List ℕ)). f.1 ∷ bs) (bytes-more fs i file e)
+pub sketched-on : {texts new_texts : List Text} {files new_files : List (Option FileText)} {wholes : List Text} (t : Text) (f : Option FileText) (w : Text) → new_texts ≡ texts ++ t ∷ [] → new_files ≡ files ++ f ∷ [] → AreSketches texts files wholes → IsSketch t f w → AreSketches new_texts new_files (wholes ++ w ∷ [])
+sketched-on {texts = texts} {new_files = new_files} {wholes = wholes} t f w e g are is =
+    subst (λ (ts : List Text). AreSketches ts new_files (wholes ++ w ∷ [])) (sym e)
+    (subst (λ (fs : List (Option FileText)). AreSketches (texts ++ t ∷ []) fs (wholes ++ w ∷ [])) (sym g) (sketched-more t f w are is))
 
--- ---- An outline, and what is read of it
+-- ---- Sections that are built over an outline
 
-abbrev pub Outlines : List ℕ → List Section → List Span → Text → Type 0
-Outlines bytes sections places whole = (is : IsOutline bytes (record { sections = sections; places = places })) × (whole ≡ Ok (record { sections = map (λ s. s.0) is.sections }))
+pub built-none : (os : List Section) → built_over os [] ≡ os
+built-none [] = refl
+built-none (o ∷ os) = ap (λ (ss : List Section). o ∷ ss) (built-none os)
 
-pub outline-sketch : (bytes : List ℕ) (text : Text) (sections : List Section) (places : Option (List Span)) (spans : List Span) (whole : Text) → text ≡ Ok (record { sections = sections }) → places ≡ Some spans → IsSketch bytes text places whole → IsShort bytes × Outlines bytes sections spans whole
-outline-sketch bytes text sections places spans whole e f sketch = go (subst (λ (p : Option (List Span)). IsSketch bytes text p whole) f sketch)
-  where
-    go : IsSketch bytes text (Some spans) whole → IsShort bytes × Outlines bytes sections spans whole
-    go (short, (others, same, outlines)) =
-        let all : others ≡ sections = ap sections_of (ap Some (sym same ∙ e)) in
-        (short, subst (λ (ss : List Section). Outlines bytes ss spans whole) all outlines)
+built-one : (w : Bool) (s : Section) → unwrap_or (if w then Some s else None) (outline_of s) ≡ held_section w s
+built-one true s = refl
+built-one false s = refl
+
+built-held : (ws : List Bool) (ss : List Section) → built_over (map outline_of ss) (built_from ws ss) ≡ held_sections ws ss
+built-held ws [] = refl
+built-held [] (s ∷ ss) = ap (λ (hs : List Section). outline_of s ∷ hs) (built-held [] ss)
+built-held (w ∷ ws) (s ∷ ss) = ap (λ (h : Section). h ∷ built_over (map outline_of ss) (built_from ws ss)) (built-one w s) ∙ ap (λ (hs : List Section). held_section w s ∷ hs) (built-held ws ss)
 
 outlined_trees : (ss : List (Section × Span)) → map (λ s. outline_of s.0) ss ≡ map outline_of (map (λ s. s.0) ss)
 outlined_trees [] = refl
 outlined_trees (s ∷ ss) = ap (λ (hs : List Section). outline_of s.0 ∷ hs) (outlined_trees ss)
 
-pub held-holds : (bytes : List ℕ) (sections : List Section) (spans : List Span) (whole : Text) (wanted : List Bool) (held : List Section) → (o : Outlines bytes sections spans whole) → held ≡ held_sections wanted (map (λ s. s.0) o.0.sections) → Holds wanted (Ok (record { sections = sections })) (Ok (record { sections = held })) whole
-held-holds bytes sections spans whole wanted held o is =
-    let trees = map (λ (s : Section × Span). s.0) o.0.sections in
-    let outlined : sections ≡ map outline_of trees = o.0.outlined ∙ outlined_trees o.0.sections in
-    subst (λ (ss : List Section). Holds wanted (Ok (record { sections = ss })) (Ok (record { sections = held })) whole) (sym outlined)
-    (subst (λ (hs : List Section). Holds wanted (Ok (record { sections = map outline_of trees })) (Ok (record { sections = hs })) whole) (sym is)
-    (subst (λ (w : Text). Holds wanted (Ok (record { sections = map outline_of trees })) (Ok (record { sections = held_sections wanted trees })) w) (sym o.1) some))
+outline-trees : {bytes : List ℕ} {outline : Outline} (is : IsOutline bytes outline) → outline.sections ≡ map outline_of (map (λ s. s.0) is.sections)
+outline-trees is = is.outlined ∙ outlined_trees is.sections
 
-pub held-index : (bytes : List ℕ) (sections : List Section) (spans : List Span) (whole : Text) (wanted : List Bool) (held : List Section) (index : MapIndex) → (o : Outlines bytes sections spans whole) → held ≡ held_sections wanted (map (λ s. s.0) o.0.sections) → IsIndex index sections → IsIndex index held
-held-index bytes sections spans whole wanted held index o is indexed =
-    let trees = map (λ (s : Section × Span). s.0) o.0.sections in
-    let outlined : sections ≡ map outline_of trees = o.0.outlined ∙ outlined_trees o.0.sections in
-    subst (λ (hs : List Section). IsIndex index hs) (sym is) (IsIndex-held index wanted trees (subst (λ (ss : List Section). IsIndex index ss) outlined indexed))
+pub built-sections : {bytes : List ℕ} {outline : Outline} (is : IsOutline bytes outline) (built : List (Option Section)) (wanted : List Bool) → built ≡ built_from wanted (map (λ s. s.0) is.sections) → built_over outline.sections built ≡ held_sections wanted (map (λ s. s.0) is.sections)
+built-sections is built wanted e =
+    let trees = map (λ (s : Section × Span). s.0) is.sections in
+    ap (λ (os : List Section). built_over os built) (outline-trees is) ∙ ap (λ (bs : List (Option Section)). built_over (map outline_of trees) bs) e ∙ built-held wanted trees
 
--- ---- One more file
+-- the maps that are found in the outline are those of the sections that were built
+pub built-found : {bytes : List ℕ} {outline : Outline} (is : IsOutline bytes outline) (built : List (Option Section)) (wanted : List Bool) → built ≡ built_from wanted (map (λ s. s.0) is.sections) → (kind : Kind) (name : Option (List ℕ)) → map_of outline.sections kind name ≡ map_of (built_over outline.sections built) kind name
+built-found is built wanted e kind name =
+    let trees = map (λ (s : Section × Span). s.0) is.sections in
+    ap (λ (os : List Section). map_of os kind name) (outline-trees is) ∙ outlined-map_of trees kind name ∙ sym (held-map_of wanted trees kind name) ∙ sym (ap (λ (hs : List Section). map_of hs kind name) (built-sections is built wanted e))
 
-pub found-file : (i : ℕ) (files : List (List ℕ × List ℕ)) → i < length files → (file : List ℕ × List ℕ) × (slice_get files i ≡ Some file)
-found-file i [] h = absurd (omega arith)
-found-file zero (f ∷ fs) h = (f, refl)
-found-file (suc i) (f ∷ fs) h = found-file i fs (omega arith)
+-- ---- What is held of a sketch
 
-pub suc-place : (i : ℕ) (files : List (List ℕ × List ℕ)) (file : List ℕ × List ℕ) → slice_get files i ≡ Some file → map (λ f. f.1) (take (i + 1) files) ≡ map (λ f. f.1) (take i files) ++ file.1 ∷ []
-suc-place i files file e =
-    let next : i + 1 ≡ suc i = omega arith in
-    ap (λ (n : ℕ). map (λ (f : List ℕ × List ℕ). f.1) (take n files)) next ∙ bytes-more files i file e
+pub whole-holds : (text whole : Text) (file : Option FileText) (wanted : List Bool) → file ≡ None → IsSketch text file whole → Holds wanted text text whole
+whole-holds text whole file wanted e sketch =
+    let is : whole ≡ text = subst (λ (f : Option FileText). IsSketch text f whole) e sketch in
+    subst (λ (w : Text). Holds wanted text text w) (sym is) all
 
-pub sketches-same : (some_bytes : List (List ℕ)) {all_bytes : List (List ℕ)} (b : List ℕ) {c : List ℕ} (texts : List Text) {ts : List Text} (t : Text) (places : List (Option (List Span))) {ps : List (Option (List Span))} (p : Option (List Span)) {wholes : List Text} → all_bytes ≡ some_bytes ++ c ∷ [] → b ≡ c → ts ≡ texts ++ t ∷ [] → ps ≡ places ++ p ∷ [] → AreSketches (([] ∷ some_bytes) ++ b ∷ []) (texts ++ t ∷ []) (places ++ p ∷ []) wholes → AreSketches ([] ∷ all_bytes) ts ps wholes
-sketches-same some_bytes {all_bytes} b {c} texts {ts} t places {ps} p {wholes} e same f g are =
-    let here = subst (λ (x : List ℕ). AreSketches ([] ∷ (some_bytes ++ x ∷ [])) (texts ++ t ∷ []) (places ++ p ∷ []) wholes) same are in
-    let bytes = subst (λ (bs : List (List ℕ)). AreSketches ([] ∷ bs) (texts ++ t ∷ []) (places ++ p ∷ []) wholes) (sym e) here in
-    let in_texts = subst (λ (us : List Text). AreSketches ([] ∷ all_bytes) us (places ++ p ∷ []) wholes) (sym f) bytes in
-    subst (λ (qs : List (Option (List Span))). AreSketches ([] ∷ all_bytes) ts qs wholes) (sym g) in_texts
-
--- where no places are known, the text is all
-pub whole-holds : (bytes : List ℕ) (text held whole : Text) (places : Option (List Span)) (wanted : List Bool) → places ≡ None → held ≡ text → IsSketch bytes text places whole → Holds wanted text held whole
-whole-holds bytes text held whole places wanted e same sketch =
-    let is : whole ≡ text = subst (λ (p : Option (List Span)). IsSketch bytes text p whole) e sketch in
-    subst (λ (w : Text). Holds wanted text held w) (sym is) (subst (λ (h : Text). Holds wanted text h text) (sym same) all)
-
-pub no-places : {X Y : Type 0} (f : X → Y) (o : Option X) → ((x : X) → o ≡ Some x → ⊥) → option_map f o ≡ None
-no-places f None never = refl
-no-places f (Some x) never = absurd (never x refl)
+pub outline-holds : (text held whole : Text) (sought : Option FileText) (file : FileText) (wanted : List Bool) → sought ≡ Some file → IsSketch text sought whole
+    → ((outline : Outline) → file.outline ≡ Some outline → (is : IsOutline file.bytes outline) → held ≡ Ok (record { sections = held_sections wanted (map (λ s. s.0) is.sections) })) → Holds wanted text held whole
+outline-holds text held whole sought file wanted e sketch built = go (subst (λ (f : Option FileText). IsSketch text f whole) e sketch)
+  where
+    go : IsSketch text (Some file) whole → Holds wanted text held whole
+    go (outline, made, text_is, (is, whole_is)) =
+        let trees = map (λ (s : Section × Span). s.0) is.sections in
+        let shown : text ≡ Ok (record { sections = map outline_of trees }) = text_is ∙ ap (λ (os : List Section). Ok (record { sections = os })) (outline-trees is) in
+        subst (λ (t : Text). Holds wanted t held whole) (sym shown)
+        (subst (λ (h : Text). Holds wanted (Ok (record { sections = map outline_of trees })) h whole) (sym (built outline made is))
+        (subst (λ (w : Text). Holds wanted (Ok (record { sections = map outline_of trees })) (Ok (record { sections = held_sections wanted trees })) w) (sym whole_is) some))

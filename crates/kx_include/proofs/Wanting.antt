@@ -8,7 +8,7 @@ use Rattle.kx_parse.specs.declared.tree.Item.{Item}
 use Rattle.kx_parse.specs.declared.tree.Item.TheVariants.{Include, Statement}
 use Rattle.kx_parse.specs.declared.tree.Kind.{Kind}
 use Rattle.kx_parse.specs.declared.tree.Section.{Section}
-use Rattle.kx_include.specs.Held.{Flags, IsAll, IsClosed, IsClosedIn, closed_item, closed_part, flags_of, is_wanted}
+use Rattle.kx_include.specs.Held.{Flags, IsAll, IsClosed, IsClosedAt, IsClosedIn, closed_item, closed_part, flags_of, is_wanted}
 use Rattle.kx_include.specs.IncludeText.{Part, parts_of}
 use Rattle.kx_include.specs.Library.{Library, Text, file_of, map_of, place_in, sections_in, sections_of}
 use Rattle.kx_include.specs.declared.place.Place.{Place}
@@ -27,10 +27,28 @@ nothing-at library file n s beyond found = none-there (subst (λ (t : Option Tex
 
 -- no text stands beyond the last
 closed-beyond : (library : Library) (flags : Flags) (file : ℕ) → length library.texts ≤ file → IsClosedIn library flags file
-closed-beyond library flags file beyond = record {
-  source = λ n s zeroth found. absurd (nothing-at library file n s beyond found);
-  closed = λ n s wanted found. absurd (nothing-at library file n s beyond found);
+closed-beyond library flags file beyond n = record {
+  source = λ s zeroth found. absurd (nothing-at library file n s beyond found);
+  closed = λ s wanted found. absurd (nothing-at library file n s beyond found);
 }
+
+-- nor a section after the last of a text
+closed-none : (library : Library) (flags : Flags) (file n : ℕ) → slice_get (sections_in library file) n ≡ None → IsClosedAt library flags file n
+closed-none library flags file n none = record { source = λ s zeroth found. cc; closed = λ s wanted found. cc }
+
+pub closed-sections : (library : Library) (flags : Flags) (file end : ℕ) → length (sections_in library file) ≤ end → ((n : ℕ) → n < end → IsClosedAt library flags file n) → IsClosedIn library flags file
+closed-sections library flags file end many closed n = go (nat_lt n end) refl
+  where
+    go : (b : Bool) → nat_lt n end ≡ b → IsClosedAt library flags file n
+    go true e = closed n (ltb-true n end e)
+    go false e = closed-none library flags file n (none-beyond (sections_in library file) n (let beyond = ltb-false n end e in omega arith))
+
+pub closed-next : (library : Library) (flags : Flags) (file n : ℕ) → ((k : ℕ) → k < n → IsClosedAt library flags file k) → IsClosedAt library flags file n → (k : ℕ) → k < n + 1 → IsClosedAt library flags file k
+closed-next library flags file n closed here k less = go (nat_lt k n) refl
+  where
+    go : (b : Bool) → nat_lt k n ≡ b → IsClosedAt library flags file k
+    go true e = closed k (ltb-true k n e)
+    go false e = let same : n ≡ k = (let last = ltb-false k n e in omega arith) in subst (λ (m : ℕ). IsClosedAt library flags file m) same here
 
 pub closed-all : (library : Library) (flags : Flags) (end : ℕ) → length library.texts ≤ end → ((file : ℕ) → file < end → IsClosedIn library flags file) → IsClosed library flags
 closed-all library flags end many closed file = go (nat_lt file end) refl
@@ -120,9 +138,9 @@ items-closed library flags kind (Include mode text span ∷ is) every = rw (text
 items-closed library flags kind (Statement s ∷ is) every = items-closed library flags kind is every
 
 all-closed : (library : Library) (flags : Flags) → IsAll library flags → IsClosed library flags
-all-closed library flags every file = record {
-  source = λ n s zeroth found. every (record { file = file; section = n }) s found;
-  closed = λ n s wanted found. items-closed library flags s.kind s.items every;
+all-closed library flags every file n = record {
+  source = λ s zeroth found. every (record { file = file; section = n }) s found;
+  closed = λ s wanted found. items-closed library flags s.kind s.items every;
 }
 
 pub all-closed-in : {E : Type 0} (library : Library) (r : Result Flags E) → IfOk r (λ flags. IsAll library flags) → IfOk r (λ flags. IsClosed library flags)

@@ -1,20 +1,21 @@
 -- Libraries that lack the statements of maps that no include reaches.
-use Rattle.std.specs.Prelude.{◌≡◌, ℕ, ◌+◌, Bool, true, false, List, [], ◌∷◌, Option, Some, None, Ok, get_or, map, slice_get}
+use Rattle.std.specs.Prelude.{◌≡◌, ℕ, ◌+◌, Bool, true, false, List, [], ◌∷◌, Option, Some, None, Ok, get_or, if◌then◌else◌, map, slice_get}
 use Rattle.std.specs.List.{list_all}
 use Rattle.std.specs.Option.{option_map_or}
-use Rattle.kx_lex.specs.declared.token.Span.{Span}
-use Rattle.kx_parse.specs.Outline.{IsOutline, held_sections, outline_of}
+use Rattle.kx_parse.specs.Outline.{IsOutline, outline_of}
+use Rattle.kx_parse.specs.declared.outline.Outline.{Outline}
 use Rattle.kx_parse.specs.declared.tree.Item.{Item}
 use Rattle.kx_parse.specs.declared.tree.Item.TheVariants.{Include, Statement}
 use Rattle.kx_parse.specs.declared.tree.Kind.{Kind}
 use Rattle.kx_parse.specs.declared.tree.Section.{Section}
 use Rattle.kx_parse.specs.declared.tree.Tree.{Tree}
 use Rattle.kx_include.specs.Expansion.{body_of}
+use Rattle.kx_include.specs.FileText.{FileText}
 use Rattle.kx_include.specs.IncludeFaults.{findings}
 use Rattle.kx_include.specs.IncludeText.{Part, parts_of}
 use Rattle.kx_include.specs.Library.{Library, Text, place_of, sections_in}
 use Rattle.kx_include.specs.Source.{Handed, IsRead}
-use Rattle.kx_include.specs.Texts.{AreTexts, IsLibrary, IsShort}
+use Rattle.kx_include.specs.Texts.{AreTexts, IsLibrary}
 use Rattle.kx_include.specs.declared.place.Place.{Place}
 
 -- the same bodies, the same includes and the same faults of them: no more is ever looked at
@@ -36,29 +37,36 @@ pub record IsHeldLibrary (tree : Tree) (files : Handed) (held : Library) : Type 
 
 -- ---- Under names, for clauses and proofs
 
--- a text without places is all of it; one whose sections stand at places in bytes is their outline
-abbrev pub IsSketch : List ℕ → Text → Option (List Span) → Text → Type 0
-IsSketch bytes text None whole = whole ≡ text
-IsSketch bytes text (Some places) whole = IsShort bytes × ((sections : List Section) × (text ≡ Ok (record { sections = sections })) × ((is : IsOutline bytes (record { sections = sections; places = places })) × (whole ≡ Ok (record { sections = map (λ s. s.0) is.sections }))))
+-- a section with its statements where it is wanted, and else without them
+abbrev pub held_section : Bool → Section → Section
+held_section wanted s = if wanted then s else outline_of s
+
+-- the same of sections one after another: none is wanted that no flag is for
+abbrev pub held_sections : List Bool → List Section → List Section
+held_sections wanted [] = []
+held_sections [] (s ∷ ss) = outline_of s ∷ held_sections [] ss
+held_sections (w ∷ ws) (s ∷ ss) = held_section w s ∷ held_sections ws ss
+
+-- a text that is no file's outline is all of it; one that is has the outlines of the file's sections
+abbrev pub IsSketch : Text → Option FileText → Text → Type 0
+IsSketch text None whole = whole ≡ text
+IsSketch text (Some file) whole = (outline : Outline) × (file.outline ≡ Some outline) × (text ≡ Ok (record { sections = outline.sections })) × ((is : IsOutline file.bytes outline) × (whole ≡ Ok (record { sections = map (λ s. s.0) is.sections })))
 
 -- the same of texts one after another
-pub data AreSketches : List (List ℕ) → List Text → List (Option (List Span)) → List Text → Type 0 where
-  sketch_none : AreSketches [] [] [] []
-  sketch_more : {bytes : List ℕ} {text whole : Text} {places : Option (List Span)} {files : List (List ℕ)} {texts wholes : List Text} {others : List (Option (List Span))} → IsSketch bytes text places whole → AreSketches files texts others wholes → AreSketches (bytes ∷ files) (text ∷ texts) (places ∷ others) (whole ∷ wholes)
+pub data AreSketches : List Text → List (Option FileText) → List Text → Type 0 where
+  sketch_none : AreSketches [] [] []
+  sketch_more : {text whole : Text} {file : Option FileText} {texts wholes : List Text} {files : List (Option FileText)} → IsSketch text file whole → AreSketches texts files wholes → AreSketches (text ∷ texts) (file ∷ files) (whole ∷ wholes)
 
--- the bytes of the text of a number, of which the source has none here, and where its sections stand
-abbrev pub bytes_by : Handed → ℕ → List ℕ
-bytes_by files n = get_or ([] ∷ map (λ f. f.1) files) n []
-
-abbrev pub places_by : List (Option (List Span)) → ℕ → Option (List Span)
-places_by places n = get_or places n None
+-- the file whose outline the text of a number is
+abbrev pub file_by : List (Option FileText) → ℕ → Option FileText
+file_by files n = get_or files n None
 
 -- a source's tree, and the texts of files as they are outlined
-pub record AreOutlined (tree : Tree) (files : Handed) (outlined : Library) (places : List (Option (List Span))) : Type 0 where
+pub record AreOutlined (tree : Tree) (files : Handed) (outlined : Library) (outlines : List (Option FileText)) : Type 0 where
   pub names : outlined.names ≡ map (λ f. f.0) files
   pub wholes : List Text
   pub texts : AreTexts 1 files wholes
-  pub sketches : AreSketches ([] ∷ map (λ f. f.1) files) outlined.texts places (Ok tree ∷ wholes)
+  pub sketches : AreSketches outlined.texts outlines (Ok tree ∷ wholes)
 
 -- of each text which of its sections are wanted
 abbrev pub Flags : Type 0
@@ -91,10 +99,13 @@ abbrev pub closed_item : Library → Flags → Kind → Item → Bool
 closed_item library flags kind (Include mode text span) = closed_text library flags kind text.bytes
 closed_item library flags kind (Statement stated) = true
 
--- the includes of the sections of a text that are wanted name none that isn't; and of the source all are
-pub record IsClosedIn (library : Library) (flags : Flags) (file : ℕ) : Type 0 where
-  pub source : (n : ℕ) (s : Section) → file ≡ 0 → slice_get (sections_in library file) n ≡ Some s → is_wanted flags (record { file = file; section = n }) ≡ true
-  pub closed : (n : ℕ) (s : Section) → is_wanted flags (record { file = file; section = n }) ≡ true → slice_get (sections_in library file) n ≡ Some s → list_all (closed_item library flags s.kind) s.items ≡ true
+-- the includes of a section that is wanted name none that isn't; and of the source each section is
+pub record IsClosedAt (library : Library) (flags : Flags) (file n : ℕ) : Type 0 where
+  pub source : (s : Section) → file ≡ 0 → slice_get (sections_in library file) n ≡ Some s → is_wanted flags (record { file = file; section = n }) ≡ true
+  pub closed : (s : Section) → is_wanted flags (record { file = file; section = n }) ≡ true → slice_get (sections_in library file) n ≡ Some s → list_all (closed_item library flags s.kind) s.items ≡ true
+
+abbrev pub IsClosedIn : Library → Flags → ℕ → Type 0
+IsClosedIn library flags file = (n : ℕ) → IsClosedAt library flags file n
 
 abbrev pub IsClosed : Library → Flags → Type 0
 IsClosed library flags = (file : ℕ) → IsClosedIn library flags file

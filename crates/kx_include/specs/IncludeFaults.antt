@@ -37,8 +37,7 @@ after place a = record { visits = place ∷ a.visits; faults = a.faults }
 -- the fault for which a text has no tree
 abbrev pub fault_in : Option Text → Option Fault
 fault_in (Some (Err f)) = Some f
-fault_in (Some (Ok tree)) = None
-fault_in None = None
+fault_in _ = None
 
 -- in a file's map, where there is the file, its text has a tree and the map is in it
 abbrev pub in_file : (Place → Findings) → Library → Kind → Option (List ℕ) → At → Option ℕ → Findings

@@ -13,3 +13,5 @@ pub mod Splits
 pub mod Texts
 pub mod Source
 pub mod Held
+pub mod FileText
+pub mod Kept

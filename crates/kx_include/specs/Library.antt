@@ -8,7 +8,7 @@ use Rattle.kx_parse.specs.declared.tree.Flag.{Flag}
 use Rattle.kx_parse.specs.declared.tree.Flag.TheVariants as flags
 use Rattle.kx_parse.specs.declared.tree.Item.{Item}
 use Rattle.kx_parse.specs.declared.tree.Kind.{Kind}
-use Rattle.kx_parse.specs.declared.tree.Kind.TheVariants.{Keycodes, Types, Compat, Symbols, Geometry}
+use Rattle.kx_parse.specs.Sections.{kind_word}
 use Rattle.kx_lex.specs.declared.name.Name.{Name}
 use Rattle.kx_parse.specs.declared.tree.Section.{Section}
 use Rattle.kx_parse.specs.declared.tree.Tree.{Tree}
@@ -31,11 +31,7 @@ with_file [] name bytes = (name, bytes) ∷ []
 with_file (f ∷ fs) name bytes = if bytes_eq name f.0 then (f.0, bytes) ∷ fs else f ∷ with_file fs name bytes
 
 abbrev pub folder : Kind → List ℕ
-folder Keycodes = codes "keycodes/"
-folder Types = codes "types/"
-folder Compat = codes "compat/"
-folder Symbols = codes "symbols/"
-folder Geometry = codes "geometry/"
+folder kind = kind_word kind ++ codes "/"
 
 abbrev pub number_of : List (List ℕ) → List ℕ → Option ℕ
 number_of names name = option_map (λ place. place + 1) (position (bytes_eq name) names)
@@ -61,8 +57,7 @@ map_of sections kind None = option_or (position (λ s. is_of kind s && list_any 
 
 abbrev pub sections_of : Option Text → List Section
 sections_of (Some (Ok tree)) = tree.sections
-sections_of (Some (Err f)) = []
-sections_of None = []
+sections_of _ = []
 
 abbrev pub sections_in : Library → ℕ → List Section
 sections_in library file = sections_of (slice_get library.texts file)

@@ -79,14 +79,13 @@ impl<'a> Library<'a> {
         ensures fault { IfErr result (λ e. (e ≡ Memory) ⊎ HasIncludeFault self.now e) }
     {
         let mut bodies = Bodies::new(alloc);
-        let mut left = self.sections_in(0);
-        let mut section = 0;
         let mut seen = 0;
-        'sections: while let Some((first, rest)) = left.split_first() {
+        'sections: for section in 0..self.section_count(0) {
             let place = Place { file: 0, section };
-            seen = self.expand_section(alloc, first.kind, place, seen, &mut bodies)?;
-            section += 1;
-            left = rest;
+            let Some(found) = self.section_at(place) else {
+                unreachable!()
+            };
+            seen = self.expand_section(alloc, found.kind, place, seen, &mut bodies)?;
         }
         Ok(bodies)
     }
@@ -188,10 +187,10 @@ impl<'a> Library<'a> {
             (items_in self.now place) r.0.items) r.1.depth r.1.count) }
         ensures fault { IfErr result (λ e. Blames seen (in_map depth self.now kind place) e) }
     {
-        let mut entries = Vec::new(alloc);
+        let mut left = self.items_in(place);
+        let mut entries = Vec::with_capacity(alloc, left.len())?;
         let mut deepest = 0;
         let mut count = seen;
-        let mut left = self.items_in(place);
         'items: while let Some((item, rest)) = left.split_first() {
             let (entry, reach) = self.expand_item(alloc, kind, depth, place, item, count, maps)?;
             entries.push(entry)?;

@@ -1,11 +1,12 @@
 //! The files that are handed in.
 ghost use Rattle.std.specs.Prelude.{◌≡◌, ◌++◌, [], ◌≤◌, List, ℕ, IfOk, OnOk, OnErr, IfErr, IfSome, IfNone, length, slice_get, map, Some, position};
 ghost use Rattle.std.specs.Option.{option_map};
+ghost use Rattle.std.specs.Str.{bytes_eq};
 ghost use Rattle.kx_lex.specs.declared.fault.Fault.TheVariants.{Memory};
-ghost use Rattle.kx_include.specs.Held.{bytes_by};
 ghost use Rattle.kx_include.specs.Library.{number_of, with_file};
 ghost use Rattle.kx_include.specs.declared.sources.TheConstants.{MOST_FILES};
 
+use crate::file_text::FileText;
 use kx_lex::Fault;
 use kx_ordered::{Ordered, OwnedName};
 use std::alloc::Global;
@@ -14,7 +15,7 @@ use std::marker::Model;
 /// The files handed in, by name; includes find them. The n-th has the number n, counted from 1.
 #[derive(Drop)]
 pub struct Files {
-    files: Ordered<OwnedName, Vec<u8>>,
+    files: Ordered<OwnedName, FileText>,
 }
 
 impl Model for Files {
@@ -22,7 +23,7 @@ impl Model for Files {
 
     ghost Value = { List (List ℕ × List ℕ) };
 
-    ghost view = { λ f. map (λ e. (e.0, e.1.items)) f.files.entries };
+    ghost view = { λ f. map (λ e. (e.0, e.1.bytes)) f.files.entries };
 }
 
 impl Files {
@@ -44,7 +45,21 @@ impl Files {
         ensures err { IfErr result (λ e. e ≡ Memory) }
         ensures unchanged { OnErr result (self.new ≡ self.old) }
     {
-        self.files.insert(OwnedName::owning(name), bytes)?;
+        let alloc = *bytes.allocator();
+        let text = FileText::of(alloc, bytes)?;
+        self.insert_text(name, text)
+    }
+
+    /// The same of a file whose outline is made already.
+    ///
+    /// # Errors
+    /// `Memory`; then nothing is handed in.
+    pub fn insert_text(&mut self, name: Vec<u8>, text: FileText) -> Result<(), Fault>
+        ensures file { OnOk result (self.new ≡ with_file self.old name.items text.bytes) }
+        ensures err { IfErr result (λ e. e ≡ Memory) }
+        ensures unchanged { OnErr result (self.new ≡ self.old) }
+    {
+        self.files.insert(OwnedName::owning(name), text)?;
         Ok(())
     }
 
@@ -53,6 +68,13 @@ impl Files {
         ensures { result ≡ length self.now }
     {
         self.files.len()
+    }
+
+    /// The place of the file of a name, counted from 0.
+    pub fn place_of(&self, name: &[u8]) -> Option<usize>
+        ensures { result ≡ position (bytes_eq name.now) (map (λ f. f.0) self.now) }
+    {
+        self.files.place_of_owned_name(name)
     }
 
     /// The number of the file of a name, counted from 1.
@@ -66,14 +88,12 @@ impl Files {
         }
     }
 
-    /// The bytes of the text of a number, which is a file's place counted from 1; none of the source's.
-    pub(crate) fn bytes_of(&self, number: usize) -> &[u8]
-        ensures { result.now ≡ bytes_by self.now number }
+    /// The text of the file at a place, counted from 0; none after the last.
+    pub fn text_at(&self, place: usize) -> Option<&FileText>
+        ensures { option_map (λ t. t.now.bytes) result
+            ≡ option_map (λ f. f.1) (slice_get self.now place) }
     {
-        match number.checked_sub(1) {
-            Some(place) => self.bytes_at(place),
-            None => &[],
-        }
+        self.files.value(place)
     }
 
     /// The bytes of the file at a place, counted from 0; none after the last.
@@ -81,9 +101,9 @@ impl Files {
         ensures found { IfSome (slice_get self.now place) (λ f. result.now ≡ f.1) }
         ensures behind { IfNone (slice_get self.now place) (result.now ≡ []) }
     {
-        match self.files.value(place) {
+        match self.text_at(place) {
             None => &[],
-            Some(bytes) => bytes.as_slice(),
+            Some(text) => text.bytes(),
         }
     }
 }

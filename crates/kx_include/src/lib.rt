@@ -3,6 +3,7 @@
 
 mod expanding;
 mod expansion;
+mod file_text;
 mod files;
 mod indexed;
 mod kind_maps;
@@ -15,6 +16,7 @@ mod sources;
 mod text;
 
 pub use expansion::{Bodies, Entry, Expansion, Link, Map};
+pub use file_text::FileText;
 pub use files::Files;
 pub use map_index::MapIndex;
 pub use part::{Part, include_parts};

@@ -6,7 +6,7 @@ ghost use Rattle.kx_include.specs.Splits.{is_inner, cut_at};
 ghost use Rattle.std.specs.Char.{is_ascii_digit};
 ghost use Rattle.std.specs.List.{list_all, prefix_len};
 
-use kx_basics::{MOST_GROUPS, digits_value};
+use kx_basics::{MOST_GROUPS, decimal_value};
 use kx_parse::Mode;
 use std::alloc::{AllocError, Global};
 use std::marker::Model;
@@ -97,7 +97,7 @@ fn group_number(bytes: &[u8]) -> Option<u8>
     if !is_number(bytes) {
         return None;
     }
-    let number = digits_value(bytes, 10);
+    let number = decimal_value(bytes);
     if 1 <= number && number <= u64::from(MOST_GROUPS) {
         Some(number as u8)
     } else {

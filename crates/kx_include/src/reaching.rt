@@ -1,7 +1,7 @@
 //! Which maps of the files the includes of a source reach.
 ghost use Rattle.std.specs.Prelude.{◌≡◌, true, IfOk};
 ghost use Rattle.std.specs.List.{list_all};
-ghost use Rattle.kx_include.specs.Held.{Flags, IsAll, IsClosed, IsClosedIn, closed_item, closed_text, flags_of, is_wanted};
+ghost use Rattle.kx_include.specs.Held.{Flags, IsAll, IsClosed, IsClosedAt, IsClosedIn, closed_item, closed_text, flags_of, is_wanted};
 
 use crate::part::include_parts;
 use crate::place::Place;
@@ -83,13 +83,11 @@ impl Wanted {
 impl<'a> Library<'a> {
     ghost use Rattle.std.specs.Prelude.{◌≡◌, true, IfOk};
     ghost use Rattle.std.specs.List.{list_all};
-    ghost use Rattle.kx_include.specs.Held.{IsClosed, IsClosedIn, closed_item, closed_text};
+    ghost use Rattle.kx_include.specs.Held.{IsClosed, IsClosedAt, IsClosedIn, closed_item, closed_text};
 
     /// Of which kind the section at a place is.
     fn kind_at(&self, place: Place) -> Option<Kind> {
-        self.sections_in(place.file)
-            .get(place.section)
-            .map(|section| section.kind)
+        self.section_at(place).map(|section| section.kind)
     }
 
     /// Adds the maps that the text of an include names, where they aren't wanted yet.
@@ -198,16 +196,32 @@ impl<'a> Library<'a> {
         Ok(true)
     }
 
+    /// Whether the section at a place is wanted and its includes name none that isn't, or it isn't wanted and is none of the
+    /// source's.
+    fn is_closed_section(
+        &self,
+        alloc: Global,
+        place: Place,
+        wanted: &Wanted,
+    ) -> Result<bool, AllocError>
+        ensures { IfOk result (λ closed. closed ≡ true
+            → IsClosedAt self.now wanted.now place.file place.section) }
+    {
+        if !wanted.has(place) {
+            return Ok(place.file != 0);
+        }
+        match self.section_at(place) {
+            Some(found) => self.is_closed_at(alloc, found.kind, found.items.as_slice(), wanted),
+            None => Ok(true),
+        }
+    }
+
     /// Whether the includes of the sections of a text that are wanted name none that isn't.
     fn is_closed_in(&self, alloc: Global, file: u32, wanted: &Wanted) -> Result<bool, AllocError>
         ensures { IfOk result (λ closed. closed ≡ true → IsClosedIn self.now wanted.now file) }
     {
-        'sections: for (section, found) in self.sections_in(file).iter().enumerate() {
-            let wants = wanted.has(Place { file, section });
-            if !wants && file == 0 {
-                return Ok(false);
-            }
-            if wants && !self.is_closed_at(alloc, found.kind, found.items.as_slice(), wanted)? {
+        'sections: for section in 0..self.section_count(file as usize) {
+            if !self.is_closed_section(alloc, Place { file, section }, wanted)? {
                 return Ok(false);
             }
         }

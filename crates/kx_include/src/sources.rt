@@ -1,13 +1,14 @@
 //! The library: the source's tree, and the texts of the files.
 ghost use Rattle.std.specs.Prelude.{◌≡◌, ◌≤◌, ◌<◌, ◌⊎◌, map, length, slice_get, IfOk, IfErr, IfSome, Some, List, ℕ};
-ghost use Rattle.std.specs.Option.{option_map};
+ghost use Rattle.std.specs.Option.{option_copied, option_map};
 ghost use Rattle.kx_lex.specs.declared.fault.Fault.TheVariants.{Memory, TooMany};
 ghost use Rattle.kx_include.specs.IncludeFaults.{at};
-ghost use Rattle.kx_include.specs.Library.{folder, file_of, number_of, sections_in, items_in, place_in, place_of};
-ghost use Rattle.kx_include.specs.Held.{AreOutlined, IsClosed, IsHeldLibrary, places_by};
+ghost use Rattle.kx_include.specs.Library.{file_of, number_of, sections_in, items_in, place_in, place_of};
+ghost use Rattle.kx_include.specs.Held.{AreOutlined, IsClosed, IsHeldLibrary, file_by};
 ghost use Rattle.kx_include.specs.Source.{Handed};
 ghost use Rattle.kx_parse.specs.declared.tree.Tree.{Tree as TreeValue};
 
+use crate::file_text::FileText;
 use crate::files::Files;
 use crate::indexed::IndexedText;
 use crate::part::Part;
@@ -15,7 +16,7 @@ use crate::place::Place;
 use crate::reaching::Wanted;
 use crate::text::outline_text;
 use kx_lex::{At, Fault, Span};
-use kx_parse::{Item, Kind, Row, Section, Tree};
+use kx_parse::{Item, Kind, Section, Tree};
 use std::alloc::{AllocError, Global};
 use std::marker::Model;
 
@@ -26,7 +27,7 @@ pub const MOST_FILES: usize = 65_535;
 #[derive(Drop)]
 pub struct Library<'a> {
     files: &'a Files,
-    texts: Vec<IndexedText>,
+    texts: Vec<IndexedText<'a>>,
 }
 
 impl<'a> Model for Library<'a> {
@@ -41,31 +42,19 @@ impl<'a> Model for Library<'a> {
         × (length l.texts.items ≡ length l.files.now + 1) };
 }
 
-fn folder(kind: Kind) -> &'static [u8]
-    ensures { result.now ≡ folder kind }
+/// The file that the text of a number is the outline of.
+fn file_at<'a>(outlines: &[Option<&'a FileText>], number: usize) -> Option<&'a FileText>
+    ensures { option_copied result ≡ file_by (map option_copied outlines.now) number }
 {
-    match kind {
-        Kind::Keycodes => b"keycodes/",
-        Kind::Types => b"types/",
-        Kind::Compat => b"compat/",
-        Kind::Symbols => b"symbols/",
-        Kind::Geometry => b"geometry/",
-    }
-}
-
-/// Where the sections of the text of a number stand in its bytes.
-fn spans_at<'p>(places: &'p [Option<Row<Span>>], file: usize) -> Option<&'p [Span]>
-    ensures { option_map (λ p. p.now) result ≡ places_by places.now file }
-{
-    match places.get(file) {
-        Some(Some(row)) => Some(row.as_slice()),
-        _ => None,
+    match outlines.get(number) {
+        Some(file) => *file,
+        None => None,
     }
 }
 
 impl<'a> Library<'a> {
     ghost use Rattle.std.specs.Prelude.{◌≡◌, ◌≤◌, ◌<◌, ◌⊎◌, map, length, slice_get, IfOk, IfErr, OnOk, Some};
-    ghost use Rattle.std.specs.Option.{option_map};
+    ghost use Rattle.std.specs.Option.{option_copied, option_map};
     ghost use Rattle.kx_lex.specs.declared.fault.Fault.TheVariants.{Memory, TooMany};
     ghost use Rattle.kx_include.specs.IncludeFaults.{at, fault_in};
     ghost use Rattle.kx_include.specs.Library.{file_of, number_of, sections_in, items_in, place_in, place_of};
@@ -94,56 +83,57 @@ impl<'a> Library<'a> {
                 span: whole,
             }));
         }
-        let (outlined, places) = Library::outlined(alloc, tree, files)?;
+        let (outlined, outlines) = Library::outlined(alloc, tree, files)?;
         let wanted = outlined.wanted(alloc)?;
-        outlined.with_statements(alloc, files, places.as_slice(), &wanted)
+        outlined.with_statements(alloc, outlines.as_slice(), &wanted)
     }
 
-    /// The library of a source's tree and the outlines of the files, and where the sections of each text stand in its bytes.
+    /// The library of a source's tree and the outlines of the files, and of each text the file of whose outline it is.
     fn outlined(
         alloc: Global,
         tree: Tree,
         files: &'a Files,
-    ) -> Result<(Library<'a>, Vec<Option<Row<Span>>>), Fault>
+    ) -> Result<(Library<'a>, Vec<Option<&'a FileText>>), Fault>
         requires { length files.now ≤ MOST_FILES }
-        ensures outlined { IfOk result (λ r. AreOutlined tree files.now r.0 r.1.items) }
+        ensures outlined { IfOk result (λ r.
+            AreOutlined tree files.now r.0 (map option_copied r.1.items)) }
         ensures err { IfErr result (λ e. e ≡ Memory) }
     {
         let mut texts = Vec::new(alloc);
-        let mut places = Vec::new(alloc);
+        let mut outlines = Vec::new(alloc);
         texts.push(IndexedText::of(alloc, Ok(tree))?)?;
-        places.push(None)?;
+        outlines.push(None)?;
         'files: for place in 0..files.len() {
-            let (text, spans) = outline_text(alloc, place as u32 + 1, files.bytes_at(place))?;
-            texts.push(IndexedText::of(alloc, text)?)?;
-            places.push(spans)?;
+            let Some(file) = files.text_at(place) else {
+                unreachable!()
+            };
+            let (text, outline) = outline_text(alloc, place as u32 + 1, file)?;
+            texts.push(text)?;
+            outlines.push(outline)?;
         }
-        Ok((Library { files, texts }, places))
+        Ok((Library { files, texts }, outlines))
     }
 
-    /// The library of outlined texts with the statements of the sections that are wanted; `places` says where the sections of
-    /// each text stand in its bytes, which `given` has.
+    /// The library of outlined texts with the statements of the sections that are wanted; `outlines` has of each text the file
+    /// of whose outline it is.
     fn with_statements(
         self,
         alloc: Global,
-        given: &Files,
-        places: &[Option<Row<Span>>],
+        outlines: &[Option<&'a FileText>],
         wanted: &Wanted,
     ) -> Result<Library<'a>, Fault>
-        requires { (tree : TreeValue) × AreOutlined tree given.now self places.now }
-        ensures held { IfOk result (λ held. (tree : TreeValue)
-            → AreOutlined tree given.now self.entry places.now
-            → IsClosed self.entry wanted.now → IsHeldLibrary tree given.now held) }
+        ensures held { IfOk result (λ held. (tree : TreeValue) (files : Handed)
+            → AreOutlined tree files self.entry (map option_copied outlines.now)
+            → IsClosed self.entry wanted.now → IsHeldLibrary tree files held) }
         ensures err { IfErr result (λ e. e ≡ Memory) }
     {
         let Library { files, texts } = self;
         let mut held = Vec::with_capacity(alloc, texts.len())?;
-        let mut file: usize = 0;
+        let mut number: usize = 0;
         'texts: for text in texts {
-            let bytes = given.bytes_of(file);
-            let spans = spans_at(places, file);
-            held.push(text.with_statements(alloc, bytes, spans, wanted.of_text(file))?)?;
-            file += 1;
+            let file = file_at(outlines, number);
+            held.push(text.with_statements(alloc, file, wanted.of_text(number))?)?;
+            number += 1;
         }
         Ok(Library { files, texts: held })
     }
@@ -161,7 +151,7 @@ impl<'a> Library<'a> {
         ensures { result ≡ length (sections_in self.now file) }
     {
         match self.texts.get(file) {
-            Some(text) => text.sections().len(),
+            Some(text) => text.section_count(),
             None => 0,
         }
     }
@@ -173,13 +163,13 @@ impl<'a> Library<'a> {
         self.texts.get(file as usize)?.fault()
     }
 
-    /// The sections of the text of a number; none where it has no tree.
-    pub fn sections_in(&self, file: u32) -> &[Section]
-        ensures { result.now ≡ sections_in self.now file }
+    /// The section at a place, with its statements where the source's includes reach it.
+    pub fn section_at(&self, place: Place) -> Option<&Section>
+        ensures { option_copied result ≡ slice_get (sections_in self.now place.file) place.section }
     {
-        match self.texts.get(file as usize) {
-            Some(text) => text.sections(),
-            None => &[],
+        match self.texts.get(place.file as usize) {
+            Some(text) => text.section_at(place.section),
+            None => None,
         }
     }
 
@@ -187,7 +177,7 @@ impl<'a> Library<'a> {
     pub fn items_in(&self, place: Place) -> &[Item]
         ensures { result.now ≡ items_in self.now place }
     {
-        match self.sections_in(place.file).get(place.section) {
+        match self.section_at(place) {
             Some(section) => section.items.as_slice(),
             None => &[],
         }
@@ -205,7 +195,8 @@ impl<'a> Library<'a> {
     ) -> Result<Option<u32>, AllocError>
         ensures { IfOk result (λ file. file ≡ file_of self.now.names kind name.now) }
     {
-        let mut full = Vec::from_slice(alloc, folder(kind))?;
+        let mut full = Vec::from_slice(alloc, kind.word().as_bytes())?;
+        full.push(b'/')?;
         full.extend_from_slice(name)?;
         let found = self.files.number_of(full.as_slice());
         Ok(found.or(self.files.number_of(name)))

@@ -1,12 +1,15 @@
 //! The tree of a file, or why it has none.
 ghost use Rattle.std.specs.Prelude.{◌≡◌, ◌⊎◌, IfOk, IfErr, true, false};
+ghost use Rattle.std.specs.Option.{option_copied};
 ghost use Rattle.kx_lex.specs.declared.fault.Fault.TheVariants.{Memory};
 ghost use Rattle.kx_include.specs.Held.{IsSketch};
 ghost use Rattle.kx_include.specs.Library.{Text};
 ghost use Rattle.kx_include.specs.Texts.{IsTree, IsText, IsStop, in_file};
 
-use kx_lex::{At, Fault, Span, lex};
-use kx_parse::{Row, Tree, outline_file, parse_file};
+use crate::file_text::FileText;
+use crate::indexed::IndexedText;
+use kx_lex::{At, Fault, lex};
+use kx_parse::{Tree, parse_file};
 use std::alloc::Global;
 
 fn in_text(file: u32, at: At) -> At
@@ -73,27 +76,24 @@ pub(crate) fn read_text(
     }
 }
 
-/// The text of a file by its outline, and where its sections stand; where it has no outline its tree, or the fault for which
-/// it has none.
+/// The text of a file by its outline, and the file; where it has no outline its tree, or the fault for which it has none.
 ///
 /// # Errors
 /// `Memory`.
-pub(crate) fn outline_text(
+pub(crate) fn outline_text<'a>(
     alloc: Global,
-    file: u32,
-    bytes: &[u8],
-) -> Result<(Result<Tree, Fault>, Option<Row<Span>>), Fault>
-    ensures sketch { IfOk result (λ r. (whole : Text) × IsText file bytes.now whole
-        × IsSketch bytes.now r.0 r.1 whole) }
+    number: u32,
+    file: &'a FileText,
+) -> Result<(IndexedText<'a>, Option<&'a FileText>), Fault>
+    ensures sketch { IfOk result (λ r. (whole : Text) × IsText number file.now.bytes whole
+        × IsSketch r.0 (option_copied r.1) whole) }
     ensures err { IfErr result (λ e. e ≡ Memory) }
 {
-    match outline_file(alloc, bytes)? {
-        Some(outline) => {
-            let tree = Tree {
-                sections: outline.sections,
-            };
-            Ok((Ok(tree), Some(outline.places)))
+    match file.outline() {
+        Some(_) => Ok((IndexedText::outlined(alloc, file), Some(file))),
+        None => {
+            let text = read_text(alloc, number, file.bytes())?;
+            Ok((IndexedText::of(alloc, text)?, None))
         }
-        None => Ok((read_text(alloc, file, bytes)?, None)),
     }
 }

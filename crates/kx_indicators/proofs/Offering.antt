@@ -2,7 +2,7 @@
 use Rattle.std.proofs.Common.{◌≡◌, ℕ, List, Option, Result, IfOk, subst}
 use Rattle.kx_lex.specs.declared.fault.Fault.{Fault}
 use Rattle.kx_lex.specs.declared.name.Name.{Name}
-use Rattle.kx_merge.specs.Plain.{plain_cell, plain_width}
+use Rattle.kx_merge.specs.Plain.{plain_form}
 use Rattle.kx_merge.specs.Records.{AreOffered}
 use Rattle.kx_merge.specs.declared.plain.Plain.{Plain}
 use Rattle.kx_parse.specs.declared.tree.Field.{Field}
@@ -14,7 +14,7 @@ use Rattle.kx_indicators.specs.declared.values.IndicatorMapField.{IndicatorMapFi
 use Rattle.kx_indicators.specs.declared.values.IndicatorMapValue.{IndicatorMapValue}
 
 abbrev Offered : Mode → List (ℕ × Plain IndicatorMapValues) → List IndicatorMapOffer → Type 0
-Offered mode records os = AreOffered {K = ℕ} {C = IndicatorMapField} {V = IndicatorMapValue} {R = Plain IndicatorMapValues} mode (plain_cell values_cell) plain_width records os
+Offered mode records os = AreOffered {K = ℕ} {C = IndicatorMapField} {V = IndicatorMapValue} {R = Plain IndicatorMapValues} mode (plain_form values_cell) records os
 
 pub said_offered : {X : Type 0} (items : X → List (ℕ × Plain IndicatorMapValues)) (r : Result X Fault) (mode : Mode) (indicator_maps names : List (List ℕ)) (d : IndicatorMapValues) (i o : Option (Name × List Field)) → i ≡ o
     → IfOk r (λ x. Offered mode (items x) (said_offers indicator_maps names d mode i)) → IfOk r (λ x. Offered mode (items x) (said_offers indicator_maps names d mode o))

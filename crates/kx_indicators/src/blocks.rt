@@ -7,7 +7,7 @@ ghost use Rattle.kx_indicators.specs.Blocks.{default_faults, default_in, given_v
 ghost use Rattle.kx_indicators.specs.Giving.{values_cell, with_value};
 ghost use Rattle.kx_indicators.specs.Meaning.{said_offers};
 ghost use Rattle.kx_merge.specs.Faults.{name_faults};
-ghost use Rattle.kx_merge.specs.Plain.{plain_cell, plain_width};
+ghost use Rattle.kx_merge.specs.Plain.{plain_form};
 ghost use Rattle.kx_merge.specs.Reports.{Reports, ReportsOrRunsOut};
 
 use crate::defaults::default_in;
@@ -59,8 +59,7 @@ fn read_values(
 
 #[tactic(auto, using(kx_merge::proofs::Offered::nothing_offered))]
 fn no_records(alloc: Global) -> Vec<(usize, Plain<IndicatorMapValues>)>
-    ensures { (mode : ModeValue)
-        → AreOffered mode (plain_cell values_cell) plain_width result.items [] }
+    ensures { (mode : ModeValue) → AreOffered mode (plain_form values_cell) result.items [] }
 {
     Vec::new(alloc)
 }
@@ -74,7 +73,7 @@ fn read_indicator(
     declared: &DeclaredIndicator,
 ) -> Result<Vec<(usize, Plain<IndicatorMapValues>)>, Fault>
     ensures records { (mode : ModeValue)
-        → IfOk result (λ records. AreOffered mode (plain_cell values_cell) plain_width records.items
+        → IfOk result (λ records. AreOffered mode (plain_form values_cell) records.items
         (said_offers context.now.indicators.now context.now.modifiers.now.names defaults mode
         (Some (declared.now.name.now, declared.now.fields.now)))) }
     ensures faults { ReportsOrRunsOut result
@@ -116,7 +115,7 @@ pub(crate) fn read_statement(
     placed: &Placed,
 ) -> Result<(Vec<(usize, Plain<IndicatorMapValues>)>, IndicatorMapValues), Fault>
     ensures records { (mode : ModeValue)
-        → IfOk result (λ said. AreOffered mode (plain_cell values_cell) plain_width said.0.items
+        → IfOk result (λ said. AreOffered mode (plain_form values_cell) said.0.items
         (said_offers context.now.indicators.now context.now.modifiers.now.names defaults mode
         (indicator_in placed.now.stated.now.statement))) }
     ensures next { IfOk result (λ said.

@@ -59,15 +59,12 @@ range_in words.Redirect s = option_map ranges.Redirect (option_and_then group_at
 abbrev pub given_any : Option (Option Given) → Option Given
 given_any o = option_and_then (λ given. given) o
 
--- only a type takes an index
-abbrev pub unindexed : Option Index → Option Given → Option Given
-unindexed index given = if is_some index then None else given
-
 module _ (names : List (List ℕ)) where
+  -- only a type takes an index
   abbrev pub field_given : Option AttributeField → Option Index → Setting → Option Given
   field_given (Some fields.KeyType) index s = type_given index s
-  field_given (Some fields.VirtualMods) index s = unindexed index (option_map gives.VirtualMods (option_and_then (virtual_mask names) (expression_in s)))
-  field_given (Some (fields.Range which)) index s = unindexed index (option_map gives.Range (range_in which s))
+  field_given (Some fields.VirtualMods) index s = if is_some index then None else option_map gives.VirtualMods (option_and_then (virtual_mask names) (expression_in s))
+  field_given (Some (fields.Range which)) index s = if is_some index then None else option_map gives.Range (range_in which s)
   field_given (Some fields.Unused) index s = None
   field_given None index s = None
 

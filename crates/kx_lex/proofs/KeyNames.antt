@@ -41,7 +41,7 @@ no_number bs n h = by (begins_hex bs) (slice_index bs (prefix_len is_ascii_digit
     by false true h = cc
     by false false h = cc
 
--- only behind < does a key's name begin
+-- only after < does a key's name begin
 key_name_begins : (b : ℕ) (bs : List ℕ) (n : ℕ) → piece (b ∷ bs) ≡ Lexeme KeyName n → key_name_piece bs ≡ Lexeme KeyName n
 unfolding piece
 key_name_begins b bs n h = by (is_blank b) (begins_comment (b ∷ bs)) (is_word_start b) (is_ascii_digit b) (b == 34) (b == 60) (is_mark b) h

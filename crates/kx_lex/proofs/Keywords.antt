@@ -87,6 +87,14 @@ same_letter (x ∷ a) (y ∷ b) h =
     let parts = and_parts (to_ascii_lowercase x == to_ascii_lowercase y) (str_eq_ignore_ascii_case a b) h in
     sym (letter_lowered x) ∙ ap (λ k. k % 32) (eqb-true (to_ascii_lowercase x) (to_ascii_lowercase y) parts.0) ∙ letter_lowered y
 
+-- words that begin with other letters spell nothing alike
+pub other_letter : (a b : List ℕ) → ((slice_index a 0 % 32) == (slice_index b 0 % 32)) ≡ false → str_eq_ignore_ascii_case a b ≡ false
+other_letter a b other = go (str_eq_ignore_ascii_case a b) refl
+  where
+    go : (same : Bool) → str_eq_ignore_ascii_case a b ≡ same → str_eq_ignore_ascii_case a b ≡ false
+    go true e = let is = test_same (slice_index a 0 % 32) (slice_index b 0 % 32) (same_letter a b e) in cc
+    go false e = e
+
 -- some word's length is among those of its letter
 abbrev is_among : List ℕ → List ℕ → Bool
 is_among table word = has_length (slice_index table (slice_index word 0 % 32)) (length word)

@@ -26,7 +26,7 @@ pub then-failed : {A B : Type 0} (w : Read A) (k : A → List Token → Read B) 
 then-failed (Ok p) k f e = inr (p.0, p.1, refl, e)
 then-failed {A} (Err g) k f e = inl (let same : g ≡ f = cc in ap (λ (h : Fault). let w : Read A = Err h in w) same)
 
--- a value and those behind it
+-- a value and those after it
 pub prepend-done : {A : Type 0} (x : A) (w : Read (List A)) (ys : List A) (rest : List Token) → then_read w (λ xs. done (x ∷ xs)) ≡ done ys rest → (xs : List A) × (w ≡ done xs rest) × (x ∷ xs ≡ ys)
 prepend-done x (Ok p) ys rest e = let same : (x ∷ p.0 ≡ ys) × (p.1 ≡ rest) = done-same e in (p.0, ap (λ (r : List Token). done p.0 r) same.1, same.0)
 prepend-done x (Err f) ys rest e = cc

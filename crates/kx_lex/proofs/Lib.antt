@@ -5,6 +5,8 @@ mod Takes
 mod KeyNames
 pub mod Keywords
 mod Words
+mod Masks
+mod Numbers
 pub mod Pieces
 pub mod Laws
 pub mod Reasons

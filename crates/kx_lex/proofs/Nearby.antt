@@ -82,14 +82,14 @@ at_end-near before rest other x none s = s
 at_end-near before rest other x only s = cc
 at_end-near before rest other x both s = cc
 
--- tokens that two values are spelled by, one behind the other
+-- tokens that two values are spelled by, one after the other
 seam : {before mid rest : List Token} (first : IsBehind (before ++ rest) mid) (second : IsBehind mid rest) → before ≡ first.before ++ second.before
 seam {before} {mid} {rest} first second = append_cancel_right before (first.before ++ second.before) rest (rw append_assoc (first.tokens ∙ ap (λ (ts : List Token). first.before ++ ts) second.tokens))
 
 joined : (before : List Token) {mid rest : List Token} (first : IsBehind (before ++ rest) mid) (second : IsBehind mid rest) (other : List Token) → before ++ other ≡ first.before ++ (second.before ++ other)
 joined before first second other = ap (λ (ts : List Token). ts ++ other) (seam first second) ∙ append_assoc first.before second.before other
 
--- the first of the two, before other tokens behind the second
+-- the first of the two, before other tokens after the second
 first-near : {A : Type 0} (p : Production A) {x : A} (before : List Token) {mid rest other : List Token} (first : IsBehind (before ++ rest) mid) (second : IsBehind mid rest) → Nearby p → SameFront rest other → p.spells (before ++ rest) x mid → p.spells (before ++ other) x (second.before ++ other)
 first-near {A} p {x} before {mid} {rest} {other} first second near_p h s =
     let here = subst (λ (ts : List Token). p.spells (first.before ++ ts) x ts) second.tokens (subst (λ (ts : List Token). p.spells ts x mid) first.tokens s) in

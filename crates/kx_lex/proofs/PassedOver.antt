@@ -32,6 +32,7 @@ use Rattle.kx_lex.specs.declared.token.Token.{Token}
 use Rattle.kx_lex.specs.declared.token.TokenKind.{TokenKind}
 use Rattle.kx_lex.specs.declared.token.TokenKind.TheVariants.{Decimal, KeyName, Mark, Number, Text, Word}
 use Rattle.kx_lex.proofs.KeyNames.{no_number, no_string, one_token}
+use Rattle.kx_lex.proofs.Readings.{blanks-gap, reads-gap}
 use Rattle.kx_lex.proofs.Pieces.{digit-start, piece-end, piece_of, piece-start}
 
 pub Ends-self : (bs : List ℕ) → Ends bs bs
@@ -63,12 +64,7 @@ behind {text} {bs} {n} {ts} ends short r = subst (λ (k : ℕ). Reads k (drop n 
 ahead : {text bs : List ℕ} {n : ℕ} {ts : List Token} → Ends text bs → n ≤ length bs → Reads ((length text - length bs) + n) (drop n bs) ts → ReadsEnd text (drop n bs) ts
 ahead {text} {bs} {n} {ts} ends short r = subst (λ (k : ℕ). Reads k (drop n bs) ts) (sym (further text bs n (Ends-length ends) short)) r
 
--- behind a gap goes on what is read of it, and behind a token
-reads-gap : {offset n : ℕ} {bs : List ℕ} {ts : List Token} → piece bs ≡ Gap n → Reads offset bs ts → Reads (offset + n) (drop n bs) ts
-reads-gap g (ended e) = cc
-reads-gap {offset} {n} {bs} {ts} g (skipped m e r) = let same : m ≡ n = cc in subst (λ (k : ℕ). Reads (offset + k) (drop k bs) ts) same r
-reads-gap g (taken kind m e r) = cc
-
+-- after a token goes on what is read of it
 reads-token : {offset n : ℕ} {kind : TokenKind} {bs : List ℕ} {us : List Token} → piece bs ≡ Lexeme kind n → Reads offset bs us → (ts : List Token) × (us ≡ token_of kind offset n ∷ ts) × Reads (offset + n) (drop n bs) ts
 reads-token g (ended e) = cc
 reads-token g (skipped m e r) = cc
@@ -97,16 +93,6 @@ Skips-gap bs n short e = record {
 pub Skips-on : {bs rest : List ℕ} → Skips bs rest → (n : ℕ) → n ≤ length rest → piece rest ≡ Gap n → Skips bs (drop n rest)
 Skips-on {bs} {rest} s n short e = Skips-more s (Skips-gap rest n short e)
 
--- the blanks at the front are a gap, where there are any
-blanks-gap : (bs : List ℕ) → (prefix_len is_blank bs ≡ 0) ⊎ (piece bs ≡ Gap (prefix_len is_blank bs))
-unfolding piece
-blanks-gap [] = inl refl
-blanks-gap (b ∷ bs) = go (is_blank b) refl
-  where
-    go : (blank : Bool) → is_blank b ≡ blank → (prefix_len is_blank (b ∷ bs) ≡ 0) ⊎ (piece (b ∷ bs) ≡ Gap (prefix_len is_blank (b ∷ bs)))
-    go true h = inr (rw h refl)
-    go false h = inl (rw h refl)
-
 pub Skips-blanks : (bs : List ℕ) → Skips bs (drop (prefix_len is_blank bs) bs)
 Skips-blanks bs = go (blanks-gap bs)
   where
@@ -114,7 +100,7 @@ Skips-blanks bs = go (blanks-gap bs)
     go (inl none) = subst (λ (n : ℕ). Skips bs (drop n bs)) (sym none) (Skips-self bs)
     go (inr gap) = Skips-gap bs (prefix_len is_blank bs) (prefix_len-le-length is_blank bs) gap
 
--- none is left behind them
+-- none is left after them
 pub no_blank : (bs : List ℕ) → is_blank (slice_index (drop (prefix_len is_blank bs) bs) 0) ≡ false
 no_blank [] = refl
 no_blank (b ∷ bs) = go (is_blank b) refl (no_blank bs)
@@ -132,7 +118,7 @@ Lexes-more a b = record {
   read = λ text ts ends r. let m = b.read text ts (Ends-more ends a.ends) r in a.read text m.0 ends m.1;
 }
 
--- one token, and what is skipped behind it
+-- one token, and what is skipped after it
 module _ {bs rest : List ℕ} {kind : TokenKind} {n : ℕ} (e : piece bs ≡ Lexeme kind n) (short : n ≤ length bs) (s : Skips (drop n bs) rest) where
   pub token-lexes : Lexes bs rest
   token-lexes = record {

@@ -89,7 +89,7 @@ as_start s b e = subst (λ (t : Start). is_start t b ≡ true) e (start_of-is b)
 pub digit-start : (b : ℕ) → start_of b ≡ starts.Digit → is_ascii_digit b ≡ true
 digit-start b e = as_start starts.Digit b e
 
--- a prefix goes on behind its first byte
+-- a prefix goes on after its first byte
 one_more : (p : ℕ → Bool) (b : ℕ) (bs : List ℕ) → p b ≡ true → prefix_len p (b ∷ bs) ≡ 1 + prefix_len p bs
 one_more p b bs e = rw e refl
 

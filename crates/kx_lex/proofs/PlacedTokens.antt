@@ -67,9 +67,9 @@ unfolding piece
 token-some [] kind n p = cc
 token-some (b ∷ bs) kind n p = some-of (start_of b) b bs kind n refl (sym (piece-start b bs) ∙ p)
 
--- ---- Tokens stand one behind the other
+-- ---- Tokens stand one after the other
 
--- the first token, and the reading behind it
+-- the first token, and the reading after it
 reads-behind : {offset : ℕ} {bs : List ℕ} {t : Token} {ts : List Token} → Reads offset bs (t ∷ ts) → (next : ℕ) × (cs : List ℕ) × Reads next cs ts × (offset ≤ t.span.start) × (t.span.start < t.span.stop) × (t.span.stop ≤ next)
 reads-behind {offset} (skipped n e r) = let more = reads-behind r in (more.0, more.1, more.2, (let less = more.3 in omega arith), more.4, more.5)
 reads-behind {offset} {bs} (taken kind n e r) = (offset + n, drop n bs, r, omega arith, (let some = token-some bs kind n e in omega arith), omega arith)
@@ -153,7 +153,7 @@ behind-token : (text : List ℕ) (offset : ℕ) (bs : List ℕ) (t : Token) (ts 
 behind-token text offset bs t ts e (skipped n p r) = behind-token text (offset + n) (drop n bs) t ts (ap (λ (cs : List ℕ). drop n cs) e ∙ drop-drop n offset text) r
 behind-token text offset bs t ts e (taken kind n p r) = (offset + n, subst (λ (cs : List ℕ). Reads (offset + n) cs ts) (ap (λ (cs : List ℕ). drop n cs) e ∙ drop-drop n offset text) r)
 
--- behind some tokens
+-- after some tokens
 pub from-behind : (text : List ℕ) (before rest : List Token) → IsFrom text (before ++ rest) → IsFrom text rest
 from-behind text [] rest f = f
 from-behind text (t ∷ before) rest f = from-behind text before rest (behind-token text f.0 (drop f.0 text) t (before ++ rest) refl f.1)

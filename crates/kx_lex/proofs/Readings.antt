@@ -1,5 +1,7 @@
 -- A text that has a token reading stops nowhere, and it has one reading at most.
-use Rattle.std.proofs.Common.{◌≡◌, ℕ, ◌+◌, ◌≤◌, List, [], ◌∷◌, ◌++◌, length, drop, subst, sym, refl, append_assoc, append-nil, arith, length-drop}
+use Rattle.std.proofs.Common.{◌≡◌, ℕ, suc, ◌+◌, ◌≤◌, Bool, true, false, ◌⊎◌, inl, inr, List, [], ◌∷◌, ◌++◌, length, drop, subst, sym, ap, refl, append_assoc, append-nil, arith, length-drop, slice_index}
+use Rattle.std.specs.List.{prefix_len}
+use Rattle.kx_lex.specs.Bytes.{is_blank}
 use Rattle.kx_lex.specs.Pieces.{piece}
 use Rattle.kx_lex.specs.Reading.{Reads, ended, skipped, taken, Stops, bad_byte, open_string, open_key_name, past_gap, past_token, token_of, mark_len, IsReading, StopsWith}
 use Rattle.kx_lex.specs.declared.scan.Piece.TheVariants as begins
@@ -40,6 +42,67 @@ SoFar-skipped {text} {rest} {offset} {tokens} so n within e = record {
   reads = λ ts r. so.reads ts (skipped n e r);
   stops = λ f s. so.stops f (past_gap n e s);
 }
+
+-- after a gap goes on what is read of it, or where it stops
+pub reads-gap : {offset n : ℕ} {bs : List ℕ} {ts : List Token} → piece bs ≡ begins.Gap n → Reads offset bs ts → Reads (offset + n) (drop n bs) ts
+reads-gap g (ended e) = cc
+reads-gap {offset} {n} {bs} {ts} g (skipped m e r) = let same : m ≡ n = cc in subst (λ (k : ℕ). Reads (offset + k) (drop k bs) ts) same r
+reads-gap g (taken kind m e r) = cc
+
+stops-gap : {offset n : ℕ} {bs : List ℕ} {f : Fault} → piece bs ≡ begins.Gap n → Stops offset bs f → Stops (offset + n) (drop n bs) f
+stops-gap g (bad_byte s) = cc
+stops-gap g (open_string m s) = cc
+stops-gap g (open_key_name m s) = cc
+stops-gap {offset} {n} {bs} {f} g (past_gap m s t) = let same : m ≡ n = cc in subst (λ (k : ℕ). Stops (offset + k) (drop k bs) f) same t
+stops-gap g (past_token k m s t) = cc
+
+drop-next : (n b : ℕ) (bs : List ℕ) → drop (1 + n) (b ∷ bs) ≡ drop n bs
+drop-next n b bs = let same : 1 + n ≡ suc n = omega arith in ap (λ (k : ℕ). drop k (b ∷ bs)) same
+
+-- the blanks at the front are a gap, where there are any
+pub blanks-gap : (bs : List ℕ) → (prefix_len is_blank bs ≡ 0) ⊎ (piece bs ≡ begins.Gap (prefix_len is_blank bs))
+unfolding piece
+blanks-gap [] = inl refl
+blanks-gap (b ∷ bs) = go (is_blank b) refl
+  where
+    go : (blank : Bool) → is_blank b ≡ blank → (prefix_len is_blank (b ∷ bs) ≡ 0) ⊎ (piece (b ∷ bs) ≡ begins.Gap (prefix_len is_blank (b ∷ bs)))
+    go true h = inr (rw h refl)
+    go false h = inl (rw h refl)
+
+-- of which the first is a blank
+blank-piece : (b : ℕ) (bs : List ℕ) → is_blank b ≡ true → piece (b ∷ bs) ≡ begins.Gap (1 + prefix_len is_blank bs)
+unfolding piece
+blank-piece b bs blank = rw blank refl
+
+module _ (offset b : ℕ) (bs : List ℕ) (blank : is_blank b ≡ true) where
+  reads-blank : (ts : List Token) → Reads (offset + 1) bs ts → Reads offset (b ∷ bs) ts
+  reads-blank ts r = skipped _ (blank-piece b bs blank) (go (blanks-gap bs))
+    where
+      go : (prefix_len is_blank bs ≡ 0) ⊎ (piece bs ≡ begins.Gap (prefix_len is_blank bs)) → Reads (offset + (1 + prefix_len is_blank bs)) (drop (1 + prefix_len is_blank bs) (b ∷ bs)) ts
+      go (inl none) = rw none r
+      go (inr gap) = rw (drop-next (prefix_len is_blank bs) b bs) (subst (λ (k : ℕ). Reads k (drop (prefix_len is_blank bs) bs) ts) (omega arith) (reads-gap gap r))
+
+  stops-blank : (f : Fault) → Stops (offset + 1) bs f → Stops offset (b ∷ bs) f
+  stops-blank f s = past_gap _ (blank-piece b bs blank) (go (blanks-gap bs))
+    where
+      go : (prefix_len is_blank bs ≡ 0) ⊎ (piece bs ≡ begins.Gap (prefix_len is_blank bs)) → Stops (offset + (1 + prefix_len is_blank bs)) (drop (1 + prefix_len is_blank bs) (b ∷ bs)) f
+      go (inl none) = rw none s
+      go (inr gap) = rw (drop-next (prefix_len is_blank bs) b bs) (subst (λ (k : ℕ). Stops k (drop (prefix_len is_blank bs) bs) f) (omega arith) (stops-gap gap s))
+
+pub space-some : (bs : List ℕ) → slice_index bs 0 ≡ 32 → 1 ≤ length bs
+space-some [] e = cc
+space-some (b ∷ bs) e = omega arith
+
+pub SoFar-space : {text : List ℕ} (rest : List ℕ) {offset : ℕ} {tokens : List Token} → SoFar text rest offset tokens → slice_index rest 0 ≡ 32 → SoFar text (drop 1 rest) (offset + 1) tokens
+SoFar-space [] so e = cc
+SoFar-space {text} (b ∷ bs) {offset} {tokens} so e = record {
+  all = let before : offset + length (b ∷ bs) ≡ length text = so.all in omega (arith, before);
+  reads = λ ts r. so.reads ts (reads-blank offset b bs blank ts r);
+  stops = λ f s. so.stops f (stops-blank offset b bs blank f s);
+}
+  where
+    blank : is_blank b ≡ true
+    blank = rw e refl
 
 pub SoFar-taken : {text rest : List ℕ} {offset : ℕ} {tokens : List Token} → SoFar text rest offset tokens → (kind : TokenKind) (n : ℕ) → n ≤ length rest → piece rest ≡ begins.Lexeme kind n → SoFar text (drop n rest) (offset + n) (tokens ++ token_of kind offset n ∷ [])
 SoFar-taken {text} {rest} {offset} {tokens} so kind n within e = record {

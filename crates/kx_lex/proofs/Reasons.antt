@@ -1,4 +1,4 @@
--- What stands behind other tokens, and where reading stops in them.
+-- What stands after other tokens, and where reading stops in them.
 use Rattle.std.specs.Option.{ok_or}
 use Rattle.std.proofs.Common.{ℕ, List, [], ◌∷◌, ◌++◌, ◌≡◌, Option, Some, None, Err, inl, sym, refl, ◌∙◌, ap, append_assoc}
 use Rattle.kx_lex.specs.declared.token.Token.{Token}

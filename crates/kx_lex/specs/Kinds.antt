@@ -56,6 +56,6 @@ second test ts = front test (drop 1 ts)
 abbrev pub before_mark : ℕ → List Token → Bool
 before_mark byte ts = front (λ t. not (is_mark byte t)) ts
 
--- hexadecimal behind 0x, else decimal
+-- hexadecimal after 0x, else decimal
 unfoldable pub number_value : List ℕ → ℕ
 number_value digits = if begins_hex digits then digits_value 16 (drop 2 digits) else digits_value 10 digits

@@ -5,7 +5,7 @@ use Rattle.kx_lex.specs.Parsing.{Read, done, then_read, many_read}
 use Rattle.kx_lex.specs.Kinds.{front, is_mark, before_mark}
 use Rattle.kx_lex.specs.Tokens.{mark, comma}
 
--- values behind others
+-- values after others
 abbrev pub put_before : {A : Type 0} → List A → Read (List A) → Read (List A)
 put_before xs (Ok p) = Ok (xs ++ p.0, p.1)
 put_before xs (Err e) = Err e

@@ -32,8 +32,8 @@ abbrev pub longer : ℕ → Extent → Extent
 longer n (Closed k) = Closed (n + k)
 longer n (Open k) = Open (n + k)
 
--- how far text goes that begins behind its opening quote: to its closing quote, or open to a line feed or the end;
--- a backslash takes the byte behind it, which may not be a line feed
+-- how far text goes that begins after its opening quote: to its closing quote, or open to a line feed or the end;
+-- a backslash takes the byte after it, which may not be a line feed
 abbrev pub extent : Bool → List ℕ → Extent
 extent escaped [] = Open 0
 extent escaped (b ∷ bs) = if b == 10 then Open 0 else (if (b == 34) && not escaped then Closed 1 else longer 1 (extent ((b == 92) && not escaped) bs))
@@ -43,7 +43,7 @@ abbrev pub string_piece : Extent → Piece
 string_piece (Closed n) = Lexeme Text (n + 1)
 string_piece (Open n) = OpenString (n + 1)
 
--- the bytes are those behind the <
+-- the bytes are those after the <
 unfoldable pub key_name_piece : List ℕ → Piece
 key_name_piece bs = if slice_index bs (prefix_len is_key_byte bs) == 62 then Lexeme KeyName (prefix_len is_key_byte bs + 2) else OpenKeyName (prefix_len is_key_byte bs + 1)
 

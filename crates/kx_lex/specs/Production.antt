@@ -95,7 +95,7 @@ at_end = record {
   blames = λ ts e. (t : Token) × (more : List Token) × (ts ≡ t ∷ more) × (e ≡ syntax_at t);
 }
 
--- with what is noted of the tokens before the value and those behind it
+-- with what is noted of the tokens before the value and those after it
 abbrev pub noted : {A B : Type 0} → (List Token → List Token → B) → Production A → Production (A × B)
 noted note p = record {
   spells = λ ts y rest. p.spells ts y.0 rest × (note ts rest ≡ y.1);

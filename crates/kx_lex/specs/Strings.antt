@@ -14,7 +14,7 @@ is_octal b = nat_le 48 b && nat_le b 55
 abbrev pub octal_goes_on : ℕ → ℕ → ℕ → Bool
 octal_goes_on value count b = (is_octal b && nat_lt count 3) && nat_lt (value * 8 + (b - 48)) 256
 
--- behind bytes of a state, what the text stands for
+-- after bytes of a state, what the text stands for
 abbrev pub text_value : EscapeState → List ℕ → List ℕ
 text_value Plain [] = []
 text_value Plain (b ∷ bs) = if b == 92 then text_value Escaped bs else b ∷ text_value Plain bs

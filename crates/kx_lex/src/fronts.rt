@@ -11,7 +11,7 @@ use crate::scan::{Piece, USUAL_TOKEN_BYTES, after, piece_at};
 use crate::token::{Span, Token};
 use std::alloc::{AllocError, Global};
 
-/// The token at the front of bytes that end a text, and what stands behind it; none at the end, and where none begins.
+/// The token at the front of bytes that end a text, and what stands after it; none at the end, and where none begins.
 #[inline(always)]
 fn take_token<'t>(text: &[u8], bytes: &'t [u8]) -> Option<(Token, &'t [u8])>
     requires ends { Ends text.now bytes.now }
@@ -37,7 +37,7 @@ fn take_token<'t>(text: &[u8], bytes: &'t [u8]) -> Option<(Token, &'t [u8])>
     }
 }
 
-/// Adds tokens up to the first that begins at an offset or behind it, and answers what stands behind that.
+/// Adds tokens up to the first that begins at an offset or after it, and answers what stands after that.
 fn take_until<'t>(
     text: &[u8],
     bytes: &'t [u8],
@@ -64,7 +64,7 @@ fn take_until<'t>(
     Ok(rest)
 }
 
-/// The tokens of a place in a text, and the two behind them, where there are as many: no production looks further.
+/// The tokens of a place in a text, and the two after them, where there are as many: no production looks further.
 ///
 /// # Errors
 /// Where a growth is refused.

@@ -46,7 +46,7 @@ const MOST_SHORT_BYTES: usize = 22;
 
 #[derive(Debug, Drop)]
 enum Kept {
-    /// The first `len` of the bytes; those behind them mean nothing.
+    /// The first `len` of the bytes; those after them mean nothing.
     Short {
         len: u8,
         bytes: [u8; MOST_SHORT_BYTES],

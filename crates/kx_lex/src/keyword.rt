@@ -4,6 +4,8 @@ ghost use Rattle.std.specs.Str.{str_eq_ignore_ascii_case};
 ghost use Rattle.kx_lex.specs.KeywordLengths.{AreLengths};
 ghost use Rattle.kx_lex.specs.Keywords.{IsByLength, keyword_of, of_length, rows_of, spelled_in};
 
+use crate::scan::byte_at;
+
 /// A word that the grammar quotes; it may be written in capital letters or small.
 #[derive(Clone, Copy, Debug, PartialEq, Eq)]
 pub enum Keyword {
@@ -112,10 +114,22 @@ fn of_length(len: usize) -> &'static [Row]
     if len < tables.len() { tables[len] } else { &[] }
 }
 
+/// Whether a word and a keyword begin with the same letter. This rules most keywords of a length out.
+#[inline(always)]
+#[tactic(auto, using(crate::proofs::Keywords::other_letter))]
+fn has_letter(word: &[u8], row: &Row) -> bool
+    ensures { result ≡ false → str_eq_ignore_ascii_case word.now row.now.0.now ≡ false }
+{
+    byte_at(word, 0) % 32 == byte_at(row.0.as_bytes(), 0) % 32
+}
+
+#[inline(always)]
 fn is_spelled(word: &[u8], row: &Row) -> bool
     ensures { result ≡ str_eq_ignore_ascii_case word.now row.now.0.now }
 {
-    word.eq_ignore_ascii_case(row.0.as_bytes())
+    // Most are written in small letters.
+    let spelled = row.0.as_bytes();
+    has_letter(word, row) && (word == spelled || word.eq_ignore_ascii_case(spelled))
 }
 
 /// The first of some keywords that a word spells.
@@ -180,8 +194,17 @@ fn may_spell(word: &[u8]) -> bool
     word.len() < by_length().len() && lengths >> word.len() & 1 == 1
 }
 
-/// The keyword that a word spells, in capital letters or small.
+/// The same of a word that is as long as a keyword.
+#[inline(never)]
 #[tactic(auto, using(crate::proofs::Keywords::spelled_of_length))]
+fn keyword_of_length(word: &[u8]) -> Option<Keyword>
+    ensures { result ≡ keyword_of word.now }
+{
+    spelled_in(word, of_length(word.len()))
+}
+
+/// The keyword that a word spells, in capital letters or small.
+#[inline(always)]
 pub(crate) fn keyword_of(word: &[u8]) -> Option<Keyword>
     ensures { result ≡ keyword_of word.now }
 {
@@ -190,7 +213,7 @@ pub(crate) fn keyword_of(word: &[u8]) -> Option<Keyword>
         return Some(Keyword::Key);
     }
     if may_spell(word) {
-        spelled_in(word, of_length(word.len()))
+        keyword_of_length(word)
     } else {
         None
     }

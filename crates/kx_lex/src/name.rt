@@ -29,7 +29,7 @@ impl<T> Row<T> {
         Row { items }
     }
 
-    /// These items behind another.
+    /// These items after another.
     ///
     /// # Errors
     /// Where a growth is refused.
@@ -41,6 +41,15 @@ impl<T> Row<T> {
         let mut items = self.items;
         items.insert(0, first)?;
         Ok(Row { items })
+    }
+
+    /// The same row without room for more items.
+    pub fn fitted(self) -> Row<T>
+        ensures { result ≡ self }
+    {
+        let mut items = self.items;
+        items.shrink_to_fit();
+        Row { items }
     }
 
     /// The items in order.

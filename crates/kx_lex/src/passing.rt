@@ -1,5 +1,5 @@
 //! Tokens that are passed over by their bytes, without a list of them. Where something else stands, nothing is answered.
-ghost use Rattle.std.specs.Prelude.{◌≡◌, ◌≤◌, ◌<◌, ◌^◌, true, false, length, drop, slice_index, take, ◌-◌, IfNone, IfOk, IfSome, MatchOption};
+ghost use Rattle.std.specs.Prelude.{◌≡◌, ◌≤◌, ◌<◌, ◌^◌, ◌↔◌, true, false, IsTrue, length, drop, slice_index, take, ◌-◌, IfNone, IfOk, IfSome, MatchOption};
 ghost use Rattle.std.specs.Char.{is_ascii_digit};
 ghost use Rattle.std.specs.List.{prefix_len};
 ghost use Rattle.kx_lex.specs.Bytes.{is_blank};
@@ -17,21 +17,21 @@ use crate::keyword::{Keyword, keyword_of};
 use crate::name::Name;
 use crate::scan::{
     Blanks, Extent, InLine, InWord, Piece, after, begins_hex, byte_at, digit_len, hex_len, key_len,
-    mark_len, past, piece_at, run_len, text_extent,
+    mark_len, past, piece_at, run_len, text_extent, wide_run_len,
 };
 use crate::start::{Start, is_blank, start_of};
 use crate::token::Span;
 use crate::tokens::{number_value, unescaped};
 use std::alloc::{AllocError, Global};
 
-/// What stands behind the blanks at the front.
+/// What stands after the blanks at the front.
 #[inline(always)]
 fn past_blanks(bytes: &[u8]) -> &[u8]
     ensures skips { Skips bytes.now result.now }
     ensures within { length result.now ≤ length bytes.now }
     ensures none { is_blank (slice_index result.now 0) ≡ false }
 {
-    past(bytes, run_len::<Blanks>(bytes))
+    past(bytes, wide_run_len::<Blanks>(bytes))
 }
 
 /// How many bytes of a comment stand at the front.
@@ -46,28 +46,54 @@ fn comment_len(bytes: &[u8]) -> Option<usize>
 {
     let (first, rest) = bytes.split_first()?;
     match start_of(*first) {
-        Start::Hash => Some(1 + run_len::<InLine>(rest)),
+        Start::Hash => Some(1 + wide_run_len::<InLine>(rest)),
         Start::Slash => {
             if byte_at(rest, 0) != b'/' {
                 return None;
             }
-            Some(1 + run_len::<InLine>(rest))
+            Some(1 + wide_run_len::<InLine>(rest))
         }
         _ => None,
     }
 }
 
-/// What stands behind the blanks and comments at the front, however many.
+/// Whether a byte stands at the front that a comment may begin with.
+#[inline(always)]
+fn front_may_be_comment(bytes: &[u8]) -> bool
+    ensures { result ≡ false → is_blank (slice_index bytes.now 0) ≡ false → IsAtToken bytes.now }
+{
+    match bytes.split_first() {
+        Some((first, _)) => matches!(start_of(*first), Start::Hash | Start::Slash),
+        None => false,
+    }
+}
+
+/// What stands after the comments at the front, and the blanks between and after them.
+#[inline(never)]
+fn past_comments(bytes: &[u8]) -> &[u8]
+    requires { is_blank (slice_index bytes.now 0) ≡ false }
+    ensures skips { Skips bytes.now result.now }
+    ensures within { length result.now ≤ length bytes.now }
+    ensures at { IsAtToken result.now }
+{
+    let mut rest = bytes;
+    'gaps: while let Some(len) = comment_len(rest) {
+        rest = past_blanks(past(rest, len));
+    }
+    rest
+}
+
+/// What stands after the blanks and comments at the front, however many.
 fn past_all_gaps(bytes: &[u8]) -> &[u8]
     ensures skips { Skips bytes.now result.now }
     ensures within { length result.now ≤ length bytes.now }
     ensures at { IsAtToken result.now }
 {
-    let mut rest = past_blanks(bytes);
-    'gaps: while let Some(len) = comment_len(rest) {
-        rest = past_blanks(past(rest, len));
+    let rest = past_blanks(bytes);
+    if !front_may_be_comment(rest) {
+        return rest;
     }
-    rest
+    past_comments(rest)
 }
 
 /// Whether a byte stands at the front that blanks or a comment may begin with.
@@ -81,7 +107,7 @@ fn front_may_be_gap(bytes: &[u8]) -> bool
     }
 }
 
-/// What stands behind the blanks and comments at the front.
+/// What stands after the blanks and comments at the front.
 #[inline(always)]
 pub fn past_gaps(bytes: &[u8]) -> &[u8]
     ensures skips { Skips bytes.now result.now }
@@ -101,7 +127,7 @@ pub fn past_gaps(bytes: &[u8]) -> &[u8]
     past_all_gaps(bytes)
 }
 
-/// The same behind so many bytes.
+/// The same after so many bytes.
 #[inline(always)]
 pub(crate) fn past_token(bytes: &[u8], len: usize) -> &[u8]
     requires some { 0 < len }
@@ -219,6 +245,15 @@ fn number_len(bytes: &[u8]) -> Option<usize>
     Some(len)
 }
 
+/// Whether a whole number is at most 4,294,967,295.
+#[inline(always)]
+fn is_small(number: &[u8]) -> bool
+    ensures { IsTrue result ↔ (number_value number.now < 2 ^ 32) }
+{
+    // Most have so few digits that their value needn't be worked out.
+    number.len() <= 9 || number_value(number) <= 0xffff_ffff
+}
+
 /// Passes a whole number of at most 4,294,967,295.
 pub fn pass_number(bytes: &[u8]) -> Option<&[u8]>
     ensures passes { IfSome result (λ rest. Passes number bytes.now rest.now) }
@@ -226,7 +261,7 @@ pub fn pass_number(bytes: &[u8]) -> Option<&[u8]>
     ensures at { IfSome result (λ rest. IsAtToken rest.now) }
 {
     let len = number_len(bytes)?;
-    if number_value(&bytes[..len]) > 0xffff_ffff {
+    if !is_small(&bytes[..len]) {
         return None;
     }
     Some(past_token(bytes, len))

@@ -36,7 +36,7 @@ pub trait Repeated {
         ensures shorter { IfOk result (λ r. length r.1.now < length tokens.now) };
 }
 
-/// Reads as many as stand at the front, behind those that were read already.
+/// Reads as many as stand at the front, after those that were read already.
 fn read_behind<'a, R: Repeated>(
     start: Vec<R::Value>,
     alloc: Global,
@@ -72,6 +72,24 @@ pub fn read_many<'a, R: Repeated>(
     read_behind::<R>(Vec::new(alloc), alloc, text, tokens)
 }
 
+/// Reads what [`read_many`] reads, into a list that has room for so many.
+///
+/// # Errors
+/// Those of [`read_many`].
+#[tactic(auto, using(crate::proofs::Rounds::read_lists))]
+pub fn read_many_in_room<'a, R: Repeated>(
+    alloc: Global,
+    text: &[u8],
+    room: usize,
+    tokens: &'a [Token],
+) -> Parsed<'a, Row<R::Value>>
+    ensures { Gives result (many_read (R.test text.now) (R.reading text.now)
+        (suc (length tokens.now)) tokens.now) }
+{
+    let items = Vec::with_capacity(alloc, room)?;
+    read_behind::<R>(items, alloc, text, tokens)
+}
+
 /// A comma, and one more of what `R` reads.
 struct AfterComma<R>(PhantomData<R>);
 
@@ -93,7 +111,7 @@ impl<R: Repeated> Repeated for AfterComma<R> {
     }
 }
 
-/// Reads one, and more behind commas, into a list without items.
+/// Reads one, and more after commas, into a list without items.
 #[tactic(auto, using(crate::proofs::Rounds::read_lists))]
 fn read_sequence_into<'a, R: Repeated>(
     start: Vec<R::Value>,
@@ -110,7 +128,7 @@ fn read_sequence_into<'a, R: Repeated>(
     read_behind::<AfterComma<R>>(items, alloc, text, rest)
 }
 
-/// Reads one, and more behind commas.
+/// Reads one, and more after commas.
 ///
 /// # Errors
 /// The fault of the first that cannot be read, and [`Fault::Memory`] where a growth is refused.
@@ -133,7 +151,7 @@ fn room_before(close: u8, tokens: &[Token]) -> usize {
 }
 
 /// Reads none at the end or where the mark stands that closes the list, by its byte; else one, and
-/// more behind commas.
+/// more after commas.
 ///
 /// # Errors
 /// The fault of the first that cannot be read, and [`Fault::Memory`] where a growth is refused.
@@ -152,7 +170,7 @@ pub fn read_listed<'a, R: Repeated>(
     read_sequence_into::<R>(items, alloc, text, tokens)
 }
 
-/// Reads one, and more behind commas; one alone takes no allocation.
+/// Reads one, and more after commas; one alone takes no allocation.
 #[tactic(auto, using(crate::proofs::Rounds::read_lists))]
 fn read_small_sequence<'a, R: Repeated>(
     alloc: Global,

@@ -1,6 +1,7 @@
 //! From a text to its tokens.
-ghost use Rattle.std.specs.Prelude.{◌≡◌, ◌≢◌, ℕ, Bool, true, All, List, IsTrue, ◌+◌, ◌<◌, ◌≤◌, ◌^◌, ◌⊎◌, slice_index, false, length, IfOk, IfErr, OnOk, drop};
+ghost use Rattle.std.specs.Prelude.{◌≡◌, ◌≢◌, ℕ, Bool, true, All, List, IsTrue, ◌+◌, ◌<◌, ◌≤◌, ◌^◌, ◌⊎◌, slice_index, false, length, IfOk, IfErr, OnOk, drop, map, not};
 ghost use Rattle.std.specs.List.{list_all, prefix_len};
+ghost use Rattle.std.specs.Simd.Lanes.{mask_l};
 ghost use Rattle.kx_basics.specs.KeyNames.{is_key_byte};
 ghost use Rattle.kx_lex.specs.Bytes.{is_word_byte, is_blank, is_not_line_feed};
 ghost use Rattle.kx_lex.specs.Kinds.{inner_of, is_key_name};
@@ -18,6 +19,7 @@ use crate::start::{Start, is_blank, is_word_byte, start_of};
 use crate::token::{Span, Token, TokenKind};
 use kx_basics::is_key_byte;
 use std::alloc::Global;
+use std::simd::prelude::*;
 
 /// A text may have this many bytes.
 pub const MOST_TEXT_BYTES: usize = 1_048_576;
@@ -62,6 +64,18 @@ impl Run for InWord {
     }
 }
 
+/// Those of a key's name.
+struct InKeyName;
+
+impl Run for InKeyName {
+    ghost has = { is_key_byte };
+
+    #[inline(always)]
+    fn has(byte: u8) -> bool {
+        is_key_byte(byte)
+    }
+}
+
 /// Blanks.
 pub(crate) struct Blanks;
 
@@ -84,6 +98,52 @@ impl Run for InLine {
     fn has(byte: u8) -> bool {
         byte != b'\n'
     }
+}
+
+/// The same, sixteen bytes at a time.
+pub(crate) trait WideRun: Run {
+    /// A bit for each byte, the first lowest, that is set where the byte isn't of the kind.
+    fn others(front: u8x16) -> u64
+        ensures { result ≡ mask_l (map (λ b. not (Self.has b)) front) };
+}
+
+impl WideRun for Blanks {
+    #[inline(always)]
+    fn others(front: u8x16) -> u64 {
+        let not_spaces = front.simd_ne(u8x16::splat(b' '));
+        let not_controls = (front - u8x16::splat(b'\t')).simd_ge(u8x16::splat(5));
+        (not_spaces & not_controls).to_bitmask()
+    }
+}
+
+impl WideRun for InLine {
+    #[inline(always)]
+    fn others(front: u8x16) -> u64 {
+        front.simd_eq(u8x16::splat(b'\n')).to_bitmask()
+    }
+}
+
+/// How many bytes of a kind stand at the front, sixteen a turn. The first is looked at alone, since most blanks stand alone.
+#[inline(always)]
+pub(crate) fn wide_run_len<R: WideRun>(bytes: &[u8]) -> usize
+    ensures exact { result ≡ prefix_len R.has bytes.now }
+    ensures within { result ≤ length bytes.now }
+{
+    match bytes.first() {
+        Some(first) if R::has(*first) => {}
+        _ => return 0,
+    }
+    let mut len = 0;
+    let mut rest = bytes;
+    'sixteens: while 16 <= rest.len() {
+        let others = R::others(u8x16::from_slice(rest));
+        if others != 0 {
+            return len + others.trailing_zeros() as usize;
+        }
+        len += 16;
+        rest = past(rest, 16);
+    }
+    len + short_run_len::<R>(rest)
 }
 
 fn short_run_len<R: Run>(bytes: &[u8]) -> usize
@@ -135,11 +195,12 @@ pub(crate) fn hex_len(bytes: &[u8]) -> usize
     bytes.iter().take_while(|b| b.is_ascii_hexdigit()).count()
 }
 
+#[inline(always)]
 pub(crate) fn key_len(bytes: &[u8]) -> usize
     ensures exact { result ≡ prefix_len is_key_byte bytes.now }
     ensures within { result ≤ length bytes.now }
 {
-    bytes.iter().take_while(|b| is_key_byte(**b)).count()
+    run_len::<InKeyName>(bytes)
 }
 
 pub(crate) fn are_key_bytes(bytes: &[u8]) -> bool
@@ -148,7 +209,7 @@ pub(crate) fn are_key_bytes(bytes: &[u8]) -> bool
     bytes.iter().all(|b| is_key_byte(*b))
 }
 
-/// How far text goes behind its opening quote, in bytes.
+/// How far text goes after its opening quote, in bytes.
 #[derive(Clone, Copy, Debug, PartialEq, Eq)]
 pub enum Extent {
     /// To its closing quote, which counts.
@@ -194,7 +255,7 @@ pub fn begins_hex(bytes: &[u8]) -> bool
 fn number_piece(bytes: &[u8]) -> Piece
     requires some { 0 < length bytes.now }
     requires digit { IsTrue (is_ascii_digit (slice_index bytes.now 0)) }
-    requires small { length bytes.now ≤ MOST_TEXT_BYTES }
+    requires short { length bytes.now ≤ MOST_TEXT_BYTES }
     ensures exact { result ≡ number_piece bytes.now }
     ensures within { piece_len result ≤ length bytes.now }
     ensures some { 0 < piece_len result }
@@ -275,9 +336,9 @@ pub(crate) fn piece_at(bytes: &[u8]) -> Piece
     match start_of(*first) {
         Start::Word => word_of(bytes, 1 + run_len::<InWord>(rest)),
         Start::Digit => number_piece(bytes),
-        Start::Blank => Piece::Gap(1 + run_len::<Blanks>(rest)),
-        Start::Hash => Piece::Gap(1 + run_len::<InLine>(rest)),
-        Start::Slash if byte_at(rest, 0) == b'/' => Piece::Gap(1 + run_len::<InLine>(rest)),
+        Start::Blank => Piece::Gap(1 + wide_run_len::<Blanks>(rest)),
+        Start::Hash => Piece::Gap(1 + wide_run_len::<InLine>(rest)),
+        Start::Slash if byte_at(rest, 0) == b'/' => Piece::Gap(1 + wide_run_len::<InLine>(rest)),
         Start::Slash | Start::Mark => Piece::Lexeme(TokenKind::Mark(*first), 1),
         Start::Quote => string_piece(rest),
         Start::Angle => key_name_piece(rest),
@@ -356,6 +417,11 @@ pub fn lex(alloc: Global, text: &[u8]) -> Result<Vec<Token>, Fault>
                 tokens.push_reserved(Token { kind, span });
                 rest = past(rest, len);
                 offset += len as u32;
+                // Most tokens have a single blank after them, which takes no turn of its own.
+                if byte_at(rest, 0) == b' ' {
+                    rest = past(rest, 1);
+                    offset += 1;
+                }
             }
             Piece::BadByte => return Err(Fault::BadByte(place(offset, 1))),
             Piece::OpenString(len) => return Err(Fault::OpenString(place(offset, len))),

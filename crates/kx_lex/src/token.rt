@@ -2,7 +2,7 @@
 use crate::keyword::Keyword;
 use std::fmt;
 
-/// A range of bytes of a text, counted from 0: `start` is its first byte, `stop` the byte behind
+/// A range of bytes of a text, counted from 0: `start` is its first byte, `stop` the byte after
 /// its last.
 #[derive(Clone, Copy, Debug, PartialEq, Eq)]
 pub struct Span {

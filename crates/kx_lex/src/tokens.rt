@@ -15,10 +15,10 @@ use crate::name::{KeyName, Name, Number};
 use crate::scan::begins_hex;
 use crate::string::text_bytes;
 use crate::token::{Span, Token, TokenKind};
-use kx_basics::digits_value;
+use kx_basics::{decimal_value, hex_value};
 use std::alloc::{AllocError, Global};
 
-/// A value with the tokens that are left behind it, or why there is none.
+/// A value with the tokens that are left after it, or why there is none.
 pub type Parsed<'a, T> = Result<(T, &'a [Token]), Fault>;
 
 fn range(text: &[u8], start: usize, stop: usize) -> &[u8]
@@ -262,13 +262,13 @@ pub(crate) fn number_value(digits: &[u8]) -> u64
     ensures great { 2 ^ 32 ≤ result → 2 ^ 32 ≤ number_value digits.now }
 {
     if begins_hex(digits) {
-        digits_value(digits.get(2..).unwrap_or(&[]), 16)
+        hex_value(digits.get(2..).unwrap_or(&[]))
     } else {
-        digits_value(digits, 10)
+        decimal_value(digits)
     }
 }
 
-/// Takes a whole number, decimal or behind `0x` hexadecimal.
+/// Takes a whole number, decimal or after `0x` hexadecimal.
 ///
 /// # Errors
 /// [`Fault::Syntax`] where another token or none stands, and [`Fault::NumberTooBig`] above
@@ -331,7 +331,7 @@ pub fn span_between(tokens: &[Token], rest: &[Token]) -> Span
     }
 }
 
-/// The tokens behind the first; without one, none.
+/// The tokens after the first; without one, none.
 #[inline(always)]
 pub fn behind_front(tokens: &[Token]) -> &[Token]
     ensures { result.now ≡ drop 1 tokens.now }

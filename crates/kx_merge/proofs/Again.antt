@@ -9,7 +9,7 @@ use Rattle.kx_parse.specs.declared.tree.Mode.{Mode}
 use Rattle.kx_parse.specs.declared.tree.Mode.TheVariants.{Augment, Override, Replace}
 use Rattle.kx_merge.specs.Offers.{Offer, merged_value, merged_width, is_about, value_of, width_of, with_name, names_behind, names_of}
 use Rattle.kx_merge.specs.Bodies.{gathered}
-use Rattle.kx_merge.specs.Records.{Shows}
+use Rattle.kx_merge.specs.Records.{Form, Shows}
 use Rattle.kx_merge.proofs.Precedence.{value-other, value-more, width-other, width-more, names_behind-append}
 use Rattle.kx_merge.proofs.OnePart.{Apart, a_key, gathered-names-apart, names, or-first, or-last}
 
@@ -142,8 +142,8 @@ module _ {K C V : Type 0} (eq : K → K → Bool) (laws : IsEquivalence eq) wher
       ∙ named-again (names_behind eq (names_behind eq [] os) g) g (all-named (names_behind eq [] os) g)
       ∙ sym (names_behind-append eq [] os g)
 
-module _ {K C V R : Type 0} (cell : R → C → Option V) (width : R → ℕ → ℕ) (eq : K → K → Bool) (laws : IsEquivalence eq) (same : (i j : K) → eq i j ≡ true → i ≡ j) where
-  shows-again : (ns : List K) (at : K → Option R) (os g : List (Offer K C V)) → Apart eq (names g) → Shows cell width eq ns at (os ++ g) → Shows cell width eq ns at ((os ++ g) ++ g)
+module _ {K C V R : Type 0} (form : Form R C V) (eq : K → K → Bool) (laws : IsEquivalence eq) (same : (i j : K) → eq i j ≡ true → i ≡ j) where
+  shows-again : (ns : List K) (at : K → Option R) (os g : List (Offer K C V)) → Apart eq (names g) → Shows form eq ns at (os ++ g) → Shows form eq ns at ((os ++ g) ++ g)
   unfolding take widen
   shows-again ns at os g apart shows = record {
     names_are = shows.names_are ∙ sym (names-again eq laws os g);
@@ -151,5 +151,5 @@ module _ {K C V R : Type 0} (cell : R → C → Option V) (width : R → ℕ →
     widths_are = λ k n. shows.widths_are k n ∙ sym (width-behind eq k n (os ++ g) g ∙ ap (λ v. behind eq k (widen eq k n) v g) (width-behind eq k n os g) ∙ behind-again eq k (widen eq k n) same (λ o w. width-again o.mode w (o.width n)) (width_of eq os k n) g apart ∙ sym (width-behind eq k n os g));
   }
 
-  pub gathered_again : (ns : List K) (at : K → Option R) (mode : Mode) (os inner : List (Offer K C V)) → Shows cell width eq ns at (os ++ gathered eq mode inner) → Shows cell width eq ns at ((os ++ gathered eq mode inner) ++ gathered eq mode inner)
+  pub gathered_again : (ns : List K) (at : K → Option R) (mode : Mode) (os inner : List (Offer K C V)) → Shows form eq ns at (os ++ gathered eq mode inner) → Shows form eq ns at ((os ++ gathered eq mode inner) ++ gathered eq mode inner)
   gathered_again ns at mode os inner shows = shows-again ns at os (gathered eq mode inner) (gathered-names-apart eq laws mode inner) shows

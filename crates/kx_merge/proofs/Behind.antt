@@ -20,37 +20,37 @@ use Rattle.kx_parse.specs.declared.tree.Mode.TheVariants.{Augment}
 use Rattle.kx_merge.specs.Bodies.{Rules, Moves, moved, gathered, offers, faults, offers_of, faults_of}
 use Rattle.kx_merge.specs.Gatherings.{Adds, IsGathered, AreGathered, none, more, entry_offers, entry_faults, entry_next}
 use Rattle.kx_merge.specs.Offers.{Offer}
-use Rattle.kx_merge.specs.Records.{Shows, cell_in, width_in}
+use Rattle.kx_merge.specs.Records.{Form, Shows, cell_in, width_in}
 use Rattle.kx_merge.specs.declared.gathering.Merged.{Merged}
 use Rattle.kx_merge.proofs.Going.{drop_next}
 
-module _ {K C V D R : Type 0} (cell : R → C → Option V) (width : R → ℕ → ℕ) (eq : K → K → Bool) (rules : Rules K C V D) (moves : Moves K C) where
+module _ {K C V D R : Type 0} (form : Form R C V) (eq : K → K → Bool) (rules : Rules K C V D) (moves : Moves K C) where
   -- from records and a body, some of the body is after in the records of now
   pub record Left (names : List K) (at : K → Option R) (d : D) (whole : Body) (now_names : List K) (now_at : K → Option R) (now_d : D) (left : Body) : Type 0 where
     pub behind : List (Offer K C V)
-    pub shown : (os : List (Offer K C V)) → Shows cell width eq names at os → Shows cell width eq now_names now_at (os ++ behind)
+    pub shown : (os : List (Offer K C V)) → Shows form eq names at os → Shows form eq now_names now_at (os ++ behind)
     pub offered : offers eq rules moves d whole ≡ behind ++ offers eq rules moves now_d left
     pub blamed : faults eq rules moves d whole ≡ faults eq rules moves now_d left
 
   pub left_all : (names : List K) (at : K → Option R) (d : D) (whole : Body) → Left names at d whole names at d whole
-  left_all names at d whole = record { behind = []; shown = λ os shows. subst (Shows cell width eq names at) (sym (append-nil os)) shows; offered = refl; blamed = refl }
+  left_all names at d whole = record { behind = []; shown = λ os shows. subst (Shows form eq names at) (sym (append-nil os)) shows; offered = refl; blamed = refl }
 
-module _ {K C V D R : Type 0} {cell : R → C → Option V} {width : R → ℕ → ℕ} {eq : K → K → Bool} {rules : Rules K C V D} {moves : Moves K C} {names : List K} {at : K → Option R} {d : D} {whole : Body} where
+module _ {K C V D R : Type 0} {form : Form R C V} {eq : K → K → Bool} {rules : Rules K C V D} {moves : Moves K C} {names : List K} {at : K → Option R} {d : D} {whole : Body} where
   unfoldable pub left_step : {n1 n2 : List K} {a1 a2 : K → Option R} {d1 : D} {b1 : Body} {X : Type 0} {added : List (Offer K C V)} {fs : List Fault} {x : X} (d2 : D) (b2 : Body)
-      → Left cell width eq rules moves names at d whole n1 a1 d1 b1 → offers eq rules moves d1 b1 ≡ added ++ offers eq rules moves d2 b2 → faults eq rules moves d1 b1 ≡ fs ++ faults eq rules moves d2 b2
-      → Adds cell width eq n1 a1 (Ok x) n2 a2 added fs → Left cell width eq rules moves names at d whole n2 a2 d2 b2
+      → Left form eq rules moves names at d whole n1 a1 d1 b1 → offers eq rules moves d1 b1 ≡ added ++ offers eq rules moves d2 b2 → faults eq rules moves d1 b1 ≡ fs ++ faults eq rules moves d2 b2
+      → Adds form eq n1 a1 (Ok x) n2 a2 added fs → Left form eq rules moves names at d whole n2 a2 d2 b2
   left_step {n2 = n2} {a2 = a2} {added = added} {fs = fs} d2 b2 l os_are fs_are adds = record {
     behind = l.behind ++ added;
-    shown = λ os before. subst (Shows cell width eq n2 a2) (append_assoc os l.behind added) (adds.shows (os ++ l.behind) (l.shown os before));
+    shown = λ os before. subst (Shows form eq n2 a2) (append_assoc os l.behind added) (adds.shows (os ++ l.behind) (l.shown os before));
     offered = l.offered ∙ ap (λ rest. l.behind ++ rest) os_are ∙ sym (append_assoc l.behind added (offers eq rules moves d2 b2));
     blamed = l.blamed ∙ fs_are ∙ ap (λ gs. gs ++ faults eq rules moves d2 b2) adds.faultless;
   }
 
-  pub left_shown : {n1 : List K} {a1 : K → Option R} {d1 : D} → Left cell width eq rules moves names at d whole n1 a1 d1 End → (os : List (Offer K C V)) → Shows cell width eq names at os → Shows cell width eq n1 a1 (os ++ offers eq rules moves d whole)
-  left_shown {n1 = n1} {a1 = a1} l os before = subst (λ added. Shows cell width eq n1 a1 (os ++ added)) (sym (l.offered ∙ append-nil l.behind)) (l.shown os before)
+  pub left_shown : {n1 : List K} {a1 : K → Option R} {d1 : D} → Left form eq rules moves names at d whole n1 a1 d1 End → (os : List (Offer K C V)) → Shows form eq names at os → Shows form eq n1 a1 (os ++ offers eq rules moves d whole)
+  left_shown {n1 = n1} {a1 = a1} l os before = subst (λ added. Shows form eq n1 a1 (os ++ added)) (sym (l.offered ∙ append-nil l.behind)) (l.shown os before)
 
-  pub left_fault : {n1 n2 : List K} {a1 a2 : K → Option R} {d1 : D} {b1 : Body} {X : Type 0} {added : List (Offer K C V)} {fs : List Fault} {e : Fault} (rest : List Fault) → Left cell width eq rules moves names at d whole n1 a1 d1 b1 → faults eq rules moves d1 b1 ≡ fs ++ rest
-      → Adds cell width eq {X = X} n1 a1 (Err e) n2 a2 added fs → Contains (Memory ∷ faults eq rules moves d whole) e
+  pub left_fault : {n1 n2 : List K} {a1 a2 : K → Option R} {d1 : D} {b1 : Body} {X : Type 0} {added : List (Offer K C V)} {fs : List Fault} {e : Fault} (rest : List Fault) → Left form eq rules moves names at d whole n1 a1 d1 b1 → faults eq rules moves d1 b1 ≡ fs ++ rest
+      → Adds form eq {X = X} n1 a1 (Err e) n2 a2 added fs → Contains (Memory ∷ faults eq rules moves d whole) e
   left_fault {fs = fs} {e = e} rest l fs_are adds = subst (λ gs. Contains (Memory ∷ gs) e) (sym (l.blamed ∙ fs_are)) (Contains-append_left (Memory ∷ fs) rest e adds.fault)
 
 module _ {K C V D : Type 0} (eq : K → K → Bool) (rules : Rules K C V D) (moves : Moves K C) (bodies : List Body) where
@@ -119,51 +119,51 @@ module _ {K C V D : Type 0} (eq : K → K → Bool) (rules : Rules K C V D) (mov
       ∙ ap (λ os. faults_of eq rules moves (shared_body bodies x End) ++ os) (restart-blamed (ended rules.start x.entries.items) (drop (i + 1) xs))
 
 -- where no section is left
-pub left_over : {K C V D R : Type 0} {cell : R → C → Option V} {width : R → ℕ → ℕ} {eq : K → K → Bool} {rules : Rules K C V D} {moves : Moves K C} {names now_names : List K} {at now_at : K → Option R} {d now_d : D} {whole : Body} (bodies : List Body) (i : ℕ) (xs : List Map) → length xs ≤ i
-    → Left cell width eq rules moves names at d whole now_names now_at now_d (shared_sections bodies (drop i xs)) → Left cell width eq rules moves names at d whole now_names now_at now_d End
-left_over {cell = cell} {width = width} {eq = eq} {rules = rules} {moves = moves} {names = names} {now_names = now_names} {at = at} {now_at = now_at} {d = d} {now_d = now_d} {whole = whole} bodies i xs over l =
-    subst (λ ys. Left cell width eq rules moves names at d whole now_names now_at now_d (shared_sections bodies ys)) (drop_all i xs over) l
+pub left_over : {K C V D R : Type 0} {form : Form R C V} {eq : K → K → Bool} {rules : Rules K C V D} {moves : Moves K C} {names now_names : List K} {at now_at : K → Option R} {d now_d : D} {whole : Body} (bodies : List Body) (i : ℕ) (xs : List Map) → length xs ≤ i
+    → Left form eq rules moves names at d whole now_names now_at now_d (shared_sections bodies (drop i xs)) → Left form eq rules moves names at d whole now_names now_at now_d End
+left_over {form = form} {eq = eq} {rules = rules} {moves = moves} {names = names} {now_names = now_names} {at = at} {now_at = now_at} {d = d} {now_d = now_d} {whole = whole} bodies i xs over l =
+    subst (λ ys. Left form eq rules moves names at d whole now_names now_at now_d (shared_sections bodies ys)) (drop_all i xs over) l
 
 -- maps that are done
-module _ {K C V D R : Type 0} (cell : R → C → Option V) (width : R → ℕ → ℕ) (eq : K → K → Bool) (rules : Rules K C V D) (moves : Moves K C) where
-  pub gathered_at : (rs : List (Result (Merged K R) Fault)) (bs : List Body) (n : ℕ) (r : Result (Merged K R) Fault) → AreGathered cell width eq rules moves rs bs → n < length rs → r ≡ get_or rs n r → IsGathered cell width eq rules moves r (body_at bs n)
+module _ {K C V D R : Type 0} (form : Form R C V) (eq : K → K → Bool) (rules : Rules K C V D) (moves : Moves K C) where
+  pub gathered_at : (rs : List (Result (Merged K R) Fault)) (bs : List Body) (n : ℕ) (r : Result (Merged K R) Fault) → AreGathered form eq rules moves rs bs → n < length rs → r ≡ get_or rs n r → IsGathered form eq rules moves r (body_at bs n)
   gathered_at [] bs n r are within at = absurd (omega (arith, within))
   gathered_at (x ∷ rs) [] n r are within at = elim are [ ]
-  gathered_at (x ∷ rs) (b ∷ bs) zero r (more one rest) within at = subst (λ y. IsGathered cell width eq rules moves y b) (sym at) one
+  gathered_at (x ∷ rs) (b ∷ bs) zero r (more one rest) within at = subst (λ y. IsGathered form eq rules moves y b) (sym at) one
   gathered_at (x ∷ rs) (b ∷ bs) (suc n) r (more one rest) within at = gathered_at rs bs n r rest (omega (arith, within)) at
 
-  pub gathered_past : (rs : List (Result (Merged K R) Fault)) (bs : List Body) (n : ℕ) → AreGathered cell width eq rules moves rs bs → length rs ≤ n → body_at bs n ≡ End
+  pub gathered_past : (rs : List (Result (Merged K R) Fault)) (bs : List Body) (n : ℕ) → AreGathered form eq rules moves rs bs → length rs ≤ n → body_at bs n ≡ End
   gathered_past [] [] n are over = refl
   gathered_past [] (b ∷ bs) n are over = elim are [ ]
   gathered_past (x ∷ rs) [] n are over = elim are [ ]
   gathered_past (x ∷ rs) (b ∷ bs) zero (more one rest) over = absurd (omega (arith, over))
   gathered_past (x ∷ rs) (b ∷ bs) (suc n) (more one rest) over = gathered_past rs bs n rest (omega (arith, over))
 
-  pub gathered_more : (rs : List (Result (Merged K R) Fault)) (bs : List Body) (r : Result (Merged K R) Fault) (b : Body) → AreGathered cell width eq rules moves rs bs → IsGathered cell width eq rules moves r b → AreGathered cell width eq rules moves (rs ++ r ∷ []) (bs ++ b ∷ [])
+  pub gathered_more : (rs : List (Result (Merged K R) Fault)) (bs : List Body) (r : Result (Merged K R) Fault) (b : Body) → AreGathered form eq rules moves rs bs → IsGathered form eq rules moves r b → AreGathered form eq rules moves (rs ++ r ∷ []) (bs ++ b ∷ [])
   gathered_more [] [] r b are one = more one none
   gathered_more [] (c ∷ bs) r b are one = elim are [ ]
   gathered_more (x ∷ rs) [] r b are one = elim are [ ]
   gathered_more (x ∷ rs) (c ∷ bs) r b (more first rest) one = more first (gathered_more rs bs r b rest one)
 
 -- records into which nothing is merged, a fault, and what is left where only memory may be wanting
-module _ {K C V R X : Type 0} {cell : R → C → Option V} {width : R → ℕ → ℕ} {eq : K → K → Bool} {n1 : List K} {a1 : K → Option R} {added : List (Offer K C V)} {blamed : List Fault} where
-  pub adds_nothing : {x : X} → added ≡ [] → blamed ≡ [] → Adds cell width eq n1 a1 (Ok x) n1 a1 added blamed
-  adds_nothing nothing faultless = record { shows = λ os shows. subst (Shows cell width eq n1 a1) (sym (append-nil os) ∙ ap (λ os2. os ++ os2) (sym nothing)) shows; faultless = faultless; fault = tt }
+module _ {K C V R X : Type 0} {form : Form R C V} {eq : K → K → Bool} {n1 : List K} {a1 : K → Option R} {added : List (Offer K C V)} {blamed : List Fault} where
+  pub adds_nothing : {x : X} → added ≡ [] → blamed ≡ [] → Adds form eq n1 a1 (Ok x) n1 a1 added blamed
+  adds_nothing nothing faultless = record { shows = λ os shows. subst (Shows form eq n1 a1) (sym (append-nil os) ∙ ap (λ os2. os ++ os2) (sym nothing)) shows; faultless = faultless; fault = tt }
 
-module _ {K C V R X : Type 0} {cell : R → C → Option V} {width : R → ℕ → ℕ} {eq : K → K → Bool} {n1 n2 : List K} {a1 a2 : K → Option R} {added : List (Offer K C V)} {blamed : List Fault} where
-  pub adds_fault : {e : Fault} → Contains (Memory ∷ blamed) e → Adds cell width eq {X = X} n1 a1 (Err e) n2 a2 added blamed
+module _ {K C V R X : Type 0} {form : Form R C V} {eq : K → K → Bool} {n1 n2 : List K} {a1 a2 : K → Option R} {added : List (Offer K C V)} {blamed : List Fault} where
+  pub adds_fault : {e : Fault} → Contains (Memory ∷ blamed) e → Adds form eq {X = X} n1 a1 (Err e) n2 a2 added blamed
   adds_fault has = record { shows = λ os shows. tt; faultless = tt; fault = has }
 
-  pub adds_all : (r : Result X Fault) → ((os : List (Offer K C V)) → Shows cell width eq n1 a1 os → OnOk r (Shows cell width eq n2 a2 (os ++ added))) → IfErr r (λ e. e ≡ Memory) → blamed ≡ [] → Adds cell width eq n1 a1 r n2 a2 added blamed
+  pub adds_all : (r : Result X Fault) → ((os : List (Offer K C V)) → Shows form eq n1 a1 os → OnOk r (Shows form eq n2 a2 (os ++ added))) → IfErr r (λ e. e ≡ Memory) → blamed ≡ [] → Adds form eq n1 a1 r n2 a2 added blamed
   adds_all (Ok x) shows memory clean = record { shows = shows; faultless = clean; fault = tt }
   adds_all (Err e) shows memory clean = record { shows = shows; faultless = tt; fault = (0, omega arith, sym memory) }
 
-  pub adds_passed : {e : Fault} (r : Result X Fault) → IsErrAnd r (λ y. y ≡ e) → Contains (Memory ∷ blamed) e → Adds cell width eq n1 a1 r n2 a2 added blamed
+  pub adds_passed : {e : Fault} (r : Result X Fault) → IsErrAnd r (λ y. y ≡ e) → Contains (Memory ∷ blamed) e → Adds form eq n1 a1 r n2 a2 added blamed
   adds_passed (Ok x) is has = absurd is
   adds_passed (Err y) is has = record { shows = λ os shows. tt; faultless = tt; fault = subst (Contains (Memory ∷ blamed)) (sym is) has }
 
-pub adds_same : {K C V R X : Type 0} {cell : R → C → Option V} {width : R → ℕ → ℕ} {eq : K → K → Bool} {n1 n2 : List K} {a1 a2 : K → Option R} {r : Result X Fault} {added same_added : List (Offer K C V)} {blamed same_blamed : List Fault} → added ≡ same_added → blamed ≡ same_blamed → Adds cell width eq n1 a1 r n2 a2 added blamed → Adds cell width eq n1 a1 r n2 a2 same_added same_blamed
-adds_same {cell = cell} {width = width} {eq = eq} {n1 = n1} {n2 = n2} {a1 = a1} {a2 = a2} {r = r} {same_added = same_added} {blamed = blamed} e f adds = subst (λ fs. Adds cell width eq n1 a1 r n2 a2 same_added fs) f (subst (λ os. Adds cell width eq n1 a1 r n2 a2 os blamed) e adds)
+pub adds_same : {K C V R X : Type 0} {form : Form R C V} {eq : K → K → Bool} {n1 n2 : List K} {a1 a2 : K → Option R} {r : Result X Fault} {added same_added : List (Offer K C V)} {blamed same_blamed : List Fault} → added ≡ same_added → blamed ≡ same_blamed → Adds form eq n1 a1 r n2 a2 added blamed → Adds form eq n1 a1 r n2 a2 same_added same_blamed
+adds_same {form = form} {eq = eq} {n1 = n1} {n2 = n2} {a1 = a1} {a2 = a2} {r = r} {same_added = same_added} {blamed = blamed} e f adds = subst (λ fs. Adds form eq n1 a1 r n2 a2 same_added fs) f (subst (λ os. Adds form eq n1 a1 r n2 a2 os blamed) e adds)
 
 -- a list of one element
 pub only : {X : Type 0} (xs : List X) (d : X) → 1 ≤ length xs → length xs < 2 → xs ≡ get_or xs 0 d ∷ []
@@ -193,9 +193,9 @@ pub behind_at : (bodies : List Body) (xs : List Map) (i : ℕ) (x : Map) → i <
 behind_at bodies xs i x within is = ap (bodies_behind bodies) (drop_next xs i x within is)
 
 -- records of which there are none
-pub shows_none : {K C V R S : Type 0} (cell : R → C → Option V) (width : R → ℕ → ℕ) (eq : K → K → Bool) (m : HashMap K R S) (os : List (Offer K C V)) → m.entries ≡ [] → os ≡ [] → Shows cell width eq (keys m) (get eq m) os
-shows_none cell width eq m os empty nothing = subst (Shows cell width eq (keys m) (get eq m)) (sym nothing) (record {
+pub shows_none : {K C V R S : Type 0} (form : Form R C V) (eq : K → K → Bool) (m : HashMap K R S) (os : List (Offer K C V)) → m.entries ≡ [] → os ≡ [] → Shows form eq (keys m) (get eq m) os
+shows_none form eq m os empty nothing = subst (Shows form eq (keys m) (get eq m)) (sym nothing) (record {
   names_are = ap keys_of empty;
-  cells_are = λ k c. ap (λ es. cell_in cell (lookup (eq k) es) c) empty;
-  widths_are = λ k g. ap (λ es. width_in width (lookup (eq k) es) g) empty;
+  cells_are = λ k c. ap (λ es. cell_in form (lookup (eq k) es) c) empty;
+  widths_are = λ k g. ap (λ es. width_in form (lookup (eq k) es) g) empty;
 })

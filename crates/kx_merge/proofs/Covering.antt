@@ -11,7 +11,7 @@ use Rattle.kx_parse.specs.declared.tree.Mode.TheVariants.{Augment, Override, Rep
 use Rattle.kx_merge.specs.Bodies.{Moves, gather, gathered, moved, moved_to}
 use Rattle.kx_merge.specs.Renewals.{AreGentle, AreGentleTo, AreWeak, Picks, TakesBack, none, more, no_offer, an_offer}
 use Rattle.kx_merge.specs.Offers.{Offer, is_about, is_replace, is_strong, merged_value, merged_width, value_of, width_of, names_behind, names_of}
-use Rattle.kx_merge.specs.Records.{AreOffered, Shows}
+use Rattle.kx_merge.specs.Records.{Form, AreOffered, Shows}
 use Rattle.kx_merge.specs.Records.AreOffered.{more as an_offered}
 use Rattle.kx_merge.proofs.Again.{Named, no_name, all-named, behind, named-again, take, value-behind, widen, width-behind}
 use Rattle.kx_merge.proofs.Precedence.{names_behind-append, option_or-assoc}
@@ -103,15 +103,15 @@ module _ {K C V : Type 0} where
     weak_moved (Some n) (o ∷ os) (an_offer one rest) = weak-both (option_map_or (λ k. moved_to moves n o k ∷ []) (moves.key n o.name) []) (moved moves (Some n) os) (weak-at n o one (moves.key n o.name)) (weak_moved (Some n) os rest)
 
 -- records that are read under a mode
-pub offered_gentle : {K C V R : Type 0} {cell : R → C → Option V} {width : R → ℕ → ℕ} (mode : Mode) (rs : List (K × R)) (os : List (Offer K C V)) → is_replace mode ≡ false → AreOffered mode cell width rs os → AreGentle os
+pub offered_gentle : {K C V R : Type 0} {form : Form R C V} (mode : Mode) (rs : List (K × R)) (os : List (Offer K C V)) → is_replace mode ≡ false → AreOffered mode form rs os → AreGentle os
 offered_gentle mode [] [] gentle offered = none
 offered_gentle mode [] (o ∷ os) gentle offered = elim offered [ ]
 offered_gentle mode (r ∷ rs) [] gentle offered = elim offered [ ]
 offered_gentle mode (r ∷ rs) (o ∷ os) gentle (an_offered one rest) = more (ap is_replace one.mode_is ∙ gentle) (offered_gentle mode rs os gentle rest)
 
-module _ {K C V R : Type 0} {cell : R → C → Option V} {width : R → ℕ → ℕ} (eq : K → K → Bool) (mode : Mode) where
+module _ {K C V R : Type 0} {form : Form R C V} (eq : K → K → Bool) (mode : Mode) where
   -- offers to some records take nothing back from others
-  untouched : (k : K) (rs : List (K × R)) (os : List (Offer K C V)) → AreOffered mode cell width rs os → list_any (eq k) (keys_of rs) ≡ false → AreGentleTo eq k os
+  untouched : (k : K) (rs : List (K × R)) (os : List (Offer K C V)) → AreOffered mode form rs os → list_any (eq k) (keys_of rs) ≡ false → AreGentleTo eq k os
   untouched k [] [] offered away = none
   untouched k [] (o ∷ os) offered away = elim offered [ ]
   untouched k (r ∷ rs) [] offered away = elim offered [ ]
@@ -120,7 +120,7 @@ module _ {K C V R : Type 0} {cell : R → C → Option V} {width : R → ℕ →
       (untouched k rs os rest (or-last (eq k r.0) (list_any (eq k) (keys_of rs)) away))
 
   -- so where the keys of a statement under replace are noted, others stay
-  pub takes_back : (rs : List (K × R)) (os : List (Offer K C V)) (old new : List K) → AreOffered mode cell width rs os → new ≡ old ++ cond (is_replace mode) (keys_of rs) [] → TakesBack eq false old new os
+  pub takes_back : (rs : List (K × R)) (os : List (Offer K C V)) (old new : List K) → AreOffered mode form rs os → new ≡ old ++ cond (is_replace mode) (keys_of rs) [] → TakesBack eq false old new os
   takes_back rs os old new offered noted = by (is_replace mode) refl noted
     where
       by : (b : Bool) → is_replace mode ≡ b → new ≡ old ++ cond b (keys_of rs) [] → TakesBack eq false old new os
@@ -230,7 +230,7 @@ module _ {K C V : Type 0} (eq : K → K → Bool) (laws : IsEquivalence eq) wher
   width-after : (k : K) (g : ℕ) (os xs : List (Offer K C V)) → AreWeak xs → width_of eq (os ++ xs) k g ≡ max (width_of eq os k g) (width_of eq xs k g)
   width-after k g os xs weak = width-behind eq k g os xs ∙ weak-width eq k g xs weak (width_of eq os k g) ∙ ap (max (width_of eq os k g)) (sym (width-behind eq k g [] xs))
 
-  module _ {R : Type 0} (cell : R → C → Option V) (width : R → ℕ → ℕ) (keys : List K) (ns : List K) (at : K → Option R) (os kept xs picked : List (Offer K C V)) (weak : AreWeak xs) (covers : Covers keys kept xs) (picks : Picks eq keys xs picked) where
+  module _ {R : Type 0} (form : Form R C V) (keys : List K) (ns : List K) (at : K → Option R) (os kept xs picked : List (Offer K C V)) (weak : AreWeak xs) (covers : Covers keys kept xs) (picks : Picks eq keys xs picked) where
     covers-names : names_of eq ((os ++ kept) ++ picked) ≡ names_of eq ((os ++ kept) ++ xs)
     covers-names =
         let known = named-again eq laws (names_of eq (os ++ kept)) xs (subst (λ js. Named eq laws js xs) (sym (names_behind-append eq [] os kept)) (covers.named (names_of eq os))) in
@@ -261,8 +261,8 @@ module _ {K C V : Type 0} (eq : K → K → Bool) (laws : IsEquivalence eq) wher
             ∙ sym (width-after k g (os ++ kept) xs weak ∙ ap (max v) (width-behind eq k g [] xs) ∙ subst (λ u. max u (behind eq k (widen eq k g) 0 xs) ≡ u) (sym (width-behind eq k g os kept)) (covers.widths k g (width_of eq os k g) away))
 
     -- so records that show what stands before, and what is given to those keys, show them all
-    pub covers_shown : Shows cell width eq ns at ((os ++ kept) ++ picked) → Shows cell width eq ns at (os ++ (kept ++ xs))
-    covers_shown shows = subst (Shows cell width eq ns at) (append_assoc os kept xs) (record {
+    pub covers_shown : Shows form eq ns at ((os ++ kept) ++ picked) → Shows form eq ns at (os ++ (kept ++ xs))
+    covers_shown shows = subst (Shows form eq ns at) (append_assoc os kept xs) (record {
       names_are = shows.names_are ∙ covers-names;
       cells_are = λ k c. shows.cells_are k c ∙ covers-values k c;
       widths_are = λ k g. shows.widths_are k g ∙ covers-widths k g;

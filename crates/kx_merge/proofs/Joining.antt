@@ -13,7 +13,7 @@ use Rattle.kx_parse.specs.declared.tree.Mode.TheVariants.{Augment}
 use Rattle.kx_merge.specs.Bodies.{Moves, Rules, gathered, moved, offers_of}
 use Rattle.kx_merge.specs.Renewals.{Picks, TakesUp}
 use Rattle.kx_merge.specs.Offers.{Offer, names_behind, names_of, merged_value, value_of, merged_width, width_of, with_name}
-use Rattle.kx_merge.specs.Records.{Shows}
+use Rattle.kx_merge.specs.Records.{Form, Shows}
 use Rattle.kx_merge.proofs.Again.{Named, no_name, a_name, all-named, behind-away, named-again, take, value-behind, widen, width-behind}
 use Rattle.kx_merge.proofs.Covering.{or-none}
 use Rattle.kx_merge.proofs.Picking.{named_by, value_given, width_given}
@@ -59,15 +59,15 @@ module _ {K C V : Type 0} (eq : K → K → Bool) (laws : IsEquivalence eq) wher
         ∙ last.named js (named-again eq laws js ys (named-rest js xs ys all));
   }
 
-  module _ {R : Type 0} (cell : R → C → Option V) (width : R → ℕ → ℕ) (keys : List K) (n0 : List K) (a0 : K → Option R) where
-    pub takes_nothing : TakesUp cell width eq keys n0 a0 n0 a0 []
-    takes_nothing = record { picked = []; picks = picks-nothing keys; shows = λ os before. subst (Shows cell width eq n0 a0) (sym (append-nil os)) before }
+  module _ {R : Type 0} (form : Form R C V) (keys : List K) (n0 : List K) (a0 : K → Option R) where
+    pub takes_nothing : TakesUp form eq keys n0 a0 n0 a0 []
+    takes_nothing = record { picked = []; picks = picks-nothing keys; shows = λ os before. subst (Shows form eq n0 a0) (sym (append-nil os)) before }
 
-    pub takes_both : (n1 n2 : List K) (a1 a2 : K → Option R) (xs ys : List (Offer K C V)) → TakesUp cell width eq keys n0 a0 n1 a1 xs → TakesUp cell width eq keys n1 a1 n2 a2 ys → TakesUp cell width eq keys n0 a0 n2 a2 (xs ++ ys)
+    pub takes_both : (n1 n2 : List K) (a1 a2 : K → Option R) (xs ys : List (Offer K C V)) → TakesUp form eq keys n0 a0 n1 a1 xs → TakesUp form eq keys n1 a1 n2 a2 ys → TakesUp form eq keys n0 a0 n2 a2 (xs ++ ys)
     takes_both n1 n2 a1 a2 xs ys first last = record {
       picked = first.picked ++ last.picked;
       picks = picks-both keys xs ys first.picked last.picked first.picks last.picks;
-      shows = λ os before. subst (Shows cell width eq n2 a2) (append_assoc os first.picked last.picked) (last.shows (os ++ first.picked) (first.shows os before));
+      shows = λ os before. subst (Shows form eq n2 a2) (append_assoc os first.picked last.picked) (last.shows (os ++ first.picked) (first.shows os before));
     }
 
 pub offers_more : {K C V D : Type 0} (eq : K → K → Bool) (rules : Rules K C V D) (moves : Moves K C) (bodies : List Body) (ls : List Link) (x : Link)

@@ -21,7 +21,7 @@ use Rattle.kx_merge.specs.Gatherings.{AddsBehind, StandsBetween, StoodAt, includ
 use Rattle.kx_merge.specs.Joins.{included_faults, included_offers}
 use Rattle.kx_merge.specs.Renewals.{AreGentleTo, TakesBack, TakesUp, keys_since}
 use Rattle.kx_merge.specs.Offers.{Offer, is_replace, is_strong, names_behind, names_of, value_of, width_of}
-use Rattle.kx_merge.specs.Records.{Shows}
+use Rattle.kx_merge.specs.Records.{Form, Shows}
 use Rattle.kx_merge.proofs.Behind.{entry-first, entry_at, entry_blamed_at}
 use Rattle.kx_merge.proofs.Covering.{Covers, covers_more, covers_none, covers_self, covers_shown, gentle_gathered, gentle_to, weak_gathered}
 use Rattle.kx_merge.proofs.Marks.{Marked, at-last, length-both, marked_next, marked_none, since_more, since_same}
@@ -98,7 +98,7 @@ module _ {K C V D : Type 0} (eq : K → K → Bool) (rules : Rules K C V D) (mov
 
 -- ---- Going over entries
 
-module _ {K C V D R : Type 0} (cell : R → C → Option V) (width : R → ℕ → ℕ) (eq : K → K → Bool) (rules : Rules K C V D) (moves : Moves K C) (bodies : List Body) (place : Place) (xs : List Entry) where
+module _ {K C V D R : Type 0} (form : Form R C V) (eq : K → K → Bool) (rules : Rules K C V D) (moves : Moves K C) (bodies : List Body) (place : Place) (xs : List Entry) where
   abbrev pub whole : List (Offer K C V)
   whole = offers eq rules moves rules.start (entries_body bodies place xs End)
 
@@ -109,7 +109,7 @@ module _ {K C V D R : Type 0} (cell : R → C → Option V) (width : R → ℕ �
   pub record Going (names : List K) (at : K → Option R) (last : Mode × List Link) (i : ℕ) (d : D) (now_names : List K) (now_at : K → Option R) : Type 0 where
     pub kept : List (Offer K C V)
     pub all : List (Offer K C V)
-    pub shown : (os : List (Offer K C V)) → Shows cell width eq names at os → Shows cell width eq now_names now_at (os ++ kept)
+    pub shown : (os : List (Offer K C V)) → Shows form eq names at os → Shows form eq now_names now_at (os ++ kept)
     pub offered : whole ≡ all ++ ahead d i
     pub blamed : faults eq rules moves rules.start (entries_body bodies place xs End) ≡ faults eq rules moves d (entries_body bodies place (drop i xs) End)
     pub names_same : (os : List (Offer K C V)) → names_of eq (os ++ kept) ≡ names_of eq (os ++ all)
@@ -124,7 +124,7 @@ module _ {K C V D R : Type 0} (cell : R → C → Option V) (width : R → ℕ �
   going_first names at = record {
     kept = [];
     all = [];
-    shown = λ os shows. subst (Shows cell width eq names at) (sym (append-nil os)) shows;
+    shown = λ os shows. subst (Shows form eq names at) (sym (append-nil os)) shows;
     offered = refl;
     blamed = refl;
     names_same = λ os. refl;
@@ -146,7 +146,7 @@ module _ {K C V D R : Type 0} (cell : R → C → Option V) (width : R → ℕ �
   module _ {names : List K} {at : K → Option R} {last : Mode × List Link} {i : ℕ} {d : D} {n1 : List K} {a1 : K → Option R} where
     -- an entry is merged
     pub going_on : {X : Type 0} {x : X} {n2 : List K} {a2 : K → Option R} (e : Entry) → Going names at last i d n1 a1 → i < length xs → e ≡ get_or xs i e
-        → AddsBehind cell width eq (included_offers eq rules moves bodies last) n1 a1 (Ok x) n2 a2 (entry_offers eq rules moves bodies place d e) (entry_faults eq rules moves bodies place d e)
+        → AddsBehind form eq (included_offers eq rules moves bodies last) n1 a1 (Ok x) n2 a2 (entry_offers eq rules moves bodies place d e) (entry_faults eq rules moves bodies place d e)
         → Going names at (included_by e) (i + 1) (entry_next rules d e) n2 a2
     going_on {n2 = n2} {a2 = a2} e l within is adds = record {
       kept = l.kept ++ added;
@@ -178,8 +178,8 @@ module _ {K C V D R : Type 0} (cell : R → C → Option V) (width : R → ℕ �
         kept-is : (os : List (Offer K C V)) → os ++ l.kept ≡ (os ++ l.front) ++ included_offers eq rules moves bodies last
         kept-is os = ap (λ b. os ++ b) l.ends ∙ sym (append_assoc os l.front (included_offers eq rules moves bodies last))
 
-        shown : (os : List (Offer K C V)) → Shows cell width eq names at os → Shows cell width eq n2 a2 (os ++ (l.kept ++ added))
-        shown os before = subst (Shows cell width eq n2 a2) (ap (λ b. b ++ added) (sym (kept-is os)) ∙ append_assoc os l.kept added) (adds.shows (os ++ l.front) (subst (Shows cell width eq n1 a1) (kept-is os) (l.shown os before)))
+        shown : (os : List (Offer K C V)) → Shows form eq names at os → Shows form eq n2 a2 (os ++ (l.kept ++ added))
+        shown os before = subst (Shows form eq n2 a2) (ap (λ b. b ++ added) (sym (kept-is os)) ∙ append_assoc os l.kept added) (adds.shows (os ++ l.front) (subst (Shows form eq n1 a1) (kept-is os) (l.shown os before)))
 
     -- an include is passed over that stands before and after, too
     pub going_past : (laws : IsEquivalence eq) (same : (j k : K) → eq j k ≡ true → j ≡ k) (e : Entry) → Going names at last i d n1 a1 → i < length xs → e ≡ get_or xs i e → StandsBetween xs i (included_by e) → Going names at last (i + 1) d n1 a1
@@ -228,7 +228,7 @@ module _ {K C V D R : Type 0} (cell : R → C → Option V) (width : R → ℕ �
         more os = ap (λ ys. (os ++ l.kept) ++ (added ++ ys)) (sym later.is) ∙ append_assoc os l.kept (added ++ next) ∙ ap (λ ys. os ++ (l.kept ++ ys)) (sym os_are)
 
     -- where no entry is left
-    pub going_shown : Going names at last i d n1 a1 → length xs ≤ i → (os : List (Offer K C V)) → Shows cell width eq names at os → Shows cell width eq n1 a1 (os ++ whole)
+    pub going_shown : Going names at last i d n1 a1 → length xs ≤ i → (os : List (Offer K C V)) → Shows form eq names at os → Shows form eq n1 a1 (os ++ whole)
     going_shown l over os before = record {
       names_are = (l.shown os before).names_are ∙ l.names_same os ∙ ap (λ ys. names_of eq (os ++ ys)) (sym (l.offered ∙ ap (λ ys. l.all ++ ys) none_left ∙ append-nil l.all));
       cells_are = λ k c. (l.shown os before).cells_are k c ∙ ap (λ ys. value_of eq (os ++ ys) k c) all-kept ∙ l.values_same os k c;
@@ -245,7 +245,7 @@ module _ {K C V D R : Type 0} (cell : R → C → Option V) (width : R → ℕ �
     going_clean l over = l.blamed ∙ ap (λ ys. faults eq rules moves d (entries_body bodies place ys End)) (drop_all i xs over)
 
     pub going_fault : {X : Type 0} {n2 : List K} {a2 : K → Option R} {f : Fault} (e : Entry) → Going names at last i d n1 a1 → i < length xs → e ≡ get_or xs i e
-        → AddsBehind cell width eq {X = X} (included_offers eq rules moves bodies last) n1 a1 (Err f) n2 a2 (entry_offers eq rules moves bodies place d e) (entry_faults eq rules moves bodies place d e)
+        → AddsBehind form eq {X = X} (included_offers eq rules moves bodies last) n1 a1 (Err f) n2 a2 (entry_offers eq rules moves bodies place d e) (entry_faults eq rules moves bodies place d e)
         → Contains (Memory ∷ faults eq rules moves rules.start (entries_body bodies place xs End)) f
     going_fault {f = f} e l within is adds =
         subst (λ fs. Contains (Memory ∷ fs) f) (sym (l.blamed ∙ entry_blamed_at eq rules moves bodies place d xs i e within is))
@@ -253,9 +253,9 @@ module _ {K C V D R : Type 0} (cell : R → C → Option V) (width : R → ℕ �
 
 -- ---- Where what was merged covers includes under augment
 
-module _ {K C V D R : Type 0} (cell : R → C → Option V) (width : R → ℕ → ℕ) (eq : K → K → Bool) (laws : IsEquivalence eq) (rules : Rules K C V D) (moves : Moves K C) (bodies : List Body) (place : Place) (xs : List Entry) where
+module _ {K C V D R : Type 0} (form : Form R C V) (eq : K → K → Bool) (laws : IsEquivalence eq) (rules : Rules K C V D) (moves : Moves K C) (bodies : List Body) (place : Place) (xs : List Entry) where
   abbrev pub Reaches : List K → (K → Option R) → Mode × List Link → ℕ → D → List K → (K → Option R) → Type 0
-  Reaches = Going cell width eq rules moves bodies place xs
+  Reaches = Going form eq rules moves bodies place xs
 
   abbrev pub offers_by : Mode × List Link → List (Offer K C V)
   offers_by = included_offers eq rules moves bodies
@@ -267,7 +267,7 @@ module _ {K C V D R : Type 0} (cell : R → C → Option V) (width : R → ℕ �
     pub covers : (n : ℕ) (x : Mode × List Link) → since ≤ n → n < i → included_at xs n ≡ Some x → is_strong x.0 ≡ false → Covers eq laws (keys_since marks noted n) going.kept (offers_by x)
 
   pub covering_first : (names : List K) (at : K → Option R) → Covering names at (Augment, []) 0 [] [] 0 rules.start names at
-  covering_first names at = record { going = going_first cell width eq rules moves bodies place xs names at; marked = marked_none 0; covers = λ n x from before is weak. absurd (omega (arith, before)) }
+  covering_first names at = record { going = going_first form eq rules moves bodies place xs names at; marked = marked_none 0; covers = λ n x from before is weak. absurd (omega (arith, before)) }
 
   -- what an entry that was merged covers
   covered-entry : (keys : List K) (kept : List (Offer K C V)) (d : D) (e : Entry) → is_strong (included_by e).0 ≡ false → Covers eq laws keys (kept ++ entry_offers eq rules moves bodies place d e) (offers_by (included_by e))
@@ -293,7 +293,7 @@ module _ {K C V D R : Type 0} (cell : R → C → Option V) (width : R → ℕ �
   passed : {names : List K} {at : K → Option R} {last : Mode × List Link} {i : ℕ} {d : D} {n1 : List K} {a1 : K → Option R} (same : (j k : K) → eq j k ≡ true → j ≡ k) (e : Entry) (l : Reaches names at last i d n1 a1) → i < length xs → e ≡ get_or xs i e → StandsBetween xs i (included_by e) → (r : Reaches names at last (i + 1) d n1 a1) × (r.kept ≡ l.kept)
   unfolding going_past
   passed same (Own stated) l within is stands = absurd (false≢true stands.strong)
-  passed same (Include mode links) l within is stands = (going_past cell width eq rules moves bodies place xs laws same (Include mode links) l within is stands, refl)
+  passed same (Include mode links) l within is stands = (going_past form eq rules moves bodies place xs laws same (Include mode links) l within is stands, refl)
 
   augment-is : (m : Mode) → is_strong m ≡ false → Augment ≡ m
   augment-is Augment weak = refl
@@ -304,13 +304,13 @@ module _ {K C V D R : Type 0} (cell : R → C → Option V) (width : R → ℕ �
     -- an entry is merged
     pub covering_on : {X : Type 0} {x : X} {n2 : List K} {a2 : K → Option R} {new_noted : List K} (e : Entry) → Covering names at last since marks noted i d n1 a1 → i < length xs → e ≡ get_or xs i e
         → TakesBack eq (is_replace (included_by e).0) noted new_noted (entry_offers eq rules moves bodies place d e)
-        → AddsBehind cell width eq (offers_by last) n1 a1 (Ok x) n2 a2 (entry_offers eq rules moves bodies place d e) (entry_faults eq rules moves bodies place d e)
+        → AddsBehind form eq (offers_by last) n1 a1 (Ok x) n2 a2 (entry_offers eq rules moves bodies place d e) (entry_faults eq rules moves bodies place d e)
         → Covering names at (included_by e) (cond (is_replace (included_by e).0) (i + 1) since) (marks ++ length new_noted ∷ []) new_noted (i + 1) (entry_next rules d e) n2 a2
     unfolding going_on
     covering_on {n2 = n2} {a2 = a2} e l within is back adds =
         subst (λ ks. Covering names at (included_by e) (cond (is_replace (included_by e).0) (i + 1) since) (marks ++ length ks ∷ []) ks (i + 1) (entry_next rules d e) n2 a2) (sym back.noted)
         (record {
-          going = going_on cell width eq rules moves bodies place xs e l.going within is adds;
+          going = going_on form eq rules moves bodies place xs e l.going within is adds;
           marked = marked_next (length (noted ++ back.keys)) (length-both noted back.keys) l.marked;
           covers = covered-next l.going.kept since marks noted back.keys i d e within is l.marked l.covers (is_replace (included_by e).0) refl back.gentle;
         })
@@ -336,14 +336,14 @@ module _ {K C V D R : Type 0} (cell : R → C → Option V) (width : R → ℕ �
 
     -- of an include under augment that stands before, too, only the records are gone over that were given anew after it
     pub covering_again : {n2 : List K} {a2 : K → Option R} (before : ℕ) (e : Entry) → Covering names at last since marks noted i d n1 a1 → i < length xs → e ≡ get_or xs i e → StoodAt xs since i before (included_by e)
-        → TakesUp cell width eq (keys_since marks noted before) n1 a1 n2 a2 (gathered eq Augment (offers_of eq rules moves (links_body bodies (included_by e).1)))
+        → TakesUp form eq (keys_since marks noted before) n1 a1 n2 a2 (gathered eq Augment (offers_of eq rules moves (links_body bodies (included_by e).1)))
         → Covering names at (included_by e) (cond (is_replace (included_by e).0) (i + 1) since) (marks ++ length noted ∷ []) noted (i + 1) d n2 a2
     covering_again before (Own stated) l within is stood takes = absurd (omega (arith, stood.some))
     covering_again {n2 = n2} {a2 = a2} before (Include mode links) l within is stood takes = record {
       going = record {
         kept = k.kept ++ added;
         all = k.all ++ added;
-        shown = λ os first. covers_shown eq laws cell width (keys_since marks noted before) n2 a2 os k.kept added up.picked (weak_gathered eq mode (offers_of eq rules moves (links_body bodies links.items)) stood.weak) found up.picks (up.shows (os ++ k.kept) (k.shown os first));
+        shown = λ os first. covers_shown eq laws form (keys_since marks noted before) n2 a2 os k.kept added up.picked (weak_gathered eq mode (offers_of eq rules moves (links_body bodies links.items)) stood.weak) found up.picks (up.shows (os ++ k.kept) (k.shown os first));
         offered = k.offered ∙ ap (λ os. k.all ++ os) os_are ∙ sym (append_assoc k.all added next);
         blamed = k.blamed ∙ entry_blamed_at eq rules moves bodies place d xs i (Include mode links) within is ∙ ap (λ fs. fs ++ faults eq rules moves d (entries_body bodies place (drop (i + 1) xs) End)) earlier.clean;
         names_same = λ os. ap (names_of eq) (sym (append_assoc os k.kept added)) ∙ names_behind-append eq [] (os ++ k.kept) added ∙ ap (λ ks. names_behind eq ks added) (k.names_same os) ∙ sym (names_behind-append eq [] (os ++ k.all) added) ∙ ap (names_of eq) (append_assoc os k.all added);
@@ -352,7 +352,7 @@ module _ {K C V D R : Type 0} (cell : R → C → Option V) (width : R → ℕ �
         front = k.kept;
         ends = refl;
         clean = earlier.clean;
-        past = past-next cell width eq rules moves bodies place xs k.all i d (Include mode links) within is earlier.clean k.past;
+        past = past-next form eq rules moves bodies place xs k.all i d (Include mode links) within is earlier.clean k.past;
       };
       marked = marked_next (length noted) (omega arith) l.marked;
       covers = subst (λ ks. (n : ℕ) (x : Mode × List Link) → cond (is_replace mode) (i + 1) since ≤ n → n < i + 1 → included_at xs n ≡ Some x → is_strong x.0 ≡ false → Covers eq laws (keys_since (marks ++ length ks ∷ []) ks n) (k.kept ++ added) (offers_by x)) (append-nil noted)
@@ -365,8 +365,8 @@ module _ {K C V D R : Type 0} (cell : R → C → Option V) (width : R → ℕ �
         added : List (Offer K C V)
         added = offers_by (mode, links.items)
 
-        up : TakesUp cell width eq (keys_since marks noted before) n1 a1 n2 a2 added
-        up = subst (λ m. TakesUp cell width eq (keys_since marks noted before) n1 a1 n2 a2 (gathered eq m (offers_of eq rules moves (links_body bodies links.items)))) (augment-is mode stood.weak) takes
+        up : TakesUp form eq (keys_since marks noted before) n1 a1 n2 a2 added
+        up = subst (λ m. TakesUp form eq (keys_since marks noted before) n1 a1 n2 a2 (gathered eq m (offers_of eq rules moves (links_body bodies links.items)))) (augment-is mode stood.weak) takes
 
         next : List (Offer K C V)
         next = offers eq rules moves d (entries_body bodies place (drop (i + 1) xs) End)

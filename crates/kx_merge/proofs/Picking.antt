@@ -11,7 +11,7 @@ use Rattle.kx_merge.specs.Bodies.{Moves, gather, moved}
 use Rattle.kx_merge.specs.Renewals.{Picks, held}
 use Rattle.kx_merge.specs.Moved.{IsOfferedMoved, moved_key, moved_value, moved_width}
 use Rattle.kx_merge.specs.Offers.{Offer, is_about, merged_value, merged_width, value_of, width_of}
-use Rattle.kx_merge.specs.Records.{IsGood, Shows, cell_in, width_in}
+use Rattle.kx_merge.specs.Records.{Form, IsGood, Shows, cell_in, width_in}
 use Rattle.kx_merge.proofs.Again.{Named, no_name, a_name, all-named, behind, behind-away, named-again, take, merged-again, value-behind, widen, width-again, width-behind}
 use Rattle.kx_merge.proofs.Movings.{moved-append, moved-none, nothing_offered, offered_moved}
 use Rattle.kx_merge.proofs.Repeated.{behind-append}
@@ -109,20 +109,17 @@ module _ {K C V : Type 0} (eq : K → K → Bool) (laws : IsEquivalence eq) (sam
   abbrev Given : Type 0
   Given = (C → Option V) × (ℕ → ℕ)
 
-  abbrev given_cell : Given → C → Option V
-  given_cell r = r.0
-
-  abbrev given_width : Given → ℕ → ℕ
-  given_width r = r.1
+  abbrev given_form : Form Given C V
+  given_form = record { cell = λ r. r.0; width = λ r. r.1 }
 
   abbrev given_at : K → Given
   given_at k = (value_of eq inner k, width_of eq inner k)
 
-  given-good : (k : K) → IsGood given_cell given_width eq inner k (given_at k)
+  given-good : (k : K) → IsGood given_form eq inner k (given_at k)
   given-good k = record { cells_are = λ c. refl; widths_are = λ g. refl }
 
   abbrev IsGiven : K → K → Offer K C V → Type 0
-  IsGiven j to o = IsOfferedMoved given_cell given_width moves mode group to (given_at j) o
+  IsGiven j to o = IsOfferedMoved given_form moves mode group to (given_at j) o
 
   abbrev pub given_to : List K → List (Offer K C V)
   given_to ks = moved moves group (map (gather eq mode inner) ks)
@@ -135,10 +132,10 @@ module _ {K C V : Type 0} (eq : K → K → Bool) (laws : IsEquivalence eq) (sam
   apart-in (Some n) j k t one other = apart n j k t one other
 
   given-nothing : (j : K) → moved_key moves group j ≡ None → given_to (j ∷ []) ≡ []
-  given-nothing j goes = nothing_offered given_cell given_width eq moves inner mode j (given_at j) (given-good j) group goes
+  given-nothing j goes = nothing_offered given_form eq moves inner mode j (given_at j) (given-good j) group goes
 
   given-one : (j to : K) → moved_key moves group j ≡ Some to → (o : Offer K C V) × (given_to (j ∷ []) ≡ o ∷ []) × IsGiven j to o
-  given-one j to goes = offered_moved given_cell given_width eq moves inner mode j (given_at j) (given-good j) group to goes
+  given-one j to goes = offered_moved given_form eq moves inner mode j (given_at j) (given-good j) group to goes
 
   given-first : (j : K) (ks : List K) → given_to (j ∷ ks) ≡ given_to (j ∷ []) ++ given_to ks
   given-first j ks = moved-append moves group (gather eq mode inner j ∷ []) (map (gather eq mode inner) ks)
@@ -285,12 +282,12 @@ module _ {K C V : Type 0} (eq : K → K → Bool) (laws : IsEquivalence eq) (sam
 
 -- ---- Records of keys, one by one
 
-module _ {K C V R : Type 0} (cell : R → C → Option V) (width : R → ℕ → ℕ) (eq : K → K → Bool) where
+module _ {K C V R : Type 0} (form : Form R C V) (eq : K → K → Bool) where
   -- a record that is found is what the offers give it
-  pub found_good : (ns : List K) (at : K → Option R) (os : List (Offer K C V)) (k : K) (r : R) → Shows cell width eq ns at os → at k ≡ Some r → IsGood cell width eq os k r
+  pub found_good : (ns : List K) (at : K → Option R) (os : List (Offer K C V)) (k : K) (r : R) → Shows form eq ns at os → at k ≡ Some r → IsGood form eq os k r
   found_good ns at os k r shows found = record {
-    cells_are = λ c. sym (ap (λ f. cell_in cell f c) found) ∙ shows.cells_are k c;
-    widths_are = λ g. sym (ap (λ f. width_in width f g) found) ∙ shows.widths_are k g;
+    cells_are = λ c. sym (ap (λ f. cell_in form f c) found) ∙ shows.cells_are k c;
+    widths_are = λ g. sym (ap (λ f. width_in form f g) found) ∙ shows.widths_are k g;
   }
 
 pub given_more : {K C V : Type 0} (eq : K → K → Bool) (moves : Moves K C) (mode : Mode) (inner : List (Offer K C V)) (group : Option ℕ) (os : List (Offer K C V)) (ks : List K) (k : K)

@@ -16,18 +16,18 @@ use Rattle.kx_merge.specs.declared.gathering.Merged.{Merged}
 use Rattle.kx_merge.specs.declared.placed.Placed.{Placed}
 use Rattle.kx_merge.specs.Bodies.{Rules, Moves, gathered, offers_of, faults_of}
 use Rattle.kx_merge.specs.Offers.{Offer, is_strong}
-use Rattle.kx_merge.specs.Records.{Shows, TableShows}
+use Rattle.kx_merge.specs.Records.{Form, Shows, TableShows}
 
-module _ {K C V R : Type 0} (cell : R → C → Option V) (width : R → ℕ → ℕ) (eq : K → K → Bool) where
+module _ {K C V R : Type 0} (form : Form R C V) (eq : K → K → Bool) where
   -- offers are merged into records, unless a fault among some is met
   pub record Adds {X : Type 0} (names : List K) (at : K → Option R) (answer : Result X Fault) (new_names : List K) (new_at : K → Option R) (added : List (Offer K C V)) (blamed : List Fault) : Type 0 where
-    pub shows : (os : List (Offer K C V)) → Shows cell width eq names at os → OnOk answer (Shows cell width eq new_names new_at (os ++ added))
+    pub shows : (os : List (Offer K C V)) → Shows form eq names at os → OnOk answer (Shows form eq new_names new_at (os ++ added))
     pub faultless : OnOk answer (blamed ≡ [])
     pub fault : IfErr answer (λ e. Contains (Memory ∷ blamed) e)
 
   -- the same after some offers that were merged last
   pub record AddsBehind {X : Type 0} (last : List (Offer K C V)) (names : List K) (at : K → Option R) (answer : Result X Fault) (new_names : List K) (new_at : K → Option R) (added : List (Offer K C V)) (blamed : List Fault) : Type 0 where
-    pub shows : (os : List (Offer K C V)) → Shows cell width eq names at (os ++ last) → OnOk answer (Shows cell width eq new_names new_at ((os ++ last) ++ added))
+    pub shows : (os : List (Offer K C V)) → Shows form eq names at (os ++ last) → OnOk answer (Shows form eq new_names new_at ((os ++ last) ++ added))
     pub faultless : OnOk answer (blamed ≡ [])
     pub fault : IfErr answer (λ e. Contains (Memory ∷ blamed) e)
 
@@ -40,16 +40,16 @@ module _ {K C V R : Type 0} (cell : R → C → Option V) (width : R → ℕ →
     TableAddsBehind last added blamed = AddsBehind last (keys old) (get eq old) answer (keys new) (get eq new) added blamed
 
     abbrev pub Merges : List (Offer K C V) → Type 0
-    Merges added = (os : List (Offer K C V)) → TableShows cell width eq old os → OnOk answer (TableShows cell width eq new (os ++ added))
+    Merges added = (os : List (Offer K C V)) → TableShows form eq old os → OnOk answer (TableShows form eq new (os ++ added))
 
     -- what another table shows is joined and merged
     abbrev pub MergesTable : IndexMap K R S → (List (Offer K C V) → List (Offer K C V)) → Type 0
-    MergesTable given join = (inner : List (Offer K C V)) → TableShows cell width eq given inner → Merges (join inner)
+    MergesTable given join = (inner : List (Offer K C V)) → TableShows form eq given inner → Merges (join inner)
 
-module _ {K C V D R : Type 0} (cell : R → C → Option V) (width : R → ℕ → ℕ) (eq : K → K → Bool) (rules : Rules K C V D) (moves : Moves K C) where
+module _ {K C V D R : Type 0} (form : Form R C V) (eq : K → K → Bool) (rules : Rules K C V D) (moves : Moves K C) where
   -- a map's records show its body, or a fault of its stands in their place
   abbrev pub IsGathered : Result (Merged K R) Fault → Body → Type 0
-  IsGathered (Ok g) b = Shows cell width eq (keys g.records) (get eq g.records) (offers_of eq rules moves b) × (faults_of eq rules moves b ≡ [])
+  IsGathered (Ok g) b = Shows form eq (keys g.records) (get eq g.records) (offers_of eq rules moves b) × (faults_of eq rules moves b ≡ [])
   IsGathered (Err e) b = Contains (Memory ∷ faults_of eq rules moves b) e
 
   -- maps in order are bodies in order

@@ -4,6 +4,7 @@ use Rattle.std.specs.Option.{option_and_then, option_map_or}
 use Rattle.kx_parse.specs.declared.tree.Mode.{Mode}
 use Rattle.kx_merge.specs.Bodies.{Moves, moved_to}
 use Rattle.kx_merge.specs.Offers.{Offer}
+use Rattle.kx_merge.specs.Records.{Form}
 
 module _ {K C : Type 0} (moves : Moves K C) where
   -- the record that it goes to, if any
@@ -20,11 +21,11 @@ module _ {K C : Type 0} (moves : Moves K C) where
   moved_width (Some n) width g = option_map_or width (moves.group n g) 0
 
 -- a record, where its map is moved, and what tells it apart are an offer
-pub record IsOfferedMoved {K C V R : Type 0} (cell : R → C → Option V) (width : R → ℕ → ℕ) (moves : Moves K C) (mode : Mode) (group : Option ℕ) (key : K) (r : R) (o : Offer K C V) : Type 0 where
+pub record IsOfferedMoved {K C V R : Type 0} (form : Form R C V) (moves : Moves K C) (mode : Mode) (group : Option ℕ) (key : K) (r : R) (o : Offer K C V) : Type 0 where
   pub mode_is : o.mode ≡ mode
   pub name_is : o.name ≡ key
-  pub value_is : (c : C) → o.value c ≡ moved_value moves group (cell r) c
-  pub width_is : (g : ℕ) → o.width g ≡ moved_width moves group (width r) g
+  pub value_is : (c : C) → o.value c ≡ moved_value moves group (form.cell r) c
+  pub width_is : (g : ℕ) → o.width g ≡ moved_width moves group (form.width r) g
 
 -- an offer moved to a record, if it goes to one
 abbrev pub moved_one : {K C V : Type 0} → Moves K C → ℕ → Offer K C V → Option K → List (Offer K C V)

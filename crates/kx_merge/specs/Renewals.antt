@@ -3,7 +3,7 @@ use Rattle.std.specs.Prelude.{◌≡◌, Bool, true, false, if◌then◌else◌,
 use Rattle.std.specs.List.{list_any}
 use Rattle.indexmap.specs.IndexMap.{IndexMap, get, keys}
 use Rattle.kx_merge.specs.Offers.{Offer, is_about, is_replace, is_strong, names_behind, value_of, width_of}
-use Rattle.kx_merge.specs.Records.{Shows}
+use Rattle.kx_merge.specs.Records.{Form, Shows}
 
 -- none of the offers takes back what stands before it
 pub data AreGentle {K C V : Type 0} : List (Offer K C V) → Type 0 where
@@ -36,14 +36,14 @@ module _ {K C V : Type 0} (eq : K → K → Bool) where
     pub named : (ks : List K) → names_behind eq ks all ≡ ks → names_behind eq ks picked ≡ ks
 
 -- what some offers give to the records of some keys is merged into them
-pub record TakesUp {K C V R : Type 0} (cell : R → C → Option V) (width : R → ℕ → ℕ) (eq : K → K → Bool) (keys names : List K) (at : K → Option R) (new_names : List K) (new_at : K → Option R) (all : List (Offer K C V)) : Type 0 where
+pub record TakesUp {K C V R : Type 0} (form : Form R C V) (eq : K → K → Bool) (keys names : List K) (at : K → Option R) (new_names : List K) (new_at : K → Option R) (all : List (Offer K C V)) : Type 0 where
   pub picked : List (Offer K C V)
   pub picks : Picks eq keys all picked
-  pub shows : (os : List (Offer K C V)) → Shows cell width eq names at os → Shows cell width eq new_names new_at (os ++ picked)
+  pub shows : (os : List (Offer K C V)) → Shows form eq names at os → Shows form eq new_names new_at (os ++ picked)
 
 -- the same of a table of records
-abbrev pub TableTakesUp : {K C V R S : Type 0} → (R → C → Option V) → (R → ℕ → ℕ) → (K → K → Bool) → List K → IndexMap K R S → IndexMap K R S → List (Offer K C V) → Type 0
-TableTakesUp cell width eq keys_taken old new all = TakesUp cell width eq keys_taken (keys old) (get eq old) (keys new) (get eq new) all
+abbrev pub TableTakesUp : {K C V R S : Type 0} → Form R C V → (K → K → Bool) → List K → IndexMap K R S → IndexMap K R S → List (Offer K C V) → Type 0
+TableTakesUp form eq keys_taken old new all = TakesUp form eq keys_taken (keys old) (get eq old) (keys new) (get eq new) all
 
 -- the keys that are among names
 abbrev pub held : {K : Type 0} → (K → K → Bool) → List K → List K → List K

@@ -4,6 +4,7 @@ use Rattle.kx_include.specs.declared.place.Place.{Place}
 use Rattle.kx_lex.specs.declared.fault.Fault.{Fault}
 use Rattle.kx_merge.specs.Bodies.{Moves, Rules}
 use Rattle.kx_merge.specs.Offers.{Offer}
+use Rattle.kx_merge.specs.Records.{Form}
 use Rattle.kx_merge.specs.declared.single.Single.{Single}
 use Rattle.kx_parse.specs.declared.tree.Stated.{Stated}
 
@@ -15,10 +16,5 @@ module _ {K V : Type 0} where
 abbrev pub single_moves : {K : Type 0} → (ℕ → K → Option K) → Moves K (Unit {0})
 single_moves moved = record { key = moved; cell = λ n c. Some c; group = λ n g. None }
 
--- ---- Under records, for clauses
-
-abbrev pub single_cell : {V : Type 0} → Single V → Unit {0} → Option V
-single_cell r c = r.value
-
-abbrev pub single_width : {V : Type 0} → Single V → ℕ → ℕ
-single_width r group = 0
+abbrev pub single_form : {V : Type 0} → Form (Single V) (Unit {0}) V
+single_form = record { cell = λ r c. r.value; width = λ r g. 0 }

@@ -5,7 +5,7 @@ ghost use Rattle.kx_merge.specs.Bodies.{Rules, Moves};
 ghost use Rattle.kx_merge.specs.Gatherings.{placed_faults, placed_next, placed_offers};
 ghost use Rattle.kx_merge.specs.Moved.{moved_key, moved_value, moved_width};
 ghost use Rattle.kx_merge.specs.Offers.{MergesCells, MergesWidths};
-ghost use Rattle.kx_merge.specs.Records.{AreOffered};
+ghost use Rattle.kx_merge.specs.Records.{AreOffered, Form};
 ghost use Rattle.kx_merge.specs.Reports.{ReportsOrRunsOut};
 
 use crate::placed::Placed;
@@ -30,9 +30,7 @@ pub trait Fields<C>: Drop {
 
     ghost moves: { Moves Self.Key Self.Cell };
 
-    ghost cell: { Self → Self.Cell → Option Self.Value };
-
-    ghost width: { Self → ℕ → ℕ };
+    ghost form: { Form Self Self.Cell Self.Value };
 
     /// The defaults at the start of a section.
     fn start(alloc: Global, context: &C) -> Self::Defaults
@@ -47,7 +45,7 @@ pub trait Fields<C>: Drop {
         placed: &Placed,
         notes: &mut Notes,
     ) -> Result<(Vec<(Self::Key, Self)>, Self::Defaults), Fault>
-        ensures records { IfOk result (λ said. AreOffered placed.now.stated.now.mode (cell) (width)
+        ensures records { IfOk result (λ said. AreOffered placed.now.stated.now.mode form
             said.0.items (placed_offers (rules context.now) defaults placed.now)) }
         ensures next { IfOk result (λ said.
             said.1 ≡ placed_next (rules context.now) defaults placed.now) }
@@ -57,15 +55,15 @@ pub trait Fields<C>: Drop {
     /// Merges what a later record gives.
     fn merge(&mut self, alloc: Global, other: Self, mode: Mode) -> Result<(), Fault>
         ensures cells { OnOk result
-            (MergesCells mode (cell self.old) (cell other) (cell self.new)) }
+            (MergesCells mode (form.cell self.old) (form.cell other) (form.cell self.new)) }
         ensures widths { OnOk result
-            (MergesWidths mode (width self.old) (width other) (width self.new)) }
+            (MergesWidths mode (form.width self.old) (form.width other) (form.width self.new)) }
         ensures err { IfErr result (λ e. e ≡ Memory) };
 
     /// A record that nothing was given yet.
     fn none(alloc: Global) -> Self
-        ensures cells { (c : Self.Cell) → cell result c ≡ None }
-        ensures widths { (g : ℕ) → width result g ≡ 0 };
+        ensures cells { (c : Self.Cell) → form.cell result c ≡ None }
+        ensures widths { (g : ℕ) → form.width result g ≡ 0 };
 
     /// Merges what a record of an included map gives, as it stands where its map is moved to a group; as it is where
     /// it isn't moved.
@@ -76,10 +74,10 @@ pub trait Fields<C>: Drop {
         group: Option<u8>,
         mode: Mode,
     ) -> Result<(), Fault>
-        ensures cells { OnOk result (MergesCells mode (cell self.old)
-            (moved_value moves group (cell other.now)) (cell self.new)) }
-        ensures widths { OnOk result (MergesWidths mode (width self.old)
-            (moved_width moves group (width other.now)) (width self.new)) }
+        ensures cells { OnOk result (MergesCells mode (form.cell self.old)
+            (moved_value moves group (form.cell other.now)) (form.cell self.new)) }
+        ensures widths { OnOk result (MergesWidths mode (form.width self.old)
+            (moved_width moves group (form.width other.now)) (form.width self.new)) }
         ensures err { IfErr result (λ e. e ≡ Memory) };
 
     /// What a record is told apart by where its map is moved to a group; `None` where none is left of it.

@@ -37,6 +37,8 @@ pub struct Merged<K: Ord + TableKey + Drop, R> {
 pub(crate) struct Walk<K: Ord + TableKey + Drop, R> {
     pub(crate) merged: Merged<K, R>,
     pub(crate) replaced: Replaced<K>,
+    /// How many items the map has.
+    pub(crate) items: usize,
 }
 
 /// No records, of which nothing is noted.
@@ -56,6 +58,7 @@ fn new_walk<K: Ord + TableKey + Drop, R: Drop>(alloc: Global) -> Walk<K, R>
     Walk {
         merged: nothing_merged(alloc),
         replaced: Replaced::new(alloc),
+        items: 0,
     }
 }
 
@@ -70,7 +73,7 @@ pub fn merge<C, R: Fields<C>>(
     context: &C,
     expansion: &Expansion,
 ) -> Result<Merged<R::Key, R>, Fault>
-    ensures shows { IfOk result (λ m. TableShows R.cell R.width R.Key.eq m.records
+    ensures shows { IfOk result (λ m. TableShows R.form R.Key.eq m.records
         (offers_of R.Key.eq (R.rules context.now) R.moves (expanded_body expansion.now))) }
     ensures faults { ReportsOrRunsOut result
         (faults_of R.Key.eq (R.rules context.now) R.moves (expanded_body expansion.now)) }
@@ -90,7 +93,7 @@ fn gather_maps<C, R: Fields<C>>(
     context: &C,
     maps: &[Map],
 ) -> Result<Vec<Result<Merged<R::Key, R>, Fault>>, Fault>
-    ensures gathered { IfOk result (λ done. AreGathered R.cell R.width R.Key.eq
+    ensures gathered { IfOk result (λ done. AreGathered R.form R.Key.eq
         (R.rules context.now) R.moves done.items (bodies_behind [] maps.now)) }
     ensures err { IfErr result (λ e. e ≡ Memory) }
 {
@@ -110,8 +113,8 @@ fn gather_map<C, R: Fields<C>>(
     map: &Map,
 ) -> Result<Merged<R::Key, R>, Fault>
     ensures { (bodies : List Body)
-        → AreGathered R.cell R.width R.Key.eq (R.rules context.now) R.moves done.now bodies
-        → IsGathered R.cell R.width R.Key.eq (R.rules context.now) R.moves result
+        → AreGathered R.form R.Key.eq (R.rules context.now) R.moves done.now bodies
+        → IsGathered R.form R.Key.eq (R.rules context.now) R.moves result
         (shared_body bodies map.now End) }
 {
     let mut walk = new_walk(alloc);
@@ -129,7 +132,7 @@ fn merge_map<C, R: Fields<C>>(
     map: &Map,
     walk: &mut Walk<R::Key, R>,
 ) -> Result<(), Fault>
-    ensures { MergesBody R.cell R.width R.Key.eq (R.rules context.now) R.moves done.now
+    ensures { MergesBody R.form R.Key.eq (R.rules context.now) R.moves done.now
         walk.old.merged result walk.new.merged (λ bodies. shared_body bodies map.now End) }
 {
     let entries = map.entries.as_slice();
@@ -141,6 +144,7 @@ fn merge_map<C, R: Fields<C>>(
     };
     let mut since = 0;
     walk.replaced = Replaced::new(alloc);
+    walk.items = entries.len();
     'entries: for place in 0..entries.len() {
         let entry = &entries[place];
         let included = included_by(entry);
@@ -267,7 +271,7 @@ fn merge_after<C, R: Fields<C>>(
     included: Included,
     merged: &mut Merged<R::Key, R>,
 ) -> Result<(), Fault>
-    ensures { JoinsBehind R.Defaults R.cell R.width R.Key.eq R.moves done.now
+    ensures { JoinsBehind R.Defaults R.form R.Key.eq R.moves done.now
         merged.old result merged.new (include_of last.entry) (include_of included.entry) }
 {
     if included.mode == last.mode && are_same_links(included.links, last.links) {
@@ -287,7 +291,7 @@ fn merge_again<C, R: Fields<C>>(
     walk: &mut Walk<R::Key, R>,
 ) -> Result<bool, Fault>
     ensures again { IfOk result (λ again. again ≡ true → (before : ℕ) × (stood ≡ Some before)
-        × TakesUpBody R.Defaults R.cell R.width R.Key.eq R.moves done.now
+        × TakesUpBody R.Defaults R.form R.Key.eq R.moves done.now
         (keys_since walk.old.replaced.marks.items walk.old.replaced.keys.items before)
         walk.old.merged.records walk.new.merged.records (gathered R.Key.eq Augment)
         (parts links.now)) }
@@ -314,7 +318,7 @@ fn merge_keys<C, R: Fields<C>>(
     renewed: &[R::Key],
     records: &mut Ordered<R::Key, R>,
 ) -> Result<bool, Fault>
-    ensures again { GivesAgain R.Defaults R.cell R.width R.Key.eq R.moves done.now renewed.now
+    ensures again { GivesAgain R.Defaults R.form R.Key.eq R.moves done.now renewed.now
         records.old result records.new (gathered R.Key.eq Augment) (parts links.now) }
     ensures whole { IfOk result (λ again. again ≡ false → records.new ≡ records.old) }
     ensures err { IfErr result (λ e. e ≡ Memory) }
@@ -368,7 +372,7 @@ fn merge_joined_keys<C, R: Fields<C>>(
     renewed: &[R::Key],
     records: &mut Ordered<R::Key, R>,
 ) -> Result<bool, Fault>
-    ensures again { GivesAgain R.Defaults R.cell R.width R.Key.eq R.moves done.now renewed.now
+    ensures again { GivesAgain R.Defaults R.form R.Key.eq R.moves done.now renewed.now
         records.old result records.new (gathered R.Key.eq Augment) (parts links.now) }
     ensures whole { IfOk result (λ again. again ≡ false → records.new ≡ records.old) }
     ensures err { IfErr result (λ e. e ≡ Memory) }
@@ -390,7 +394,7 @@ fn merge_links_keys<C, R: Fields<C>>(
     renewed: &[R::Key],
     records: &mut Ordered<R::Key, R>,
 ) -> Result<bool, Fault>
-    ensures again { GivesAgain R.Defaults R.cell R.width R.Key.eq R.moves done.now renewed.now
+    ensures again { GivesAgain R.Defaults R.form R.Key.eq R.moves done.now renewed.now
         records.old result records.new (λ offers. offers) (parts links.now) }
     ensures err { IfErr result (λ e. e ≡ Memory) }
 {
@@ -411,7 +415,7 @@ fn merge_link_keys<C, R: Fields<C>>(
     renewed: &[R::Key],
     records: &mut Ordered<R::Key, R>,
 ) -> Result<bool, Fault>
-    ensures again { GivesAgain R.Defaults R.cell R.width R.Key.eq R.moves done.now renewed.now
+    ensures again { GivesAgain R.Defaults R.form R.Key.eq R.moves done.now renewed.now
         records.old result records.new (linked R.Key.eq R.moves link) (map_of link) }
     ensures whole { IfOk result (λ again. again ≡ false → records.new ≡ records.old) }
     ensures err { IfErr result (λ e. e ≡ Memory) }
@@ -433,7 +437,7 @@ fn merge_include<C, R: Fields<C>>(
     included: Included,
     merged: &mut Merged<R::Key, R>,
 ) -> Result<(), Fault>
-    ensures { Joins R.Defaults R.cell R.width R.Key.eq R.moves done.now merged.old result merged.new
+    ensures { Joins R.Defaults R.form R.Key.eq R.moves done.now merged.old result merged.new
         (gathered R.Key.eq included.entry.mode) (parts included.entry.links.now) }
 {
     match included.links {
@@ -449,7 +453,7 @@ fn merge_joined<C, R: Fields<C>>(
     included: Included,
     merged: &mut Merged<R::Key, R>,
 ) -> Result<(), Fault>
-    ensures { Joins R.Defaults R.cell R.width R.Key.eq R.moves done.now merged.old result merged.new
+    ensures { Joins R.Defaults R.form R.Key.eq R.moves done.now merged.old result merged.new
         (gathered R.Key.eq included.entry.mode) (parts included.entry.links.now) }
 {
     let mut joined = nothing_merged(alloc);
@@ -466,7 +470,7 @@ fn merge_links<C, R: Fields<C>>(
     links: &[Link],
     merged: &mut Merged<R::Key, R>,
 ) -> Result<(), Fault>
-    ensures { Joins R.Defaults R.cell R.width R.Key.eq R.moves done.now merged.old result merged.new
+    ensures { Joins R.Defaults R.form R.Key.eq R.moves done.now merged.old result merged.new
         (λ offers. offers) (parts links.now) }
 {
     let mut repeats = PartRepeats::new(alloc);
@@ -491,7 +495,7 @@ fn merge_link<C, R: Fields<C>>(
     link: Link,
     merged: &mut Merged<R::Key, R>,
 ) -> Result<(), Fault>
-    ensures { Joins R.Defaults R.cell R.width R.Key.eq R.moves done.now merged.old result merged.new
+    ensures { Joins R.Defaults R.form R.Key.eq R.moves done.now merged.old result merged.new
         (linked R.Key.eq R.moves link) (map_of link) }
 {
     match done.get(link.map) {

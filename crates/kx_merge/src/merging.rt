@@ -40,8 +40,8 @@ fn add_one<C, R: Fields<C>>(
     key: R::Key,
     given: R,
 ) -> Result<(), Fault>
-    ensures shows { (o : Offer R.Key R.Cell R.Value) → IsOffered mode R.cell R.width key given o
-        → Merges R.cell R.width R.Key.eq records.old result records.new (o ∷ []) }
+    ensures shows { (o : Offer R.Key R.Cell R.Value) → IsOffered mode R.form key given o
+        → Merges R.form R.Key.eq records.old result records.new (o ∷ []) }
     ensures err { IfErr result (λ e. e ≡ Memory) }
 {
     match records.push_new(key, given)? {
@@ -59,9 +59,8 @@ pub(crate) fn add_all<C, R: Fields<C>>(
     mode: Mode,
     given: Vec<(R::Key, R)>,
 ) -> Result<(), Fault>
-    ensures shows { (os : List (Offer R.Key R.Cell R.Value))
-        → AreOffered mode R.cell R.width given.items os
-        → Merges R.cell R.width R.Key.eq records.old result records.new os }
+    ensures shows { (os : List (Offer R.Key R.Cell R.Value)) → AreOffered mode R.form given.items os
+        → Merges R.form R.Key.eq records.old result records.new os }
     ensures err { IfErr result (λ e. e ≡ Memory) }
 {
     'records: for (key, one) in given {
@@ -77,7 +76,7 @@ pub(crate) fn add_joined<C, R: Fields<C>>(
     mode: Mode,
     given: Ordered<R::Key, R>,
 ) -> Result<(), Fault>
-    ensures shows { MergesTable R.cell R.width R.Key.eq records.old result records.new given
+    ensures shows { MergesTable R.form R.Key.eq records.old result records.new given
         (gathered R.Key.eq mode) }
     ensures err { IfErr result (λ e. e ≡ Memory) }
 {
@@ -93,8 +92,8 @@ fn add_moved<C, R: Fields<C>>(
     one: &R,
 ) -> Result<(), Fault>
     ensures shows { (o : Offer R.Key R.Cell R.Value)
-        → IsOfferedMoved R.cell R.width R.moves link.mode link.group key one.now o
-        → Merges R.cell R.width R.Key.eq records.old result records.new (o ∷ []) }
+        → IsOfferedMoved R.form R.moves link.mode link.group key one.now o
+        → Merges R.form R.Key.eq records.old result records.new (o ∷ []) }
     ensures err { IfErr result (λ e. e ≡ Memory) }
 {
     if let Some(old) = records.get_mut(&key) {
@@ -115,9 +114,8 @@ fn add_found<C, R: Fields<C>>(
     one: &R,
 ) -> Result<(), Fault>
     ensures shows { (inner : List (Offer R.Key R.Cell R.Value))
-        → IsGood R.cell R.width R.Key.eq inner key.now one.now
-        → Merges R.cell R.width R.Key.eq records.old result records.new
-        (linked_to R.Key.eq R.moves link (key.now ∷ []) inner) }
+        → IsGood R.form R.Key.eq inner key.now one.now → Merges R.form R.Key.eq records.old result
+        records.new (linked_to R.Key.eq R.moves link (key.now ∷ []) inner) }
     ensures err { IfErr result (λ e. e ≡ Memory) }
 {
     match R::key_in(key, link.group) {
@@ -133,10 +131,12 @@ pub(crate) fn add_included<C, R: Fields<C>>(
     link: Link,
     given: &Ordered<R::Key, R>,
 ) -> Result<(), Fault>
-    ensures shows { MergesTable R.cell R.width R.Key.eq records.old result records.new given.now
+    ensures shows { MergesTable R.form R.Key.eq records.old result records.new given.now
         (linked R.Key.eq R.moves link) }
     ensures err { IfErr result (λ e. e ≡ Memory) }
 {
+    // Most of what an include brings is new where it is the first.
+    records.make_room(given.len())?;
     'records: for entry in given.as_slice() {
         add_found::<C, R>(alloc, records, link, &entry.0, &entry.1)?;
     }
@@ -169,7 +169,7 @@ pub(crate) fn add_again<C, R: Fields<C>>(
     given: &Ordered<R::Key, R>,
     renewed: &[R::Key],
 ) -> Result<(), Fault>
-    ensures shows { MergesTable R.cell R.width R.Key.eq records.old result records.new given.now
+    ensures shows { MergesTable R.form R.Key.eq records.old result records.new given.now
         (linked_to R.Key.eq R.moves link (held R.Key.eq (keys given.now) renewed.now)) }
     ensures err { IfErr result (λ e. e ≡ Memory) }
 {
@@ -214,6 +214,23 @@ fn note_replaced<C, R: Fields<C>>(
     }
 }
 
+/// More records than most families have of which few statements of a map give any.
+const SOME_RECORDS: usize = 4;
+
+/// Makes room for a record of each item that is left, once some gave records.
+fn room_for_rest<K: Ord + TableKey + Drop, R>(
+    records: &mut Ordered<K, R>,
+    left: usize,
+) -> Result<(), Fault>
+    ensures same { records.new ≡ records.old }
+    ensures err { IfErr result (λ e. e ≡ Memory) }
+{
+    if records.len() == SOME_RECORDS {
+        records.make_room(left.saturating_add(SOME_RECORDS))?;
+    }
+    Ok(())
+}
+
 /// What a statement makes of records, and the defaults after it. The keys of records whose values it takes back are noted.
 pub(crate) fn merge_own<C, R: Fields<C>>(
     alloc: Global,
@@ -222,7 +239,7 @@ pub(crate) fn merge_own<C, R: Fields<C>>(
     placed: &Placed,
     walk: &mut Walk<R::Key, R>,
 ) -> Result<R::Defaults, Fault>
-    ensures adds { TableAdds R.cell R.width R.Key.eq walk.old.merged.records result
+    ensures adds { TableAdds R.form R.Key.eq walk.old.merged.records result
         walk.new.merged.records (placed_offers (R.rules context.now) defaults placed.now)
         (placed_faults (R.rules context.now) defaults placed.now) }
     ensures back { OnOk result (TakesBack R.Key.eq false walk.old.replaced.keys.items
@@ -233,6 +250,8 @@ pub(crate) fn merge_own<C, R: Fields<C>>(
     let mode = placed.stated.mode;
     let (given, next) = R::read(alloc, context, defaults, placed, &mut walk.merged.notes)?;
     note_replaced::<C, R>(&mut walk.replaced.keys, mode, given.as_slice())?;
+    let left = walk.items.saturating_sub(walk.replaced.marks.len());
+    room_for_rest(&mut walk.merged.records, left)?;
     add_all::<C, R>(alloc, &mut walk.merged.records, mode, given)?;
     Ok(next)
 }

@@ -5,7 +5,7 @@ ghost use Rattle.std.specs.List.{list_all};
 ghost use Rattle.kx_include.specs.IncludeText.{is_number};
 ghost use Rattle.kx_merge.specs.Reports.{Reports};
 
-use kx_basics::{MOST_GROUPS, MOST_LEVELS, digits_value};
+use kx_basics::{MOST_GROUPS, MOST_LEVELS, decimal_value};
 use kx_lex::{At, Fault};
 use kx_parse::{Expression, Term};
 
@@ -45,7 +45,7 @@ impl Counted {
         }
         let (begin, digits) = word.split_at(5);
         if self.is_word(begin) && is_number(digits) {
-            Some(digits_value(digits, 10))
+            Some(decimal_value(digits))
         } else {
             None
         }

@@ -4,7 +4,7 @@ ghost use Rattle.std.proofs.Common.{◌∙◌, ap, sym};
 ghost use Rattle.kx_merge.specs.Bodies.{Rules, no_moves};
 ghost use Rattle.kx_merge.specs.Gatherings.{placed_faults, placed_next, placed_offers};
 ghost use Rattle.kx_merge.specs.Offers.{MergesCells};
-ghost use Rattle.kx_merge.specs.Plain.{plain_cell, plain_width};
+ghost use Rattle.kx_merge.specs.Plain.{plain_form};
 ghost use Rattle.kx_merge.specs.Records.{AreOffered};
 ghost use Rattle.kx_merge.specs.Reports.{ReportsOrRunsOut};
 
@@ -51,7 +51,7 @@ pub trait PlainRecord<C>: Copy + Drop {
         notes: &mut Notes,
     ) -> Result<(Vec<(Self::Key, Plain<Self>)>, Self::Defaults), Fault>
         ensures records { IfOk result (λ said. AreOffered placed.now.stated.now.mode
-            (plain_cell cell) plain_width said.0.items
+            (plain_form cell) said.0.items
             (placed_offers (rules context.now) defaults placed.now)) }
         ensures next { IfOk result (λ said.
             said.1 ≡ placed_next (rules context.now) defaults placed.now) }
@@ -83,9 +83,7 @@ impl<C, V: PlainRecord<C>> Fields<C> for Plain<V> {
 
     ghost moves = { no_moves };
 
-    ghost cell = { plain_cell V.cell };
-
-    ghost width = { plain_width };
+    ghost form = { plain_form V.cell };
 
     fn start(_alloc: Global, context: &C) -> V::Defaults {
         V::start(context)

@@ -6,7 +6,7 @@ ghost use Rattle.kx_lex.specs.declared.fault.Fault.TheVariants.{Memory};
 ghost use Rattle.kx_merge.specs.Moved.{moved_key};
 ghost use Rattle.kx_merge.specs.Offers.{Offer, plain_offer, merged_value};
 ghost use Rattle.kx_merge.specs.Records.{AreOffered};
-ghost use Rattle.kx_merge.specs.Single.{single_cell, single_moves, single_rules, single_width};
+ghost use Rattle.kx_merge.specs.Single.{single_form, single_moves, single_rules};
 ghost use Rattle.kx_parse.specs.declared.tree.Mode.{Mode as ModeValue};
 ghost use Rattle.kx_parse.specs.declared.tree.Stated.{Stated as StatedValue};
 ghost use Rattle.kx_merge.specs.Reports.{ReportsOrRunsOut};
@@ -44,9 +44,8 @@ pub trait SingleValue<C>: Drop {
         context: &C,
         placed: &Placed,
     ) -> Result<Vec<(Self::Key, Single<Self>)>, Fault>
-        ensures records { IfOk result (λ records.
-            AreOffered placed.now.stated.now.mode single_cell single_width records.items
-            (offers context.now placed.now.place placed.now.stated.now)) }
+        ensures records { IfOk result (λ records. AreOffered placed.now.stated.now.mode single_form
+            records.items (offers context.now placed.now.place placed.now.stated.now)) }
         ensures faults { ReportsOrRunsOut result
             (faults context.now placed.now.place placed.now.stated.now) };
 
@@ -69,7 +68,7 @@ pub trait SingleValue<C>: Drop {
 
 /// No records.
 pub fn none_given<K: Drop, V: Drop>(alloc: Global) -> Vec<(K, Single<V>)>
-    ensures { (mode : ModeValue) → AreOffered mode single_cell single_width result.items [] }
+    ensures { (mode : ModeValue) → AreOffered mode single_form result.items [] }
 {
     Vec::new(alloc)
 }
@@ -84,7 +83,7 @@ pub fn one_given<K: Drop, V: Drop>(
     value: V,
 ) -> Result<Vec<(K, Single<V>)>, Fault>
     ensures records { (mode : ModeValue) (name : K) (given : V) → key ≡ name → value ≡ given
-        → IfOk result (λ records. AreOffered mode single_cell single_width records.items
+        → IfOk result (λ records. AreOffered mode single_form records.items
         (plain_offer mode name (λ c. Some given) ∷ [])) }
     ensures err { IfErr result (λ e. e ≡ Memory) }
 {
@@ -116,9 +115,7 @@ impl<C, V: SingleValue<C>> Fields<C> for Single<V> {
 
     ghost moves = { single_moves V.moved };
 
-    ghost cell = { single_cell };
-
-    ghost width = { single_width };
+    ghost form = { single_form };
 
     fn start(_alloc: Global, _context: &C) {}
 

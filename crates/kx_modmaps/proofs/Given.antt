@@ -3,7 +3,7 @@ use Rattle.std.proofs.Common.{◌≡◌, ℕ, ◌+◌, ◌<◌, List, [], ◌∷
 use Rattle.std.proofs.lemmas.List.{map-append, take_more}
 use Rattle.kx_parse.specs.declared.tree.Mode.{Mode}
 use Rattle.kx_merge.specs.Offers.{Offer}
-use Rattle.kx_merge.specs.Plain.{plain_cell, plain_width}
+use Rattle.kx_merge.specs.Plain.{plain_form}
 use Rattle.kx_merge.specs.Records.{IsOffered, none, more}
 use Rattle.kx_merge.specs.declared.plain.Plain.{Plain}
 use Rattle.kx_modmaps.specs.Maps.{AreAssigned, assigned_cell, given, map_offer}
@@ -11,7 +11,7 @@ use Rattle.kx_modmaps.specs.declared.record.Assigned.{Assigned}
 use Rattle.kx_modmaps.specs.declared.record.Cell.{Cell}
 use Rattle.kx_modmaps.specs.declared.target.Target.{Target}
 
-push-offered : (mode : Mode) (records : List (Target × Plain Assigned)) (os : List (Offer Target Cell ℕ)) (mods : ℕ) (target : Target) (a : Plain Assigned) → AreAssigned mode records os → IsOffered {K = Target} {C = Cell} {V = ℕ} {R = Plain Assigned} mode (plain_cell assigned_cell) plain_width target a (map_offer mode mods target)
+push-offered : (mode : Mode) (records : List (Target × Plain Assigned)) (os : List (Offer Target Cell ℕ)) (mods : ℕ) (target : Target) (a : Plain Assigned) → AreAssigned mode records os → IsOffered {K = Target} {C = Cell} {V = ℕ} {R = Plain Assigned} mode (plain_form assigned_cell) target a (map_offer mode mods target)
     → AreAssigned mode (records ++ (target, a) ∷ []) (os ++ map_offer mode mods target ∷ [])
 push-offered mode [] [] mods target a are is = more is none
 push-offered mode [] (o ∷ os) mods target a are is = elim are [ ]
@@ -21,7 +21,7 @@ push-offered mode (r ∷ records) (o ∷ os) mods target a (more first rest) is 
 pub added : (mode : Mode) (records new : List (Target × Plain Assigned)) (os : List (Offer Target Cell ℕ)) (mods : ℕ) (target : Target) (a : Plain Assigned) → AreAssigned mode records os → new ≡ records ++ (target, a) ∷ [] → ((c : Cell) → assigned_cell a.values c ≡ given target mods c)
     → AreAssigned mode new (os ++ map_offer mode mods target ∷ [])
 added mode records new os mods target a are pushed same =
-    let one : IsOffered {K = Target} {C = Cell} {V = ℕ} {R = Plain Assigned} mode (plain_cell assigned_cell) plain_width target a (map_offer mode mods target) = record { mode_is = refl; name_is = refl; value_is = λ c. sym (same c); width_is = λ g. refl } in
+    let one : IsOffered {K = Target} {C = Cell} {V = ℕ} {R = Plain Assigned} mode (plain_form assigned_cell) target a (map_offer mode mods target) = record { mode_is = refl; name_is = refl; value_is = λ c. sym (same c); width_is = λ g. refl } in
     subst (λ xs. AreAssigned mode xs (os ++ map_offer mode mods target ∷ [])) (sym pushed) (push-offered mode records os mods target a are one)
 
 pub next_offered : (d : Target) (mode : Mode) (new : List (Target × Plain Assigned)) (mods : ℕ) (targets : List Target) (i : ℕ) → i < length targets

@@ -14,7 +14,7 @@ use Rattle.kx_include.specs.Expansion.{Body}
 use Rattle.kx_merge.proofs.Going.{drop_next, read_again}
 use Rattle.kx_merge.specs.Bodies.{offers_of}
 use Rattle.kx_merge.specs.Offers.{Offer}
-use Rattle.kx_merge.specs.Plain.{plain_cell, plain_width}
+use Rattle.kx_merge.specs.Plain.{plain_form}
 use Rattle.kx_merge.specs.Records.{Shows, cell_in}
 use Rattle.kx_merge.specs.declared.plain.Plain.{Plain}
 use Rattle.kx_mods.specs.Mods.{mask}
@@ -35,7 +35,7 @@ nothing-present modifier =
     let none : bit_at 0 modifier ≡ 0 = bit_at_above 0 0 modifier (omega arith) (omega arith) in
     ap (λ b. cond (b == 1) (Some (2 ^ modifier)) None) none
 
-key-cell : (o : Option (Plain Assigned)) (modifier : ℕ) → present (option_map_or (λ (a : Plain Assigned). mask a.values.present) o 0) modifier ≡ cell_in (plain_cell assigned_cell) o (Present modifier)
+key-cell : (o : Option (Plain Assigned)) (modifier : ℕ) → present (option_map_or (λ (a : Plain Assigned). mask a.values.present) o 0) modifier ≡ cell_in (plain_form assigned_cell) o (Present modifier)
 key-cell None modifier = nothing-present modifier
 key-cell (Some a) modifier = refl
 
@@ -43,14 +43,14 @@ module _ {S : Type 0} (records : IndexMap Target (Plain Assigned) S) (codes : Co
   abbrev offers : List (Offer Target Cell ℕ)
   offers = map_offers_of codes names modifiers body
 
-  as-said : Shows {K = Target} {C = Cell} {V = ℕ} {R = Plain Assigned} (plain_cell assigned_cell) plain_width ghosts.eq (keys records) (get ghosts.eq records) (offers_of ghosts.eq (map_rules codes names modifiers) map_moves body) → Shows {K = Target} {C = Cell} {V = ℕ} {R = Plain Assigned} (plain_cell assigned_cell) plain_width same_target (keys records) (get same_target records) offers
-  as-said shows = subst (λ eq. Shows {K = Target} {C = Cell} {V = ℕ} {R = Plain Assigned} (plain_cell assigned_cell) plain_width eq (keys records) (get eq records) (offers_of eq (map_rules codes names modifiers) map_moves body)) told_as_said shows
+  as-said : Shows {K = Target} {C = Cell} {V = ℕ} {R = Plain Assigned} (plain_form assigned_cell) ghosts.eq (keys records) (get ghosts.eq records) (offers_of ghosts.eq (map_rules codes names modifiers) map_moves body) → Shows {K = Target} {C = Cell} {V = ℕ} {R = Plain Assigned} (plain_form assigned_cell) same_target (keys records) (get same_target records) offers
+  as-said shows = subst (λ eq. Shows {K = Target} {C = Cell} {V = ℕ} {R = Plain Assigned} (plain_form assigned_cell) eq (keys records) (get eq records) (offers_of eq (map_rules codes names modifiers) map_moves body)) told_as_said shows
 
-  keysym-same : Shows {K = Target} {C = Cell} {V = ℕ} {R = Plain Assigned} (plain_cell assigned_cell) plain_width same_target (keys records) (get same_target records) offers → (target : Target) → keysym_recorded records target ≡ keysym_given offers target
+  keysym-same : Shows {K = Target} {C = Cell} {V = ℕ} {R = Plain Assigned} (plain_form assigned_cell) same_target (keys records) (get same_target records) offers → (target : Target) → keysym_recorded records target ≡ keysym_given offers target
   keysym-same shows (Key code) = refl
   keysym-same shows (Keysym keysym) = ap (λ o. (keysym, unwrap_or o 0) ∷ []) (shows.cells_are (Keysym keysym) Only)
 
-  pub maps_are : (entries : List KeysymEntry) → Shows {K = Target} {C = Cell} {V = ℕ} {R = Plain Assigned} (plain_cell assigned_cell) plain_width ghosts.eq (keys records) (get ghosts.eq records) (offers_of ghosts.eq (map_rules codes names modifiers) map_moves body)
+  pub maps_are : (entries : List KeysymEntry) → Shows {K = Target} {C = Cell} {V = ℕ} {R = Plain Assigned} (plain_form assigned_cell) ghosts.eq (keys records) (get ghosts.eq records) (offers_of ghosts.eq (map_rules codes names modifiers) map_moves body)
       → map shown_entry entries ≡ flat_map (keysym_recorded records) (keys records) → AreModifierMaps (record { by_target = records.entries; by_keysym = entries }) codes names modifiers body
   maps_are entries derived is =
       let shows = as-said derived in

@@ -11,7 +11,7 @@ use Rattle.kx_lex.specs.declared.name.Name.{Name}
 use Rattle.kx_virtual_mods.specs.Sets.{has}
 use Rattle.kx_merge.specs.Bodies.{Rules, Moves, faults_of, offers_of, no_moves}
 use Rattle.kx_merge.specs.Offers.{Offer, names_of, value_of, plain_offer}
-use Rattle.kx_merge.specs.Plain.{plain_cell, plain_width}
+use Rattle.kx_merge.specs.Plain.{plain_form}
 use Rattle.kx_merge.specs.Records.{AreOffered}
 use Rattle.kx_merge.specs.declared.plain.Plain.{Plain}
 use Rattle.kx_mods.specs.Mods.{mask}
@@ -95,4 +95,4 @@ map_faults_of codes names modifiers body = faults_of same_target (map_rules code
 
 -- records of targets are offers in order
 abbrev pub AreAssigned : Mode → List (Target × Plain Assigned) → List (Offer Target Cell ℕ) → Type 0
-AreAssigned mode records os = AreOffered {K = Target} {C = Cell} {V = ℕ} {R = Plain Assigned} mode (plain_cell assigned_cell) plain_width records os
+AreAssigned mode records os = AreOffered {K = Target} {C = Cell} {V = ℕ} {R = Plain Assigned} mode (plain_form assigned_cell) records os

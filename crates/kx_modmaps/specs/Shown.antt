@@ -1,7 +1,7 @@
 -- What records by target hold.
 use Rattle.std.specs.Prelude.{ℕ, List, [], ◌∷◌, unwrap_or}
 use Rattle.indexmap.specs.IndexMap.{IndexMap, get}
-use Rattle.kx_merge.specs.Plain.{plain_cell}
+use Rattle.kx_merge.specs.Plain.{plain_form}
 use Rattle.kx_merge.specs.Records.{cell_in}
 use Rattle.kx_merge.specs.declared.plain.Plain.{Plain}
 use Rattle.kx_modmaps.specs.Entries.{same_target}
@@ -14,7 +14,7 @@ use Rattle.kx_modmaps.specs.declared.target.Target.TheVariants.{Key, Keysym}
 module _ {S : Type 0} (records : IndexMap Target (Plain Assigned) S) where
   -- the mask of a keysym's modifier; none where they hold none
   abbrev pub only_recorded : Target → ℕ
-  only_recorded target = unwrap_or (cell_in (plain_cell assigned_cell) (get same_target records target) Only) 0
+  only_recorded target = unwrap_or (cell_in (plain_form assigned_cell) (get same_target records target) Only) 0
 
   abbrev pub keysym_recorded : Target → List (ℕ × ℕ)
   keysym_recorded (Key code) = []

@@ -142,7 +142,7 @@ fn is_folder(rt: &impl Files, path: &str) -> Result<bool, AllocError> {
     }
 }
 
-/// Adds the folder of a path and what stands behind it, where it is there.
+/// Adds the folder of a path and what stands after it, where it is there.
 fn add_folder(
     rt: &(impl Files + AllocGlobal),
     folders: &mut Vec<String>,

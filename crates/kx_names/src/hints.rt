@@ -73,19 +73,26 @@ fn add_more(lines: &mut String, count: usize) -> Result<(), AllocError> {
     }
 }
 
-/// Adds a line for each item of a list that no rule takes.
+/// The items of a list that no rule takes, by their places, counted from 0.
+#[derive(Clone, Copy)]
+struct Items<'l> {
+    kind: Kind,
+    list: &'l str,
+    places: &'l [usize],
+}
+
+/// Adds a line for each item that no rule takes.
 fn add_items(
     alloc: Global,
     lines: &mut String,
     entries: &[Entry],
-    kind: Kind,
-    list: &str,
-    places: &[usize],
+    items: Items,
 ) -> Result<(), AllocError> {
-    for place in places.iter().take(MOST_SHOWN) {
-        add_word(alloc, lines, entries, kind, item_at(list, *place))?;
+    for place in items.places.iter().take(MOST_SHOWN) {
+        let word = item_at(items.list, *place);
+        add_word(alloc, lines, entries, items.kind, word)?;
     }
-    add_more(lines, places.len())
+    add_more(lines, items.places.len())
 }
 
 fn add_options(
@@ -163,24 +170,18 @@ fn write_warnings(
     if passed.model {
         add_word(alloc, &mut lines, entries, Kind::Model, asked.model)?;
     }
-    let layouts = passed.layouts.as_slice();
-    add_items(
-        alloc,
-        &mut lines,
-        entries,
-        Kind::Layout,
-        asked.layouts,
-        layouts,
-    )?;
-    let variants = passed.variants.as_slice();
-    add_items(
-        alloc,
-        &mut lines,
-        entries,
-        Kind::Variant,
-        asked.variants,
-        variants,
-    )?;
+    let layouts = Items {
+        kind: Kind::Layout,
+        list: asked.layouts,
+        places: passed.layouts.as_slice(),
+    };
+    add_items(alloc, &mut lines, entries, layouts)?;
+    let variants = Items {
+        kind: Kind::Variant,
+        list: asked.variants,
+        places: passed.variants.as_slice(),
+    };
+    add_items(alloc, &mut lines, entries, variants)?;
     add_options(alloc, &mut lines, entries, passed.options.as_slice())?;
     Ok(lines)
 }

@@ -29,7 +29,7 @@ fn is_word_byte(byte: u8) -> bool {
     byte.is_ascii_graphic() && byte != b'\\'
 }
 
-/// The text of an include, of which all behind its sign `!` is given.
+/// The text of an include, of which all after its sign `!` is given.
 fn included_by(behind: &[u8]) -> Option<&[u8]> {
     let rest = without_gap(behind).strip_prefix(b"include")?;
     let rest = without_gap(rest);
@@ -49,7 +49,7 @@ fn include_words(alloc: Global, text: &[u8]) -> Result<Vec<&[u8]>, AllocError> {
     Ok(words)
 }
 
-/// Writes what a letter behind a sign `%` stands for in the text of an include; whether it stands for something.
+/// Writes what a letter after a sign `%` stands for in the text of an include; whether it stands for something.
 fn add_letter(asked: &Asked, letter: u8, path: &mut Vec<u8>) -> Result<bool, AllocError> {
     match (letter, asked.home) {
         (b'%', _) => path.push(b'%')?,

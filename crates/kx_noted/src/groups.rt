@@ -83,6 +83,14 @@ impl Group<'_> {
     }
 }
 
+/// A key, by its name, and where it is told.
+#[derive(Clone, Copy)]
+struct NamedKey<'k> {
+    name: &'k str,
+    record: &'k KeyRecord,
+    at: At,
+}
+
 impl Reader<'_, '_, '_> {
     /// Notes that no type has the name that is written for a group.
     fn note_unknown_type(&mut self, group: Group, word: &[u8]) -> Result<(), AllocError> {
@@ -191,12 +199,13 @@ impl Reader<'_, '_, '_> {
     /// Notes groups of a key to which nothing leads, or that X11 doesn't have.
     fn note_group_count(
         &mut self,
-        at: At,
-        key: &str,
+        key: NamedKey,
         count: usize,
         used: usize,
     ) -> Result<(), AllocError> {
         let kind = WarningKind::Groups;
+        let at = key.at;
+        let key = key.name;
         if count > used {
             let number = used.saturating_add(1);
             let message = format_args!(
@@ -212,45 +221,38 @@ impl Reader<'_, '_, '_> {
     }
 
     /// Notes that a type is written for a group that the key doesn't have.
-    fn note_stray_type(
-        &mut self,
-        at: At,
-        name: &str,
-        key: &KeyRecord,
-        count: usize,
-    ) -> Result<(), AllocError> {
-        let Some(group) = stray_type(key, count) else {
+    fn note_stray_type(&mut self, key: NamedKey, count: usize) -> Result<(), AllocError> {
+        let Some(group) = stray_type(key.record, count) else {
             return Ok(());
         };
         let number = group.saturating_add(1);
+        let name = key.name;
         let message = format_args!("type[{number}] is for a group that <{name}> doesn't have");
-        self.warnings.add(WarningKind::Groups, at, message)
+        self.warnings.add(WarningKind::Groups, key.at, message)
     }
 
     /// Notes what is passed over in the groups of a key.
     fn note_key_groups(
         &mut self,
-        at: At,
-        name: &str,
-        key: &KeyRecord,
+        key: NamedKey,
         used: usize,
         reached: &[Reached],
     ) -> Result<(), AllocError> {
-        let count = group_count(key);
+        let count = group_count(key.record);
         for group in 0..count {
             let group = Group {
                 name: GroupOf {
                     number: group.saturating_add(1),
-                    key: name,
+                    key: key.name,
                 },
-                key,
-                content: content_group(key, group),
-                at,
+                key: key.record,
+                content: content_group(key.record, group),
+                at: key.at,
             };
             self.note_group(group, reached)?;
         }
-        self.note_group_count(at, name, count, used)?;
-        self.note_stray_type(at, name, key, count)
+        self.note_group_count(key, count, used)?;
+        self.note_stray_type(key, count)
     }
 
     /// Notes what is passed over in the groups of keys.
@@ -259,7 +261,7 @@ impl Reader<'_, '_, '_> {
         let reached = reached_levels(alloc, read.types)?;
         let used = groups_in_use(alloc, self);
         for code in 0..read.codes.end() {
-            let (Some(name), Some(key), Some(at)) = (
+            let (Some(name), Some(record), Some(at)) = (
                 read.codes.name_of(code),
                 read.keys.key(code),
                 self.place_of(code),
@@ -267,7 +269,8 @@ impl Reader<'_, '_, '_> {
                 continue;
             };
             let name = str::from_utf8(name).unwrap_or("");
-            self.note_key_groups(at, name, key, used, reached.as_slice())?;
+            let key = NamedKey { name, record, at };
+            self.note_key_groups(key, used, reached.as_slice())?;
             self.note_replaced(code, name)?;
         }
         Ok(())

@@ -1,13 +1,14 @@
 -- What is looked up in sorted entries.
 use Rattle.std.proofs.Common.{◌≡◌, ℕ, zero, suc, ◌<◌, ◌≤◌, Bool, true, false, cond, not, ◌&&◌, List, [], ◌∷◌, length, Option, None, Some, filter, slice_get, refl, sym, ap, ◌∙◌, true≢false, ltb, subst, arith}
-use Rattle.std.specs.Cmp.{IsTotalOrder}
+use Rattle.std.specs.Cmp.{IsTotalOrder, ranks}
 use Rattle.std.specs.List.{AllWithin, slice_index_or}
-use Rattle.std.proofs.lemmas.List.Sorted.{IsPartitionedBy-ltb, searchable_from_sorted}
+use Rattle.std.proofs.lemmas.List.Sorted.{IsNonDecreasingBy-from_sort, IsPartitionedBy-ltb, searchable_from_sorted}
 use Rattle.std.specs.List.Sorted.{IsNonDecreasingBy, IsPartitionedBy, IsPartitionPoint, IsSortedByKey, IsStableByKey}
 use Rattle.std.specs.Map.{lookup}
-use Rattle.std.specs.Ordering.{is_eq, is_lt, ordering_index, ordering_reverse}
+use Rattle.std.specs.Ordering.{MatchOrdering, is_eq, is_lt, nat_cmp, ordering_index, ordering_reverse}
 use Rattle.std.specs.declared.cmp.Ordering.{Ordering}
 use Rattle.std.specs.declared.cmp.Ordering.TheVariants.{Less, Equal, Greater}
+use Rattle.kx_ordered.specs.Sorted.{EndsBelow}
 
 -- ---- A stable sort
 
@@ -111,3 +112,25 @@ module _ {K : Type 0} {eq : K → K → Bool} {cmp : K → K → Ordering} (tota
       by : (o : Option (K × V)) → value_at (λ k. cmp k key) o ≡ value_after eq key o
       by None = refl
       by (Some e) = ap (λ b. cond b (Some e.1) None) (key_test key e.0)
+
+-- ---- Numbers
+
+not_below : (a b : ℕ) → b ≤ a → is_lt (nat_cmp a b) ≡ false
+not_below a b over = by (nat_cmp a b) (ranks a b)
+  where
+    by : (o : Ordering) → MatchOrdering o (a < b) (a ≡ b) (b < a) → is_lt o ≡ false
+    by Less less = absurd (omega (arith, less, over))
+    by Equal same = refl
+    by Greater more = refl
+
+abbrev number_at : {V : Type 0} → Option (ℕ × V) → ℕ
+number_at None = 0
+number_at (Some e) = e.0
+
+-- where the first number is not below one, none is
+pub none_below : {V : Type 0} (number : ℕ) (es : List (ℕ × V)) (e : ℕ × V) → IsSortedByKey (λ (e : ℕ × V). e.0) nat_cmp es → Some e ≡ slice_get es 0 → number ≤ e.0 → EndsBelow nat_cmp number es 0
+none_below {V} number [] e sorted is low = ((λ k d from high. absurd (omega (arith, high))), λ k d from high. absurd (omega (arith, high)))
+none_below {V} number (x ∷ es) e sorted is low =
+    let same : e.0 ≡ x.0 = ap number_at is in
+    let rising : (k : ℕ) (d : ℕ × V) → k < length (x ∷ es) → x.0 ≤ (slice_index_or (x ∷ es) k d).0 = λ k d high. IsNonDecreasingBy-from_sort (λ (e : ℕ × V). e.0) (x ∷ es) sorted 0 k d (omega arith) high in
+    ((λ k d from high. absurd (omega (arith, high))), λ k d from high. not_below (slice_index_or (x ∷ es) k d).0 number (omega (arith, low, same, rising k d high)))

@@ -14,11 +14,14 @@ use std::collections::BTreeMap;
 use std::marker::Model;
 
 /// A key is found by its number, unless that number is more than so many times the count of keys before it and [`SPARE`].
-/// So the table of numbers has at most four places for each key and 260 more, whatever the numbers are. That can be more
+/// So the table of numbers has at most four places for each key and 323 more, whatever the numbers are. That can be more
 /// room than small entries take.
 const SPREAD: usize = 4;
 
 const SPARE: usize = 64;
+
+/// How many places the table of numbers grows by, since numbers mostly follow one another.
+const AHEAD: usize = 64;
 
 /// Values by key, in the order in which the keys were first put. A key is found in the logarithm of how many there are,
 /// whatever the keys are, and one that is told by a small number at once.
@@ -81,7 +84,7 @@ fn room_for(
     if number / SPREAD > count.saturating_add(SPARE) {
         return Ok(None);
     }
-    numbers.resize(number + 1, None)?;
+    numbers.resize(number + AHEAD, None)?;
     Ok(Some(number))
 }
 
@@ -113,6 +116,15 @@ impl<K: TableKey + Drop, V> Ordered<K, V> {
             numbers: Vec::new(alloc),
             places: BTreeMap::new(alloc),
         }
+    }
+
+    /// Makes room for so many values in all.
+    pub fn make_room(&mut self, count: usize) -> Result<(), AllocError>
+        ensures same { self.new ≡ self.old }
+    {
+        self.entries
+            .reserve(count.saturating_sub(self.entries.len()))?;
+        Ok(())
     }
 
     /// How many there are.

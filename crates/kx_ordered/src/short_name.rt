@@ -1,13 +1,13 @@
 //! Names of at most 255 bytes.
-ghost use Rattle.std.specs.Prelude.{◌≡◌, None, ◌≤◌, ◌<◌, IfSome, length, position, take, refl};
+ghost use Rattle.std.specs.Prelude.{◌≡◌, None, ◌≤◌, ◌<◌, IfSome, length, position, slice_get, take, refl};
 ghost use Rattle.std.specs.Cmp.{partial_equiv_from_equiv, partial_order_from_own_ties, partial_order_from_total};
 ghost use Rattle.std.specs.Cmp.Lexicographic.{nat_list_eq_equiv};
 ghost use Rattle.std.specs.Map.{lookup};
-ghost use Rattle.std.specs.Option.{option_copied};
+ghost use Rattle.std.specs.Option.{option_copied, option_map};
 ghost use Rattle.std.specs.Ordering.{as_partial_cmp};
 ghost use Rattle.std.specs.Str.{bytes_eq};
 ghost use Rattle.std.specs.BTreeMap.Comparable.{le_lt_trans};
-ghost use Rattle.indexmap.specs.IndexMap.{index_map_len, keys};
+ghost use Rattle.indexmap.specs.IndexMap.{IsUnique, index_map_len, keys};
 ghost use Rattle.kx_ordered.specs.Names.{name_cmp, name_cmp_ties, name_cmp_total};
 ghost use Rattle.kx_ordered.specs.Numbers.{untold};
 ghost use Rattle.kx_basics.specs.declared.limits.TheConstants.{MOST_NAME_BYTES};
@@ -155,6 +155,42 @@ impl<V> Ordered<ShortName, V> {
         ensures within { IfSome result (λ place. place < index_map_len self.now) }
     {
         self.places().get(&NameKey::of(name)).copied()
+    }
+
+    /// The place, counted from 0, and the value of a name.
+    fn found_by_order(&self, name: &[u8]) -> Option<(usize, &V)>
+        ensures { option_map (λ found. found.1.now) result
+            ≡ lookup (bytes_eq name.now) self.now.entries }
+    {
+        match self.place_of_short_name(name) {
+            None => None,
+            Some(place) => match self.value(place) {
+                None => None,
+                Some(value) => Some((place, value)),
+            },
+        }
+    }
+
+    /// The name and the value at a place, counted from 0.
+    fn entry(&self, place: usize) -> Option<&(ShortName, V)>
+        ensures value { option_copied result ≡ slice_get self.now.entries place }
+        ensures unique { IsUnique bytes_eq self.now }
+    {
+        self.as_slice().get(place)
+    }
+
+    /// The place, counted from 0, and the value of a name, which is looked for first at a place where it may stand.
+    pub fn found_near(&self, name: &[u8], near: usize) -> Option<(usize, &V)>
+        ensures { option_map (λ found. found.1.now) result
+            ≡ lookup (bytes_eq name.now) self.now.entries }
+    {
+        if let Some((found, value)) = self.entry(near) {
+            let bytes = found.as_slice();
+            if bytes == name {
+                return Some((near, value));
+            }
+        }
+        self.found_by_order(name)
     }
 
     /// The value of a name.

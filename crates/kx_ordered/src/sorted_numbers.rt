@@ -62,7 +62,11 @@ impl<V: Drop> SortedNumbers<V> {
         ensures point { EndsBelow nat_cmp number self.now result }
         ensures sorted { IsSorted nat_cmp self.now }
     {
-        self.entries.partition_point(|entry| entry.0 < number)
+        // Most numbers that are looked for stand before all.
+        match self.entries.first() {
+            Some(first) if number <= first.0 => 0,
+            _ => self.entries.partition_point(|entry| entry.0 < number),
+        }
     }
 
     /// The number and the value at a place.

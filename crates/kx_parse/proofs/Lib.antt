@@ -10,4 +10,5 @@ mod PassedStatements
 mod PassedOutline
 mod PassedSections
 pub mod PlacedSections
-pub mod HeldSections
+pub mod BuiltSections
+pub mod OutlinedTexts

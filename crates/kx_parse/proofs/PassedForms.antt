@@ -117,7 +117,7 @@ pub closing : (close : ℕ) (us : List Token) → front (is_mark close) us ≡ t
 closing close [] h = cc
 closing close (t ∷ ts) h = rw h refl
 
--- none, and the mark behind them
+-- none, and the mark after them
 pub none-ended : {A : Type 0} (p : List ℕ → Production A) {bs rest : List ℕ} (close : ℕ) → Passes (λ text. mark text close) bs rest → Passes (λ text. ended text close (many (before_mark close) (p text))) bs rest
 none-ended p close a = record {
   lexes = a.lexes;
@@ -126,7 +126,7 @@ none-ended p close a = record {
       ([], s.1, ([], us, (refl, closing close us (mark-front text close us s.0 s.1 s.2)), (s.0, s.1, s.2, (refl, refl))), s.3);
 }
 
--- one more, and the mark behind them
+-- one more, and the mark after them
 pub more-ended : {A : Type 0} {p : List ℕ → Production A} {bs mid rest : List ℕ} (close : ℕ) → ((text : List ℕ) → Admits (before_mark close) (p text)) → Passes p bs mid → Passes (λ text. ended text close (many (before_mark close) (p text))) mid rest → Passes (λ text. ended text close (many (before_mark close) (p text))) bs rest
 more-ended close admits a b = record {
   lexes = Lexes-more a.lexes b.lexes;
@@ -135,7 +135,7 @@ more-ended close admits a b = record {
       (s.0 ∷ s.5.0, s.4, (s.0 ∷ s.5.0, s.5.1, ((admits text us s.0 s.1 s.2, s.1, s.2, s.5.2.0), s.5.2.1), (s.5.3.0, s.5.3.1, s.5.3.2, (refl, s.5.3.3.1))), s.6);
 }
 
--- more behind commas
+-- more after commas
 pub more-none : {A : Type 0} (p : List ℕ → Production A) (bs : List ℕ) → IsAtToken bs → front_byte 44 bs ≡ false → Passes (more p) bs bs
 more-none p bs at h = none-passes (λ text. after (mark text comma) (p text)) bs (front (is_mark comma)) (λ text ts ends r. no_mark text bs ts 44 at h r)
 

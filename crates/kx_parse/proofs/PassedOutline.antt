@@ -1,26 +1,24 @@
 -- The outline of what is passed over by its bytes.
-use Rattle.std.proofs.Common.{◌≡◌, ◌∙◌, ℕ, zero, suc, ◌+◌, ◌-◌, ◌≤◌, ◌<◌, Bool, true, false, ◌&&◌, ◌||◌, List, [], ◌∷◌, ◌++◌, length, drop, map, Option, Some, None, refl, sym, ap, subst, arith, inl, inr, append_assoc, append-nil}
+use Rattle.std.proofs.Common.{◌≡◌, ◌∙◌, ℕ, ◌-◌, Bool, true, false, ◌&&◌, ◌||◌, List, [], ◌∷◌, ◌++◌, length, Option, Some, None, refl, sym, ap, subst, arith, inl, inr, append_assoc, append-nil}
 use Rattle.std.specs.Prelude.{IfNone, filter, is_none, is_some}
-use Rattle.kx_lex.specs.Kinds.{before_mark, front, second, is_key_name, is_keyword, is_mark, is_text, is_word, is_word_kind}
+use Rattle.kx_lex.specs.Kinds.{front, is_key_name, is_keyword, is_mark, is_text, is_word, is_word_kind}
 use Rattle.kx_lex.specs.Passing.{Ends, ReadsEnd, Passes, PassesAs, PassesTo, PassesWord, IsAtToken, IsNoWord, front_byte}
-use Rattle.kx_lex.specs.Production.{Production, front_span, many, optional, span_between, spanned}
+use Rattle.kx_lex.specs.Production.{Production, front_span, span_between}
 use Rattle.kx_lex.specs.Reading.{token_of}
-use Rattle.kx_lex.specs.Tokens.{bang, close_brace, mark, open_brace, semicolon, text_name}
+use Rattle.kx_lex.specs.Tokens.{bang, close_brace, mark, text_name}
 use Rattle.kx_lex.specs.contracts.token.TokenKindPartialEq.TheImpl.{ghosts}
 use Rattle.kx_lex.specs.declared.keyword.Keyword.{Keyword}
-use Rattle.kx_lex.specs.declared.keyword.Keyword.TheVariants as keywords
 use Rattle.kx_lex.specs.declared.name.Name.{Name}
 use Rattle.kx_lex.specs.declared.token.Span.{Span}
 use Rattle.kx_lex.specs.declared.token.Token.{Token}
 use Rattle.kx_lex.specs.declared.token.TokenKind.{TokenKind}
 use Rattle.kx_lex.specs.declared.token.TokenKind.TheVariants.{Decimal, KeyName, Mark, Number, Text, Word}
 use Rattle.kx_lex.proofs.PassedOver.{Ends-more, Lexes-more, Lexes-self, no_key_name, no_mark, no_text, no_word}
-use Rattle.kx_lex.proofs.TokenLaws.{mark-front, text_name-front, word-front}
-use Rattle.kx_parse.specs.Forms.{after, ended}
-use Rattle.kx_parse.specs.Geometry.{geometry, geometry_read}
+use Rattle.kx_lex.proofs.TokenLaws.{mark-front}
+use Rattle.kx_parse.specs.Forms.{after}
 use Rattle.kx_parse.specs.Outline.{BeginsNoInclude, BeginsNoModed, IsJoinWord, IsModeWord, IsNoFlag, include_at, is_include, items_ended}
 use Rattle.kx_parse.specs.Passing.{terminated}
-use Rattle.kx_parse.specs.Sections.{begins_include, begins_moded, flag, flag_of, flags, include, item, join, join_of, modal, mode, mode_of, moded, own}
+use Rattle.kx_parse.specs.Sections.{begins_include, begins_moded, flag, flags, include, item, join, join_of, modal, mode, mode_of, moded, own}
 use Rattle.kx_parse.specs.Statements.{statement}
 use Rattle.kx_parse.specs.declared.tree.Flag.{Flag}
 use Rattle.kx_parse.specs.declared.tree.Item.{Item}

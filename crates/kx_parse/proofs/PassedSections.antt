@@ -1,18 +1,17 @@
 -- The outline of sections and of a file.
-use Rattle.std.proofs.Common.{◌≡◌, ◌∙◌, ℕ, zero, suc, ◌+◌, ◌-◌, ◌≤◌, ◌<◌, Bool, true, false, cond, ◌&&◌, ◌==◌, List, [], ◌∷◌, ◌++◌, length, drop, map, Option, Some, None, Result, Ok, Err, refl, sym, ap, subst, arith, inl, inr, append_assoc, append-nil, length-append, length-drop}
+use Rattle.std.proofs.Common.{◌≡◌, ◌∙◌, ℕ, suc, ◌+◌, ◌-◌, ◌≤◌, Bool, true, false, cond, if◌then◌else◌, ◌&&◌, ◌==◌, List, [], ◌∷◌, ◌++◌, length, drop, map, Option, Some, None, Result, Ok, Err, refl, sym, ap, subst, arith, inl, inr, append_assoc, append-nil, length-append, length-drop}
 use Rattle.std.proofs.lemmas.Bool.{eqb-true}
 use Rattle.std.proofs.lemmas.List.{drop_at}
 use Rattle.std.specs.Prelude.{IfOk, IfSome, filter, is_some}
-use Rattle.kx_lex.specs.Kinds.{front, is_keyword, is_mark, is_word}
+use Rattle.kx_lex.specs.Kinds.{before_mark, front, is_keyword, is_mark, is_word}
 use Rattle.kx_lex.specs.Parsing.{done}
 use Rattle.kx_lex.specs.Passing.{Ends, ReadsEnd, Passes, PassesAs, PassesTo, PassesWord, IsAtToken, IsNoWord, Skips, front_byte, token}
-use Rattle.kx_lex.specs.Production.{Production, front_span, span_between, spanned}
+use Rattle.kx_lex.specs.Production.{front_span, span_between, spanned}
 use Rattle.kx_lex.specs.Pieces.{piece}
-use Rattle.kx_lex.specs.Reading.{Reads, ended, mark_len, span_of, token_of}
+use Rattle.kx_lex.specs.Reading.{IsReading, Reads, ended, mark_len, span_of, token_of}
 use Rattle.kx_lex.specs.Spelling.{many_front}
 use Rattle.kx_lex.specs.Stops.{IsBehind}
 use Rattle.kx_lex.specs.Tokens.{close_brace, keyword, mark, open_brace, semicolon, text_name}
-use Rattle.kx_lex.specs.contracts.token.TokenKindPartialEq.TheImpl.{ghosts}
 use Rattle.kx_lex.specs.declared.keyword.Keyword.{Keyword}
 use Rattle.kx_lex.specs.declared.keyword.Keyword.TheVariants as keywords
 use Rattle.kx_lex.specs.declared.name.Name.{Name}
@@ -23,10 +22,10 @@ use Rattle.kx_lex.specs.declared.token.TokenKind.TheVariants.{Mark, Word}
 use Rattle.kx_lex.proofs.PassedOver.{Ends-drop, Ends-more, Lexes-more, Lexes-self, Skips-self, no_mark, no_text, no_word, nothing-read, single-piece, start-here, token-begins, true-false}
 use Rattle.kx_lex.proofs.Reasons.{behind_more}
 use Rattle.kx_lex.proofs.TokenLaws.{mark-front, text_name-front}
-use Rattle.kx_parse.specs.Forms.{after, ended as ended_by}
-use Rattle.kx_parse.specs.Geometry.{Balanced, IsClosing, closing_read, geometry, geometry_read}
-use Rattle.kx_parse.specs.Outline.{IsKindWord, IsNoFlag, IsOutline, PassesDeep, held_by, is_include, items_ended, outline_of, placed_sections}
-use Rattle.kx_parse.specs.Sections.{flag, flag_of, flagged, file, flags, geometry_body, geometry_section, held_items, kind, kind_of, optional_text, plain_section, section}
+use Rattle.kx_parse.specs.Forms.{ended as ended_by}
+use Rattle.kx_parse.specs.Geometry.{geometry, geometry_read}
+use Rattle.kx_parse.specs.Outline.{EndSections, IsKindWord, IsNoFlag, IsOutline, IsSourceOutline, PassesDeep, held_by, is_include, items_ended, outline_from, outline_of, placed_sections, placed_source, sections_before, source_end, source_front}
+use Rattle.kx_parse.specs.Sections.{Spells, SpellsFile, flag, flag_of, flagged, file, flags, geometry_body, geometry_section, held_items, held_sections, kind, kind_of, optional_text, plain_section, section, source}
 use Rattle.kx_parse.specs.declared.outline.Outline.{Outline}
 use Rattle.kx_parse.specs.declared.tree.Flag.{Flag}
 use Rattle.kx_parse.specs.declared.tree.Item.{Item}
@@ -34,7 +33,9 @@ use Rattle.kx_parse.specs.declared.tree.Kind.{Kind}
 use Rattle.kx_parse.specs.declared.tree.Kind.TheVariants.{Keycodes, Types, Compat, Symbols, Geometry}
 use Rattle.kx_parse.specs.declared.tree.Section.{Section}
 use Rattle.kx_parse.proofs.LawfulGeometry.{geometry-takes}
-use Rattle.kx_parse.proofs.LawfulSections.{flag-none, flagged-lawful, flags-lawful, section-some, section-uses}
+use Rattle.kx_parse.proofs.LawfulSections.{flag-none, flagged-lawful, flags-lawful, section-before, section-some, section-uses}
+use Rattle.kx_parse.proofs.PassedForms.{closing}
+use Rattle.kx_parse.proofs.PassedOutline.{as-known}
 use Rattle.kx_parse.proofs.PassedValues.{other_mark}
 
 -- a token of geometry, by what it is
@@ -257,7 +258,7 @@ mark-here text (b ∷ left) us t ts ends at r same is = by (b == 59) refl
         let s = token-begins e (omega arith) (Skips-self (drop 1 (b ∷ left))) text us ends r in
         head-span t (token_of (Mark b) (length text - length (b ∷ left)) 1) ts s.0 (sym same ∙ s.1)
 
--- the tokens behind the last of those before the rest
+-- the tokens after the last of those before the rest
 last-drop : (us before ks ts : List Token) (t : Token) → us ≡ before ++ ks → ks ≡ t ∷ ts → drop (length us - length ts - 1) us ≡ t ∷ ts
 last-drop us before ks ts t whole here =
     let all : us ≡ before ++ t ∷ ts = rw (whole, here) refl in
@@ -275,7 +276,7 @@ pub section-placed : (text : List ℕ) (fs : List Flag) (outline : Section) (spa
     → span ≡ record { start = length text - length bs; stop = (length text - length m2) + 1 }
     → PassesAs text (spanned (section text)) (λ s. ◌≡◌ {A = Section × Span} (outline, span) (outline_of s.0, s.1)) bs rest
 unfolding section mark
-section-placed text fs outline span {bs} {m1} {m2} ends at a b then c place =
+section-placed text fs outline span {bs} {m1} {m2} ends at a b next c place =
     let f = a text ends in
     let behind = Ends-more (Ends-more ends f.lexes.ends) b.lexes.ends in
     record {
@@ -287,7 +288,7 @@ section-placed text fs outline span {bs} {m1} {m2} ends at a b then c place =
           let body = subst (λ (k : List Flag). (flagged text k).spells s.1 g.0 g.1) (sym s.4) g.2 in
           let spells : (section text).spells us g.0 e.1 = (s.0, s.1, s.2, (g.0, g.1, body, (e.0, e.1, e.2, (refl, refl)))) in
           let within = behind_more ((flags-lawful text).behind us s.0 s.1 s.2) ((flagged-lawful text s.0).behind s.1 g.0 g.1 body) in
-          let mark-span = mark-here text m2 g.1 e.0 e.1 behind then g.3 e.2.0 e.2.1 in
+          let mark-span = mark-here text m2 g.1 e.0 e.1 behind next g.3 e.2.0 e.2.1 in
           let stop : e.0.span.stop ≡ (length text - length m2) + 1 = ap (λ (x : Span). x.stop) mark-span in
           let first = start-here text bs us at (some-tokens us e.1 (section-uses text us g.0 e.1 spells)) r in
           ((g.0, span_between us e.1), e.1, (spells, refl), e.3, rw (g.4, place, section-span us e.1 g.1 e.0 _ _ within e.2.0 first stop) refl);
@@ -298,10 +299,10 @@ pub record Follows (sections before : List Section) (places spans : List Span) (
   pub outlined : sections ≡ before ++ map (λ s. outline_of s.0) xs
   pub placed : places ≡ spans ++ map (λ s. s.1) xs
 
-pub sections-none : (text : List ℕ) (sections : List Section) (places : List Span) → PassesAs text (placed_sections text) (Follows sections sections places places) [] []
-sections-none text sections places = record {
-  lexes = Lexes-self [];
-  spelled = λ us r. ([], us, (refl, rw (nothing-read r) refl), r, record { outlined = sym (append-nil sections); placed = sym (append-nil places) });
+pub sections-none : (text : List ℕ) (sections : List Section) (places : List Span) (bs : List ℕ) → Ends text bs → EndSections bs → PassesAs text (sections_before text) (Follows sections sections places places) bs bs
+sections-none text sections places bs ends over = record {
+  lexes = Lexes-self bs;
+  spelled = λ us r. ([], us, (refl, over text us ends r), r, record { outlined = sym (append-nil sections); placed = sym (append-nil places) });
 }
 
 follows-more : (sections before : List Section) (places spans : List Span) (o : Section) (span : Span) (x : Section × Span) (xs : List (Section × Span)) → ◌≡◌ {A = Section × Span} (o, span) (outline_of x.0, x.1)
@@ -314,13 +315,13 @@ follows-more sections before places spans o span x xs same f =
       placed = subst (λ (k : Span). places ≡ spans ++ k ∷ map (λ s. s.1) xs) second (rw append_assoc at f.placed);
     }
 
-section_some : (text : List ℕ) (us : List Token) (x : Section × Span) (ts : List Token) → (spanned (section text)).spells us x ts → front (λ _. true) us ≡ true
-section_some text us x ts s = section-some text us x.0 ts s.0
+section_some : (text : List ℕ) (us : List Token) (x : Section × Span) (ts : List Token) → (spanned (section text)).spells us x ts → before_mark close_brace us ≡ true
+section_some text us x ts s = section-before text us x.0 ts s.0
 
 pub sections-more : (text : List ℕ) (sections before : List Section) (places spans : List Span) (o : Section) (span : Span) {bs mid end : List ℕ}
     → PassesAs text (spanned (section text)) (λ s. ◌≡◌ {A = Section × Span} (o, span) (outline_of s.0, s.1)) bs mid
-    → PassesAs text (placed_sections text) (Follows sections (before ++ o ∷ []) places (spans ++ span ∷ [])) mid end
-    → PassesAs text (placed_sections text) (Follows sections before places spans) bs end
+    → PassesAs text (sections_before text) (Follows sections (before ++ o ∷ []) places (spans ++ span ∷ [])) mid end
+    → PassesAs text (sections_before text) (Follows sections before places spans) bs end
 sections-more text sections before places spans o span a b = record {
   lexes = Lexes-more a.lexes b.lexes;
   spelled = λ us r.
@@ -329,35 +330,150 @@ sections-more text sections before places spans o span a b = record {
       (s.0 ∷ t.0, t.1, ((section_some text us s.0 s.1 s.2, s.1, s.2, t.2.0), t.2.1), t.3, follows-more sections before places spans o span s.0 t.0 s.4 t.4);
 }
 
+-- they are the outline of all that were passed
+pub sections-all : (text : List ℕ) (sections : List Section) (places : List Span) {bs rest : List ℕ} → PassesAs text (sections_before text) (Follows sections [] places []) bs rest
+    → PassesAs text (sections_before text) (λ ss. record { sections = sections; places = places } ≡ outline_from ss) bs rest
+sections-all text sections places a = as-known text (λ ss f. rw (f.outlined, f.placed) refl) a
+
 -- sections with where they stand are sections
-unplaced : (text : List ℕ) (xs : List (Section × Span)) (us ts : List Token) → many_front (front (λ _. true)) (spanned (section text)).spells xs us ts → many_front (front (λ _. true)) (section text).spells (map (λ s. s.0) xs) us ts
-unplaced text [] us ts s = s
-unplaced text (x ∷ xs) us ts s = (s.0, s.1, s.2.0, unplaced text xs s.1 ts s.3)
+unplaced : (text : List ℕ) (test : List Token → Bool) (xs : List (Section × Span)) (us ts : List Token) → many_front test (spanned (section text)).spells xs us ts → many_front test (section text).spells (map (λ s. s.0) xs) us ts
+unplaced text test [] us ts s = s
+unplaced text test (x ∷ xs) us ts s = (s.0, s.1, s.2.0, unplaced text test xs s.1 ts s.3)
+
+pub file-placed : (text : List ℕ) (us : List Token) (xs : List (Section × Span)) → (placed_sections text).spells us xs [] → SpellsFile text us (record { sections = map (λ s. s.0) xs })
+unfolding file
+file-placed text us xs s = record { spelled = (map (λ x. x.0) xs, [], (unplaced text (front (λ _. true)) xs us [] s.0, refl), (tt, [], (refl, refl), (refl, refl))) }
+
+-- those up to the end are all that a file has
+to-end : (text : List ℕ) (xs : List (Section × Span)) (us : List Token) → many_front (before_mark close_brace) (spanned (section text)).spells xs us [] → many_front (front (λ _. true)) (spanned (section text)).spells xs us []
+to-end text [] us s = s
+to-end text (x ∷ xs) us s = (section-some text us x.0 s.1 s.2.0, s.1, s.2, to-end text xs s.1 s.3)
 
 end-piece : piece [] ≡ End
 unfolding piece
 end-piece = refl
 
+-- what a text is read as from its first token on, it is read as
+whole-reading : (text start : List ℕ) (us : List Token) → mark_len text ≤ length text → Skips (drop (mark_len text) text) start → ReadsEnd text start us → IsReading text us
+whole-reading text start us short skips r =
+    let whole = skips.reads text us (Ends-drop (mark_len text) text) r in
+    record { reads = subst (λ (k : ℕ). Reads k (drop (mark_len text) text) us) (omega (arith, length-drop (mark_len text) text)) whole }
+
 -- a text that is passed over to its end has an outline
-pub outlined-file : (text : List ℕ) (start : List ℕ) (outline : Outline) → mark_len text ≤ length text → Skips (drop (mark_len text) text) start
-    → PassesAs text (placed_sections text) (Follows outline.sections [] outline.places []) start [] → IsOutline text outline
-unfolding file
+pub outlined-file : (text start : List ℕ) (outline : Outline) → mark_len text ≤ length text → Skips (drop (mark_len text) text) start
+    → PassesAs text (sections_before text) (λ xs. outline ≡ outline_from xs) start [] → IsOutline text outline
 outlined-file text start outline short skips a =
-    let ends = Ends-drop (mark_len text) text in
-    let on = Ends-more ends skips.ends in
+    let on = Ends-more (Ends-drop (mark_len text) text) skips.ends in
     let us = a.lexes.read text [] on (ended end-piece) in
     let s = a.spelled us.0 us.1 in
-    let whole = skips.reads text us.0 ends us.1 in
-    let none = nothing-read s.3 in
-    let placed = subst (λ (ts : List Token). (placed_sections text).spells us.0 s.0 ts) none s.2 in
+    let last = subst (λ (ts : List Token). (sections_before text).spells us.0 s.0 ts) (nothing-read s.3) s.2 in
+    let placed : (placed_sections text).spells us.0 s.0 [] = (to-end text s.0 us.0 last.0, refl) in
     record {
       tokens = us.0;
       sections = s.0;
-      reading = record { reads = subst (λ (k : ℕ). Reads k (drop (mark_len text) text) us.0) (omega (arith, length-drop (mark_len text) text)) whole };
-      tree = record { spelled = (map (λ x. x.0) s.0, [], (unplaced text s.0 us.0 [] placed.0, refl), (tt, [], (refl, refl), (refl, refl))) };
+      reading = whole-reading text start us.0 short skips us.1;
+      tree = file-placed text us.0 s.0 placed;
       placed = placed;
-      outlined = s.4.outlined;
-      places = s.4.placed;
+      outlined = ap (λ (o : Outline). o.sections) s.4;
+      places = ap (λ (o : Outline). o.places) s.4;
+    }
+
+-- no text is shorter than its byte order mark
+mark_or_none : (is : Bool) (n : ℕ) → 3 ≤ n → (if is then 3 else 0) ≤ n
+mark_or_none true n long = long
+mark_or_none false n long = omega arith
+
+mark_none : (one two : Bool) (n : ℕ) → (if one && (two && false) then 3 else 0) ≤ n
+mark_none true true n = omega arith
+mark_none true false n = omega arith
+mark_none false two n = omega arith
+
+pub mark-fits : (text : List ℕ) → mark_len text ≤ length text
+mark-fits [] = omega arith
+mark-fits (a ∷ []) = mark_none (a == 239) false 1
+mark-fits (a ∷ b ∷ []) = mark_none (a == 239) (b == 187) 2
+mark-fits (a ∷ b ∷ c ∷ others) = mark_or_none ((a == 239) && ((b == 187) && (c == 191))) (length (a ∷ b ∷ c ∷ others)) (omega arith)
+
+-- ---- A keymap's source
+
+is-keymap : (offset n : ℕ) → is_keyword keywords.XkbKeymap (token_of (Word (Some keywords.XkbKeymap)) offset n) ≡ true
+unfolding is_keyword
+is-keymap offset n = refl
+
+-- what stands before its sections
+pub front-passes : (text : List ℕ) (fs : List Flag) {bs m1 m2 m3 rest : List ℕ} (name : Option Name) → Ends text bs → PassesTo flags fs bs m1 → PassesWord (Some keywords.XkbKeymap) m1 m2
+    → PassesAs text (optional_text text) (λ n. n ≡ name) m2 m3 → Passes (λ t. mark t open_brace) m3 rest → PassesAs text (source_front text) (λ _. Unit {0}) bs rest
+unfolding keyword
+front-passes text fs {m1 = m1} name ends a b c d =
+    let f = a text ends in
+    let word = Ends-more ends f.lexes.ends in
+    let behind = Ends-more (Ends-more word b.lexes.ends) c.lexes.ends in
+    record {
+      lexes = Lexes-more f.lexes (Lexes-more b.lexes (Lexes-more c.lexes d.lexes));
+      spelled = λ us r.
+          let s = f.spelled us r in
+          let t = b.begins text s.1 word s.3 in
+          let n = c.spelled t.1 t.3 in
+          let o = d.spelled text n.1 behind n.3 in
+          let tok = token_of (Word (Some keywords.XkbKeymap)) (length text - length m1) t.0 in
+          (tt, o.1, (s.0, s.1, s.2, (tok, t.1, (t.2, is-keymap (length text - length m1) t.0), (n.0, n.1, n.2, (o.0, o.1, o.2, (refl, refl))))), o.3, tt);
+    }
+
+-- and what after them
+pub end-passes : (text : List ℕ) {bs mid : List ℕ} → Ends text bs → Passes (λ t. mark t close_brace) bs mid → Passes (λ t. mark t semicolon) mid [] → PassesAs text (source_end text) (λ _. Unit {0}) bs []
+end-passes text ends a b = record {
+  lexes = Lexes-more a.lexes b.lexes;
+  spelled = λ us r.
+      let s = a.spelled text us ends r in
+      let t = b.spelled text s.1 (Ends-more ends a.lexes.ends) s.3 in
+      (tt, t.1, (s.0, s.1, s.2, (t.0, t.1, t.2, (nothing-read t.3, nothing-read t.3))), t.3, tt);
+}
+
+pub ends-closed : {bs rest : List ℕ} → Passes (λ t. mark t close_brace) bs rest → EndSections bs
+ends-closed a text us ends r = let s = a.spelled text us ends r in closing close_brace us (mark-front text close_brace us s.0 s.1 s.2)
+
+pub no-bytes : (bs : List ℕ) → length bs ≡ 0 → bs ≡ []
+no-bytes [] e = refl
+no-bytes (b ∷ bs) e = absurd (cc)
+
+pub ends-nothing : (bs : List ℕ) → bs ≡ [] → EndSections bs
+ends-nothing bs none text us ends r = rw (nothing-read (subst (λ (cs : List ℕ). ReadsEnd text cs us) none r)) refl
+
+source-tree : (text : List ℕ) (us : List Token) (xs : List (Section × Span)) → (placed_source text).spells us xs [] → Spells text us (record { sections = map (λ s. s.0) xs })
+unfolding source held_sections
+source-tree text us xs s =
+    let f = s.2 in
+    let k = f.3 in
+    let n = k.3 in
+    let o = n.3 in
+    let ss = s.3.0 in
+    let e = s.3.3.2 in
+    let g = e.3 in
+    let trees = map (λ (x : Section × Span). x.0) ss in
+    let within = unplaced text (before_mark close_brace) ss s.1 s.3.1 s.3.2.0 in
+    let at_open = subst (λ (ts : List Token). many_front (before_mark close_brace) (section text).spells trees ts s.3.1) (sym o.3.1) within in
+    let held : (held_sections text).spells n.1 trees e.1 = (o.0, o.1, o.2, (trees, s.3.1, (at_open, s.3.2.1), (e.0, e.1, e.2, (refl, refl)))) in
+    let all : Spells text us (record { sections = trees }) = record { spelled = (f.0, f.1, f.2, (k.0, k.1, k.2, (n.0, n.1, n.2, (trees, e.1, held, (g.0, g.1, g.2, (tt, [], (g.3.0, refl), (refl, refl))))))) } in
+    subst (λ (ys : List (Section × Span)). Spells text us (record { sections = map (λ x. x.0) ys })) s.3.3.3.0 all
+
+-- a text that is passed over as a source has an outline
+pub outlined-source : (text start : List ℕ) (outline : Outline) {mid last : List ℕ} → mark_len text ≤ length text → Skips (drop (mark_len text) text) start
+    → PassesAs text (source_front text) (λ _. Unit {0}) start mid → PassesAs text (sections_before text) (λ xs. outline ≡ outline_from xs) mid last → PassesAs text (source_end text) (λ _. Unit {0}) last [] → IsSourceOutline text outline
+outlined-source text start outline short skips a b c =
+    let on = Ends-more (Ends-drop (mark_len text) text) skips.ends in
+    let us = (Lexes-more a.lexes (Lexes-more b.lexes c.lexes)).read text [] on (ended end-piece) in
+    let first = a.spelled us.0 us.1 in
+    let s = b.spelled first.1 first.3 in
+    let end = c.spelled s.1 s.3 in
+    let over : (source_end text).spells s.1 end.0 [] = subst (λ (ts : List Token). (source_end text).spells s.1 end.0 ts) (nothing-read end.3) end.2 in
+    let placed : (placed_source text).spells us.0 s.0 [] = (first.0, first.1, first.2, (s.0, s.1, s.2, (end.0, [], over, (refl, refl)))) in
+    record {
+      tokens = us.0;
+      sections = s.0;
+      reading = whole-reading text start us.0 short skips us.1;
+      tree = source-tree text us.0 s.0 placed;
+      placed = placed;
+      outlined = s.4;
     }
 
 -- the kind of section that a word begins
@@ -420,6 +536,10 @@ deep-whole depth front {bs} h a = by (depth == 0) refl h
 pub ok-map : {X E : Type 0} {P Q : X → Type 0} (r : Result X E) → ((x : X) → P x → Q x) → IfOk r P → IfOk r Q
 ok-map (Ok x) f h = f x h
 ok-map (Err e) f h = h
+
+pub some-map : {X : Type 0} {P Q : X → Type 0} (o : Option X) → ((x : X) → P x → Q x) → IfSome o P → IfSome o Q
+some-map (Some x) f h = f x h
+some-map None f h = h
 
 pub held-geometry-at : (text : List ℕ) (k : Kind) {Is : List Item → Type 0} {bs rest : List ℕ} → k ≡ Geometry → PassesAs text (held_by text Geometry) Is bs rest → PassesAs text (held_by text k) Is bs rest
 held-geometry-at text k {Is} {bs} {rest} e a = subst (λ (m : Kind). PassesAs text (held_by text m) Is bs rest) (sym e) a

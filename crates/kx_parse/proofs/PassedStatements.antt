@@ -1,7 +1,7 @@
 -- Fields and statements that are passed over by their bytes.
-use Rattle.std.proofs.Common.{◌≡◌, ◌∙◌, ℕ, ◌-◌, Bool, true, false, ◌&&◌, ◌||◌, List, [], ◌∷◌, length, drop, Option, Some, None, refl, sym, subst, inl, inr}
-use Rattle.kx_lex.specs.Kinds.{before_mark, front, second, is_key_name, is_keyword, is_mark, is_number, is_text, is_word}
-use Rattle.kx_lex.specs.Passing.{Ends, ReadsEnd, Passes, PassesWord, IsAtToken, IsNoWord, front_byte}
+use Rattle.std.proofs.Common.{◌≡◌, ◌∙◌, ℕ, ◌-◌, Bool, true, false, ◌||◌, List, [], ◌∷◌, length, drop, Option, Some, refl, sym, subst, inl, inr}
+use Rattle.kx_lex.specs.Kinds.{front, second, is_key_name, is_keyword, is_mark, is_number, is_text, is_word}
+use Rattle.kx_lex.specs.Passing.{Passes, PassesWord, IsAtToken, IsNoWord, front_byte}
 use Rattle.kx_lex.specs.Production.{Production, optional, span_between}
 use Rattle.kx_lex.specs.Reading.{token_of}
 use Rattle.kx_lex.specs.Tokens.{bang, close_brace, equals, key_name, keyword, mark, number, open_brace, open_bracket, plus, point, semicolon, text_name, word}
@@ -16,7 +16,7 @@ use Rattle.kx_lex.specs.declared.token.TokenKind.TheVariants.{Mark, Word}
 use Rattle.kx_lex.proofs.Others.{other-keyword}
 use Rattle.kx_lex.proofs.PassedOver.{Ends-more, Lexes-more, Lexes-self, any_keyword, no_mark, no_word}
 use Rattle.kx_lex.proofs.TokenLaws.{key_name-front, mark-front, number-front, text_name-front, word-behind, word-front}
-use Rattle.kx_parse.specs.Forms.{after, ended, listed, sequence}
+use Rattle.kx_parse.specs.Forms.{ended, listed, sequence}
 use Rattle.kx_parse.specs.Passing.{GoesOn, alias_behind, block_fields, call_behind, field_behind, group_behind, indicator_name_behind, interpretation_behind, key_behind, modifier_map_behind, named_block, operations, place_behind, terminated, virtual_modifiers_behind}
 use Rattle.kx_parse.specs.Statements.{alias, bare_field, begins, block, block_field, declaration, declared_mask, entry, field, field_statement, group, indicator, indicator_name, interpretation, key, key_field, key_type, keycode, keycodes_statement, mapped_entries, modifier_map, optional_modifiers, predicate, setting, statement, symbols_statement, types_statement, virtual_indicator, virtual_modifiers, wanted_modifiers}
 use Rattle.kx_parse.specs.Values.{expression, index, list, member, place, symbol, value}
@@ -31,8 +31,8 @@ use Rattle.kx_parse.specs.declared.tree.Statement.TheVariants as statements
 use Rattle.kx_parse.specs.declared.tree.Symbol.{Symbol}
 use Rattle.kx_parse.proofs.LawfulStatements.{alias-begins, block_field-before, group-begins, indicator-begins, indicator_name-begins, interpretation-begins, key-begins, key_type-begins, keycode-front, modifier_map-begins, virtual_indicator-begins, virtual_modifiers-begins}
 use Rattle.kx_parse.proofs.LawfulValues.{call-begins, list-front, place-front}
-use Rattle.kx_parse.proofs.PassedForms.{after-passes, assigned-passes, both-passes, ended-passes, headed-passes, made-passes, made2-passes, made3-passes, more-ended, none-ended, not_both, placed-passes, sequence-passes, two}
-use Rattle.kx_parse.proofs.PassedValues.{behind_word, call-passes, expression-passes, mark-no_word, mark_kind-no_key_name, mark_kind-no_number, mark_kind-no_text, mark_kind-no_word, number-no_key_name, other_mark, place-passes, place-spelled, term-word, text-no_number, word-no_call, word-no_key_name, word-no_mark, word_none-no_keyword}
+use Rattle.kx_parse.proofs.PassedForms.{after-passes, assigned-passes, both-passes, ended-passes, headed-passes, made-passes, made2-passes, made3-passes, more-ended, none-ended, not_both, placed-passes, two}
+use Rattle.kx_parse.proofs.PassedValues.{call-passes, expression-passes, mark-no_word, mark_kind-no_key_name, mark_kind-no_number, mark_kind-no_text, mark_kind-no_word, number-no_key_name, other_mark, place-passes, place-spelled, term-word, text-no_number, word-no_call, word-no_key_name, word-no_mark, word_none-no_keyword}
 
 pub setting-to : {bs mid rest : List ℕ} → Passes (λ text. mark text equals) bs mid → Passes value mid rest → Passes setting bs rest
 unfolding setting
@@ -336,7 +336,7 @@ keycode-statement a = record {
       (s.2.0, s.1, (s.2.0, s.2.1, inl (keycode-front text us s.2.0 s.2.1 s.2.2, s.2.2), (s.2.3.0, s.2.3.1, s.2.3.2, (refl, s.2.3.3.1))), s.3);
 }
 
--- what goes on behind a word, as it is spelled
+-- what goes on after a word, as it is spelled
 goes-on : {A : Type 0} (q : List ℕ → Production A) {bs rest : List ℕ} (keyword : Option Keyword)
     → ((text : List ℕ) (offset n : ℕ) (ms : List Token) (x : A) (m : List Token) → (q text).spells ms x m → (y : Statement) × (statement text).spells (token_of (Word keyword) offset n ∷ ms) y m)
     → Passes (terminated q) bs rest → GoesOn keyword bs rest
@@ -453,7 +453,7 @@ pub field_statement-passes : {bs mid rest : List ℕ} → Passes field bs mid �
 unfolding field_statement
 field_statement-passes a b = ended-passes semicolon (made-passes statements.Field a) b
 
--- what stands behind indicator with its word
+-- what stands after indicator with its word
 pub indicator_name-word : {bs mid rest : List ℕ} → PassesWord (Some keywords.Indicator) bs mid → Passes (terminated indicator_name_behind) mid rest → Passes (terminated indicator_name) bs rest
 unfolding indicator_name keyword is_keyword
 indicator_name-word {bs} {mid} {rest} a b = record {

@@ -1,5 +1,5 @@
 -- Symbols, expressions, calls and lists that are passed over by their bytes.
-use Rattle.std.proofs.Common.{◌≡◌, ◌∙◌, ℕ, ◌==◌, ◌||◌, ◌&&◌, Bool, true, false, not, List, [], ◌∷◌, Option, Some, None, if◌then◌else◌, drop, refl, inl, inr}
+use Rattle.std.proofs.Common.{◌≡◌, ℕ, ◌==◌, ◌||◌, ◌&&◌, Bool, true, false, not, List, [], ◌∷◌, Option, Some, None, if◌then◌else◌, drop, refl, inl, inr}
 use Rattle.std.proofs.lemmas.Bool.{eqb-true}
 use Rattle.kx_lex.specs.Kinds.{before_mark, front, second, is_word_kind, is_key_name, is_keyword, is_mark, is_number, is_text, is_word}
 use Rattle.kx_lex.specs.Passing.{Ends, ReadsEnd, Passes, IsAtToken, IsNoWord, front_byte}
@@ -27,8 +27,8 @@ use Rattle.kx_parse.specs.declared.tree.FieldPlace.{FieldPlace}
 use Rattle.kx_parse.specs.declared.tree.Index.{Index}
 use Rattle.kx_parse.specs.declared.tree.Sign.{Sign}
 use Rattle.kx_parse.specs.declared.tree.Sign.TheVariants.{Plus, Minus}
-use Rattle.kx_parse.proofs.LawfulValues.{call-begins, index-front, list-front, member-front, off_argument-front, operation-front, set_argument-begins, signed-front, symbol-before, term-before, braces-front}
-use Rattle.kx_parse.proofs.PassedForms.{after-passes, assigned-passes, both-passes, ended-passes, headed-from, made2-passes, made3-passes, made-passes, more-passes, none-passes, not_both, placed-passes, two}
+use Rattle.kx_parse.proofs.LawfulValues.{call-begins, index-front, list-front, member-front, operation-front, set_argument-begins, signed-front, symbol-before, braces-front}
+use Rattle.kx_parse.proofs.PassedForms.{after-passes, both-passes, ended-passes, headed-from, made2-passes, more-passes, none-passes, not_both, placed-passes, two}
 
 -- a token of one kind is of no other
 word_kind-no_number : (k : TokenKind) → is_word_kind k ≡ true → ghosts.eq k NumberKind ≡ false
@@ -326,7 +326,7 @@ optional_member-some a = record {
   spelled = λ text us ends r. let s = a.spelled text us ends r in (_, s.1, inl (member-front text us s.0 s.1 s.2, (s.0, s.1, s.2, (refl, refl))), s.3);
 }
 
--- a field's place, of its word and what stands behind it
+-- a field's place, of its word and what stands after it
 pub place-spelled : (text : List ℕ) (us : List Token) (w : Name) (ms : List Token) → (word text).spells us w ms → (p : Option Name × Option Index) (ts : List Token) → (place_behind text).spells ms p ts → (x : FieldPlace) × (place text).spells us x ts
 unfolding place
 place-spelled text us w ms a p ts s = (_, (w, ms, a, (s.0, s.1, s.2, (s.3.0, s.3.1, s.3.2, (refl, s.3.3.1)))))
@@ -389,7 +389,7 @@ argument-plain plain a = argument-passes (bare-plain plain a)
 pub argument-expression : {bs rest : List ℕ} → IsAtToken bs → front_byte 33 bs ≡ false → IsNoWord bs → Passes expression bs rest → Passes argument bs rest
 argument-expression {bs} at h never a = argument-plain (λ text us ends r. (no_mark text bs us 33 at h r, rw (no_word text bs us at never r) refl)) a
 
--- what stands behind a word at the front
+-- what stands after a word at the front
 pub behind_word : {bs mid : List ℕ} → Passes word bs mid → (text : List ℕ) (us : List Token) → Ends text bs → ReadsEnd text bs us → (front is_word us ≡ true) × ReadsEnd text mid (drop 1 us)
 behind_word a text us ends r =
     let s = a.spelled text us ends r in
@@ -442,7 +442,7 @@ part-call a b = record {
       (_, s.1, inl (call-begins text us s.0 s.1 s.2, (s.0, s.1, s.2, (refl, refl))), s.3);
 }
 
--- a word behind which no parenthesis stands begins no call
+-- a word after which no parenthesis stands begins no call
 pub word-no_call : {bs mid : List ℕ} → Passes word bs mid → IsAtToken mid → front_byte 40 mid ≡ false → (text : List ℕ) (us : List Token) → Ends text bs → ReadsEnd text bs us → begins_call us ≡ false
 word-no_call {bs} {mid} a at h text us ends r =
     let w = behind_word a text us ends r in

@@ -13,7 +13,7 @@ made f p = p >>= (λ x. give (f x))
 abbrev pub placed : {A B : Type 0} → (A → Span → B) → Production A → Production B
 placed f p = spanned p >>= (λ x. give (f x.0 x.1))
 
--- two, one behind the other
+-- two, one after the other
 abbrev pub both : {A B : Type 0} → Production A → Production B → Production (A × B)
 both p q = p >>= (λ x. q >>= (λ y. give (x, y)))
 
@@ -24,7 +24,7 @@ made2 f p q = p >>= (λ x. made (f x) q)
 abbrev pub made3 : {A B C D : Type 0} → (A → B → C → D) → Production A → Production B → Production C → Production D
 made3 f p q r = p >>= (λ x. made2 (f x) q r)
 
--- what stands behind a part that says nothing more
+-- what stands after a part that says nothing more
 abbrev pub after : {A B : Type 0} → Production A → Production B → Production B
 after p q = p >>= (λ _. q)
 
@@ -44,10 +44,10 @@ assigned text f p q = p >>= (λ x. after (mark text equals) (made (f x) q))
 abbrev pub headed : {A B C : Type 0} → List ℕ → ℕ → ℕ → (A → B → C) → Production A → Production B → Production C
 headed text left right f p q = p >>= (λ x. after (mark text left) (q >>= (λ y. after (mark text right) (give (f x y)))))
 
--- one, and more behind commas
+-- one, and more after commas
 abbrev pub sequence : {A : Type 0} → List ℕ → Production A → Production (List A)
 sequence text p = p >>= (λ x. made (λ xs. x ∷ xs) (many (front (is_mark comma)) (after (mark text comma) p)))
 
--- none before the closing mark, or one and more behind commas
+-- none before the closing mark, or one and more after commas
 abbrev pub listed : {A : Type 0} → List ℕ → ℕ → Production A → Production (List A)
 listed text close p = either (before_mark close) (sequence text p) (give [])

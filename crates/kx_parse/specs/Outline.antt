@@ -1,5 +1,5 @@
 -- The outline of a file: its sections without their statements, and where each stands.
-use Rattle.std.specs.Prelude.{ℕ, Bool, true, false, List, [], ◌∷◌, ◌≡◌, Option, Some, filter, if◌then◌else◌, is_some, map, slice_get}
+use Rattle.std.specs.Prelude.{ℕ, Bool, true, false, List, [], ◌∷◌, ◌≡◌, Option, None, Some, filter, if◌then◌else◌, is_some, map, slice_get}
 use Rattle.kx_lex.specs.declared.keyword.Keyword.{Keyword}
 use Rattle.kx_lex.specs.declared.keyword.Keyword.TheVariants as keywords
 use Rattle.kx_lex.specs.declared.name.Name.{Name}
@@ -9,12 +9,12 @@ use Rattle.kx_lex.specs.declared.token.TokenKind.TheVariants.{Word}
 use Rattle.kx_lex.specs.Kinds.{before_mark, front, is_keyword}
 use Rattle.kx_lex.specs.Parsing.{done}
 use Rattle.kx_lex.specs.Passing.{Ends, Lexes, ReadsEnd}
-use Rattle.kx_lex.specs.Production.{Production, give, many, spanned}
+use Rattle.kx_lex.specs.Production.{Production, ◌>>=◌, at_end, give, many, spanned}
 use Rattle.kx_lex.specs.Reading.{IsReading, token_of}
-use Rattle.kx_lex.specs.Tokens.{close_brace}
+use Rattle.kx_lex.specs.Tokens.{close_brace, keyword, mark, open_brace, semicolon}
 use Rattle.kx_parse.specs.Forms.{after, ended}
 use Rattle.kx_parse.specs.Geometry.{geometry_read}
-use Rattle.kx_parse.specs.Sections.{SpellsFile, begins_include, begins_moded, flag_of, geometry_body, held_items, item, join_of, kind_of, mode_of, section}
+use Rattle.kx_parse.specs.Sections.{Spells, SpellsFile, begins_include, begins_moded, flag_of, flags, geometry_body, held_items, item, join_of, kind_of, mode_of, optional_text, section}
 use Rattle.kx_parse.specs.declared.outline.Outline.{Outline}
 use Rattle.kx_parse.specs.declared.tree.Item.{Item}
 use Rattle.kx_parse.specs.declared.tree.Item.TheVariants as items
@@ -35,6 +35,14 @@ outline_of s = record { flags = s.flags; kind = s.kind; name = s.name; items = f
 abbrev pub placed_sections : List ℕ → Production (List (Section × Span))
 placed_sections text = many (front (λ _. true)) (spanned (section text))
 
+-- the same up to the brace that closes them, or to the end
+abbrev pub sections_before : List ℕ → Production (List (Section × Span))
+sections_before text = many (before_mark close_brace) (spanned (section text))
+
+-- sections without their statements, and their places
+abbrev pub outline_from : List (Section × Span) → Outline
+outline_from sections = record { sections = map (λ s. outline_of s.0) sections; places = map (λ s. s.1) sections }
+
 -- the text has a reading, its tokens spell a file's tree, and these are its sections without their statements
 pub record IsOutline (text : List ℕ) (outline : Outline) : Type 0 where
   pub tokens : List Token
@@ -45,15 +53,31 @@ pub record IsOutline (text : List ℕ) (outline : Outline) : Type 0 where
   pub outlined : outline.sections ≡ map (λ s. outline_of s.0) sections
   pub places : outline.places ≡ map (λ s. s.1) sections
 
--- a section with its statements where it is wanted, and else without them
-abbrev pub held_section : Bool → Section → Section
-held_section wanted s = if wanted then s else outline_of s
+-- of a keymap's source, what stands before its sections, and what after them
+abbrev pub source_front : List ℕ → Production (Unit {0})
+source_front text = after (flags text) (after (keyword text keywords.XkbKeymap) (after (optional_text text) (after (mark text open_brace) (give tt))))
 
--- the same of sections one after another: none is wanted that no flag is for
-abbrev pub held_sections : List Bool → List Section → List Section
-held_sections wanted [] = []
-held_sections [] (s ∷ ss) = outline_of s ∷ held_sections [] ss
-held_sections (w ∷ ws) (s ∷ ss) = held_section w s ∷ held_sections ws ss
+abbrev pub source_end : List ℕ → Production (Unit {0})
+source_end text = after (mark text close_brace) (after (mark text semicolon) at_end)
+
+-- the sections of a source, each with where it stands
+abbrev pub placed_source : List ℕ → Production (List (Section × Span))
+placed_source text = after (source_front text) (sections_before text >>= (λ ss. after (source_end text) (give ss)))
+
+-- the text has a reading, its tokens spell a source's tree, and these are its sections without their statements
+pub record IsSourceOutline (text : List ℕ) (outline : Outline) : Type 0 where
+  pub tokens : List Token
+  pub sections : List (Section × Span)
+  pub reading : IsReading text tokens
+  pub tree : Spells text tokens (record { sections = map (λ s. s.0) sections })
+  pub placed : (placed_source text).spells tokens sections []
+  pub outlined : outline ≡ outline_from sections
+
+-- of sections one after another those that are wanted: none is that no flag is for
+abbrev pub built_from : List Bool → List Section → List (Option Section)
+built_from wanted [] = []
+built_from [] (s ∷ ss) = None ∷ built_from [] ss
+built_from (w ∷ ws) (s ∷ ss) = (if w then Some s else None) ∷ built_from ws ss
 
 -- whatever sections the text is spelled as, one that stands at the place is this one
 abbrev pub IsSectionAt : List ℕ → Span → Section → Type 0
@@ -72,6 +96,10 @@ abbrev pub IsNumbered : List ℕ → List Span → ℕ → Section → Type 0
 IsNumbered text places number section = (tokens : List Token) (sections : List (Section × Span)) → IsReading text tokens → (placed_sections text).spells tokens sections [] → places ≡ map (λ s. s.1) sections → (place : Span) × (slice_get sections number ≡ Some (section, place))
 
 -- ---- Under names, for clauses and proofs
+
+-- no section begins here: they are closed, or the text ends
+abbrev pub EndSections : List ℕ → Type 0
+EndSections bs = (text : List ℕ) (ts : List Token) → Ends text bs → ReadsEnd text bs ts → before_mark close_brace ts ≡ false
 
 -- the items of a section, and the brace that closes it
 abbrev pub items_ended : List ℕ → Production (List Item)

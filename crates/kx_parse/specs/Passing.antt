@@ -6,7 +6,7 @@ use Rattle.kx_lex.specs.Production.{Production, many}
 use Rattle.kx_lex.specs.Tokens.{close_brace, close_paren, comma, key_name, mark, number, open_brace, open_paren, semicolon, text_name, word}
 use Rattle.kx_lex.specs.declared.keyword.Keyword.{Keyword}
 use Rattle.kx_lex.specs.declared.name.Name.{Name}
-use Rattle.kx_parse.specs.Forms.{after, assigned, between, both, ended, headed, listed, made, made3, sequence}
+use Rattle.kx_parse.specs.Forms.{after, assigned, between, both, ended, headed, listed, made3, sequence}
 use Rattle.kx_parse.specs.Statements.{block, block_field, declaration, key_field, mapped_entries, optional_modifiers, setting, statement}
 use Rattle.kx_parse.specs.Values.{argument, expression, is_sign, operation, optional_index, optional_member, symbol}
 use Rattle.kx_parse.specs.declared.tree.Declaration.{Declaration}
@@ -19,31 +19,31 @@ use Rattle.kx_parse.specs.declared.tree.Setting.{Setting}
 use Rattle.kx_parse.specs.declared.tree.Statement.{Statement}
 use Rattle.kx_parse.specs.declared.tree.Statement.TheVariants as statements
 
--- as many behind commas as stand there
+-- as many after commas as stand there
 abbrev pub more : {A : Type 0} → (List ℕ → Production A) → List ℕ → Production (List A)
 more p text = many (front (is_mark comma)) (after (mark text comma) (p text))
 
--- of an expression, what stands behind its first term
+-- of an expression, what stands after its first term
 abbrev pub operations : List ℕ → Production (List Operation)
 operations text = many (front is_sign) (operation text)
 
--- of a field's place, what stands behind its word
+-- of a field's place, what stands after its word
 abbrev pub place_behind : List ℕ → Production (Option Name × Option Index)
 place_behind text = both (optional_member text) (optional_index text)
 
--- of an argument that sets a word, what stands behind the word
+-- of an argument that sets a word, what stands after the word
 abbrev pub set_behind : List ℕ → Production (Option Index × Expression)
 set_behind text = assigned text (λ i e. (i, e)) (optional_index text) (expression text)
 
--- of a call, what stands behind its word
+-- of a call, what stands after its word
 abbrev pub call_behind : List ℕ → Production (List PlacedArgument)
 call_behind text = between text open_paren close_paren (listed text close_paren (argument text))
 
--- of a field, what stands behind its first word
+-- of a field, what stands after its first word
 abbrev pub field_behind : List ℕ → Production ((Option Name × Option Index) × Setting)
 field_behind text = both (place_behind text) (setting text)
 
--- of a block, what stands behind its opening brace
+-- of a block, what stands after its opening brace
 abbrev pub block_fields : List ℕ → Production (List Field)
 block_fields text = ended text close_brace (many (before_mark close_brace) (block_field text))
 
@@ -51,7 +51,7 @@ block_fields text = ended text close_brace (many (before_mark close_brace) (bloc
 abbrev pub terminated : {A : Type 0} → (List ℕ → Production A) → List ℕ → Production A
 terminated p text = ended text semicolon (p text)
 
--- of statements, what stands behind their first word
+-- of statements, what stands after their first word
 abbrev pub alias_behind : List ℕ → Production Statement
 alias_behind text = assigned text statements.Alias (key_name text) (key_name text)
 

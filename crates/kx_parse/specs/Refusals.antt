@@ -17,7 +17,7 @@ abbrev pub stand : (text : List ℕ) → List Section → List Token → List To
 stand text [] ts rest = ts ≡ rest
 stand text (x ∷ xs) ts rest = (mid : List Token) × (section text).spells ts x mid × stand text xs mid rest
 
--- reading stops in a section that isn't geometry: behind whole sections and the flags of one more, where xkb_geometry
+-- reading stops in a section that isn't geometry: after whole sections and the flags of one more, where xkb_geometry
 -- doesn't stand
 pub record InPlainSection (text : List ℕ) (body : List Token) (e : Fault) : Type 0 where
   pub sections : List Section
@@ -38,7 +38,7 @@ source_head text = do
   _ ← mark text open_brace
   give tt
 
--- the same of a source, behind its head
+-- the same of a source, after its head
 pub record InSourceSection (text : List ℕ) (tokens : List Token) (e : Fault) : Type 0 where
   pub body : List Token
   pub head : (source_head text).spells tokens tt body

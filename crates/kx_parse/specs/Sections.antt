@@ -1,5 +1,5 @@
 -- What sections hold, sections, and what a source and a file are.
-use Rattle.std.specs.Prelude.{ℕ, Bool, true, ◌&&◌, ◌||◌, List, [], Option, Some, is_some, if◌then◌else◌, ◌∷◌}
+use Rattle.std.specs.Prelude.{ℕ, Bool, true, ◌&&◌, ◌||◌, List, [], Option, Some, is_some, if◌then◌else◌, ◌∷◌, codes}
 use Rattle.std.specs.Map.{lookup}
 use Rattle.kx_lex.specs.declared.keyword.Keyword.TheVariants as keywords
 use Rattle.kx_lex.specs.declared.token.Token.{Token}
@@ -71,6 +71,14 @@ word_or first _ = first
 
 abbrev pub word_span : Stated → Span
 word_span s = word_or s.first s.statement
+
+-- the word of a kind, by which the folder of its files is named
+abbrev pub kind_word : Kind → List ℕ
+kind_word Keycodes = codes "keycodes"
+kind_word Types = codes "types"
+kind_word Compat = codes "compat"
+kind_word Symbols = codes "symbols"
+kind_word Geometry = codes "geometry"
 
 unfoldable pub kind_of : Token → Option Kind
 kind_of t = lookup (λ k. is_keyword k t) (

@@ -48,7 +48,7 @@ predicate text = either begins_call (made predicates.Call (call text)) (made pre
 unfoldable pub entry : List ℕ → Production Entry
 entry text = either (front is_key_name) (made entries.KeyName (key_name text)) (made entries.Symbol (symbol text))
 
--- this word, and behind it a token that passes the test
+-- this word, and after it a token that passes the test
 abbrev pub begins : Keyword → (Token → Bool) → List Token → Bool
 begins keyword test ts = front (is_keyword keyword) ts && second test ts
 

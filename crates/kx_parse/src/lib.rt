@@ -11,7 +11,7 @@ mod tree;
 mod values;
 
 pub use kx_lex::{Boxed, Bytes, KeyName, Name, Number, Row, SmallRow};
-pub use outline::{Outline, outline_file, with_statements};
+pub use outline::{Outline, built_sections, outline_file, outline_source};
 pub use sections::{one_stop, one_tree, parse, parse_file, stops};
 pub use tree::{
     Argument, BracePart, Braces, Call, Declaration, Element, Entry, Expression, Field, FieldPlace,

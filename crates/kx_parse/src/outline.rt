@@ -1,5 +1,5 @@
 //! What the sections of a text are, without the statements in them.
-ghost use Rattle.std.specs.Prelude.{◌≡◌, ◌≤◌, ◌<◌, ◌-◌, ◌+◌, ◌==◌, ◌&&◌, ◌++◌, [], ◌∷◌, true, false, ℕ, List, Some, None, filter, length, map, slice_set, IfErr, IfNone, IfOk, IfSome};
+ghost use Rattle.std.specs.Prelude.{◌≡◌, ◌≤◌, ◌<◌, ◌-◌, ◌+◌, ◌==◌, ◌&&◌, ◌++◌, [], ◌∷◌, true, false, ℕ, List, Some, None, filter, get_or, length, map, IfErr, IfNone, IfOk, IfSome};
 ghost use Rattle.kx_lex.specs.declared.fault.Fault.TheVariants.{Memory};
 ghost use Rattle.kx_lex.specs.Passing.{Ends, IsAtToken, front_byte, Passes, PassesAs, PassesTo, PassesWord};
 ghost use Rattle.kx_lex.specs.Production.{spanned};
@@ -8,7 +8,7 @@ ghost use Rattle.kx_lex.specs.declared.scan.TheConstants.{MOST_TEXT_BYTES};
 ghost use Rattle.kx_lex.specs.declared.token.TokenKind.TheVariants.{Word};
 ghost use Rattle.kx_parse.specs.Forms.{ended};
 ghost use Rattle.kx_parse.specs.Geometry.{geometry};
-ghost use Rattle.kx_parse.specs.Outline.{BeginsNoInclude, BeginsNoModed, HasNoSectionAt, IsNumbered, IsSectionAt, StandElsewhere, held_sections, IsJoinWord, IsKindWord, IsModeWord, IsNoFlag, IsOutline, PassesDeep, held_by, include_at, is_include, items_ended, outline_of};
+ghost use Rattle.kx_parse.specs.Outline.{BeginsNoInclude, BeginsNoModed, EndSections, HasNoSectionAt, IsNumbered, IsSectionAt, IsSourceOutline, StandElsewhere, built_from, outline_from, sections_before, source_end, source_front, IsJoinWord, IsKindWord, IsModeWord, IsNoFlag, IsOutline, PassesDeep, held_by, include_at, is_include, items_ended, outline_of};
 ghost use Rattle.kx_parse.specs.Sections.{flag, flagged, flags, item, optional_text, section};
 
 use crate::passing_statements::{pass_statement, pass_statement_behind};
@@ -28,7 +28,7 @@ pub struct Outline {
     pub places: Row<Span>,
 }
 
-/// What is known of a value that is passed over, and what stands behind it; nothing where none is spelled, and an error where
+/// What is known of a value that is passed over, and what stands after it; nothing where none is spelled, and an error where
 /// a growth is refused.
 type Outlined<'t, T> = Result<Option<(T, &'t [u8])>, AllocError>;
 
@@ -55,7 +55,7 @@ fn include_mode(word: Option<Keyword>, bytes: &[u8]) -> Option<Mode>
     Some(mode)
 }
 
-/// Whether bytes behind a mode's word begin a statement in that mode.
+/// Whether bytes after a mode's word begin a statement in that mode.
 fn front_is_moded(word: Option<Keyword>, bytes: &[u8]) -> bool
     requires { IsAtToken bytes.now }
     ensures some { result ≡ true → IsModeWord word }
@@ -153,7 +153,7 @@ fn pass_items<'t>(alloc: Global, text: &[u8], bytes: &'t [u8]) -> Outlined<'t, R
         rest = left;
     }
     match pass_mark(b'}', rest) {
-        Some(left) => Ok(Some((Row::of(includes), left))),
+        Some(left) => Ok(Some((Row::of(includes).fitted(), left))),
         None => Ok(None),
     }
 }
@@ -165,7 +165,7 @@ fn ends_geometry(depth: usize, bytes: &[u8]) -> bool
     depth == 0 && front_is(b'}', bytes)
 }
 
-/// Passes a token of geometry with so many open braces before it, and answers how many there are behind it.
+/// Passes a token of geometry with so many open braces before it, and answers how many there are after it.
 fn pass_deeper(depth: usize, bytes: &[u8]) -> Option<(usize, &[u8])>
     requires short { depth + length bytes.now ≤ MOST_TEXT_BYTES }
     requires at { IsAtToken bytes.now }
@@ -288,7 +288,7 @@ fn section_kind(word: Option<Keyword>) -> Option<Kind>
     kind_of(&token)
 }
 
-/// Passes a section behind its flags, without its `;`, and answers it without its statements.
+/// Passes a section after its flags, without its `;`, and answers it without its statements.
 fn pass_flagged<'t>(
     alloc: Global,
     text: &[u8],
@@ -394,48 +394,86 @@ fn numbered(
     }
 }
 
-/// Puts a section in the place of another; nothing where there is none of that number.
-fn put(sections: &mut Vec<Section>, number: usize, section: Section)
-    ensures { sections.new.items ≡ slice_set sections.old.items number section }
+/// Whether the section of a number is wanted; it isn't where there is no flag for it.
+fn is_wanted(wanted: &[bool], number: usize) -> bool
+    ensures { result ≡ get_or wanted.now number false }
 {
-    if let Some(held) = sections.get_mut(number) {
-        *held = section;
+    match wanted.get(number) {
+        Some(flag) => *flag,
+        None => false,
     }
 }
 
-/// The sections of an outline of a text, which stand at these places: with their statements where they are wanted, and else
-/// with their includes alone. Nothing where the outline isn't the text's.
+/// The sections of an outline of a text that are wanted, with their statements. Nothing where the outline isn't the text's.
 ///
 /// # Errors
 /// `Memory`.
-pub fn with_statements(
+pub fn built_sections(
     alloc: Global,
     text: &[u8],
-    sections: Row<Section>,
-    places: &[Span],
+    outline: &Outline,
     wanted: &[bool],
-) -> Result<Option<Row<Section>>, Fault>
-    ensures held { IfOk result (λ o. IfSome o (λ held.
-        (is : IsOutline text.now (record { sections = sections; places = places.now }))
-        → held ≡ held_sections wanted.now (map (λ s. s.0) is.sections))) }
+) -> Result<Option<Vec<Option<Section>>>, Fault>
+    ensures built { IfOk result (λ o. IfSome o (λ built. (is : IsOutline text.now outline.now)
+        → built.items ≡ built_from wanted.now (map (λ s. s.0) is.sections))) }
     ensures none { IfOk result (λ o. IfNone o (length text.now ≤ MOST_TEXT_BYTES
-        → IsOutline text.now (record { sections = sections; places = places.now }) → ⊥)) }
+        → IsOutline text.now outline.now → ⊥)) }
     ensures err { IfErr result (λ e. e ≡ Memory) }
 {
     if text.len() > MOST_TEXT_BYTES {
         return Ok(None);
     }
-    let mut sections = sections.into_vec();
-    'sections: for number in 0..places.len().min(wanted.len()) {
-        if !wanted[number] {
+    let places = outline.places.as_slice();
+    let mut built = Vec::new(alloc);
+    'sections: for number in 0..places.len() {
+        if !is_wanted(wanted, number) {
+            built.push(None)?;
             continue;
         }
         let Some(section) = numbered(alloc, text, places, number)? else {
             return Ok(None);
         };
-        put(&mut sections, number, section);
+        built.push(Some(section))?;
     }
-    Ok(Some(Row::of(sections)))
+    Ok(Some(built))
+}
+
+/// Whether sections end here: at the brace that closes them, or at the end.
+fn end_sections(bytes: &[u8]) -> bool
+    ensures { result ≡ true → EndSections bytes.now }
+{
+    match pass_mark(b'}', bytes) {
+        Some(_) => true,
+        None => bytes.is_empty(),
+    }
+}
+
+/// Passes sections up to the brace that closes them, or to the end, and answers their outline.
+fn pass_sections<'t>(alloc: Global, text: &[u8], bytes: &'t [u8]) -> Outlined<'t, Outline>
+    requires ends { Ends text.now bytes.now }
+    requires short { length text.now ≤ MOST_TEXT_BYTES }
+    requires at { IsAtToken bytes.now }
+    ensures { IfOk result (λ o. IfSome o (λ p.
+        PassesAs text.now (sections_before text.now) (λ ss. p.0 ≡ outline_from ss) bytes.now
+        p.1.now)) }
+{
+    let mut sections = Vec::new(alloc);
+    let mut places = Vec::new(alloc);
+    let mut rest = bytes;
+    'sections: while !end_sections(rest) {
+        let Some((placed, left)) = pass_section(alloc, text, rest)? else {
+            return Ok(None);
+        };
+        let (section, place) = placed;
+        sections.push(section)?;
+        places.push(place)?;
+        rest = left;
+    }
+    let outline = Outline {
+        sections: Row::of(sections).fitted(),
+        places: Row::of(places).fitted(),
+    };
+    Ok(Some((outline, rest)))
 }
 
 /// The outline of a file; nothing where the file has no tree.
@@ -449,21 +487,71 @@ pub fn outline_file(alloc: Global, text: &[u8]) -> Result<Option<Outline>, Alloc
     if text.len() > MOST_TEXT_BYTES {
         return Ok(None);
     }
-    let mut sections = Vec::new(alloc);
-    let mut places = Vec::new(alloc);
-    let mut rest = first_in(text);
-    'sections: while !rest.is_empty() {
-        let Some((placed, left)) = pass_section(alloc, text, rest)? else {
-            return Ok(None);
-        };
-        let (section, place) = placed;
-        sections.push(section)?;
-        places.push(place)?;
-        rest = left;
-    }
-    let outline = Outline {
-        sections: Row::of(sections),
-        places: Row::of(places),
+    let Some((outline, rest)) = pass_sections(alloc, text, first_in(text))? else {
+        return Ok(None);
     };
+    if !rest.is_empty() {
+        return Ok(None);
+    }
+    Ok(Some(outline))
+}
+
+/// Passes what stands before the sections of a keymap's source: its flags, `xkb_keymap`, its name and the brace.
+fn pass_source_front<'t>(
+    alloc: Global,
+    text: &[u8],
+    bytes: &'t [u8],
+) -> Result<Option<&'t [u8]>, AllocError>
+    requires ends { Ends text.now bytes.now }
+    requires short { length text.now ≤ MOST_TEXT_BYTES }
+    requires at { IsAtToken bytes.now }
+    ensures passes { IfOk result (λ o. IfSome o (λ rest.
+        PassesAs text.now (source_front text.now) (λ _. Unit {0}) bytes.now rest.now)) }
+    ensures at { IfOk result (λ o. IfSome o (λ rest. IsAtToken rest.now)) }
+{
+    let (_flags, word) = pass_flags(alloc, bytes)?;
+    let Some((Some(Keyword::XkbKeymap), behind)) = pass_keyword(word) else {
+        return Ok(None);
+    };
+    let Some((_name, open)) = pass_optional_name(alloc, text, behind)? else {
+        return Ok(None);
+    };
+    Ok(pass_mark(b'{', open))
+}
+
+/// Whether nothing stands here but the brace and the `;` that close a keymap's source.
+fn ends_source(bytes: &[u8]) -> bool
+    ensures { result ≡ true → (text : List ℕ) → Ends text bytes.now
+        → PassesAs text (source_end text) (λ _. Unit {0}) bytes.now [] }
+{
+    let Some(end) = pass_mark(b'}', bytes) else {
+        return false;
+    };
+    match pass_mark(b';', end) {
+        Some(rest) => rest.is_empty(),
+        None => false,
+    }
+}
+
+/// The outline of a keymap's source; nothing where the source has no tree.
+///
+/// # Errors
+/// Where a growth is refused.
+pub fn outline_source(alloc: Global, text: &[u8]) -> Result<Option<Outline>, AllocError>
+    ensures outline { IfOk result (λ o. IfSome o (λ outline. IsSourceOutline text.now outline)) }
+    ensures short { IfOk result (λ o. IfSome o (λ _. length text.now ≤ MOST_TEXT_BYTES)) }
+{
+    if text.len() > MOST_TEXT_BYTES {
+        return Ok(None);
+    }
+    let Some(open) = pass_source_front(alloc, text, first_in(text))? else {
+        return Ok(None);
+    };
+    let Some((outline, close)) = pass_sections(alloc, text, open)? else {
+        return Ok(None);
+    };
+    if !ends_source(close) {
+        return Ok(None);
+    }
     Ok(Some(outline))
 }

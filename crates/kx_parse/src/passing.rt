@@ -1,4 +1,4 @@
-//! Values that are passed over by their bytes: what stands behind them is answered, or nothing where they aren't spelled.
+//! Values that are passed over by their bytes: what stands after them is answered, or nothing where they aren't spelled.
 ghost use Rattle.std.specs.Prelude.{◌≡◌, ◌≤◌, ◌<◌, ◌||◌, ℕ, List, true, length, IfSome};
 ghost use Rattle.kx_lex.specs.Kinds.{front, is_mark};
 ghost use Rattle.kx_lex.specs.Passing.{front_byte, IsAtToken, Passes, is_single};
@@ -29,7 +29,7 @@ pub(crate) trait Passed {
         ensures at { IfSome result (λ rest. IsAtToken rest.now) };
 }
 
-/// Passes as many behind commas as stand at the front.
+/// Passes as many after commas as stand at the front.
 fn pass_more<P: Passed>(bytes: &[u8]) -> Option<&[u8]>
     requires { IsAtToken bytes.now }
     ensures passes { IfSome result (λ rest. Passes (more P.production) bytes.now rest.now) }
@@ -43,7 +43,7 @@ fn pass_more<P: Passed>(bytes: &[u8]) -> Option<&[u8]>
     Some(rest)
 }
 
-/// Passes one, and more behind commas.
+/// Passes one, and more after commas.
 pub(crate) fn pass_sequence<P: Passed>(bytes: &[u8]) -> Option<&[u8]>
     requires { IsAtToken bytes.now }
     ensures passes { IfSome result (λ rest.
@@ -55,7 +55,7 @@ pub(crate) fn pass_sequence<P: Passed>(bytes: &[u8]) -> Option<&[u8]>
     pass_more::<P>(first)
 }
 
-/// Passes none or one, and more behind commas, and the mark that closes the list, by its byte.
+/// Passes none or one, and more after commas, and the mark that closes the list, by its byte.
 pub(crate) fn pass_listed<P: Passed>(close: u8, bytes: &[u8]) -> Option<&[u8]>
     requires single { is_single close ≡ true }
     requires at { IsAtToken bytes.now }
@@ -139,7 +139,7 @@ fn pass_operation(bytes: &[u8]) -> Option<&[u8]>
     pass_term(pass_sign(bytes)?)
 }
 
-/// Passes what stands behind the first term of an expression.
+/// Passes what stands after the first term of an expression.
 #[inline(always)]
 pub(crate) fn pass_operations(bytes: &[u8]) -> Option<&[u8]>
     requires { IsAtToken bytes.now }
@@ -194,7 +194,7 @@ fn pass_member(bytes: &[u8]) -> Option<&[u8]>
     pass_word(pass_mark(b'.', bytes)?)
 }
 
-/// Passes what stands behind the word of a field's place.
+/// Passes what stands after the word of a field's place.
 #[inline(always)]
 pub(crate) fn pass_place_behind(bytes: &[u8]) -> Option<&[u8]>
     requires { IsAtToken bytes.now }
@@ -209,7 +209,7 @@ pub(crate) fn pass_place_behind(bytes: &[u8]) -> Option<&[u8]>
     pass_optional_index(bytes)
 }
 
-/// Passes what stands behind the word of an argument that sets it.
+/// Passes what stands after the word of an argument that sets it.
 #[inline(always)]
 fn pass_set_behind(bytes: &[u8]) -> Option<&[u8]>
     requires { IsAtToken bytes.now }
@@ -222,7 +222,7 @@ fn pass_set_behind(bytes: &[u8]) -> Option<&[u8]>
     pass_expression(value)
 }
 
-/// Whether what stands behind the word of an argument sets it.
+/// Whether what stands after the word of an argument sets it.
 fn front_is_set(bytes: &[u8]) -> bool
     ensures { result ≡ (front_byte 61 bytes.now || front_byte 91 bytes.now) }
 {
@@ -262,7 +262,7 @@ impl Passed for Arguments {
     }
 }
 
-/// Passes what stands behind the word of a call: its arguments between parentheses.
+/// Passes what stands after the word of a call: its arguments between parentheses.
 pub(crate) fn pass_call_behind(bytes: &[u8]) -> Option<&[u8]>
     ensures passes { IfSome result (λ rest. Passes call_behind bytes.now rest.now) }
     ensures within { IfSome result (λ rest. length rest.now < length bytes.now) }

@@ -31,7 +31,7 @@ fn pass_setting(bytes: &[u8]) -> Option<&[u8]>
     Some(bytes)
 }
 
-/// Passes what stands behind the first word of a field.
+/// Passes what stands after the first word of a field.
 #[inline(always)]
 fn pass_field_behind(bytes: &[u8]) -> Option<&[u8]>
     requires { IsAtToken bytes.now }
@@ -206,7 +206,7 @@ fn pass_keycode(bytes: &[u8]) -> Option<&[u8]>
     pass_mark(b';', end)
 }
 
-/// Passes what stands behind `alias`, with the `;`.
+/// Passes what stands after `alias`, with the `;`.
 fn pass_alias_behind(bytes: &[u8]) -> Option<&[u8]>
     ensures passes { IfSome result (λ rest. Passes (terminated alias_behind) bytes.now rest.now) }
     ensures within { IfSome result (λ rest. length rest.now < length bytes.now) }
@@ -218,7 +218,7 @@ fn pass_alias_behind(bytes: &[u8]) -> Option<&[u8]>
     pass_mark(b';', end)
 }
 
-/// Passes what stands behind `indicator` where it names one, with the `;`.
+/// Passes what stands after `indicator` where it names one, with the `;`.
 fn pass_indicator_name_behind(bytes: &[u8]) -> Option<&[u8]>
     ensures passes { IfSome result (λ rest. Passes (terminated indicator_name_behind) bytes.now rest.now) }
     ensures within { IfSome result (λ rest. length rest.now < length bytes.now) }
@@ -230,7 +230,7 @@ fn pass_indicator_name_behind(bytes: &[u8]) -> Option<&[u8]>
     pass_mark(b';', end)
 }
 
-/// Passes what stands behind `virtual`, with the `;`.
+/// Passes what stands after `virtual`, with the `;`.
 fn pass_indicator_name(bytes: &[u8]) -> Option<&[u8]>
     ensures passes { IfSome result (λ rest. Passes (terminated indicator_name) bytes.now rest.now) }
     ensures within { IfSome result (λ rest. length rest.now < length bytes.now) }
@@ -243,7 +243,7 @@ fn pass_indicator_name(bytes: &[u8]) -> Option<&[u8]>
     }
 }
 
-/// Passes what stands behind `virtual_modifiers`, with the `;`.
+/// Passes what stands after `virtual_modifiers`, with the `;`.
 fn pass_virtual_modifiers_behind(bytes: &[u8]) -> Option<&[u8]>
     requires { IsAtToken bytes.now }
     ensures passes { IfSome result (λ rest. Passes (terminated virtual_modifiers_behind) bytes.now rest.now) }
@@ -254,7 +254,7 @@ fn pass_virtual_modifiers_behind(bytes: &[u8]) -> Option<&[u8]>
     pass_mark(b';', end)
 }
 
-/// Passes a name and a block, with the `;`, as they stand behind `type` and `indicator`.
+/// Passes a name and a block, with the `;`, as they stand after `type` and `indicator`.
 fn pass_named_block(bytes: &[u8]) -> Option<&[u8]>
     ensures passes { IfSome result (λ rest. Passes (terminated named_block) bytes.now rest.now) }
     ensures within { IfSome result (λ rest. length rest.now < length bytes.now) }
@@ -265,7 +265,7 @@ fn pass_named_block(bytes: &[u8]) -> Option<&[u8]>
     pass_mark(b';', end)
 }
 
-/// Passes what stands behind `interpret`, with the `;`.
+/// Passes what stands after `interpret`, with the `;`.
 fn pass_interpretation_behind(bytes: &[u8]) -> Option<&[u8]>
     ensures passes { IfSome result (λ rest. Passes (terminated interpretation_behind) bytes.now rest.now) }
     ensures within { IfSome result (λ rest. length rest.now < length bytes.now) }
@@ -277,7 +277,7 @@ fn pass_interpretation_behind(bytes: &[u8]) -> Option<&[u8]>
     pass_mark(b';', end)
 }
 
-/// Passes what stands behind `group`, with the `;`.
+/// Passes what stands after `group`, with the `;`.
 fn pass_group_behind(bytes: &[u8]) -> Option<&[u8]>
     ensures passes { IfSome result (λ rest. Passes (terminated group_behind) bytes.now rest.now) }
     ensures within { IfSome result (λ rest. length rest.now < length bytes.now) }
@@ -289,7 +289,7 @@ fn pass_group_behind(bytes: &[u8]) -> Option<&[u8]>
     pass_mark(b';', end)
 }
 
-/// Passes what stands behind `key`, with the `;`.
+/// Passes what stands after `key`, with the `;`.
 fn pass_key_behind(bytes: &[u8]) -> Option<&[u8]>
     ensures passes { IfSome result (λ rest. Passes (terminated key_behind) bytes.now rest.now) }
     ensures within { IfSome result (λ rest. length rest.now < length bytes.now) }
@@ -301,7 +301,7 @@ fn pass_key_behind(bytes: &[u8]) -> Option<&[u8]>
     pass_mark(b';', end)
 }
 
-/// Passes what stands behind `modifier_map`, with the `;`.
+/// Passes what stands after `modifier_map`, with the `;`.
 fn pass_modifier_map_behind(bytes: &[u8]) -> Option<&[u8]>
     ensures passes { IfSome result (λ rest. Passes (terminated modifier_map_behind) bytes.now rest.now) }
     ensures within { IfSome result (λ rest. length rest.now < length bytes.now) }
@@ -314,7 +314,7 @@ fn pass_modifier_map_behind(bytes: &[u8]) -> Option<&[u8]>
     pass_mark(b';', end)
 }
 
-/// Passes what stands behind the first word of a field that is a statement, with the `;`.
+/// Passes what stands after the first word of a field that is a statement, with the `;`.
 fn pass_field_statement_behind(bytes: &[u8]) -> Option<&[u8]>
     requires { IsAtToken bytes.now }
     ensures passes { IfSome result (λ rest. Passes (terminated field_behind) bytes.now rest.now) }
@@ -335,7 +335,7 @@ fn pass_field_statement(bytes: &[u8]) -> Option<&[u8]>
     pass_mark(b';', end)
 }
 
-/// Passes what stands behind the first word of a statement, with the `;`. The word spells this keyword, or none.
+/// Passes what stands after the first word of a statement, with the `;`. The word spells this keyword, or none.
 pub(crate) fn pass_statement_behind(word: Option<Keyword>, bytes: &[u8]) -> Option<&[u8]>
     requires { IsAtToken bytes.now }
     ensures passes { IfSome result (λ rest. GoesOn word bytes.now rest.now) }

@@ -16,7 +16,7 @@ ghost use Rattle.kx_parse.specs.Sections.{mode_of, join_of, begins_include, begi
 
 use crate::statements::read_statement;
 use crate::tree::{Flag, Item, Kind, Mode, Section, Stated, Statement, Tree};
-use kx_lex::repeated::{Repeated, is_before_mark, read_many};
+use kx_lex::repeated::{Repeated, is_before_mark, read_many, read_many_in_room};
 use kx_lex::tokens::{
     Parsed, behind_front, front_is_key_name, front_is_keyword, front_is_mark, front_is_text,
     front_is_word, front_span, is_keyword, is_mark, read_keyword, read_mark, read_text,
@@ -312,14 +312,22 @@ fn read_optional_text<'a>(
     Ok((Some(name), rest))
 }
 
+/// Few items have fewer tokens, so that most lists of items never move.
+const USUAL_ITEM_TOKENS: usize = 8;
+
+/// Room for this many items at most is made before they are read, so that it comes from the heap: glibc's `malloc` maps a greater
+/// block by itself, and each of many small sections would keep a page.
+const MOST_ROOM: usize = 800;
+
 #[tactic(auto, unfolding(crate::specs::Sections::held_items))]
 fn read_held_items<'a>(alloc: Global, text: &[u8], tokens: &'a [Token]) -> Parsed<'a, Row<Item>>
     ensures { Gives result ((held_items text.now).read tokens.now) }
 {
     let (_, rest) = read_mark(text, b'{', tokens)?;
-    let (items, rest) = read_many::<Items>(alloc, text, rest)?;
+    let room = (rest.len() / USUAL_ITEM_TOKENS).min(MOST_ROOM);
+    let (items, rest) = read_many_in_room::<Items>(alloc, text, room, rest)?;
     let (_, rest) = read_mark(text, b'}', rest)?;
-    Ok((items, rest))
+    Ok((items.fitted(), rest))
 }
 
 #[tactic(auto, unfolding(crate::specs::Sections::plain_section))]
@@ -539,7 +547,7 @@ pub fn parse_file(alloc: Global, text: &[u8], tokens: &[Token]) -> Result<Tree, 
 
 /// What a stop of [`parse`] and [`parse_file`] means. It stands at a token, or at the end: there the
 /// fault is `Syntax`, or `NumberTooBig` where that token is a number of 2^32 or more. Such a number
-/// stands in a section that is not geometry: behind whole sections, and behind the flags of one
+/// stands in a section that is not geometry: after whole sections, and after the flags of one
 /// more, where `xkb_geometry` does not stand.
 pub fn stops()
     ensures source { (text : List ℕ) (tokens : List TokenValue) (e : FaultValue)

@@ -186,7 +186,7 @@ fn read_field_statement<'a>(
     Ok((Statement::Field(Boxed::of(alloc, field)?), rest))
 }
 
-/// Whether this word stands at the front, where what stands behind it is right. That is told first,
+/// Whether this word stands at the front, where what stands after it is right. That is told first,
 /// being cheaper to tell.
 fn begins(keyword: Keyword, tokens: &[Token], is_right_behind: bool) -> bool
     ensures { result ≡ (front (is_keyword keyword) tokens.now && is_right_behind) }

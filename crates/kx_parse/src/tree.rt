@@ -48,7 +48,7 @@ pub struct Expression {
     pub span: Span,
 }
 
-/// What stands in brackets behind a word, with the brackets.
+/// What stands in brackets after a word, with the brackets.
 #[derive(Debug, Drop)]
 pub struct Index {
     pub value: Expression,
@@ -141,7 +141,7 @@ pub enum Setting {
     To(Value),
 }
 
-/// A field, from its first token to its last; a `;` behind it does not count.
+/// A field, from its first token to its last; a `;` after it does not count.
 #[derive(Debug, Drop)]
 pub struct Field {
     pub place: FieldPlace,
@@ -267,6 +267,24 @@ pub enum Kind {
     Compat,
     Symbols,
     Geometry,
+}
+
+impl Kind {
+    ghost use Rattle.std.specs.Prelude.{◌≡◌};
+    ghost use Rattle.kx_parse.specs.Sections.{kind_word};
+
+    /// The word of the kind, which the folder of its files has for a name, and its keyword after `xkb_`.
+    pub fn word(self) -> &'static str
+        ensures { result.now ≡ kind_word self }
+    {
+        match self {
+            Kind::Keycodes => "keycodes",
+            Kind::Types => "types",
+            Kind::Compat => "compat",
+            Kind::Symbols => "symbols",
+            Kind::Geometry => "geometry",
+        }
+    }
 }
 
 /// A word before a section.

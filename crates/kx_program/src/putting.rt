@@ -17,7 +17,7 @@ pub(crate) fn is_output(path: &str) -> bool {
     )
 }
 
-/// The part of a path behind its folders.
+/// The part of a path after its folders.
 fn last_name(path: &str) -> &str {
     match path.rsplit_once('/') {
         Some((_, name)) => name,

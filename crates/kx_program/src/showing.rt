@@ -8,7 +8,7 @@ use kx_words::Includes;
 use std::fmt;
 use std::fmt::{Formatter, Write};
 
-/// A place whose position is known, from which those behind it in the same text are found.
+/// A place whose position is known, from which those after it in the same text are found.
 #[derive(Clone, Copy)]
 struct Known {
     file: u32,

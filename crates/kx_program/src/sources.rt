@@ -2,9 +2,9 @@
 use crate::failing::unusable;
 use crate::named::source_named;
 use ks_core::NameTable;
-use kx_explain::{Text, Texts};
+use kx_explain::Text;
 use kx_failure::Failure;
-use kx_reach::{FindFault, Folder, Found, add_found, find_files, hand_in, read_file};
+use kx_reach::{FindFault, Folder, Found, find_files, hand_in, read_file};
 use kx_tool::{Files, ReplayFault};
 use kx_words::{INPUT, Included, Includes, Source};
 use std::alloc::{AllocError, Global};
@@ -165,27 +165,19 @@ pub(crate) fn open_folders<'a>(
     Ok(folders)
 }
 
-/// The files that a source's includes reach in folders. Where none are named, nothing is looked for.
+/// Adds to the files that are handed in those that a source's includes reach in folders, and answers what is known of these.
+/// Where no folders are named, nothing is looked for.
 pub(crate) fn find<'a>(
     rt: &(impl FileSystem + AllocGlobal),
     includes: &Includes<'a>,
-    handed: &Files,
+    handed: Files,
     source: &[u8],
-) -> Result<Vec<Found>, Failure<'a>> {
+) -> Result<(Files, Vec<Found>), Failure<'a>> {
     let folders = open_folders(rt, includes.folders.as_slice())?;
     if folders.is_empty() {
-        return Ok(Vec::new(rt.alloc()));
+        return Ok((handed, Vec::new(rt.alloc())));
     }
-    let files = texts_of(rt.alloc(), includes.files.as_slice(), &[], handed)?;
-    let texts = Texts {
-        source: Text {
-            name: "",
-            path: "",
-            bytes: source,
-        },
-        files: files.as_slice(),
-    };
-    match find_files(rt, folders.as_slice(), texts) {
+    match find_files(rt, folders.as_slice(), source, handed) {
         Ok(found) => Ok(found),
         Err(FindFault::File(path)) => Err(unusable(rt, path)),
         Err(FindFault::Memory) => Err(Failure::from(AllocError)),
@@ -232,9 +224,8 @@ pub(crate) fn gather<'a>(
     includes: &Includes<'a>,
 ) -> Result<Gathered, Failure<'a>> {
     let included = includes.files.as_slice();
-    let mut files = handed_in(rt.alloc(), included, read_included(rt, included)?)?;
-    let mut found = find(rt, includes, &files, bytes.as_slice())?;
-    add_found(&mut files, found.as_mut_slice())?;
+    let handed = handed_in(rt.alloc(), included, read_included(rt, included)?)?;
+    let (files, found) = find(rt, includes, handed, bytes.as_slice())?;
     Ok(Gathered {
         bytes,
         files,

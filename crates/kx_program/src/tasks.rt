@@ -19,13 +19,13 @@ use kx_image::{UpgradeFault, View, upgrade};
 use kx_lex::Fault;
 use kx_names::{Environment, read_environment};
 use kx_noted::{Noted, Telling};
-use kx_reach::{Ahead, add_found};
+use kx_reach::Ahead;
 use kx_tool::{Files, ReplayFault, SessionFault, compile_once, dump, replay, session};
 use kx_words::{Compile, INPUT, Includes, Keymap, Source, Task, ask_environment, task_in};
 use std::alloc::{AllocError, Global};
 use std::env::Env;
-use std::io;
 use std::rt::Files as FileSystem;
+use std::{io, mem};
 
 /// Shows on standard error what was passed over, and where it stands.
 fn show_noted(rt: &impl Eprint, noted: &Noted, texts: Texts) {
@@ -93,6 +93,9 @@ fn compile_to<'a>(
     if let Err(Failure::Source(fault)) = &outcome {
         show_asked(rt, *fault, source, includes);
     }
+    // The program ends soon after, so what was read is left to the system.
+    mem::forget(handed);
+    mem::forget(gathered);
     outcome
 }
 
@@ -172,15 +175,22 @@ fn other_paths_in<'a>(alloc: Global, task: &Compile<'a>) -> Result<Vec<&'a str>,
     Ok(paths)
 }
 
+/// The files that a source may include, and their texts to be shown.
+#[derive(Clone, Copy)]
+struct Includable<'t> {
+    texts: &'t [Text<'t>],
+    files: &'t Files,
+}
+
 /// Answers a source and the events after it.
 fn answer_feed<'a, F: Feed + Drop>(
     rt: &(impl Print + Eprint + AllocGlobal),
     feed: F,
     names: &NameTable,
-    texts: &[Text],
-    files: &Files,
+    includable: Includable,
     includes: &Includes,
 ) -> Result<(), Failure<'a>> {
+    let files = includable.files;
     let mut feed = Heard::new(rt.alloc(), Kept::new(rt.alloc(), feed));
     let mut out = Lent::new(io::writer(rt));
     match session(rt.alloc(), &mut feed, files, names, &mut out) {
@@ -192,7 +202,7 @@ fn answer_feed<'a, F: Feed + Drop>(
                     path: "<stdin>",
                     bytes: feed.feed.source(),
                 };
-                let files = texts;
+                let files = includable.texts;
                 show_fault(rt, fault, Texts { source, files }, includes);
             }
             let before = lines_in(feed.feed.source()).saturating_add(1);
@@ -218,7 +228,7 @@ fn answer_ahead<'a>(
     rt: &(impl FileSystem + Input + Print + Eprint + AllocGlobal),
     names: &NameTable,
     includes: &Includes<'a>,
-    mut files: Files,
+    files: Files,
     telling: Telling,
 ) -> Result<(), Failure<'a>> {
     let feed = match Ahead::read(rt.alloc(), Lent::new(rt.reader())) {
@@ -228,8 +238,7 @@ fn answer_ahead<'a>(
         }
         Err(_) => return Err(Failure::Replay(ReplayFault::Read)),
     };
-    let mut found = find(rt, includes, &files, feed.source())?;
-    add_found(&mut files, found.as_mut_slice())?;
+    let (files, found) = find(rt, includes, files, feed.source())?;
     let handed = all_handed(
         rt.alloc(),
         includes.files.as_slice(),
@@ -242,7 +251,8 @@ fn answer_ahead<'a>(
         noted.look(rt.alloc(), feed.source(), &files, names);
         show_ahead(rt, &noted, feed.source(), texts);
     }
-    answer_feed(rt, feed, names, texts, &files, includes)
+    let files = &files;
+    answer_feed(rt, feed, names, Includable { texts, files }, includes)
 }
 
 fn answer_source<'a>(
@@ -258,8 +268,11 @@ fn answer_source<'a>(
         return answer_ahead(rt, &names, includes, files, telling);
     }
     let texts = texts_of(rt.alloc(), included, &[], &files)?;
-    let feed = Lent::new(rt.reader());
-    answer_feed(rt, feed, &names, texts.as_slice(), &files, includes)
+    let includable = Includable {
+        texts: texts.as_slice(),
+        files: &files,
+    };
+    answer_feed(rt, Lent::new(rt.reader()), &names, includable, includes)
 }
 
 /// Answers events by an image.

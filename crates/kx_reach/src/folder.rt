@@ -1,4 +1,5 @@
 //! Folders under which files are looked for.
+use kx_parse::Kind;
 use std::alloc::{AllocError, Global};
 use std::io::{Read, Seek, SeekFrom};
 use std::rt::Files;
@@ -12,6 +13,32 @@ const MOST_ROOM: u64 = 1 << 24;
 pub struct Folder {
     /// Its path, without links and without a `/` at the end.
     path: String,
+    /// The kinds of which a folder of files lies in it that is no link.
+    own: Vec<Kind>,
+}
+
+/// The kinds of sections that files are looked for by.
+static KINDS: [Kind; 5] = [
+    Kind::Keycodes,
+    Kind::Types,
+    Kind::Compat,
+    Kind::Symbols,
+    Kind::Geometry,
+];
+
+/// The kinds of which a folder lies at a path that is no link.
+fn own_kinds(rt: &(impl Files + AllocGlobal), path: &str) -> Result<Vec<Kind>, AllocError> {
+    let mut own = Vec::new(rt.alloc());
+    for kind in &KINDS {
+        let word = kind.word();
+        let below = format!(in rt.alloc(); "{path}/{word}")?;
+        if let Ok(known) = fs::symlink_metadata(rt, below.as_str())
+            && known.is_dir()
+        {
+            own.push(*kind)?;
+        }
+    }
+    Ok(own)
 }
 
 /// Whether a fault says that there is no such file, or that none can have the name.
@@ -96,6 +123,7 @@ impl Folder {
         let path = whole.strip_suffix('/').unwrap_or(whole);
         Ok(Folder {
             path: String::from_str(rt.alloc(), path)?,
+            own: own_kinds(rt, path)?,
         })
     }
 
@@ -111,6 +139,17 @@ impl Folder {
         format!(in alloc; "{path}/{name}")
     }
 
+    /// Whether a name leads by the folder of a kind, which is no link, to a file that is none.
+    fn is_own(&self, rt: &impl Files, name: &str, path: &str) -> bool {
+        let Some((folder, file)) = name.split_once('/') else {
+            return false;
+        };
+        if file.contains('/') || !self.own.iter().any(|kind| kind.word() == folder) {
+            return false;
+        }
+        fs::symlink_metadata(rt, path).is_ok_and(|known| known.is_file())
+    }
+
     /// The bytes of the file of a name, where it lies below the folder, also behind its links.
     ///
     /// # Errors
@@ -120,6 +159,10 @@ impl Folder {
             return Ok(None);
         }
         let path = self.path_of(name)?;
+        // Most files are reached without links, and then there are none to follow.
+        if self.is_own(rt, name, path.as_str()) {
+            return found(read_file(rt, path.as_str()));
+        }
         let Some(whole) = found(fs::canonicalize(rt, path.as_str()))? else {
             return Ok(None);
         };

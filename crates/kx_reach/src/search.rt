@@ -1,16 +1,14 @@
 //! The walk over includes that finds files.
 use crate::folder::Folder;
+use crate::handing::hand_in;
 use crate::kinds::full_name;
-use crate::maps::{Map, Maps};
-use crate::reading::read_on;
-use crate::text::Texts;
 use crate::walk::MOST_PARTS;
-use kx_include::{Part, include_parts};
-use kx_parse::Kind;
+use kx_include::{Files, Part, include_parts};
+use kx_lex::Name;
+use kx_parse::{Item, Kind, Outline, Section, outline_source};
 use std::alloc::{AllocError, Global};
-use std::collections::BTreeMap;
 use std::io;
-use std::rt::Files;
+use std::rt::Files as FileSystem;
 
 /// A file that an include reached.
 #[derive(Debug, Drop)]
@@ -21,7 +19,6 @@ pub struct Found {
     pub path: String,
     /// Whether that folder holds what is installed, and not what an author writes.
     pub is_installed: bool,
-    pub bytes: Vec<u8>,
 }
 
 /// Why no files are found.
@@ -53,15 +50,17 @@ struct Place {
     map: usize,
 }
 
-/// What is known of files: those handed in by name, and after them those that were found.
+/// The source's outline, the files, and to which of their maps an include led before.
 #[derive(Drop)]
 struct Search {
+    /// None where the source has no tree.
+    source: Option<Outline>,
+    /// Those handed in, and after them those that were found.
+    files: Files,
     /// How many files were handed in.
     handed: usize,
-    /// The numbers of the files by name, counted from 1.
-    numbers: BTreeMap<Vec<u8>, usize>,
-    /// The maps of the source and of the files, each as far as it was read.
-    texts: Vec<Maps>,
+    /// Of each text which of its sections an include led to.
+    met: Vec<Vec<bool>>,
     found: Vec<Found>,
     /// So many paths of the file that is looked for were looked at in vain.
     tried: usize,
@@ -79,11 +78,23 @@ fn wanted_by(alloc: Global, kind: Kind, part: &Part) -> Result<Wanted, AllocErro
     })
 }
 
-/// The maps that the includes in a map name, as far as parts are left to look up.
-fn wanted_in(alloc: Global, map: &Map, left: &mut usize) -> Result<Vec<Wanted>, AllocError> {
+/// The text of an include.
+fn include_of(item: &Item) -> Option<&Name> {
+    match item {
+        Item::Include { text, .. } => Some(text),
+        Item::Statement(_) => None,
+    }
+}
+
+/// The maps that the includes in a section name, as far as parts are left to look up.
+fn wanted_in(
+    alloc: Global,
+    section: &Section,
+    left: &mut usize,
+) -> Result<Vec<Wanted>, AllocError> {
     let mut all = Vec::new(alloc);
-    for text in map.includes.as_slice() {
-        let Some(parts) = include_parts(alloc, text.as_slice())? else {
+    for text in section.items.as_slice().iter().filter_map(include_of) {
+        let Some(parts) = include_parts(alloc, text.bytes.as_slice())? else {
             continue;
         };
         for part in parts.as_slice() {
@@ -91,94 +102,95 @@ fn wanted_in(alloc: Global, map: &Map, left: &mut usize) -> Result<Vec<Wanted>, 
                 break;
             };
             *left = rest;
-            all.push(wanted_by(alloc, map.kind, part)?)?;
+            all.push(wanted_by(alloc, section.kind, part)?)?;
         }
     }
     Ok(all)
 }
 
-/// The bytes of the text of a number.
-fn text_at<'f, 't: 'f>(handed: Texts<'t>, found: &'f [Found], number: usize) -> &'f [u8] {
-    let Some(place) = number.checked_sub(1) else {
-        return handed.source.bytes;
-    };
-    if let Some(file) = handed.files.get(place) {
-        return file.bytes;
-    }
-    match found.get(place.saturating_sub(handed.files.len())) {
-        Some(file) => file.bytes.as_slice(),
+fn sections_of(outline: Option<&Outline>) -> &[Section] {
+    match outline {
+        Some(outline) => outline.sections.as_slice(),
         None => &[],
     }
 }
 
 impl Search {
-    /// The source is read whole, and a file as far as an include asks.
-    fn of(alloc: Global, handed: Texts) -> Result<Search, AllocError> {
-        let mut numbers = BTreeMap::new(alloc);
-        let mut texts = Vec::new(alloc);
-        let mut own = Maps::new(alloc);
-        read_on(alloc, handed.source.bytes, None, &mut own)?;
-        texts.push(own)?;
-        for file in handed.files {
-            numbers.insert(Vec::from_slice(alloc, file.name.as_bytes())?, texts.len())?;
-            texts.push(Maps::new(alloc))?;
-        }
-        Ok(Search {
-            handed: handed.files.len(),
-            numbers,
-            texts,
+    /// Over a source and the files that are handed in with it.
+    fn of(alloc: Global, source: &[u8], files: Files) -> Result<Search, AllocError> {
+        let source = outline_source(alloc, source)?;
+        let mut search = Search {
+            source,
+            handed: files.len(),
+            files,
+            met: Vec::new(alloc),
             found: Vec::new(alloc),
             tried: 0,
-        })
+        };
+        for text in 0..search.handed.saturating_add(1) {
+            search.add_unmet(alloc, text)?;
+        }
+        Ok(search)
+    }
+
+    /// The sections of the text of a number; none where it has no tree.
+    fn sections(&self, text: usize) -> &[Section] {
+        match text.checked_sub(1) {
+            None => sections_of(self.source.as_ref()),
+            Some(place) => sections_of(self.files.text_at(place).and_then(|file| file.outline())),
+        }
+    }
+
+    /// Adds a text, of whose sections an include led to none.
+    fn add_unmet(&mut self, alloc: Global, text: usize) -> Result<(), AllocError> {
+        let count = self.sections(text).len();
+        self.met.push(vec![in alloc; false; count]?)?;
+        Ok(())
     }
 
     /// The number of the file that a name means among those that are known.
     fn known(&self, full: &[u8], name: &[u8]) -> Option<usize> {
-        let found = self.numbers.get(full).copied();
-        let bare = self.numbers.get(name).copied();
-        found.or(bare.filter(|number| *number <= self.handed))
+        let found = self.files.place_of(full);
+        let bare = self.files.place_of(name);
+        let place = found.or(bare.filter(|place| *place < self.handed))?;
+        Some(place.saturating_add(1))
     }
 
-    fn map_at(&self, place: Place) -> Option<&Map> {
-        self.texts.get(place.text)?.at(place.map)
+    fn section_at(&self, place: Place) -> Option<&Section> {
+        self.sections(place.text).get(place.map)
     }
 
-    /// The place in a text of the map that is wanted.
-    fn place_in(
-        &mut self,
-        alloc: Global,
-        handed: Texts,
-        text: usize,
-        wanted: &Wanted,
-    ) -> Result<Option<Place>, AllocError> {
+    /// The place in a file of the map that is wanted.
+    fn place_in(&self, text: usize, wanted: &Wanted) -> Option<Place> {
         let name = match &wanted.map {
             Some(name) => Some(name.as_slice()),
             None => None,
         };
-        let bytes = text_at(handed, self.found.as_slice(), text);
-        let Some(maps) = self.texts.get_mut(text) else {
-            return Ok(None);
-        };
-        read_on(alloc, bytes, Some((wanted.kind, name)), maps)?;
-        match maps.place_of(wanted.kind, name) {
-            Some(map) => Ok(Some(Place { text, map })),
-            None => Ok(None),
-        }
+        let file = self.files.text_at(text.checked_sub(1)?)?;
+        let map = file.map_of(wanted.kind, name)?;
+        Some(Place { text, map })
     }
 
     /// Whether an include leads to a place for the first time.
     fn meet(&mut self, place: Place) -> bool {
-        match self.texts.get_mut(place.text) {
-            Some(maps) => maps.meet(place.map),
+        let Some(flags) = self.met.get_mut(place.text) else {
+            return false;
+        };
+        match flags.get_mut(place.map) {
+            Some(flag) => {
+                let is_first = !*flag;
+                *flag = true;
+                is_first
+            }
             None => false,
         }
     }
 
     /// Adds a file that was found; answers its number.
-    fn add(&mut self, alloc: Global, full: Vec<u8>, file: Found) -> Result<usize, AllocError> {
-        let number = self.texts.len();
-        self.texts.push(Maps::new(alloc))?;
-        self.numbers.insert(full, number)?;
+    fn add(&mut self, alloc: Global, file: Found, bytes: Vec<u8>) -> Result<usize, AllocError> {
+        hand_in(&mut self.files, file.name.as_str(), bytes)?;
+        let number = self.met.len();
+        self.add_unmet(alloc, number)?;
         self.found.push(file)?;
         Ok(number)
     }
@@ -186,7 +198,7 @@ impl Search {
 
 /// The file of a name in a folder.
 fn found_in(
-    rt: &(impl Files + AllocGlobal),
+    rt: &(impl FileSystem + AllocGlobal),
     folder: &Folder,
     name: &str,
 ) -> Result<Option<Vec<u8>>, FindFault> {
@@ -213,23 +225,23 @@ fn path_at<'a>(
 
 /// The first file among folders that a name means for a kind. What was tried before isn't tried again.
 fn find(
-    rt: &(impl Files + AllocGlobal),
+    rt: &(impl FileSystem + AllocGlobal),
     folders: &[Folder],
     full: &str,
     name: &str,
     tried: &mut usize,
-) -> Result<Option<Found>, FindFault> {
+) -> Result<Option<(Found, Vec<u8>)>, FindFault> {
     for _ in *tried..folders.len().saturating_mul(2) {
         let Some((folder, path)) = path_at(folders, full, name, *tried) else {
             break;
         };
         if let Some(bytes) = found_in(rt, folder, path)? {
-            return Ok(Some(Found {
+            let found = Found {
                 name: String::from_str(rt.alloc(), full)?,
                 path: String::from_str(rt.alloc(), path)?,
                 is_installed: folder.is_installed(),
-                bytes,
-            }));
+            };
+            return Ok(Some((found, bytes)));
         }
         *tried = tried.saturating_add(1);
     }
@@ -238,7 +250,7 @@ fn find(
 
 /// The number of the file that an include names, which is looked for where it isn't known.
 fn reach(
-    rt: &(impl Files + AllocGlobal),
+    rt: &(impl FileSystem + AllocGlobal),
     folders: &[Folder],
     search: &mut Search,
     wanted: &Wanted,
@@ -254,30 +266,28 @@ fn reach(
     let found = find(rt, folders, full_text, text, &mut search.tried)?;
     search.tried = 0;
     match found {
-        Some(file) => Ok(Some(search.add(rt.alloc(), full, file)?)),
+        Some((file, bytes)) => Ok(Some(search.add(rt.alloc(), file, bytes)?)),
         None => Ok(None),
     }
 }
 
 /// The place of the map that an include names.
 fn place_of(
-    rt: &(impl Files + AllocGlobal),
+    rt: &(impl FileSystem + AllocGlobal),
     folders: &[Folder],
     search: &mut Search,
-    texts: Texts,
     wanted: &Wanted,
 ) -> Result<Option<Place>, FindFault> {
     match reach(rt, folders, search, wanted)? {
-        Some(text) => Ok(search.place_in(rt.alloc(), texts, text, wanted)?),
+        Some(text) => Ok(search.place_in(text, wanted)),
         None => Ok(None),
     }
 }
 
-/// The maps of a source, of which the first is the last to wait.
+/// The sections of a source, of which the first is the last to wait.
 fn own_places(alloc: Global, search: &Search) -> Result<Vec<Place>, AllocError> {
     let mut own = Vec::new(alloc);
-    let count = search.texts.first().map_or(0, |maps| maps.len());
-    for map in (0..count).rev() {
+    for map in (0..search.sections(0).len()).rev() {
         own.push(Place { text: 0, map })?;
     }
     Ok(own)
@@ -298,8 +308,8 @@ fn wanted_at(
     place: Place,
     left: &mut usize,
 ) -> Result<Vec<Wanted>, AllocError> {
-    match search.map_at(place) {
-        Some(map) => wanted_in(alloc, map, left),
+    match search.section_at(place) {
+        Some(section) => wanted_in(alloc, section, left),
         None => Ok(Vec::new(alloc)),
     }
 }
@@ -322,8 +332,8 @@ impl Finding {
     ///
     /// # Errors
     /// Where a growth is refused.
-    pub fn of(alloc: Global, texts: Texts) -> Result<Finding, AllocError> {
-        let search = Search::of(alloc, texts)?;
+    pub fn of(alloc: Global, source: &[u8], files: Files) -> Result<Finding, AllocError> {
+        let search = Search::of(alloc, source, files)?;
         let waiting = own_places(alloc, &search)?;
         Ok(Finding {
             search,
@@ -338,15 +348,14 @@ impl Finding {
     /// Finds the maps that are still wanted.
     fn find_wanted(
         &mut self,
-        rt: &(impl Files + AllocGlobal),
+        rt: &(impl FileSystem + AllocGlobal),
         folders: &[Folder],
-        texts: Texts,
     ) -> Result<(), FindFault> {
         for _ in self.next..self.wanted.len() {
             let Some(wanted) = self.wanted.get(self.next) else {
                 break;
             };
-            match place_of(rt, folders, &mut self.search, texts, wanted)? {
+            match place_of(rt, folders, &mut self.search, wanted)? {
                 Some(place) => meet(&mut self.search, &mut self.waiting, place)?,
                 None => self.misses = true,
             }
@@ -355,25 +364,24 @@ impl Finding {
         Ok(())
     }
 
-    /// Goes on to the end, over the same texts.
+    /// Goes on to the end.
     ///
     /// # Errors
     /// Where a file can't be read, or no memory is left.
     pub fn go_on(
         &mut self,
-        rt: &(impl Files + AllocGlobal),
+        rt: &(impl FileSystem + AllocGlobal),
         folders: &[Folder],
-        texts: Texts,
     ) -> Result<(), FindFault> {
         for _ in 0..self.waiting.len().saturating_add(MOST_PARTS) {
-            self.find_wanted(rt, folders, texts)?;
+            self.find_wanted(rt, folders)?;
             let Some(next) = self.waiting.pop() else {
                 break;
             };
             self.wanted = wanted_at(rt.alloc(), &self.search, next, &mut self.left)?;
             self.next = 0;
         }
-        self.find_wanted(rt, folders, texts)
+        self.find_wanted(rt, folders)
     }
 
     /// Whether an include named a file or a map that isn't there.
@@ -381,22 +389,25 @@ impl Finding {
         self.misses
     }
 
-    /// The files in the order in which they were found.
-    pub fn found(self) -> Vec<Found> {
-        self.search.found
+    /// The files: those that were handed in, and after them those that were found; and what is known of these.
+    pub fn found(self) -> (Files, Vec<Found>) {
+        let search = self.search;
+        (search.files, search.found)
     }
 }
 
-/// The files that the includes of a source reach and that aren't handed in with it, in the order in which they are found.
+/// Adds to the files that are handed in with a source those that its includes reach, in the order in which they are found, and
+/// answers what is known of these.
 ///
 /// # Errors
 /// Where one can't be read, or no memory is left.
 pub fn find_files(
-    rt: &(impl Files + AllocGlobal),
+    rt: &(impl FileSystem + AllocGlobal),
     folders: &[Folder],
-    texts: Texts,
-) -> Result<Vec<Found>, FindFault> {
-    let mut finding = Finding::of(rt.alloc(), texts)?;
-    finding.go_on(rt, folders, texts)?;
+    source: &[u8],
+    files: Files,
+) -> Result<(Files, Vec<Found>), FindFault> {
+    let mut finding = Finding::of(rt.alloc(), source, files)?;
+    finding.go_on(rt, folders)?;
     Ok(finding.found())
 }

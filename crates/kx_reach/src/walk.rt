@@ -43,17 +43,23 @@ pub fn place_named(
     Ok(section.map(|section| Place { file, section }))
 }
 
+/// An include of a section: the section's kind, where the include stands, and its text.
+#[derive(Clone, Copy)]
+struct Include<'t> {
+    kind: Kind,
+    origin: Origin,
+    bytes: &'t [u8],
+}
+
 /// Adds what an include leads to, as far as parts are left to look up.
 fn add_include(
     alloc: Global,
     trees: &Trees,
-    kind: Kind,
-    origin: Origin,
-    bytes: &[u8],
+    include: Include,
     left: &mut usize,
     found: &mut Vec<Reached>,
 ) -> Result<(), AllocError> {
-    let Some(parts) = include_parts(alloc, bytes)? else {
+    let Some(parts) = include_parts(alloc, include.bytes)? else {
         return Ok(());
     };
     for part in parts.as_slice() {
@@ -61,8 +67,8 @@ fn add_include(
             break;
         };
         *left = rest;
-        if let Some(place) = place_named(alloc, trees, kind, part)? {
-            let origin = Some(origin);
+        if let Some(place) = place_named(alloc, trees, include.kind, part)? {
+            let origin = Some(include.origin);
             found.push(Reached { place, origin })?;
         }
     }
@@ -86,10 +92,12 @@ fn includes_of(
             let file = place.file;
             let span = text.span;
             let text_at = At { file, span };
-            let origin = Origin { map, text: text_at };
-            let bytes = text.bytes.as_slice();
-            let kind = section.kind;
-            add_include(alloc, trees, kind, origin, bytes, left, &mut found)?;
+            let include = Include {
+                kind: section.kind,
+                origin: Origin { map, text: text_at },
+                bytes: text.bytes.as_slice(),
+            };
+            add_include(alloc, trees, include, left, &mut found)?;
         }
     }
     Ok(found)

@@ -20,7 +20,7 @@ use Rattle.kx_resolve.specs.Given.{KeyGiven}
 use Rattle.kx_resolve.specs.GroupTypes.{content_group, group_count, group_type_name, one_level_name, type_name, wanted_type}
 use Rattle.kx_resolve.specs.Keys.{type_names, type_names_below, type_names_if, type_of, types_used}
 use Rattle.kx_types.specs.KeyTypes.{Definition}
-use Rattle.ks_core.specs.declared.letters.Letters.{Letters}
+use Rattle.ks_core.specs.Keysym.{FurtherLetters}
 use Rattle.kx_resolve.specs.Typing.{Typing, typing_by}
 use Rattle.kx_types.specs.Types.{NamedTypes, names_in, type_named}
 
@@ -84,7 +84,7 @@ named_is_among (t ∷ types) name is = by (bytes_eq name t.0) refl (named_is_amo
     by true h rec = ap (λ c. c || list_any (bytes_eq name) (names_in types)) h
     by false h rec = ap (λ c. c || list_any (bytes_eq name) (names_in types)) h ∙ rec (sym (ap (λ c. is_some (option_and_then (λ d. d) (cond c (Some t.1) (lookup (bytes_eq name) types)))) h) ∙ is)
 
-usable_is_among : (types : NamedTypes) (letters : Letters) (name : List ℕ) → IsUsable (typing_by types letters) name → list_any (bytes_eq name) (one_level_name ∷ names_in types) ≡ true
+usable_is_among : (types : NamedTypes) (letters : FurtherLetters) (name : List ℕ) → IsUsable (typing_by types letters) name → list_any (bytes_eq name) (one_level_name ∷ names_in types) ≡ true
 usable_is_among types letters name usable = by (is_some (type_named types name)) refl
   where
     by : (b : Bool) → is_some (type_named types name) ≡ b → (bytes_eq name one_level_name || list_any (bytes_eq name) (names_in types)) ≡ true
@@ -100,7 +100,7 @@ found_holds P (x ∷ xs) q all there = by (bytes_eq q x) refl (found_holds P xs 
     by true h rec = subst P (sym ((bytes_decides q x).0 h)) (All-head P x xs all)
     by false h rec = rec (sym (ap (λ c. c || list_any (bytes_eq q) xs) h) ∙ there)
 
-pub used_few : (types : NamedTypes) (letters : Letters) (name : ℕ → Option (List ℕ)) (key : ℕ → KeyGiven) → length (types_used (typing_by types letters) name key) ≤ length types + 1
+pub used_few : (types : NamedTypes) (letters : FurtherLetters) (name : ℕ → Option (List ℕ)) (key : ℕ → KeyGiven) → length (types_used (typing_by types letters) name key) ≤ length types + 1
 used_few types letters name key =
     let used = types_used (typing_by types letters) name key in
     let fewer = length-le_from_is_member nat_list_eq_equiv used (one_level_name ∷ names_in types) (used_distinct (typing_by types letters) name key) (λ q there. usable_is_among types letters q (found_holds (IsUsable (typing_by types letters)) used q (used_usable (typing_by types letters) name key) there)) in

@@ -3,8 +3,7 @@
 use Rattle.std.specs.Prelude.{ℕ, zero, suc, ◌+◌, ◌==◌, nat_le, nat_lt, Bool, true, not, ◌&&◌, ◌||◌, List, [], Option, None, Some, codes, is_some, length, unwrap_or, if◌then◌else◌, slice_index}
 use Rattle.std.specs.Option.{option_or}
 use Rattle.std.specs.Str.{bytes_eq}
-use Rattle.ks_core.specs.Keysym.{is_keypad, is_lower, is_upper}
-use Rattle.ks_core.specs.declared.letters.Letters.{Letters}
+use Rattle.ks_core.specs.Keysym.{FurtherLetters, is_keypad, is_lower, is_upper}
 use Rattle.kx_basics.specs.declared.limits.TheConstants.{MOST_GROUPS, MOST_NAME_BYTES}
 use Rattle.kx_virtual_mods.specs.Sets.{any_below}
 use Rattle.kx_resolve.specs.Given.{KeyGiven}
@@ -44,8 +43,8 @@ one_level_name = codes "ONE_LEVEL"
 abbrev pub has_keypad : (ℕ → ℕ) → Bool
 has_keypad first = is_keypad (first 0) || is_keypad (first 1)
 
--- `letters` are those of the table of names, `first` is the first keysym of a level
-module _ (letters : Letters) (first : ℕ → ℕ) where
+-- `letters` are the further ones of the table of names, `first` is the first keysym of a level
+module _ (letters : FurtherLetters) (first : ℕ → ℕ) where
   -- a letter in lower case and after it one in upper case
   abbrev pub has_letters : ℕ → Bool
   has_letters level = is_lower letters (first level) && is_upper letters (first (level + 1))
@@ -63,11 +62,10 @@ module _ (letters : Letters) (first : ℕ → ℕ) where
   automatic width =
       if nat_le width 1 then Some one_level_name
       else (if width == 2 then Some two_levels
-      else (if nat_le width 4 then Some four_levels
-      else None))
+      else (if nat_le width 4 then Some four_levels else None))
 
 -- the type that is written for the group, else that for the key, else the automatic one
-abbrev pub wanted_type : Letters → KeyGiven → ℕ → Option (List ℕ)
+abbrev pub wanted_type : FurtherLetters → KeyGiven → ℕ → Option (List ℕ)
 wanted_type letters key group = option_or (key.group_type group) (option_or key.key_type (automatic letters (λ level. slice_index (level_keysyms key group level) 0) (key.width group)))
 
 -- `typing` are the declared types and the letters

@@ -18,12 +18,9 @@ module _ (real : ℕ → RealSet) where
   abbrev pub is_live : ℕ → Bool
   is_live mask = (mask == 0) || any_below 8 (real mask)
 
-  abbrev pub is_selected : Definition → RealSet → TypeEntry → Bool
-  is_selected t effective e = is_live e.mask && are_same (real e.mask) (λ r. effective r && real t.modifiers r)
-
   -- the first live entry whose modifiers are the effective ones, as far as the type has them
   abbrev pub entry_selected : Definition → RealSet → Option TypeEntry
-  entry_selected t effective = find (is_selected t effective) t.entries
+  entry_selected t effective = find (λ e. is_live e.mask && are_same (real e.mask) (λ r. effective r && real t.modifiers r)) t.entries
 
   -- level 1 without one
   abbrev pub level_selected : Definition → RealSet → ℕ
@@ -33,7 +30,10 @@ module _ (real : ℕ → RealSet) where
   abbrev pub consumed : Definition → RealSet → RealSet
   consumed t effective r = real t.modifiers r && not (option_map_or (λ e. real e.preserve r) (entry_selected t effective) false)
 
--- ---- Under a name, for proofs
+-- ---- Under names, for proofs
+
+abbrev pub is_selected : (real : ℕ → RealSet) → Definition → RealSet → TypeEntry → Bool
+is_selected real t effective e = is_live real e.mask && are_same (real e.mask) (λ r. effective r && real t.modifiers r)
 
 abbrev pub preserved_by : (ℕ → RealSet) → Option TypeEntry → RealSet
 preserved_by real entry r = option_map_or (λ e. real e.preserve r) entry false

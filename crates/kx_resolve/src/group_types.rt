@@ -1,6 +1,7 @@
 //! The key type of a group.
 ghost use Rattle.std.specs.Prelude.{◌≡◌, ◌≤◌, ℕ, IfNone, IfSome, IsTrue, false, is_some};
 ghost use Rattle.kx_virtual_mods.specs.Sets.{any_below};
+ghost use Rattle.ks_core.specs.Table.{letters_of};
 ghost use Rattle.std.specs.Option.{option_map};
 ghost use Rattle.kx_basics.specs.declared.limits.TheConstants.{MOST_GROUPS, MOST_LEVELS};
 ghost use Rattle.kx_resolve.specs.Given.{given};
@@ -30,7 +31,7 @@ fn first_keysym(key: &KeyRecord, group: usize, level: usize) -> Keysym
 #[inline(always)]
 fn has_letters(letters: Letters, key: &KeyRecord, group: usize, level: usize) -> bool
     requires { level ≤ 2 }
-    ensures { result ≡ has_letters letters (first_keysym (given key.now) group) level }
+    ensures { result ≡ has_letters (letters_of letters) (first_keysym (given key.now) group) level }
 {
     letters.is_lower(first_keysym(key, group, level))
         && letters.is_upper(first_keysym(key, group, level + 1))
@@ -44,7 +45,7 @@ fn has_keypad(key: &KeyRecord, group: usize) -> bool
 
 #[inline(always)]
 fn two_levels(letters: Letters, key: &KeyRecord, group: usize) -> &'static [u8]
-    ensures { result.now ≡ two_levels letters (first_keysym (given key.now) group) }
+    ensures { result.now ≡ two_levels (letters_of letters) (first_keysym (given key.now) group) }
 {
     if has_letters(letters, key, group, 0) {
         b"ALPHABETIC"
@@ -57,7 +58,7 @@ fn two_levels(letters: Letters, key: &KeyRecord, group: usize) -> &'static [u8]
 
 #[inline(always)]
 fn four_levels(letters: Letters, key: &KeyRecord, group: usize) -> &'static [u8]
-    ensures { result.now ≡ four_levels letters (first_keysym (given key.now) group) }
+    ensures { result.now ≡ four_levels (letters_of letters) (first_keysym (given key.now) group) }
 {
     if has_letters(letters, key, group, 0) {
         if has_letters(letters, key, group, 2) {
@@ -76,7 +77,8 @@ fn four_levels(letters: Letters, key: &KeyRecord, group: usize) -> &'static [u8]
 #[inline(always)]
 fn automatic(letters: Letters, key: &KeyRecord, group: usize) -> Option<&'static [u8]>
     ensures { option_map (λ n. n.now) result
-        ≡ automatic letters (first_keysym (given key.now) group) ((given key.now).width group) }
+        ≡ automatic (letters_of letters) (first_keysym (given key.now) group)
+        ((given key.now).width group) }
 {
     match key.width(group) {
         0 | 1 => Some(ONE_LEVEL.as_bytes()),
@@ -89,7 +91,7 @@ fn automatic(letters: Letters, key: &KeyRecord, group: usize) -> Option<&'static
 /// The type that a group wants: the one that is written for it, else the key's, else the automatic one.
 #[inline(always)]
 fn wanted_type<'a>(letters: Letters, key: &'a KeyRecord, group: usize) -> Option<&'a [u8]>
-    ensures { option_map (λ n. n.now) result ≡ wanted_type letters (given key.now) group }
+    ensures { option_map (λ n. n.now) result ≡ wanted_type (letters_of letters) (given key.now) group }
 {
     match written_type(key, group) {
         Some(name) => Some(name),
@@ -160,6 +162,8 @@ pub struct GroupType<'a> {
     pub name: &'a [u8],
     /// How many levels it has, 1 to 64: what a group has after them is lost.
     pub levels: usize,
+    /// Its place among the declared types, counted from 0, where it is declared.
+    pub place: usize,
     /// Whether it stands in place of another that is wanted; ONE_LEVEL, which is built in, stands for itself.
     pub falls_back: bool,
 }
@@ -176,12 +180,14 @@ fn one_level(typing: Typing, falls_back: bool) -> GroupType<'static>
     GroupType {
         name,
         levels: levels_of(typing, name),
+        place: 0,
         falls_back,
     }
 }
 
-/// The type of a name, where a type has it.
-fn declared_type<'a>(typing: Typing, name: &'a [u8]) -> Option<GroupType<'a>>
+/// The type of a name, where a type has it; it is looked for first at a place where it may stand.
+#[inline(always)]
+fn declared_type<'a>(typing: Typing, name: &'a [u8], near: usize) -> Option<GroupType<'a>>
     ensures some { IfSome result (λ t. IsTrue (is_type (typing_of typing.entry) name.now)
         × (t.name.now ≡ name.now) × (t.levels
         ≡ (type_definition (typing_of typing.entry) name.now).levels) × (t.levels ≤ MOST_LEVELS)
@@ -191,17 +197,18 @@ fn declared_type<'a>(typing: Typing, name: &'a [u8]) -> Option<GroupType<'a>>
     if name.len() > MOST_NAME_BYTES {
         return None;
     }
-    let key_type = typing.types.named(name)?;
+    let (place, key_type) = typing.types.named_near(name, near)?;
     Some(GroupType {
         name,
         levels: usize::from(key_type.levels()),
+        place,
         falls_back: false,
     })
 }
 
 /// The type that stands for one that is wanted.
 #[inline(always)]
-fn type_for<'a>(typing: Typing, wanted: Option<&'a [u8]>) -> GroupType<'a>
+fn type_for<'a>(typing: Typing, wanted: Option<&'a [u8]>, near: usize) -> GroupType<'a>
     ensures name { result.name.now
         ≡ type_name (typing_of typing.entry) (option_map (λ n. n.now) wanted.entry) }
     ensures levels { result.levels
@@ -213,16 +220,22 @@ fn type_for<'a>(typing: Typing, wanted: Option<&'a [u8]>) -> GroupType<'a>
 {
     match wanted {
         None => one_level(typing, true),
-        Some(name) => match declared_type(typing, name) {
+        Some(name) => match declared_type(typing, name, near) {
             Some(group_type) => group_type,
             None => one_level(typing, name != ONE_LEVEL.as_bytes()),
         },
     }
 }
 
-/// The type that a group has, or the first one where it has no level of its own.
+/// The type that a group has, or the first one where it has no level of its own; it is looked for first at a place where it
+/// may stand.
 #[inline(always)]
-pub fn group_type<'a>(typing: Typing, key: &'a KeyRecord, group: usize) -> GroupType<'a>
+pub(crate) fn group_type_near<'a>(
+    typing: Typing,
+    key: &'a KeyRecord,
+    group: usize,
+    near: usize,
+) -> GroupType<'a>
     ensures name { result.name.now
         ≡ group_type_name (typing_of typing.entry) (given key.now) group }
     ensures levels { result.levels ≡ group_levels (typing_of typing.entry) (given key.now) group }
@@ -234,7 +247,21 @@ pub fn group_type<'a>(typing: Typing, key: &'a KeyRecord, group: usize) -> Group
     type_for(
         typing,
         wanted_type(typing.letters, key, content_group(key, group)),
+        near,
     )
+}
+
+/// The type that a group has, or the first one where it has no level of its own.
+pub fn group_type<'a>(typing: Typing, key: &'a KeyRecord, group: usize) -> GroupType<'a>
+    ensures name { result.name.now
+        ≡ group_type_name (typing_of typing.entry) (given key.now) group }
+    ensures levels { result.levels ≡ group_levels (typing_of typing.entry) (given key.now) group }
+    ensures few { result.levels ≤ MOST_LEVELS }
+    ensures falls_back { result.falls_back
+        ≡ falls_back (typing_of typing.entry) (given key.now)
+        (content_group (given key.now) group) }
+{
+    group_type_near(typing, key, group, 0)
 }
 
 /// How many levels the type of a name has.

@@ -87,7 +87,7 @@ impl TablesBuilder {
     ) -> Result<(), Fault>
         requires keyless { self.old.keys ≡ [] }
         requires few { length self.old.types ≤ MOST_TYPES }
-        requires small { TypeIsWithinLimits (whole_type name.now mods levels entries.now) }
+        requires within { TypeIsWithinLimits (whole_type name.now mods levels entries.now) }
         ensures pushed { OnOk result (self.new
             ≡ with_type self.old (whole_type name.now mods levels entries.now)) }
         ensures err { IfErr result (λ e. e ≡ Memory) }

@@ -11,7 +11,7 @@ ghost use Rattle.kx_resolve.specs.UsedTypes.{Adds};
 ghost use Rattle.kx_resolve.specs.Typing.{typing_of};
 ghost use Rattle.kx_types.specs.declared.limits.TheConstants.{MOST_TYPES};
 
-use crate::group_types::{GroupType, group_count, group_type};
+use crate::group_types::{GroupType, group_count, group_type_near};
 use crate::named_keys::NamedKeys;
 use crate::typing::Typing;
 use kx_lex::Fault;
@@ -79,6 +79,8 @@ impl TypeInUse {
 pub(crate) struct UsedTypes {
     pub(crate) names: Names,
     pub(crate) group_types: Vec<TypeInUse>,
+    /// The place among the declared types of the last one, which the next group mostly has too.
+    last: usize,
 }
 
 /// Adds the type of a group of a key.
@@ -93,7 +95,8 @@ fn use_group(
         (group_type_name (typing_of typing.entry) (given key.now) group ∷ []) used.old used.new) }
     ensures err { IfErr result (λ e. e ≡ Memory) }
 {
-    let group_type = group_type(typing, key, group);
+    let group_type = group_type_near(typing, key, group, used.last);
+    used.last = group_type.place;
     let place = used.names.number(alloc, group_type.name)?;
     used.group_types.push(TypeInUse::of(place, group_type))?;
     Ok(())
@@ -140,6 +143,7 @@ pub(crate) fn types_used(alloc: Global, keys: NamedKeys) -> Result<UsedTypes, Fa
     let mut used = UsedTypes {
         names: Names::new(alloc),
         group_types: Vec::new(alloc),
+        last: 0,
     };
     'codes: for code in 0..keys.codes.end() {
         use_code(alloc, keys, code, &mut used)?;

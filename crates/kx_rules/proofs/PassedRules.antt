@@ -98,7 +98,7 @@ module _ (test : Kind → Bool) (inner : (k : Kind) → test k ≡ true → IsIn
       by true e rest = subst (λ n. IsPassed n begun (p ∷ ps)) (sym (more-one (len ps))) (one_passed (len ps) begun ps p h (inner p.kind e) (rest (longer begun p h (inner p.kind e).no_bang)))
       by false e rest = none_passed begun (p ∷ ps) h
 
-  -- behind the same pieces stands what is put there
+  -- after the same pieces stands what is put there
   left : (ps ys : List Piece) (p : Piece) → test p.kind ≡ false → drop (len (take (len ps) ps ++ p ∷ ys)) (take (len ps) ps ++ p ∷ ys) ≡ p ∷ ys
   unfolding len
   left [] ys p h = ap (λ t. drop (cond t (1 + len ys) 0) (p ∷ ys)) h
@@ -254,7 +254,7 @@ take_whole [] (suc n) h = refl
 take_whole (b ∷ bs) zero h = absurd (omega (arith, h))
 take_whole (b ∷ bs) (suc n) h = ap (λ cs. b ∷ cs) (take_whole bs n (omega (arith, h)))
 
--- a text is its first byte and what stands behind it
+-- a text is its first byte and what stands after it
 split : (text : List ℕ) (b : ℕ) → 1 ≤ length text → get_or text 0 0 ≡ b → text ≡ b ∷ take (length text - 1) (drop 1 text)
 split [] b h is = absurd (omega (arith, h))
 split (c ∷ cs) b h is = ap (λ d. d ∷ cs) is ∙ ap (λ ds. b ∷ ds) (sym (take_whole cs (length (c ∷ cs) - 1) (omega arith)))

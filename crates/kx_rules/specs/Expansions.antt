@@ -37,7 +37,7 @@ abbrev pub enclosed : List ℕ → List ℕ → List ℕ → List ℕ
 enclosed front [] back = []
 enclosed front (b ∷ bs) back = front ++ (b ∷ bs) ++ back
 
--- what stands for a letter behind % and for what goes with it, and how many bytes both take
+-- what stands for a letter after % and for what goes with it, and how many bytes both take
 abbrev pub lettered : Names → List ℕ → List ℕ → List ℕ → Option (List ℕ × ℕ)
 lettered names front back [] = None
 lettered names front back (letter ∷ bs) = option_and_then
@@ -56,7 +56,7 @@ abbrev pub after : Option (List ℕ × ℕ) → (ℕ → Option (List ℕ)) → 
 after None rest = None
 after (Some found) rest = option_map (λ text. found.0 ++ text) (rest found.1)
 
--- what is written for a value behind its first so many bytes; none if a placeholder is faulty
+-- what is written for a value after its first so many bytes; none if a placeholder is faulty
 unfoldable pub expanded : Names → List ℕ → ℕ → Option (List ℕ)
 expanded names [] behind = Some []
 expanded names (b ∷ bs) (suc behind) = expanded names bs behind
@@ -66,7 +66,7 @@ expanded names (b ∷ bs) zero = if b == 37 then after (placeholder names bs) (e
 abbrev pub is_part : List ℕ → Bool
 is_part text = begins (codes "+") text || begins (codes "|") text
 
--- one more part is appended; a first one is put before other parts, and does nothing behind another first one
+-- one more part is appended; a first one is put before other parts, and does nothing after another first one
 unfoldable pub joined : List ℕ → List ℕ → List ℕ
 joined [] more = more
 joined (b ∷ bs) more = if is_part more then (b ∷ bs) ++ more else if is_part (b ∷ bs) then more ++ (b ∷ bs) else b ∷ bs

@@ -27,7 +27,7 @@ abbrev pub begins_include : List Piece → Bool
 begins_include (a ∷ b ∷ []) = is_bang a.kind && is_include b.kind
 begins_include _ = false
 
--- a line ends with its line end; a line that includes a text ends behind its name, and what stands behind that is the next one
+-- a line ends with its line end; a line that includes a text ends after its name, and what stands after that is the next one
 abbrev pub closes : List Piece → Kind → Bool
 closes line NewLine = true
 closes line Word = begins_include line
@@ -58,7 +58,7 @@ words_len = prefix_len (λ p. is_word p.kind)
 abbrev pub values_len : List Piece → ℕ
 values_len = prefix_len (λ p. is_value p.kind)
 
--- the words behind a sign =, and what is unexpected if the line doesn't end behind them
+-- the words after a sign =, and what is unexpected if the line doesn't end after them
 pub record Right : Type 0 where
   pub words : List Piece
   pub cut : Option ℕ
@@ -90,7 +90,7 @@ inclusion (p ∷ ps) = elim p.kind [ Word ↦ Inclusion p.text | _ ↦ Broken p.
 abbrev pub listing : List ℕ → List Piece → Line
 listing name ps = let right = right_of ps in Listing name right.words right.cut
 
--- behind a !
+-- after a !
 abbrev pub told : List Piece → Line
 told [] = Broken zero
 told (p ∷ ps) = elim p.kind [ Include ↦ inclusion ps | Group ↦ listing p.text ps | Word ↦ sides Heading (words_len (p ∷ ps)) (p ∷ ps) | _ ↦ Broken p.left ]

@@ -61,7 +61,7 @@ piece_len Word text = word_len text
 piece_len Include text = 7
 piece_len _ text = 1
 
--- the pieces behind the first so many bytes of a text
+-- the pieces after the first so many bytes of a text
 unfoldable pub pieces : List ℕ → ℕ → List Piece
 pieces [] behind = []
 pieces (b ∷ bs) (suc behind) = pieces bs behind

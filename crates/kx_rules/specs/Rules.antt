@@ -26,7 +26,7 @@ pub record Components : Type 0 where
   pub compat : List ℕ
   pub symbols : List ℕ
 
--- behind a line: what rules may stand next, and what lasts
+-- after a line: what rules may stand next, and what lasts
 pub record State : Type 0 where
   pub rules : Rules
   pub groups : Groups
@@ -37,7 +37,7 @@ pub record State : Type 0 where
   -- what the rules that applied took
   pub taken : List Use
 
--- behind which no rules may stand
+-- after which no rules may stand
 abbrev pub anew : State → State
 anew s = record s { rules = NoRules }
 
@@ -77,7 +77,7 @@ with_rule names _ lefts rights s = s
 abbrev pub Reading : Type 0
 Reading = State × Option ℕ
 
--- behind a line; what it includes is handed in
+-- after a line; what it includes is handed in
 unfoldable pub after : Names → (List ℕ → State → State) → State → Line → Reading
 after names included s Blank = (s, None)
 after names included s (Inclusion name) = (included name s, None)
@@ -90,7 +90,7 @@ abbrev pub go_on : Reading → (State → Reading) → Reading
 go_on (s, None) next = next s
 go_on (s, Some left) next = (s, Some left)
 
--- behind one line after another, up to the first that isn't whole
+-- after lines one by one, up to the first that isn't whole
 abbrev pub run : Names → (List ℕ → State → State) → State → List (List Piece) → Reading
 run names included s [] = (s, None)
 run names included s (line ∷ rest) = go_on (after names included s (line_of (has_rules s.rules) line)) (λ next. run names included next rest)
@@ -115,7 +115,7 @@ is_room s text = nat_le (s.read + length text) MOST_READ_BYTES
 abbrev pub opening : State → List ℕ → State
 opening s text = record (anew s) { read = s.read + length text }
 
--- behind an include, where includes may be nested so deep; one that isn't found or is too deep is passed over, and what is unexpected in a text ends that text alone
+-- after an include, where includes may be nested so deep; one that isn't found or is too deep is passed over, and what is unexpected in a text ends that text alone
 unfoldable pub included : ℕ → Names → Texts → List ℕ → State → State
 included zero names texts name s = anew s
 included (suc depth) names texts name s = elim (text_of texts name) [

@@ -33,10 +33,10 @@ IsTaken names texts depth line old new Next = reading names texts depth line old
 IsTaken names texts depth line old new (Unexpected left) = reading names texts depth line old ≡ (new, Some left)
 IsTaken names texts depth line old new (Inner text) = (shallower : ℕ) × (depth ≡ shallower + 1) × (reading names texts depth line old ≡ (anew (run names (included shallower names texts) new (lines_of text.now)).0, None))
 
--- the first piece passes a test, and behind it stands the rest
+-- the first piece passes a test, and after it stands the rest
 abbrev pub BeginsWith : (Kind → Bool) → List Piece → List Piece → Type 0
 BeginsWith test ps rest = (p : Piece) × (test p.kind ≡ true) × (ps ≡ p ∷ rest)
 
--- behind all pieces that pass a test stands one of a kind, and behind that the rest
+-- after all pieces that pass a test stands one of a kind, and after that the rest
 abbrev pub IsBehind : (Kind → Bool) → Kind → List Piece → List Piece → Type 0
 IsBehind test kind ps rest = (p : Piece) × (p.kind ≡ kind) × (drop (prefix_len (λ q. test q.kind) ps) ps ≡ p ∷ rest)

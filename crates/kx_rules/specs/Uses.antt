@@ -40,7 +40,7 @@ name_at names (letter ∷ bs) =
     if letter == 108 then option_map (Named Layout) (item_place (length names.layouts) (index_in (take 3 bs))) else
     if letter == 118 then option_map (Named Variant) (item_place (length names.variants) (index_in (take 3 bs))) else None
 
--- the names behind the signs % of a value, also of a faulty one
+-- the names after the signs % of a value, also of a faulty one
 unfoldable pub written : Names → List ℕ → List Use
 written names [] = []
 written names (b ∷ bs) = (if b == 37 then option_to_list (name_at names (without_sign bs)) else []) ++ written names bs

@@ -81,7 +81,7 @@ pub(crate) fn is_joint(byte: u8) -> bool
     matches!(byte, b'+' | b'|' | b'_' | b'-')
 }
 
-/// What a placeholder stands for: a name, and what is written before and behind it.
+/// What a placeholder stands for: a name, and what is written before and after it.
 #[derive(Clone, Copy)]
 pub(crate) struct Placed<'a> {
     front: &'a [u8],
@@ -90,7 +90,7 @@ pub(crate) struct Placed<'a> {
     len: usize,
 }
 
-/// A letter, with what is to stand before and behind its name.
+/// A letter, with what is to stand before and after its name.
 fn lettered<'a>(
     names: &Names<'a>,
     front: &'a [u8],
@@ -192,7 +192,7 @@ fn is_part(text: &[u8]) -> bool
     text.starts_with(b"+") || text.starts_with(b"|")
 }
 
-/// Puts text behind others or before them.
+/// Puts text after others or before them.
 #[tactic(auto, unfolding(crate::specs::Expansions::joined))]
 pub(crate) fn join(to: &mut Vec<u8>, more: &[u8]) -> Result<(), AllocError>
     ensures { OnOk result (to.new.items ≡ joined to.old.items more.now) }

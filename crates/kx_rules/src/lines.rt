@@ -46,7 +46,7 @@ fn closes(line: &[Piece], kind: Kind) -> bool
     }
 }
 
-/// Puts the first line of a text in the place of another, and answers what is left of the text behind it; nothing where there
+/// Puts the first line of a text in the place of another, and answers what is left of the text after it; nothing where there
 /// is no line.
 #[tactic(auto, using(crate::proofs::Cutting::more_of_line, crate::proofs::Cutting::end_of_line, crate::proofs::Cutting::last_line, crate::proofs::Cutting::no_line))]
 pub(crate) fn next_line<'a>(
@@ -100,7 +100,7 @@ pub(crate) fn values_len(line: &[Piece]) -> usize
         .count()
 }
 
-/// The words behind a sign =, and how many bytes are left where something unexpected begins, if the line doesn't end behind
+/// The words after a sign =, and how many bytes are left where something unexpected begins, if the line doesn't end after
 /// them.
 #[derive(Drop)]
 pub(crate) struct Right<'l, 'a> {
@@ -121,7 +121,7 @@ fn cut_at(behind: &[Piece]) -> Option<usize>
     }
 }
 
-/// The words behind a line's sign =, and where something unexpected begins.
+/// The words after a line's sign =, and where something unexpected begins.
 fn right_behind<'l, 'a>(line: &'l [Piece<'a>]) -> Right<'l, 'a>
     ensures words { result.words.now ≡ (right_behind line.entry.now).words }
     ensures cut { result.cut ≡ (right_behind line.entry.now).cut }

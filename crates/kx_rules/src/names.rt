@@ -154,7 +154,7 @@ fn item_len(text: &[u8]) -> usize
     text.iter().take_while(|byte| **byte != b',').count()
 }
 
-/// The first item of a list, and the list of the others where a comma is behind it.
+/// The first item of a list, and the list of the others where a comma is after it.
 #[tactic(auto, using(crate::proofs::Items::last_item, crate::proofs::Items::next_item))]
 fn cut(text: &[u8]) -> (Word<'_>, Option<&[u8]>)
     ensures value { items text.now ≡ result.0 ∷ items_behind (option_map (λ t. t.now) result.1) }

@@ -189,7 +189,7 @@ fn behind_gaps(text: &[u8]) -> &[u8]
     }
 }
 
-/// A piece, how many bytes are left where it begins, and what is left behind it.
+/// A piece, how many bytes are left where it begins, and what is left after it.
 #[derive(Drop)]
 pub(crate) struct Found<'a> {
     pub(crate) kind: Kind,

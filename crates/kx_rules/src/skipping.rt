@@ -20,7 +20,7 @@ fn begins_plain(byte: u8) -> bool
     is_word_byte(byte) && !(is_sign || byte == b'i' || byte == b'/')
 }
 
-/// What is left of a text behind blanks.
+/// What is left of a text after blanks.
 #[tactic(auto, using(crate::proofs::PassedRules::behind_blanks))]
 fn behind_blanks(text: &[u8]) -> &[u8]
     ensures same { pieces result.now 0 ≡ pieces text.now 0 }
@@ -30,7 +30,7 @@ fn behind_blanks(text: &[u8]) -> &[u8]
     rest
 }
 
-/// What is left behind the word that a text begins with; none where it begins otherwise, and before some words.
+/// What is left after the word that a text begins with; none where it begins otherwise, and before some words.
 #[tactic(auto, using(crate::proofs::PassedRules::plain_long))]
 fn behind_word(text: &[u8]) -> Option<&[u8]>
     ensures value { IfSome result (λ rest.
@@ -68,7 +68,7 @@ fn behind_value(text: &[u8]) -> Option<&[u8]>
     }
 }
 
-/// What is left behind values and a sign =, where a text begins so.
+/// What is left after values and a sign =, where a text begins so.
 fn behind_equals(text: &[u8]) -> Option<&[u8]>
     ensures value { IfSome result (λ rest.
         IsBehind is_value EqualsKind (pieces text.now 0) (pieces rest.now 0)) }
@@ -87,7 +87,7 @@ fn behind_equals(text: &[u8]) -> Option<&[u8]>
     }
 }
 
-/// What is left behind words and a line end, where a text begins so.
+/// What is left after words and a line end, where a text begins so.
 fn behind_line_end(text: &[u8]) -> Option<&[u8]>
     ensures value { IfSome result (λ rest.
         IsBehind is_word NewLineKind (pieces text.now 0) (pieces rest.now 0)) }
@@ -106,7 +106,7 @@ fn behind_line_end(text: &[u8]) -> Option<&[u8]>
     }
 }
 
-/// What is left behind a rule, where a text begins with one.
+/// What is left after a rule, where a text begins with one.
 fn behind_rule(text: &[u8]) -> Option<&[u8]>
     ensures value { (names : NamesValue) → (inc : List ℕ → StateValue → StateValue)
         → (s : StateValue) → s.rules ≡ PassedOver → IfSome result (λ rest.
@@ -117,7 +117,7 @@ fn behind_rule(text: &[u8]) -> Option<&[u8]>
     behind_line_end(right)
 }
 
-/// What is left behind the rules that a text begins with.
+/// What is left after the rules that a text begins with.
 pub(crate) fn behind_rules(text: &[u8]) -> &[u8]
     ensures value { (names : NamesValue) → (inc : List ℕ → StateValue → StateValue)
         → (s : StateValue) → s.rules ≡ PassedOver

@@ -150,7 +150,7 @@ impl State {
         self.uses.leave_to(text);
     }
 
-    /// What is left of a text behind rules that are passed over.
+    /// What is left of a text after rules that are passed over.
     pub(crate) fn behind_passed<'a>(&self, text: &'a [u8]) -> &'a [u8]
         ensures value { (names : NamesValue) → (inc : List ℕ → StateValue → StateValue)
             → run names inc self.now (lines_of result.now)
@@ -171,7 +171,7 @@ impl State {
         !matches!(self.rules, Rules::NoRules)
     }
 
-    /// Behind a group or an include no rule may stand.
+    /// After a group or an include no rule may stand.
     pub(crate) fn begin(&mut self)
         ensures { self.new ≡ anew self.old }
     {
@@ -239,7 +239,7 @@ impl State {
         Ok(())
     }
 
-    /// Takes the line of a group behind its name; answers where it is cut.
+    /// Takes the line of a group after its name; answers where it is cut.
     #[tactic(auto, unfolding(crate::specs::Rules::after))]
     fn take_group(
         &mut self,
@@ -256,7 +256,7 @@ impl State {
         Ok(right.cut)
     }
 
-    /// Takes a mapping behind its sign !; answers where it is cut.
+    /// Takes a mapping after its sign !; answers where it is cut.
     #[tactic(auto, unfolding(crate::specs::Rules::after))]
     fn take_mapping(
         &mut self,
@@ -336,7 +336,7 @@ impl State {
         }
     }
 
-    /// Takes an include behind this word.
+    /// Takes an include after this word.
     #[tactic(auto, unfolding(crate::specs::Rules::after))]
     fn take_include<'a>(&mut self, texts: &'a Texts, depth: usize, line: &[Piece]) -> Taken<'a>
         ensures { (names : NamesValue) → IsTaken names texts.entry.now depth
@@ -351,7 +351,7 @@ impl State {
         }
     }
 
-    /// Takes a line behind its sign !.
+    /// Takes a line after its sign !.
     #[tactic(auto, unfolding(crate::specs::Rules::after))]
     fn take_told<'a>(
         &mut self,

@@ -39,7 +39,7 @@ module _ (names : KeysymTable) (library : Library) where
   abbrev pub of_types : List Fault
   of_types = types_faults (modifiers_of library) (body_of library Types)
 
-  -- those of what stands behind keycodes and types
+  -- those of what stands after keycodes and types
   abbrev pub of_parts : List Fault
   of_parts = parts_faults (codes_in library) names (modifiers_of library) (body_of library Compat) (body_of library Symbols)
 

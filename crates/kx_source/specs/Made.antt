@@ -74,6 +74,6 @@ lit_faults modifiers compat symbols = names_faults symbols ++ indicator_maps_fau
 abbrev pub interpreted_faults : KeysymTable → List (List ℕ) → (compat symbols : Body) → List Fault
 interpreted_faults names modifiers compat symbols = compat_faults names modifiers compat ++ lit_faults modifiers compat symbols
 
--- of all that stands behind keycodes and types
+-- of all that stands after keycodes and types
 abbrev pub parts_faults : Codes → KeysymTable → List (List ℕ) → (compat symbols : Body) → List Fault
 parts_faults codes names modifiers compat symbols = mapped_faults codes names modifiers symbols ++ interpreted_faults names modifiers compat symbols

@@ -43,8 +43,6 @@ use Rattle.kx_types.specs.Types.{declared_type}
 use Rattle.kx_resolve.specs.Given.{KeyGiven, given_by}
 use Rattle.kx_resolve.specs.Typing.{Typing}
 
--- ---- Modifiers
-
 -- the bodies that declare virtual modifiers, in the order in which these are numbered
 abbrev pub modifier_bodies_of : Library → List Body
 modifier_bodies_of library = body_of library Types ∷ body_of library Compat ∷ body_of library Symbols ∷ []
@@ -52,8 +50,6 @@ modifier_bodies_of library = body_of library Types ∷ body_of library Compat �
 -- the virtual modifiers by number
 abbrev pub modifiers_of : Library → List (List ℕ)
 modifiers_of library = virtual_names (modifier_bodies_of library)
-
--- ---- Types, codes and keys
 
 abbrev pub declared_in : Library → List ℕ → Option Definition
 declared_in library = declared_type (modifiers_of library) (body_of library Types)
@@ -107,8 +103,6 @@ module _ (names : KeysymTable) (library : Library) where
   -- the real modifiers that a set of modifiers stands for
   abbrev pub real_in : ℕ → RealSet
   real_in = real_of (stands read_keymap_in)
-
--- ---- Indicators, and the keymap
 
 -- what each of some indicators has, of which the first has this number
 abbrev pub indicator_maps_from : {X : Type 0} → (ℕ → X) → ℕ → List (List ℕ) → List X

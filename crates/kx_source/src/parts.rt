@@ -1,6 +1,6 @@
 //! The tables of what is read of a source's bodies.
 ghost use Rattle.std.specs.Prelude.{◌≡◌, IfOk};
-ghost use Rattle.ks_core.specs.Table.{KeysymTable};
+ghost use Rattle.ks_core.specs.Table.{KeysymTable, letters_of};
 ghost use Rattle.kx_compat.specs.Meaning.{interpretations_of};
 ghost use Rattle.kx_merge.specs.Reports.{ReportsOrRunsOut};
 ghost use Rattle.kx_resolve.specs.Modmaps.{modmap_at};
@@ -60,7 +60,7 @@ fn standing_parts<E: Ending>(
 ) -> Result<(RawTables, Notes), Fault>
     ensures interpreted { (names : KeysymTable) → keys.entry.interpretations.now
         ≡ interpretations_of names (modifiers_named sections.entry) (compat_of sections.entry)
-        → keys.entry.named.typing.letters ≡ names.letters → IfOk result (λ made.
+        → letters_of keys.entry.named.typing.letters ≡ names.letters → IfOk result (λ made.
         InterpretedBy sections.entry names keys.entry.named.codes.now
         keys.entry.named.typing.types.now keys.entry.named.keys.now
         (modmap_at keys.entry.modmaps.now) (content_of made.0)) }

@@ -1,14 +1,14 @@
 //! The files that a source's includes reach.
 use crate::unread::Unread;
-use kx_explain::{Text, Texts};
 use kx_failure::Failure;
+use kx_include::Files;
 use kx_reach::{FindFault, Finding, Folder, Found, read_file};
 use std::alloc::{AllocError, Global};
 use std::io;
-use std::rt::Files;
+use std::rt::Files as FileSystem;
 
 /// The failure of a file that was found and can't be read: it is tried again, to see why.
-pub(crate) fn unusable(rt: &(impl Files + AllocGlobal), path: String) -> Unread {
+pub(crate) fn unusable(rt: &(impl FileSystem + AllocGlobal), path: String) -> Unread {
     let kind = match read_file(rt, path.as_str()) {
         Ok(_) => io::ErrorKind::Other,
         Err(fault) => fault.kind(),
@@ -17,7 +17,7 @@ pub(crate) fn unusable(rt: &(impl Files + AllocGlobal), path: String) -> Unread 
 }
 
 /// The folder at a path.
-fn open_folder(rt: &(impl Files + AllocGlobal), path: &str) -> Result<Folder, Unread> {
+fn open_folder(rt: &(impl FileSystem + AllocGlobal), path: &str) -> Result<Folder, Unread> {
     match Folder::open(rt, path) {
         Ok(folder) => Ok(folder),
         Err(fault) if fault.kind() == io::ErrorKind::OutOfMemory => Err(Unread::Memory),
@@ -75,7 +75,7 @@ impl Reaching {
     }
 
     /// Opens the folders that aren't open yet.
-    pub(crate) fn open(&mut self, rt: &(impl Files + AllocGlobal)) -> Result<(), Unread> {
+    pub(crate) fn open(&mut self, rt: &(impl FileSystem + AllocGlobal)) -> Result<(), Unread> {
         for path in self.paths.iter().skip(self.folders.len()) {
             let folder = open_folder(rt, path.as_str())?;
             if self.folders.push(folder).is_err() {
@@ -88,25 +88,17 @@ impl Reaching {
     /// Finds the files that the includes of a source reach. With no folder nothing is looked for.
     pub(crate) fn find(
         &mut self,
-        rt: &(impl Files + AllocGlobal),
+        rt: &(impl FileSystem + AllocGlobal),
         source: &[u8],
     ) -> Result<(), Unread> {
         if self.folders.is_empty() {
             return Ok(());
         }
-        let texts = Texts {
-            source: Text {
-                name: "",
-                path: "",
-                bytes: source,
-            },
-            files: &[],
-        };
         let mut finding = match self.finding.take() {
             Some(finding) => finding,
-            None => Finding::of(self.alloc, texts)?,
+            None => Finding::of(self.alloc, source, Files::new(self.alloc))?,
         };
-        let outcome = match finding.go_on(rt, self.folders.as_slice(), texts) {
+        let outcome = match finding.go_on(rt, self.folders.as_slice()) {
             Ok(()) => Ok(()),
             Err(FindFault::File(path)) => Err(unusable(rt, path)),
             // Such a walk can't go on.
@@ -123,11 +115,11 @@ impl Reaching {
             .is_some_and(|finding| finding.misses())
     }
 
-    /// The files that were found.
-    pub(crate) fn found(&mut self) -> Vec<Found> {
+    /// The files that were found, and what is known of them.
+    pub(crate) fn found(&mut self) -> (Files, Vec<Found>) {
         match self.finding.take() {
             Some(finding) => finding.found(),
-            None => Vec::new(self.alloc),
+            None => (Files::new(self.alloc), Vec::new(self.alloc)),
         }
     }
 }

@@ -7,7 +7,6 @@ use crate::source::{HeldSource, Known, Origin};
 use crate::unread::Unread;
 use crate::words::Words;
 use kx_include::Files;
-use kx_reach::add_found;
 use kx_told::Told;
 use std::alloc::{AllocError, Global};
 
@@ -82,9 +81,7 @@ impl Work {
     fn held(&mut self, text: Vec<u8>, origin: Option<Origin>) -> Result<HeldSource, AllocError>
         ensures { IfOk result (λ source. source.text ≡ text.items) }
     {
-        let mut found = self.reaching.found();
-        let mut files = Files::new(self.alloc);
-        add_found(&mut files, found.as_mut_slice())?;
+        let (files, found) = self.reaching.found();
         let folders = self.reaching.copied_paths()?;
         let known = Known {
             found,

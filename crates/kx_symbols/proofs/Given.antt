@@ -12,7 +12,7 @@ use Rattle.kx_symbols.specs.Known.{Known}
 use Rattle.kx_symbols.specs.Lists.{StatementLists, lists_of}
 use Rattle.kx_parse.specs.declared.tree.Mode.{Mode}
 use Rattle.kx_merge.specs.Records.{IsOffered}
-use Rattle.kx_symbols.specs.Keys.{KeyContent, cell_in, content_of, given_cell, given_width, key_offer, width_in_key}
+use Rattle.kx_symbols.specs.Keys.{KeyContent, cell_in, content_of, given_cell, given_width, key_form, key_offer, width_in_key}
 use Rattle.kx_symbols.specs.declared.cells.Cell.{Cell}
 use Rattle.kx_symbols.specs.declared.cells.Cell.TheVariants as cells
 use Rattle.kx_symbols.specs.declared.cells.CellValue.TheVariants as values
@@ -41,5 +41,5 @@ module _ (known : Known) (fs : List KeyField) (s : StatementLists) (settings : S
   widths_given : (g : ℕ) → given_width known fs g ≡ width_in_key (content_of s settings) g
   widths_given g = ap (λ (lists : StatementLists). max (width_in (lists.symbols) g) (width_in (lists.actions) g)) (sym is) ∙ ap (λ n. max n (width_in s.actions g)) (width_first s.symbols g) ∙ ap (max (list_width (record { from = 0; lists = s.symbols }) g)) (width_first s.actions g)
 
-  pub statement_offered : (mode : Mode) (code : ℕ) → IsOffered {K = ℕ} {C = Cell} {V = CellValue} {R = KeyContent} mode cell_in width_in_key code (content_of s settings) (key_offer known fs mode code)
+  pub statement_offered : (mode : Mode) (code : ℕ) → IsOffered {K = ℕ} {C = Cell} {V = CellValue} {R = KeyContent} mode key_form code (content_of s settings) (key_offer known fs mode code)
   statement_offered mode code = record { mode_is = refl; name_is = refl; value_is = cells_given; width_is = widths_given }

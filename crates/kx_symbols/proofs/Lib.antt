@@ -1,5 +1,4 @@
 mod Contents
 mod Given
 mod Statements
-mod Texts
 mod Unsaid

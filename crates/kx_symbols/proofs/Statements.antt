@@ -15,7 +15,7 @@ use Rattle.kx_parse.specs.declared.tree.Mode.{Mode}
 use Rattle.kx_parse.specs.declared.tree.Statement.{Statement as Said}
 use Rattle.kx_parse.specs.declared.tree.Statement.TheVariants as said
 use Rattle.kx_symbols.specs.KeyFaults.{field_faults, fields_faults, other_faults}
-use Rattle.kx_symbols.specs.Keys.{KeyContent, cell_in, key_offer, offered, width_in_key}
+use Rattle.kx_symbols.specs.Keys.{KeyContent, key_form, key_offer, offered}
 use Rattle.kx_symbols.specs.Lists.{StatementLists, field_lists, no_lists}
 use Rattle.kx_symbols.specs.Known.{Known}
 use Rattle.kx_symbols.specs.declared.cells.Cell.{Cell}
@@ -43,7 +43,7 @@ unknown_blamed file modifiers word (said.Field f) not_mods not_map not_field = a
 unknown_blamed file modifiers word _ not_mods not_map not_field = behind_memory (UnknownField (at file word) ∷ []) (UnknownField (at file word)) (search rules)
 
 pub key_given : {X : Type 0} (items : X → List (ℕ × KeyContent)) (known : Known) (fs : List KeyField) (mode : Mode) (code : ℕ) (o : Option ℕ) (r : Result X Fault) → o ≡ Some code
-    → IfOk r (λ x. AreOffered {K = ℕ} {C = Cell} {V = CellValue} {R = KeyContent} mode cell_in width_in_key (items x) (key_offer known fs mode code ∷ []))
-    → IfOk r (λ x. AreOffered {K = ℕ} {C = Cell} {V = CellValue} {R = KeyContent} mode cell_in width_in_key (items x) (offered known fs mode o))
+    → IfOk r (λ x. AreOffered {K = ℕ} {C = Cell} {V = CellValue} {R = KeyContent} mode key_form (items x) (key_offer known fs mode code ∷ []))
+    → IfOk r (λ x. AreOffered {K = ℕ} {C = Cell} {V = CellValue} {R = KeyContent} mode key_form (items x) (offered known fs mode o))
 key_given items known fs mode code o r some given =
-    subst (λ p. IfOk r (λ x. AreOffered {K = ℕ} {C = Cell} {V = CellValue} {R = KeyContent} mode cell_in width_in_key (items x) (offered known fs mode p))) (sym some) given
+    subst (λ p. IfOk r (λ x. AreOffered {K = ℕ} {C = Cell} {V = CellValue} {R = KeyContent} mode key_form (items x) (offered known fs mode p))) (sym some) given

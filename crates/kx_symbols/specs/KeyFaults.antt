@@ -124,15 +124,14 @@ module _ (file : ℕ) where
   other_faults modifiers word (statements.Field field) = if is_group_name field.place then [] else if is_key_word field.place.word.bytes then key_default_faults file modifiers field else action_default_faults file modifiers field
   other_faults modifiers word _ = UnknownField (at file word) ∷ []
 
-  -- of the lists of a key statement, and of what it says besides
-  abbrev pub content_faults : Known → Span → List KeyField → List Fault
-  content_faults known whole fs = fields_faults known whole no_lists fs ++ setting_faults file known.modifiers fs
-
-  -- those of a statement in a file
+  -- those of a statement in a file: of a key, of its lists, and of what it says besides
   abbrev pub stated_faults : Known → Stated → List Fault
-  stated_faults known stated = option_map_or (λ key. name_faults file stated.span key.0 ++ content_faults known stated.span key.1) (key_in stated.statement) (other_faults known.modifiers (word_span stated) stated.statement)
+  stated_faults known stated = option_map_or (λ key. name_faults file stated.span key.0 ++ (fields_faults known stated.span no_lists key.1 ++ setting_faults file known.modifiers key.1)) (key_in stated.statement) (other_faults known.modifiers (word_span stated) stated.statement)
 
 -- ---- Under names, for clauses and proofs
+
+abbrev pub content_faults : (file : ℕ) → Known → Span → List KeyField → List Fault
+content_faults file known whole fs = fields_faults file known whole no_lists fs ++ setting_faults file known.modifiers fs
 
 abbrev pub default_faults : (file : ℕ) → List (List ℕ) → Field → List Fault
 default_faults file modifiers field = if is_key_word field.place.word.bytes then key_default_faults file modifiers field else action_default_faults file modifiers field

@@ -13,6 +13,7 @@ use Rattle.kx_key_fields.specs.Records.{KeyLists, value_in, width_in_key as list
 use Rattle.kx_merge.specs.ByGroup.{group_before}
 use Rattle.kx_merge.specs.Bodies.{Rules, Moves, offers_of}
 use Rattle.kx_merge.specs.Offers.{Offer, value_of, width_of}
+use Rattle.kx_merge.specs.Records.{Form}
 use Rattle.kx_parse.specs.declared.tree.Field.{Field}
 use Rattle.kx_parse.specs.declared.tree.KeyField.{KeyField}
 use Rattle.kx_parse.specs.declared.tree.Mode.{Mode}
@@ -42,6 +43,9 @@ cell_in key (cells.Setting cell) = option_map values.Setting (attribute_in key.s
 -- a group is as wide as the longer of its lists
 abbrev pub width_in_key : KeyContent → ℕ → ℕ
 width_in_key key group = max (list_width key.symbols group) (list_width key.actions group)
+
+abbrev pub key_form : Form KeyContent Cell CellValue
+key_form = record { cell = cell_in; width = width_in_key }
 
 -- what the lists of one statement and what it says besides make of a key
 abbrev pub content_of : StatementLists → Settings → KeyContent
@@ -73,9 +77,6 @@ module _ (modifiers : List (List ℕ)) where
   abbrev pub after_field : Defaults → Field → Defaults
   after_field d field = record { actions = next_action_defaults modifiers d.actions field; keys = next_key_defaults modifiers d.keys field }
 
-  abbrev pub said_next : Defaults → Option Field → Defaults
-  said_next d field = option_map_or (after_field d) field d
-
 -- `modifiers` are the virtual modifiers by number
 module _ (codes : Codes) (names : KeysymTable) (modifiers : List (List ℕ)) where
   abbrev pub known_under : Defaults → Known
@@ -84,7 +85,7 @@ module _ (codes : Codes) (names : KeysymTable) (modifiers : List (List ℕ)) whe
   abbrev pub key_rules : Rules ℕ Cell CellValue Defaults
   key_rules = record {
     start = no_defaults;
-    next = λ d stated. said_next modifiers d (field_in stated.statement);
+    next = λ d stated. option_map_or (after_field modifiers d) (field_in stated.statement) d;
     offers = λ d place stated. said_offers codes (known_under d) stated.mode (key_in stated.statement);
     faults = λ d place stated. stated_faults place.file (known_under d) stated;
   }
@@ -118,7 +119,10 @@ pub record KeysShow (keys : List (ℕ × KeyContent)) (codes : Codes) (names : K
   pub cells_are : (code : ℕ) (c : Cell) → cell_in_any (key_at keys code) c ≡ value_of nat_eq (offers_of nat_eq (key_rules codes names modifiers) key_moves body) code c
   pub widths_are : (code group : ℕ) → width_in_any (key_at keys code) group ≡ width_of nat_eq (offers_of nat_eq (key_rules codes names modifiers) key_moves body) code group
 
--- ---- Under a name, for clauses and proofs
+-- ---- Under names, for clauses and proofs
+
+abbrev pub said_next : (modifiers : List (List ℕ)) → Defaults → Option Field → Defaults
+said_next modifiers d field = option_map_or (after_field modifiers d) field d
 
 abbrev pub given_width : (known : Known) → (fs : List KeyField) → ℕ → ℕ
 given_width known fs group = max (width_in (lists_of known fs).symbols group) (width_in (lists_of known fs).actions group)

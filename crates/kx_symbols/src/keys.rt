@@ -12,7 +12,7 @@ ghost use Rattle.kx_merge.specs.Records.{AreOffered, IsOffered};
 ghost use Rattle.kx_symbols.specs.KeyFaults.{content_faults, key_in, stated_faults};
 ghost use Rattle.kx_merge.specs.Faults.{name_faults};
 ghost use Rattle.kx_codes.specs.Codes.{code_of};
-ghost use Rattle.kx_symbols.specs.Keys.{KeysShow, cell_in, field_in, key_at, key_moves, key_offer, key_rules, known_under, offered, said_next, said_offers, width_in_key};
+ghost use Rattle.kx_symbols.specs.Keys.{KeysShow, cell_in, field_in, key_at, key_form, key_moves, key_offer, key_rules, known_under, offered, said_next, said_offers, width_in_key};
 ghost use Rattle.kx_merge.specs.Reports.{ReportsOrRunsOut};
 
 use crate::cells::{Cell, CellValue};
@@ -53,15 +53,15 @@ fn key_in(statement: &Statement) -> Option<(&KeyName, &SmallRow<KeyField>)>
 
 #[tactic(auto, using(kx_merge::proofs::Offered::nothing_offered))]
 fn no_records(alloc: Global) -> Vec<(u16, KeyRecord)>
-    ensures { (mode : ModeValue) → AreOffered mode (cell_in) (width_in_key) result.items [] }
+    ensures { (mode : ModeValue) → AreOffered mode key_form result.items [] }
 {
     Vec::new(alloc)
 }
 
 fn one_record(alloc: Global, code: u16, key: KeyRecord) -> Result<Vec<(u16, KeyRecord)>, Fault>
     ensures records { (mode : ModeValue) (o : Offer ℕ Cell CellValue)
-        → IsOffered mode (cell_in) (width_in_key) code key o
-        → IfOk result (λ records. AreOffered mode (cell_in) (width_in_key) records.items (o ∷ [])) }
+        → IsOffered mode key_form code key o
+        → IfOk result (λ records. AreOffered mode key_form records.items (o ∷ [])) }
     ensures err { IfErr result (λ e. e ≡ Memory) }
 {
     let mut records = Vec::with_capacity(alloc, 1)?;
@@ -78,7 +78,7 @@ fn read_content(
     notes: &mut Notes,
 ) -> Result<KeyRecord, Fault>
     ensures offered { (mode : ModeValue) (code : ℕ)
-        → IfOk result (λ key. IsOffered mode (cell_in) (width_in_key) code key
+        → IfOk result (λ key. IsOffered mode key_form code key
         (key_offer known.now fields.now mode code)) }
     ensures faults { ReportsOrRunsOut result
         (content_faults whole.file known.now whole.span fields.now) }
@@ -98,9 +98,8 @@ fn read_key(
     fields: &[KeyField],
     notes: &mut Notes,
 ) -> Result<Vec<(u16, KeyRecord)>, Fault>
-    ensures records { (mode : ModeValue)
-        → IfOk result (λ records. AreOffered mode (cell_in) (width_in_key) records.items
-        (offered known.now fields.now mode (code_of codes.now name.now.bytes))) }
+    ensures records { (mode : ModeValue) → IfOk result (λ records. AreOffered mode key_form
+        records.items (offered known.now fields.now mode (code_of codes.now name.now.bytes))) }
     ensures faults { ReportsOrRunsOut result
         (name_faults whole.file whole.span name.now
         ++ content_faults whole.file known.now whole.span fields.now) }
@@ -127,9 +126,8 @@ fn read_statement(
     stated: &Stated,
     notes: &mut Notes,
 ) -> Result<(Vec<(u16, KeyRecord)>, SectionDefaults), Fault>
-    ensures records { (mode : ModeValue)
-        → IfOk result (λ said. AreOffered mode (cell_in) (width_in_key) said.0.items
-        (said_offers context.now.codes.now (known_under context.now.codes.now
+    ensures records { (mode : ModeValue) → IfOk result (λ said. AreOffered mode key_form
+        said.0.items (said_offers context.now.codes.now (known_under context.now.codes.now
         context.now.keysyms.now context.now.modifiers.now.names defaults) mode
         (key_in stated.now.statement))) }
     ensures next { IfOk result (λ said.
@@ -177,9 +175,7 @@ impl<'a, 'l> Fields<Context<'a, 'l>> for KeyRecord {
 
     ghost moves = { key_moves };
 
-    ghost cell = { λ r c. cell_in r c };
-
-    ghost width = { λ r g. width_in_key r g };
+    ghost form = { key_form };
 
     fn start(_alloc: Global, _context: &Context<'a, 'l>) -> SectionDefaults {
         SectionDefaults::none()

@@ -164,21 +164,14 @@ fn word_keysym(names: &NameTable, word: &[u8], notes: &mut Notes) -> Option<u32>
     keysym.filter(|number| *number != 0)
 }
 
-/// The keysym of a word that is text. A built-in name is ASCII, so that most words need no other look.
-#[tactic(auto, using(crate::proofs::Texts::of_text, ks_core::proofs::TextLemmas::built_in_text))]
+/// The keysym of a word that is text.
 fn keysym_of_text(names: &NameTable, word: &[u8]) -> Option<u32>
     ensures value { result ≡ keysym_of_text names.now word.now }
     ensures within { IfSome result (λ keysym. is_written_back keysym ≡ true) }
 {
-    if let Some(keysym) = NameTable::built_in(word) {
-        return Some(keysym.0);
-    }
-    match str::from_utf8(word) {
-        Ok(text) => match names.by_name(text) {
-            Some(keysym) => Some(keysym.0),
-            None => None,
-        },
-        Err(_) => None,
+    match names.by_bytes(word) {
+        Some(keysym) => Some(keysym.0),
+        None => None,
     }
 }
 

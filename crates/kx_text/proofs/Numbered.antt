@@ -13,7 +13,7 @@ swap true true x y rest never = absurd (never refl refl)
 swap true false x y rest never = refl
 swap false b x y rest never = refl
 
--- a row behind one of its number is never looked up
+-- a row after one of its number is never looked up
 shadow : (a b : Bool) (x y rest : Option ℕ) → (a ≡ false → b ≡ true → ⊥) → cond a x rest ≡ cond a x (cond b y rest)
 shadow true b x y rest never = refl
 shadow false true x y rest never = absurd (never refl refl)

@@ -12,7 +12,7 @@ unfoldable pub image_in : List Run → ℕ → Option ℕ
 image_in [] keysym = None
 image_in (run ∷ runs) keysym = cond (is_in_range run.0 run.1 keysym) (Some (run.2 + (keysym - run.0))) (image_in runs keysym)
 
--- of an even number of letters in turn: the one in upper case, and the one in lower case behind it
+-- of an even number of letters in turn: the one in upper case, and the one in lower case after it
 abbrev or_else : Option ℕ → ℕ → ℕ
 or_else None other = other
 or_else (Some number) other = number
@@ -31,7 +31,7 @@ upper keysym = upper_at keysym (image_in alternating keysym)
 abbrev pub lower : ℕ → ℕ
 lower keysym = lower_at keysym (image_in alternating keysym)
 
--- each run ends where it begins or later, and begins behind the one before it; all numbers are keysyms
+-- each run ends where it begins or later, and begins after the one before it; all numbers are keysyms
 unfoldable pub follow : ℕ → List Run → Bool
 follow low [] = true
 follow low (run ∷ runs) = nat_le low run.0 && (nat_le run.0 run.1 && (nat_lt run.1 0x20000000 && (nat_lt run.2 0x20000000 && follow (run.1 + 1) runs)))

@@ -6,7 +6,7 @@ ghost use Rattle.kx_text.specs.CaseRuns.{alternating, to_lower, to_upper};
 use crate::case_table::{ALTERNATING, TO_LOWER, TO_UPPER};
 use ks_core::Keysym;
 
-/// Keysyms in a row: the first, the last, and what the first becomes. Those behind it become what follows.
+/// Keysyms in a row: the first, the last, and what the first becomes. Those after it become what follows.
 pub(crate) type Run = (u32, u32, u32);
 
 /// The keysym of a letter in upper case, and any other itself.

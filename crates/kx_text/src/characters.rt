@@ -18,7 +18,7 @@ pub(crate) fn is_latin(number: u32) -> bool
     (0x20 <= number && number <= 0x7e) || (0xa0 <= number && number <= 0xff)
 }
 
-/// Whether a keysym is a character's number behind that of U+0000.
+/// Whether a keysym is a character's number after that of U+0000.
 fn is_unicode(keysym: u32) -> bool
     ensures { result ≡ is_unicode keysym }
 {

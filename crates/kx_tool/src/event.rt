@@ -5,7 +5,7 @@ ghost use Rattle.std.specs.List.{list_all};
 ghost use Rattle.kx_tool.specs.EventLines.{KeepsLine, Says, code_in, event_of, event_with, has_code_digits};
 
 use arrayvec::ArrayVec;
-use kx_basics::digits_value;
+use kx_basics::decimal_value;
 use kx_run::{Direction, Event};
 use std::marker::Model;
 
@@ -134,7 +134,7 @@ fn code_in(digits: &[u8]) -> Option<u16>
     if !has_code_digits(digits) {
         return None;
     }
-    let code = digits_value(digits, 10);
+    let code = decimal_value(digits);
     if code < 65_536 {
         Some(code as u16)
     } else {

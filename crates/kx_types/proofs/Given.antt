@@ -3,7 +3,7 @@ use Rattle.std.proofs.Common.{◌≡◌, ℕ, List, [], ◌∷◌, Option, Some,
 use Rattle.kx_lex.specs.declared.fault.Fault.{Fault}
 use Rattle.kx_lex.specs.declared.name.Name.{Name}
 use Rattle.kx_merge.specs.Records.{AreOffered}
-use Rattle.kx_merge.specs.Single.{single_cell, single_width}
+use Rattle.kx_merge.specs.Single.{single_form}
 use Rattle.kx_merge.specs.declared.single.Single.{Single}
 use Rattle.kx_parse.specs.declared.tree.Field.{Field}
 use Rattle.kx_parse.specs.declared.tree.Mode.{Mode}
@@ -12,7 +12,7 @@ use Rattle.kx_types.specs.TypeFields.{sayings_of}
 use Rattle.kx_types.specs.Types.{TypeOffer, said_offers, type_offer}
 
 abbrev Offered : Mode → List (List ℕ × Single Definition) → List TypeOffer → Type 0
-Offered mode records os = AreOffered {K = List ℕ} {C = Unit {0}} {V = Definition} mode single_cell single_width records os
+Offered mode records os = AreOffered {K = List ℕ} {C = Unit {0}} {V = Definition} mode single_form records os
 
 pub said_given : {X : Type 0} (items : X → List (List ℕ × Single Definition)) (r : Result X Fault) (mode : Mode) (names : List (List ℕ)) (name : Name) (fields same : List Field) (o : Option (Name × List Field)) → Some (name, fields) ≡ o → same ≡ fields
     → IfOk r (λ x. Offered mode (items x) (type_offer mode name.bytes (definition_of (sayings_of names same)) ∷ [])) → IfOk r (λ x. Offered mode (items x) (said_offers names mode o))

@@ -6,7 +6,7 @@ use Rattle.std.specs.Str.{bytes_eq}
 use Rattle.indexmap.specs.IndexMap.{IndexMap, get, keys}
 use Rattle.kx_include.specs.Expansion.{Body}
 use Rattle.kx_merge.specs.Records.{Shows, cell_in}
-use Rattle.kx_merge.specs.Single.{single_cell, single_width}
+use Rattle.kx_merge.specs.Single.{single_form}
 use Rattle.kx_merge.specs.declared.single.Single.{Single}
 use Rattle.kx_types.specs.Shown.{shown_entry}
 use Rattle.kx_types.specs.Types.{NamedTypes, TypesShow, names_in, type_named, type_offers}
@@ -29,12 +29,12 @@ names_shown (e ∷ es) = ap (λ ns. e.0 ∷ ns) (names_shown es)
 pub place_is : (name : List ℕ) (types : NamedTypes) (es : Records) → map shown_entry es ≡ types → position (bytes_eq name) (names_in types) ≡ position (bytes_eq name) (keys_of es)
 place_is name types es shown = ap (position (bytes_eq name)) (ap names_in (sym shown) ∙ names_shown es)
 
-cell_is : (o : Option (Single Definition)) → cell_in single_cell o tt ≡ option_and_then (λ (d : Single Definition). d.value) o
+cell_is : (o : Option (Single Definition)) → cell_in single_form o tt ≡ option_and_then (λ (d : Single Definition). d.value) o
 cell_is None = refl
 cell_is (Some d) = refl
 
 -- records that show what a body offers are its types
-pub types_show : {S : Type 0} (m : IndexMap (List ℕ) (Single Definition) S) (names : List (List ℕ)) (body : Body) → Shows single_cell single_width bytes_eq (keys m) (get bytes_eq m) (type_offers names body) → TypesShow (map shown_entry m.entries) names body
+pub types_show : {S : Type 0} (m : IndexMap (List ℕ) (Single Definition) S) (names : List (List ℕ)) (body : Body) → Shows single_form bytes_eq (keys m) (get bytes_eq m) (type_offers names body) → TypesShow (map shown_entry m.entries) names body
 types_show m names body shows = record {
   names_are = names_shown m.entries ∙ shows.names_are;
   definitions_are = λ name. looked_up (bytes_eq name) m.entries ∙ sym (cell_is (lookup (bytes_eq name) m.entries)) ∙ shows.cells_are name tt;

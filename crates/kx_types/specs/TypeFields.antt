@@ -20,13 +20,9 @@ use Rattle.kx_types.specs.declared.fields.Slot.TheVariants as slots
 use Rattle.kx_types.specs.declared.saying.Saying.{Saying}
 use Rattle.kx_types.specs.declared.saying.Saying.TheVariants.{Modifiers, Map, Preserve, LevelName}
 
--- the words of fields
-abbrev pub slot_words : List (List ℕ × Slot)
-slot_words = (codes "modifiers", slots.Modifiers) ∷ (codes "map", slots.Map) ∷ (codes "preserve", slots.Preserve) ∷ (codes "level_name", slots.LevelName) ∷ (codes "levelname", slots.LevelName) ∷ []
-
 -- what the word of a field sets
 abbrev pub slot_of : List ℕ → Option Slot
-slot_of word = among slot_words word
+slot_of word = among ((codes "modifiers", slots.Modifiers) ∷ (codes "map", slots.Map) ∷ (codes "preserve", slots.Preserve) ∷ (codes "level_name", slots.LevelName) ∷ (codes "levelname", slots.LevelName) ∷ []) word
 
 -- `names` are the virtual modifiers by number
 module _ (names : List (List ℕ)) where

@@ -22,11 +22,8 @@ use Rattle.kx_types.specs.declared.limits.TheConstants.{MOST_TYPES}
 abbrev pub TypeOffer : Type 0
 TypeOffer = Offer (List ℕ) (Unit {0}) Definition
 
-abbrev pub type_offer : Mode → List ℕ → Definition → TypeOffer
-type_offer mode name definition = plain_offer mode name (λ _. Some definition)
-
 abbrev pub said_offers : List (List ℕ) → Mode → Option (Name × List Field) → List TypeOffer
-said_offers names mode t = option_map_or (λ t. type_offer mode t.0.bytes (definition_of (sayings_of names t.1)) ∷ []) t []
+said_offers names mode t = option_map_or (λ t. plain_offer mode t.0.bytes (λ _. Some (definition_of (sayings_of names t.1))) ∷ []) t []
 
 -- `names` are the virtual modifiers by number
 module _ (names : List (List ℕ)) where
@@ -38,16 +35,13 @@ abbrev pub type_names : Statement → List (List ℕ)
 type_names statement = option_map_or (λ t. t.0.bytes ∷ []) (type_in statement) []
 
 module _ (names : List (List ℕ)) (body : Body) where
-  abbrev pub type_offers : List TypeOffer
-  type_offers = offers_of bytes_eq (type_rules names) no_moves body
-
   -- the definition of a type by precedence
   abbrev pub declared_type : List ℕ → Option Definition
-  declared_type name = value_of bytes_eq type_offers name tt
+  declared_type name = value_of bytes_eq (offers_of bytes_eq (type_rules names) no_moves body) name tt
 
   -- the types in the order in which they are first named
   abbrev pub declared_names : List (List ℕ)
-  declared_names = names_of bytes_eq type_offers
+  declared_names = names_of bytes_eq (offers_of bytes_eq (type_rules names) no_moves body)
 
   -- the statement with which there are too many types, and the faults of the statements
   abbrev pub types_faults : List Fault
@@ -69,6 +63,12 @@ pub record TypesShow (types : NamedTypes) (names : List (List ℕ)) (body : Body
   pub definitions_are : (name : List ℕ) → type_named types name ≡ declared_type names body name
 
 -- ---- Under names, for clauses and proofs
+
+abbrev pub type_offer : Mode → List ℕ → Definition → TypeOffer
+type_offer mode name definition = plain_offer mode name (λ _. Some definition)
+
+abbrev pub type_offers : List (List ℕ) → Body → List TypeOffer
+type_offers names body = offers_of bytes_eq (type_rules names) no_moves body
 
 abbrev pub written_name : Option (Name × List Field) → List (List ℕ)
 written_name t = option_map_or (λ t. t.0.bytes ∷ []) t []

@@ -6,7 +6,7 @@ ghost use Rattle.std.specs.Cmp.Lexicographic.{bytes_decides};
 ghost use Rattle.std.proofs.Common.{◌∙◌, ap, sym};
 ghost use Rattle.kx_include.specs.Shared.{expanded_body};
 ghost use Rattle.kx_merge.specs.Records.{AreOffered};
-ghost use Rattle.kx_merge.specs.Single.{single_cell, single_width};
+ghost use Rattle.kx_merge.specs.Single.{single_form};
 ghost use Rattle.kx_parse.specs.declared.tree.Mode.{Mode as ModeValue};
 ghost use Rattle.kx_types.specs.KeyTypes.{definition_of};
 ghost use Rattle.kx_types.specs.TypeFaults.{declares_modifiers, stated_faults, type_in};
@@ -58,7 +58,7 @@ fn read_type(
     fields: &[Field],
 ) -> Result<Vec<(ShortName, Single<KeyType>)>, Fault>
     ensures records { (mode : ModeValue)
-        → IfOk result (λ records. AreOffered mode single_cell single_width records.items
+        → IfOk result (λ records. AreOffered mode single_form records.items
         (type_offer mode name.now.bytes (definition_of (sayings_of modifiers.now.names fields.now))
         ∷ [])) }
     ensures faults { ReportsOrRunsOut result
@@ -81,9 +81,8 @@ fn read_statement(
     file: u32,
     stated: &Stated,
 ) -> Result<Vec<(ShortName, Single<KeyType>)>, Fault>
-    ensures records { (mode : ModeValue)
-        → IfOk result (λ records. AreOffered mode single_cell single_width records.items
-        (said_offers modifiers.now.names mode (type_in stated.now.statement))) }
+    ensures records { (mode : ModeValue) → IfOk result (λ records. AreOffered mode single_form
+        records.items (said_offers modifiers.now.names mode (type_in stated.now.statement))) }
     ensures faults { ReportsOrRunsOut result (stated_faults modifiers.now.names file stated.now) }
 {
     match type_in(&stated.statement) {

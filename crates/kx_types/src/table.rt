@@ -67,6 +67,19 @@ impl Types {
         }
     }
 
+    /// The place, counted from 0, and the type of a name, which is looked for first at a place where it may stand.
+    pub fn named_near(&self, name: &[u8], near: usize) -> Option<(usize, &KeyType)>
+        ensures { option_map (λ t. t.1.now) result ≡ type_named self.now name.now }
+    {
+        match self.by_name.found_near(name, near) {
+            None => None,
+            Some((place, declared)) => match declared.value.as_ref() {
+                None => None,
+                Some(key_type) => Some((place, key_type)),
+            },
+        }
+    }
+
     /// The place of a name among the types, counted from 0.
     pub fn index_of(&self, name: &[u8]) -> Option<usize>
         ensures value { result ≡ position (bytes_eq name.now) (names_in self.now) }

@@ -6,7 +6,7 @@ ghost use Rattle.std.proofs.Common.{◌∙◌, ap, eqb-true, sym};
 ghost use Rattle.kx_lex.specs.declared.fault.Fault.TheVariants.{Memory};
 ghost use Rattle.kx_merge.specs.Offers.{with_name};
 ghost use Rattle.kx_merge.specs.Records.{AreOffered};
-ghost use Rattle.kx_merge.specs.Single.{single_cell, single_width};
+ghost use Rattle.kx_merge.specs.Single.{single_form};
 ghost use Rattle.kx_parse.specs.declared.tree.Mode.{Mode as ModeValue};
 ghost use Rattle.kx_virtual_mods.specs.Declarations.{declaration_faults, declarations_in, declared_faults, given_by, given_in, last_mask, mask_offer, mask_offers, name_faults, named_by, named_in, numbers_of, stated_faults, stated_offers};
 ghost use Rattle.kx_virtual_mods.specs.Counted.{with_names};
@@ -194,9 +194,8 @@ fn records_for(
     given: &[(usize, Option<u8>)],
     numbers: &[usize],
 ) -> Result<Vec<(usize, Single<u8>)>, Fault>
-    ensures records { (mode : ModeValue)
-        → IfOk result (λ records. AreOffered mode single_cell single_width records.items
-        (map (mask_offer mode given.now) numbers.now)) }
+    ensures records { (mode : ModeValue) → IfOk result (λ records. AreOffered mode single_form
+        records.items (map (mask_offer mode given.now) numbers.now)) }
     ensures err { IfErr result (λ e. e ≡ Memory) }
 {
     let mut records = Vec::new(alloc);
@@ -212,9 +211,8 @@ fn records_of(
     alloc: Global,
     given: &[(usize, Option<u8>)],
 ) -> Result<Vec<(usize, Single<u8>)>, Fault>
-    ensures records { (mode : ModeValue)
-        → IfOk result (λ records. AreOffered mode single_cell single_width records.items
-        (mask_offers mode given.now)) }
+    ensures records { (mode : ModeValue) → IfOk result (λ records. AreOffered mode single_form
+        records.items (mask_offers mode given.now)) }
     ensures err { IfErr result (λ e. e ≡ Memory) }
 {
     let numbers = numbers_of(alloc, given)?;

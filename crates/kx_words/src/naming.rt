@@ -6,7 +6,7 @@ use std::alloc::{AllocError, Global};
 /// The words that ask for a keymap by its names.
 const NAME_WORDS: [&str; 5] = ["rules", "model", "layout", "variant", "options"];
 
-/// The commands that take names, whatever stands behind them.
+/// The commands that take names, whatever stands after them.
 const NAME_COMMANDS: [&str; 2] = ["rules", "list"];
 
 /// Whether a word is `--NAME` or `--NAME=..` of a name.

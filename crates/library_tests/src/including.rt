@@ -1,8 +1,8 @@
 //! Includes: their parts, the files that they name, and the bodies that they expand to.
-use kx_include::{Bodies, Entry, Expansion, Files, Library, Link, Place, include_parts};
+use kx_include::{Bodies, Entry, Expansion, FileText, Files, Library, Link, Place, include_parts};
 use kx_lex::Fault;
 use kx_parse::{Kind, Mode};
-use std::alloc::Global;
+use std::alloc::{AllocError, Global};
 use std::process::Abort;
 use std::test::Fail;
 
@@ -160,7 +160,16 @@ fn finds_maps(rt: &(impl Abort + AllocGlobal), library: &Library) -> Result<(), 
         file: 1,
         section: 0,
     };
-    assert!(rt; library.sections_in(1).len() == 4);
+    let last = Place {
+        file: 1,
+        section: 3,
+    };
+    let behind = Place {
+        file: 1,
+        section: 4,
+    };
+    assert!(rt; library.section_at(last).is_some());
+    assert!(rt; library.section_at(behind).is_none());
     assert!(rt; library.items_in(first).len() == 0);
     Ok(())
 }
@@ -180,4 +189,43 @@ fn maps_by_name_and_without(rt: HostRuntime) -> Result<(), Fail> {
     assert!(rt; files.len() == 2);
     let library = library_of(rt.alloc(), b"xkb_keymap { };", &files)?;
     finds_maps(&rt, &library)
+}
+
+fn text_of(alloc: Global, bytes: &[u8]) -> Result<Box<FileText>, AllocError> {
+    let bytes = Vec::from_slice(alloc, bytes)?;
+    Ok(Box::new(alloc, FileText::of(alloc, bytes)?)?)
+}
+
+#[test]
+fn a_file_keeps_its_outline(rt: HostRuntime) -> Result<(), Fail> {
+    let bytes =
+        b"xkb_symbols \"x\" { }; default xkb_symbols \"y\" { include \"us(x)\" };".as_slice();
+    let text = text_of(rt.alloc(), bytes)?;
+    assert!(rt; text.outline().is_some());
+    assert!(rt; text.map_of(Kind::Symbols, Some(b"x".as_slice())) == Some(0));
+    assert!(rt; text.map_of(Kind::Symbols, None) == Some(1));
+    assert!(rt; text.map_of(Kind::Types, None).is_none());
+    let broken = text_of(rt.alloc(), b"xkb_symbols \"x\" { key <A> { [a }; };")?;
+    assert!(rt; broken.outline().is_none());
+    assert!(rt; broken.map_of(Kind::Symbols, None).is_none());
+    Ok(())
+}
+
+#[test]
+fn a_text_is_handed_in_with_its_outline(rt: HostRuntime) -> Result<(), Fail> {
+    let bytes = b"xkb_symbols \"x\" { };".as_slice();
+    let mut files = Box::new(rt.alloc(), Files::new(rt.alloc()))?;
+    let text = FileText::of(rt.alloc(), Vec::from_slice(rt.alloc(), bytes)?)?;
+    assert!(rt;
+        files
+            .insert_text(Vec::from_slice(rt.alloc(), b"us")?, text)
+            .is_ok()
+    );
+    assert!(rt; files.bytes_at(0) == bytes);
+    assert!(rt; files.text_at(1).is_none());
+    match files.text_at(0) {
+        Some(text) => assert!(rt; text.outline().is_some()),
+        None => assert!(rt; false),
+    }
+    Ok(())
 }

@@ -1,6 +1,8 @@
 //! Trees of texts.
 use kx_lex::{Fault, Span, lex};
-use kx_parse::{Item, Kind, Mode, Section, Stated, Statement, Tree, outline_file, parse};
+use kx_parse::{
+    Item, Kind, Mode, Section, Stated, Statement, Tree, outline_file, outline_source, parse,
+};
 use std::alloc::Global;
 use std::process::Abort;
 use std::test::Fail;
@@ -236,5 +238,34 @@ fn a_file_without_a_tree_has_no_outline(rt: HostRuntime) -> Result<(), Fail> {
     assert!(rt; outline_file(rt.alloc(), broken)?.is_none());
     let unnamed = b"xkb_keymap { xkb_symbols { }; };".as_slice();
     assert!(rt; outline_file(rt.alloc(), unnamed)?.is_none());
+    Ok(())
+}
+
+#[test]
+fn a_source_has_an_outline(rt: HostRuntime) -> Result<(), Fail> {
+    let source =
+        b"default xkb_keymap \"all\" { xkb_types { }; xkb_symbols { include \"us\" }; };".as_slice();
+    let Some(outline) = outline_source(rt.alloc(), source)? else {
+        assert!(rt; false);
+        return Ok(());
+    };
+    let [types, symbols] = outline.sections.as_slice() else {
+        assert!(rt; false);
+        return Ok(());
+    };
+    assert!(rt; types.kind == Kind::Types);
+    assert!(rt; symbols.items.as_slice().len() == 1);
+    assert!(rt; outline.places.as_slice().len() == 2);
+    Ok(())
+}
+
+#[test]
+fn what_is_no_source_has_no_outline(rt: HostRuntime) -> Result<(), Fail> {
+    let open = b"xkb_keymap { xkb_types { };".as_slice();
+    assert!(rt; outline_source(rt.alloc(), open)?.is_none());
+    let more = b"xkb_keymap { xkb_types { }; }; xkb_types { };".as_slice();
+    assert!(rt; outline_source(rt.alloc(), more)?.is_none());
+    let file = b"xkb_types { }; xkb_types { };".as_slice();
+    assert!(rt; outline_source(rt.alloc(), file)?.is_none());
     Ok(())
 }

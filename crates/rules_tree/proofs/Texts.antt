@@ -76,7 +76,7 @@ made_slices c =
     ++ (part_slices (codes "xkb_compat") c.compat
     ++ part_slices (codes "xkb_symbols") c.symbols)))
 
--- behind the text between quotes
+-- after the text between quotes
 abbrev behind : List ℕ
 behind = codes " };" ++ 10 ∷ []
 

@@ -1,4 +1,4 @@
-use Rattle.std.proofs.Common.{◌≤◌, ◌<◌, ◌^◌, drop, arith}
+use Rattle.std.proofs.Common.{drop, arith}
 use Rattle.kx_basics.proofs.Growing.{digits_value_after-grows}
 use Rattle.kx_basics.proofs.digits.digits_value.Goals as goal
 

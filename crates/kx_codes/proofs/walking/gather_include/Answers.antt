@@ -16,10 +16,10 @@ returns-in-len1-clause-took c = λ names bodies are.
     subst (λ ys. Took names names c.args.gathered.now c.gather_link.new.gathered (Inc c.args.mode None (links_body bodies ys) End)) (sym (single ls first c.in-len1.len_at_least c.in-len1.len_below))
     (took_once names are.once c.args.gathered.now c.gather_link.new.gathered c.args.mode x.mode x.group (body_at bodies x.map) (c.in_ok-gather_link.ensures.took names bodies are))
 
-pub returns-in_err-take_all-clause-fault : goal.returns-in_err-take_all-clause-fault
-returns-in_err-take_all-clause-fault c =
-    err_passed c.from_residual-in_err-take_all.result (λ (e : Fault). (names : List (List ℕ)) (bodies : List Body) → AreGathered names c.args.done.now bodies → Blames (Inc c.args.mode None (links_body bodies c.args.links.now) End) e) c.in_err-take_all.field-0.0 c.from_residual-in_err-take_all.ensures.1
-    (λ names bodies are. memory_blamed (Inc c.args.mode None (links_body bodies c.args.links.now) End) c.in_err-take_all.field-0.0 c.in_err-take_all.ensures.err)
+pub returns-in_err-take_joined-clause-fault : goal.returns-in_err-take_joined-clause-fault
+returns-in_err-take_joined-clause-fault c =
+    err_passed c.from_residual-in_err-take_joined.result (λ (e : Fault). (names : List (List ℕ)) (bodies : List Body) → AreGathered names c.args.done.now bodies → Blames (Inc c.args.mode None (links_body bodies c.args.links.now) End) e) c.in_err-take_joined.field-0.0 c.from_residual-in_err-take_joined.ensures.1
+    (λ names bodies are. memory_blamed (Inc c.args.mode None (links_body bodies c.args.links.now) End) c.in_err-take_joined.field-0.0 c.in_err-take_joined.ensures.err)
 
 pub returns-in_err-gather_link-clause-fault : goal.returns-in_err-gather_link-clause-fault
 returns-in_err-gather_link-clause-fault c =
@@ -38,4 +38,4 @@ returns-in_err-joined-clause-fault c =
 
 pub returns-clause-took : goal.returns-clause-took
 returns-clause-took c = λ names bodies are.
-    took_included names are.once c.args.gathered.now c.take_all.new.self c.in_ok-joined.joined c.args.mode None (links_body bodies c.args.links.now) (c.in_ok-joined.ensures names bodies are) c.in_ok-take_all.ensures.took
+    took_included names are.once c.args.gathered.now c.take_joined.new.self c.in_ok-joined.joined c.args.mode None (links_body bodies c.args.links.now) (c.in_ok-joined.ensures names bodies are) c.in_ok-take_joined.ensures.took

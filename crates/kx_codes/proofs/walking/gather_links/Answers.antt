@@ -23,7 +23,7 @@ returns-in_err-gather_link c = λ names bodies are.
     let i = c.links.link-index in
     let x : Link = get_or ls i (record { mode = Augment; group = None; map = 0 }) in
     let e = c.in_err-gather_link.field-0.0 in
-    err_gathered names c.from_residual.result (links_body bodies ls) e c.from_residual.ensures.1
+    err_gathered names c.from_residual-in_err-gather_link.result (links_body bodies ls) e c.from_residual-in_err-gather_link.ensures.1
     (going_blames (λ (ps : List Pair). ps ≡ []) (links_body bodies ls) (links_body bodies (drop i ls)) (links_body bodies (x ∷ [])) (links_body bodies (drop (i + 1) ls)) names c.links.joined e
     (split_link bodies ls i x c.links-test.true (read_again ls i (record { mode = Augment; group = None; map = 0 }) c.links-test.true)) (c.links.invariant names bodies are) (c.in_err-gather_link.ensures.fault names bodies are))
 

@@ -3,7 +3,7 @@ use Rattle.std.specs.List.{flat_map}
 use Rattle.kx_lex.specs.declared.fault.Fault.TheVariants.{Memory}
 use Rattle.kx_symbols.specs.KeyFaults.{symbol_faults}
 use Rattle.kx_compat.specs.Sections.{own_faults, values_of}
-use Rattle.kx_merge.specs.Plain.{plain_cell, plain_width}
+use Rattle.kx_merge.specs.Plain.{plain_form}
 use Rattle.kx_merge.specs.declared.plain.Plain.{Plain}
 use Rattle.kx_compat.specs.Given.{FieldValues}
 use Rattle.kx_compat.specs.Giving.{values_cell}
@@ -29,5 +29,5 @@ returns-in_err-values-clause-faults c =
 pub returns-clause-records : goal.returns-clause-records
 returns-clause-records c = λ mode.
     let plain_of : FieldValues → Plain FieldValues = λ v. record { values = v } in
-    given_offered (plain_cell values_cell) plain_width mode (λ v g. refl) (λ v. v.items) c.records_for.result c.in_ok-interpretation_match.interpretation_match (match_of c.args.context.now.keysyms.now c.args.written.now.symbol.now c.args.written.now.predicate.now) (plain_of c.in_ok-values.values) (plain_of (values_of c.args.context.now.modifiers.now.names c.args.defaults.now c.args.written.now.fields.now))
+    given_offered (plain_form values_cell) mode (λ v g. refl) (λ v. v.items) c.records_for.result c.in_ok-interpretation_match.interpretation_match (match_of c.args.context.now.keysyms.now c.args.written.now.symbol.now c.args.written.now.predicate.now) (plain_of c.in_ok-values.values) (plain_of (values_of c.args.context.now.modifiers.now.names c.args.defaults.now c.args.written.now.fields.now))
     c.in_ok-interpretation_match.ensures.value (ap plain_of c.in_ok-values.ensures.value) c.records_for.ensures.records

@@ -2,7 +2,7 @@ use Rattle.std.proofs.Common.{◌++◌, ap, refl, ◌∙◌, position}
 use Rattle.std.specs.List.{flat_map}
 use Rattle.std.specs.Str.{bytes_eq}
 use Rattle.kx_lex.specs.declared.fault.Fault.TheVariants.{Memory}
-use Rattle.kx_merge.specs.Plain.{plain_cell, plain_width}
+use Rattle.kx_merge.specs.Plain.{plain_form}
 use Rattle.kx_merge.specs.declared.plain.Plain.{Plain}
 use Rattle.kx_indicators.specs.Given.{IndicatorMapValues}
 use Rattle.kx_indicators.specs.Giving.{values_cell}
@@ -22,5 +22,5 @@ returns-in_err-values-clause-faults c =
 pub returns-clause-records : goal.returns-clause-records
 returns-clause-records c = λ mode.
     let plain_of : IndicatorMapValues → Plain IndicatorMapValues = λ v. record { values = v } in
-    given_offered (plain_cell values_cell) plain_width mode (λ v g. refl) (λ v. v.items) c.records_for.result c.number_of.result (position (bytes_eq c.args.declared.now.name.now.bytes) c.args.context.now.indicators.now) (plain_of c.in_ok-values.values) (plain_of (values_of c.args.context.now.modifiers.now.names c.args.defaults c.args.declared.now.fields.now))
+    given_offered (plain_form values_cell) mode (λ v g. refl) (λ v. v.items) c.records_for.result c.number_of.result (position (bytes_eq c.args.declared.now.name.now.bytes) c.args.context.now.indicators.now) (plain_of c.in_ok-values.values) (plain_of (values_of c.args.context.now.modifiers.now.names c.args.defaults c.args.declared.now.fields.now))
     (c.number_of.ensures.value ∙ ap (λ bytes. position (bytes_eq bytes) c.args.context.now.indicators.now) c.as_slice-bytes.ensures) (ap plain_of c.in_ok-values.ensures.value) c.records_for.ensures.records

@@ -1,4 +1,4 @@
-use Rattle.std.proofs.Common.{◌∙◌, sym}
+use Rattle.std.proofs.Common.{sym}
 use Rattle.kx_lex.proofs.PassedOver.{digit-piece, digit-some}
 use Rattle.kx_lex.proofs.passing.front_is_digit.Goals as goal
 

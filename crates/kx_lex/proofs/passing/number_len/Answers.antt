@@ -1,4 +1,4 @@
-use Rattle.std.proofs.Common.{◌∙◌, ◌<◌, ap, sym, subst, ℕ}
+use Rattle.std.proofs.Common.{◌∙◌, sym}
 use Rattle.kx_lex.proofs.PassedOver.{hex-piece, whole-piece}
 use Rattle.kx_lex.proofs.passing.number_len.Goals as goal
 

@@ -1,4 +1,3 @@
-use Rattle.std.proofs.Common.{sym}
 use Rattle.kx_lex.proofs.PassedOver.{keyword-passes}
 use Rattle.kx_lex.proofs.passing.pass_keyword.Goals as goal
 

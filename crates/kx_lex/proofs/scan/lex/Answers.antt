@@ -1,6 +1,6 @@
-use Rattle.std.proofs.Common.{sym, inr, arith}
+use Rattle.std.proofs.Common.{sym, inr, arith, ◌+◌, ◌∙◌}
 use Rattle.kx_lex.specs.Reading.{bad_byte, open_string, open_key_name}
-use Rattle.kx_lex.proofs.Readings.{SoFar-skipped, SoFar-taken, SoFar-ended, SoFar-stopped, stopped-has_no_reading}
+use Rattle.kx_lex.proofs.Readings.{SoFar, SoFar-skipped, SoFar-space, SoFar-taken, SoFar-ended, SoFar-stopped, stopped-has_no_reading}
 use Rattle.kx_lex.proofs.scan.lex.Goals as goal
 
 pub returns-in-End-clause-read : goal.returns-in-End-clause-read
@@ -31,3 +31,10 @@ returns-in-OpenKeyName-clause-stopped c _ = inr (rw c.place-in-OpenKeyName.ensur
 
 pub returns-in-OpenKeyName-clause-complete : goal.returns-in-OpenKeyName-clause-complete
 returns-in-OpenKeyName-clause-complete c ts r _ = absurd (stopped-has_no_reading (SoFar-stopped c.pieces.invariant _ (open_key_name _ (sym c.in-OpenKeyName.ensures.exact))) r)
+
+pub pieces-preserved-then-byte_at-eq32 : goal.pieces-preserved-then-byte_at-eq32
+pieces-preserved-then-byte_at-eq32 c =
+    let taken : SoFar c.args.text.now c.past-rest-in-Lexeme.result.now (c.pieces.offset + c.in-Lexeme.len) c.push_reserved.new.self.items =
+    rw (c.past-rest-in-Lexeme.ensures, c.push_reserved.ensures.items, c.in_ok-reserve-in-Lexeme.ensures.items, c.place.ensures)
+    (SoFar-taken c.pieces.invariant c.in-Lexeme.kind c.in-Lexeme.len (omega (arith, c.in-Lexeme.ensures.within)) (sym c.in-Lexeme.ensures.exact)) in
+    rw c.past-rest-then-byte_at-eq32.ensures (SoFar-space c.past-rest-in-Lexeme.result.now taken (sym c.byte_at.ensures ∙ c.if-byte_at-eq32.true))

@@ -5,4 +5,4 @@ use Rattle.kx_merge.proofs.gathering.gather_map.Goals as goal
 pub returns : goal.returns
 returns g c = λ bodies are.
     let h = c.in_ok-merge_map.ensures bodies are in
-    (h.shows [] (shows_none g.R.Fields.cell g.R.Fields.width g.R.Key.PartialEq.eq c.new_walk-walk.result.merged.records [] c.new_walk-walk.ensures refl), h.faultless)
+    (h.shows [] (shows_none g.R.Fields.form g.R.Key.PartialEq.eq c.new_walk-walk.result.merged.records [] c.new_walk-walk.ensures refl), h.faultless)

@@ -6,18 +6,17 @@ use Rattle.kx_merge.proofs.Behind.{behind_at, gathered_more}
 use Rattle.kx_merge.proofs.gathering.gather_maps.Goals as goal
 
 pub maps-init : goal.maps-init
-maps-init g c = ([], subst (λ rs. AreGathered g.R.Fields.cell g.R.Fields.width g.R.Key.PartialEq.eq (g.R.Fields.rules c.args.context.now) g.R.Fields.moves rs []) (sym c.new-done.ensures.items) none, refl)
+maps-init g c = ([], subst (λ rs. AreGathered g.R.Fields.form g.R.Key.PartialEq.eq (g.R.Fields.rules c.args.context.now) g.R.Fields.moves rs []) (sym c.new-done.ensures.items) none, refl)
 
 pub maps-preserved : goal.maps-preserved
 maps-preserved g c =
-    let cell = g.R.Fields.cell in
-    let width = g.R.Fields.width in
+    let form = g.R.Fields.form in
     let eq = g.R.Key.PartialEq.eq in
     let rules = g.R.Fields.rules c.args.context.now in
     let moves = g.R.Fields.moves in
     let y = c.maps.invariant in
     let body = shared_body y.0 c.map-item.result End in (
       y.0 ++ body ∷ [],
-      subst (λ rs. AreGathered cell width eq rules moves rs (y.0 ++ body ∷ [])) (sym c.in_ok-push.ensures.items) (gathered_more cell width eq rules moves c.maps.done.items y.0 c.gather_map-one.result body y.1 (c.gather_map-one.ensures y.0 (subst (λ rs. AreGathered cell width eq rules moves rs y.0) (sym c.as_slice.ensures.value) y.1))),
+      subst (λ rs. AreGathered form eq rules moves rs (y.0 ++ body ∷ [])) (sym c.in_ok-push.ensures.items) (gathered_more form eq rules moves c.maps.done.items y.0 c.gather_map-one.result body y.1 (c.gather_map-one.ensures y.0 (subst (λ rs. AreGathered form eq rules moves rs y.0) (sym c.as_slice.ensures.value) y.1))),
       sym (behind_at y.0 c.args.maps.now c.maps.map-index c.map-item.result c.maps-test.true c.map-item.is) ∙ y.2,
     )

@@ -10,8 +10,7 @@ use Rattle.kx_merge.proofs.gathering.merge_after.Goals as goal
 
 pub returns-then-are_same_links : goal.returns-then-are_same_links
 returns-then-are_same_links g c = λ rules bodies are clean.
-    let cell = g.R.Fields.cell in
-    let width = g.R.Fields.width in
+    let form = g.R.Fields.form in
     let eq = g.R.Key.PartialEq.eq in
     let moves = g.R.Fields.moves in
     let now = c.args.merged.now.records in
@@ -22,7 +21,7 @@ returns-then-are_same_links g c = λ rules bodies are clean.
     let offered = λ (m : Mode) (ls : List Link). gathered eq m (offers_of eq rules moves (links_body bodies ls)) in
     let same = ap (λ m. offered m last.links.now) (sym mode) ∙ ap (offered included.mode) (sym links) in
     record {
-      shows = λ os shows. subst (λ added. Shows cell width eq (keys now) (get eq now) ((os ++ offered last.mode last.links.now) ++ added)) same (gathered_again cell width eq g.met.R.Key.Eq.laws g.met.R.Fields.same (keys now) (get eq now) last.mode os (offers_of eq rules moves (links_body bodies last.links.now)) shows);
+      shows = λ os shows. subst (λ added. Shows form eq (keys now) (get eq now) ((os ++ offered last.mode last.links.now) ++ added)) same (gathered_again form eq g.met.R.Key.Eq.laws g.met.R.Fields.same (keys now) (get eq now) last.mode os (offers_of eq rules moves (links_body bodies last.links.now)) shows);
       faultless = ap (λ ls. faults_of eq rules moves (links_body bodies ls)) links ∙ clean;
       fault = tt;
     }

@@ -21,6 +21,6 @@ returns-in-len1 g c = λ rules bodies are.
     let os = offers_of eq rules moves (body_at bodies x.map) in
     let old = c.args.merged.now.records in
     let new = c.merge_link.new.merged.records in
-    subst (λ ls. Adds g.R.Fields.cell g.R.Fields.width eq (keys old) (get eq old) c.merge_link.result (keys new) (get eq new) (gathered eq c.args.included.mode (offers_of eq rules moves (links_body bodies ls))) (faults_of eq rules moves (links_body bodies ls)))
+    subst (λ ls. Adds g.R.Fields.form eq (keys old) (get eq old) c.merge_link.result (keys new) (get eq new) (gathered eq c.args.included.mode (offers_of eq rules moves (links_body bodies ls))) (faults_of eq rules moves (links_body bodies ls)))
     (sym (only xs none c.in-len1.len_at_least c.in-len1.len_below))
-    (adds_same (sym (single_part eq g.met.R.Key.Eq.laws g.met.R.Fields.same moves g.met.R.Fields.apart os x.group x.mode c.args.included.mode)) (sym (append-nil (faults_of eq rules moves (body_at bodies x.map)))) (subst (λ (y : Link). Adds g.R.Fields.cell g.R.Fields.width eq (keys old) (get eq old) c.merge_link.result (keys new) (get eq new) (linked eq moves y (offers_of eq rules moves (map_of y bodies))) (faults_of eq rules moves (map_of y bodies))) c.link_under.ensures (c.merge_link.ensures rules bodies are)))
+    (adds_same (sym (single_part eq g.met.R.Key.Eq.laws g.met.R.Fields.same moves g.met.R.Fields.apart os x.group x.mode c.args.included.mode)) (sym (append-nil (faults_of eq rules moves (body_at bodies x.map)))) (subst (λ (y : Link). Adds g.R.Fields.form eq (keys old) (get eq old) c.merge_link.result (keys new) (get eq new) (linked eq moves y (offers_of eq rules moves (map_of y bodies))) (faults_of eq rules moves (map_of y bodies))) c.link_under.ensures (c.merge_link.ensures rules bodies are)))

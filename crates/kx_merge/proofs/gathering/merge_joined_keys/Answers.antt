@@ -14,5 +14,5 @@ returns-clause-again g c = λ yes rules bodies are.
     record {
       picked = gathered eq Augment up.picked;
       picks = picks_gathered eq g.met.R.Key.Eq.laws g.met.R.Fields.same moves g.met.R.Fields.apart c.args.renewed.now (offers_of eq rules moves (links_body bodies c.args.links.now)) up.picked up.picks;
-      shows = λ os before. c.in_ok-add_joined.ensures.shows up.picked (up.shows [] (shows_none g.R.Fields.cell g.R.Fields.width eq c.new-joined.result [] c.new-joined.ensures.empty refl)) os before;
+      shows = λ os before. c.in_ok-add_joined.ensures.shows up.picked (up.shows [] (shows_none g.R.Fields.form eq c.new-joined.result [] c.new-joined.ensures.empty refl)) os before;
     }

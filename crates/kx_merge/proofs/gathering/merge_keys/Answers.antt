@@ -23,13 +23,12 @@ returns-then-is_empty-clause-again g c = λ yes rules bodies are.
     record {
       picked = [];
       picks = subst (λ ks. Picks eq ks all []) (sym none) (picks_none eq g.met.R.Key.Eq.laws all);
-      shows = λ os before. subst (Shows g.R.Fields.cell g.R.Fields.width eq (keys now) (get eq now)) (sym (append-nil os)) before;
+      shows = λ os before. subst (Shows g.R.Fields.form eq (keys now) (get eq now)) (sym (append-nil os)) before;
     }
 
 pub returns-in-len1-clause-again : goal.returns-in-len1-clause-again
 returns-in-len1-clause-again g c = IfOk-weaker c.merge_link_keys.result _ _ (λ again taken yes rules bodies are.
-    let cell = g.R.Fields.cell in
-    let width = g.R.Fields.width in
+    let form = g.R.Fields.form in
     let eq = g.R.Key.PartialEq.eq in
     let moves = g.R.Fields.moves in
     let none : Link = record { mode = Augment; group = None; map = 0 } in
@@ -39,7 +38,7 @@ returns-in-len1-clause-again g c = IfOk-weaker c.merge_link_keys.result _ _ (λ 
     let new = c.merge_link_keys.new.records in
     let inner = offers_of eq rules moves (body_at bodies x.map) in
     let single = sym (single_part eq g.met.R.Key.Eq.laws g.met.R.Fields.same moves g.met.R.Fields.apart inner x.group x.mode Augment) in
-    subst (λ ls. TakesUp cell width eq c.args.renewed.now (keys old) (get eq old) (keys new) (get eq new) (gathered eq Augment (offers_of eq rules moves (links_body bodies ls))))
+    subst (λ ls. TakesUp form eq c.args.renewed.now (keys old) (get eq old) (keys new) (get eq new) (gathered eq Augment (offers_of eq rules moves (links_body bodies ls))))
     (sym (only xs none c.in-len1.len_at_least c.in-len1.len_below))
-    (subst (TakesUp cell width eq c.args.renewed.now (keys old) (get eq old) (keys new) (get eq new)) single
-    (subst (λ (y : Link). TakesUp cell width eq c.args.renewed.now (keys old) (get eq old) (keys new) (get eq new) (linked eq moves y (offers_of eq rules moves (map_of y bodies)))) c.link_under-link.ensures (taken yes rules bodies are)))) c.merge_link_keys.ensures.again
+    (subst (TakesUp form eq c.args.renewed.now (keys old) (get eq old) (keys new) (get eq new)) single
+    (subst (λ (y : Link). TakesUp form eq c.args.renewed.now (keys old) (get eq old) (keys new) (get eq new) (linked eq moves y (offers_of eq rules moves (map_of y bodies)))) c.link_under-link.ensures (taken yes rules bodies are)))) c.merge_link_keys.ensures.again

@@ -12,7 +12,7 @@ use Rattle.kx_merge.proofs.gathering.merge_links.Goals as goal
 use Rattle.kx_merge.proofs.gathering.merge_links.Goals.{then-stands_since, else-stands_since+in_ok-merge_link+in_ok-add}
 
 pub links-init : goal.links-init
-links-init g c = λ rules bodies are. parted_first g.R.Fields.cell g.R.Fields.width g.R.Key.PartialEq.eq g.met.R.Key.Eq.laws rules g.R.Fields.moves bodies c.args.links.now (keys c.args.merged.now.records) (get g.R.Key.PartialEq.eq c.args.merged.now.records)
+links-init g c = λ rules bodies are. parted_first g.R.Fields.form g.R.Key.PartialEq.eq g.met.R.Key.Eq.laws rules g.R.Fields.moves bodies c.args.links.now (keys c.args.merged.now.records) (get g.R.Key.PartialEq.eq c.args.merged.now.records)
 
 pub returns-in_err-merge_link : goal.returns-in_err-merge_link
 returns-in_err-merge_link g c = λ rules bodies are.
@@ -25,8 +25,7 @@ returns-in_err-merge_link g c = λ rules bodies are.
 
 pub links-preserved : goal.links-preserved
 links-preserved g c = λ rules bodies are.
-    let cell = g.R.Fields.cell in
-    let width = g.R.Fields.width in
+    let form = g.R.Fields.form in
     let eq = g.R.Key.PartialEq.eq in
     let laws = g.met.R.Key.Eq.laws in
     let moves = g.R.Fields.moves in
@@ -40,12 +39,12 @@ links-preserved g c = λ rules bodies are.
     let old = c.args.merged.now.records in
     let new = c.if-stands_since in
     let since = cond (is_replace x.mode) (i + 1) c.links.since in
-    subst (λ s. Parted cell width eq laws rules moves bodies xs (keys old) (get eq old) s (i + 1) (keys new.merged.records) (get eq new.merged.records)) (sym c.since_after-since.ensures)
+    subst (λ s. Parted form eq laws rules moves bodies xs (keys old) (get eq old) s (i + 1) (keys new.merged.records) (get eq new.merged.records)) (sym c.since_after-since.ensures)
     (elim new.branch [
       | then-stands_since w ↦
-          subst (λ m. Parted cell width eq laws rules moves bodies xs (keys old) (get eq old) since (i + 1) (keys m.records) (get eq m.records)) (sym w.merged-is)
-          (parted_past cell width eq laws rules moves bodies xs x p within is (c.stands_since.ensures w.if-stands_since.true))
+          subst (λ m. Parted form eq laws rules moves bodies xs (keys old) (get eq old) since (i + 1) (keys m.records) (get eq m.records)) (sym w.merged-is)
+          (parted_past form eq laws rules moves bodies xs x p within is (c.stands_since.ensures w.if-stands_since.true))
       | else-stands_since+in_ok-merge_link+in_ok-add w ↦
-          subst (λ m. Parted cell width eq laws rules moves bodies xs (keys old) (get eq old) since (i + 1) (keys m.records) (get eq m.records)) (sym w.merged-is)
-          (parted_on cell width eq laws rules moves bodies xs x p within is (w.in_ok-merge_link.ensures rules bodies are))
+          subst (λ m. Parted form eq laws rules moves bodies xs (keys old) (get eq old) since (i + 1) (keys m.records) (get eq m.records)) (sym w.merged-is)
+          (parted_on form eq laws rules moves bodies xs x p within is (w.in_ok-merge_link.ensures rules bodies are))
     ])

@@ -12,12 +12,11 @@ use Rattle.kx_merge.proofs.gathering.merge_links_keys.Goals as goal
 pub links-init : goal.links-init
 links-init g c = λ rules bodies are.
     let now = c.args.records.now in
-    takes_nothing g.R.Key.PartialEq.eq g.met.R.Key.Eq.laws g.R.Fields.cell g.R.Fields.width c.args.renewed.now (keys now) (get g.R.Key.PartialEq.eq now)
+    takes_nothing g.R.Key.PartialEq.eq g.met.R.Key.Eq.laws g.R.Fields.form c.args.renewed.now (keys now) (get g.R.Key.PartialEq.eq now)
 
 pub links-preserved : goal.links-preserved
 links-preserved g c = λ rules bodies are.
-    let cell = g.R.Fields.cell in
-    let width = g.R.Fields.width in
+    let form = g.R.Fields.form in
     let eq = g.R.Key.PartialEq.eq in
     let laws = g.met.R.Key.Eq.laws in
     let moves = g.R.Fields.moves in
@@ -32,15 +31,14 @@ links-preserved g c = λ rules bodies are.
     let more : take (index + 1) xs ≡ take index xs ++ link ∷ [] = take_more xs index none c.links-test.true in
     let before = offers_of eq rules moves (links_body bodies (take index xs)) in
     let added = moved moves link.group (gathered eq link.mode (offers_of eq rules moves (body_at bodies link.map))) in
-    subst (TakesUp cell width eq renewed (keys old) (get eq old) (keys new) (get eq new)) (sym (ap (λ ls. offers_of eq rules moves (links_body bodies ls)) more ∙ offers_more eq rules moves bodies (take index xs) link))
-    (takes_both eq laws cell width renewed (keys old) (get eq old) (keys then) (keys new) (get eq then) (get eq new) before added (c.links.invariant rules bodies are) (c.in_ok-merge_link_keys.ensures.again (search lemmas) rules bodies are))
+    subst (TakesUp form eq renewed (keys old) (get eq old) (keys new) (get eq new)) (sym (ap (λ ls. offers_of eq rules moves (links_body bodies ls)) more ∙ offers_more eq rules moves bodies (take index xs) link))
+    (takes_both eq laws form renewed (keys old) (get eq old) (keys then) (keys new) (get eq then) (get eq new) before added (c.links.invariant rules bodies are) (c.in_ok-merge_link_keys.ensures.again (search lemmas) rules bodies are))
 
 pub returns-clause-again : goal.returns-clause-again
 returns-clause-again g c = λ yes rules bodies are.
-    let cell = g.R.Fields.cell in
-    let width = g.R.Fields.width in
+    let form = g.R.Fields.form in
     let eq = g.R.Key.PartialEq.eq in
     let moves = g.R.Fields.moves in
     let old = c.args.records.now in
     let now = c.links.records in
-    subst (λ ls. TakesUp cell width eq c.args.renewed.now (keys old) (get eq old) (keys now) (get eq now) (offers_of eq rules moves (links_body bodies ls))) (take_all c.links.link-index c.args.links.now c.links-test.false) (c.links.invariant rules bodies are)
+    subst (λ ls. TakesUp form eq c.args.renewed.now (keys old) (get eq old) (keys now) (get eq now) (offers_of eq rules moves (links_body bodies ls))) (take_all c.links.link-index c.args.links.now c.links-test.false) (c.links.invariant rules bodies are)

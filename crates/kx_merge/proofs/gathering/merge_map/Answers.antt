@@ -19,8 +19,7 @@ use Rattle.kx_merge.proofs.gathering.merge_map.Goals.{then-stands_between, else-
 
 pub entries-init : goal.entries-init
 entries-init g c = λ bodies are.
-    let cell = g.R.Fields.cell in
-    let width = g.R.Fields.width in
+    let form = g.R.Fields.form in
     let eq = g.R.Key.PartialEq.eq in
     let laws = g.met.R.Key.Eq.laws in
     let rules = g.R.Fields.rules c.args.context.now in
@@ -29,15 +28,14 @@ entries-init g c = λ bodies are.
     let xs = c.args.map.now.entries.items in
     let records = c.args.walk.now.merged.records in
     let new = c.new in
-    subst (λ marks. Covering cell width eq laws rules moves bodies place xs (keys records) (get eq records) (Augment, []) 0 marks new.result.keys.items 0 c.start-defaults.result (keys records) (get eq records)) (sym new.ensures.marks)
-    (subst (λ noted. Covering cell width eq laws rules moves bodies place xs (keys records) (get eq records) (Augment, []) 0 [] noted 0 c.start-defaults.result (keys records) (get eq records)) (sym new.ensures.keys)
-    (subst (λ d. Covering cell width eq laws rules moves bodies place xs (keys records) (get eq records) (Augment, []) 0 [] [] 0 d (keys records) (get eq records)) (sym c.start-defaults.ensures)
-    (covering_first cell width eq laws rules moves bodies place xs (keys records) (get eq records))))
+    subst (λ marks. Covering form eq laws rules moves bodies place xs (keys records) (get eq records) (Augment, []) 0 marks new.result.keys.items 0 c.start-defaults.result (keys records) (get eq records)) (sym new.ensures.marks)
+    (subst (λ noted. Covering form eq laws rules moves bodies place xs (keys records) (get eq records) (Augment, []) 0 [] noted 0 c.start-defaults.result (keys records) (get eq records)) (sym new.ensures.keys)
+    (subst (λ d. Covering form eq laws rules moves bodies place xs (keys records) (get eq records) (Augment, []) 0 [] [] 0 d (keys records) (get eq records)) (sym c.start-defaults.ensures)
+    (covering_first form eq laws rules moves bodies place xs (keys records) (get eq records))))
 
 pub returns-in_err-defaults-in-Own : goal.returns-in_err-defaults-in-Own
 returns-in_err-defaults-in-Own g c = λ bodies are.
-    let cell = g.R.Fields.cell in
-    let width = g.R.Fields.width in
+    let form = g.R.Fields.form in
     let eq = g.R.Key.PartialEq.eq in
     let rules = g.R.Fields.rules c.args.context.now in
     let moves = g.R.Fields.moves in
@@ -50,19 +48,18 @@ returns-in_err-defaults-in-Own g c = λ bodies are.
     let last = include_of c.entries.last in
     let value = c.as_slice-entries.ensures.value in
     let whole = c.in_ok-merge_again.ensures.whole (search lemmas) in
-    let l = subst (λ m. Going cell width eq rules moves bodies place xs (keys old) (get eq old) last i d (keys m) (get eq m)) (sym whole) (c.entries.invariant bodies are).going in
+    let l = subst (λ m. Going form eq rules moves bodies place xs (keys old) (get eq old) last i d (keys m) (get eq m)) (sym whole) (c.entries.invariant bodies are).going in
     let within = subst (λ ys. i < length ys) value c.entries-test.true in
     let is = subst (λ ys. x ≡ get_or ys i x) value c.index-entries-place.is in
     let placed : Placed = record { place = place; stated = c.in-Own.stated } in
     adds_passed c.from_residual-in_err-defaults-in-Own.result c.from_residual-in_err-defaults-in-Own.ensures.1
-    (fault_by cell width eq rules moves bodies place xs last i d x within is (placed_offers rules d placed) (placed_faults rules d placed)
+    (fault_by form eq rules moves bodies place xs last i d x within is (placed_offers rules d placed) (placed_faults rules d placed)
     (ap (entry_offers eq rules moves bodies place d) c.in-Own.is) (ap (entry_faults eq rules moves bodies place d) c.in-Own.is)
     l (adds_behind (included_offers eq rules moves bodies last) c.in_err-defaults-in-Own.ensures.adds))
 
 pub returns-in_err-merge_after-in-Include : goal.returns-in_err-merge_after-in-Include
 returns-in_err-merge_after-in-Include g c = λ bodies are.
-    let cell = g.R.Fields.cell in
-    let width = g.R.Fields.width in
+    let form = g.R.Fields.form in
     let eq = g.R.Key.PartialEq.eq in
     let rules = g.R.Fields.rules c.args.context.now in
     let moves = g.R.Fields.moves in
@@ -77,13 +74,13 @@ returns-in_err-merge_after-in-Include g c = λ bodies are.
     let by = c.included_by-included.ensures in
     let value = c.as_slice-entries.ensures.value in
     let whole = c.in_ok-merge_again.ensures.whole (search lemmas) in
-    let l = subst (λ m. Going cell width eq rules moves bodies place xs (keys old) (get eq old) last i d (keys m) (get eq m)) (sym whole) (c.entries.invariant bodies are).going in
+    let l = subst (λ m. Going form eq rules moves bodies place xs (keys old) (get eq old) last i d (keys m) (get eq m)) (sym whole) (c.entries.invariant bodies are).going in
     let within = subst (λ ys. i < length ys) value c.entries-test.true in
     let is = subst (λ ys. x ≡ get_or ys i x) value c.index-entries-place.is in
     let offered = subst (λ e. entry_offers eq rules moves bodies place d e ≡ included_offers eq rules moves bodies (included_by e)) (sym c.in-Include.is) refl in
     let blamed = subst (λ e. entry_faults eq rules moves bodies place d e ≡ included_faults eq rules moves bodies (included_by e)) (sym c.in-Include.is) refl in
     adds_passed c.from_residual-in_err-merge_after-in-Include.result c.from_residual-in_err-merge_after-in-Include.ensures.1
-    (fault_by cell width eq rules moves bodies place xs last i d x within is (included_offers eq rules moves bodies included) (included_faults eq rules moves bodies included)
+    (fault_by form eq rules moves bodies place xs last i d x within is (included_offers eq rules moves bodies included) (included_faults eq rules moves bodies included)
     (offered ∙ sym (ap (included_offers eq rules moves bodies) by)) (blamed ∙ sym (ap (included_faults eq rules moves bodies) by))
     l (c.in_err-merge_after-in-Include.ensures rules bodies are l.clean))
 
@@ -95,8 +92,7 @@ returns-in_err-pass g c = λ bodies are. adds_passed c.from_residual-in_err-pass
 
 pub entries-preserved : goal.entries-preserved
 entries-preserved g c = λ bodies are.
-    let cell = g.R.Fields.cell in
-    let width = g.R.Fields.width in
+    let form = g.R.Fields.form in
     let eq = g.R.Key.PartialEq.eq in
     let laws = g.met.R.Key.Eq.laws in
     let rules = g.R.Fields.rules c.args.context.now in
@@ -117,7 +113,7 @@ entries-preserved g c = λ bodies are.
     let then = c.entries.walk.replaced in
     let new = c.if-stands_between in
     let since = cond (is_replace (included_by x).0) (i + 1) c.entries.since in
-    let state : Mode × List Link → ℕ → List ℕ → List g.row.R-Key.Denot → g.row.R-Defaults.Denot → HashMap g.row.R-Key.Denot g.row.R.Denot ℕ → Type 0 = λ last s marks noted d records. Covering cell width eq laws rules moves bodies place xs (keys old) (get eq old) last s marks noted (i + 1) d (keys records) (get eq records) in
+    let state : Mode × List Link → ℕ → List ℕ → List g.row.R-Key.Denot → g.row.R-Defaults.Denot → HashMap g.row.R-Key.Denot g.row.R.Denot ℕ → Type 0 = λ last s marks noted d records. Covering form eq laws rules moves bodies place xs (keys old) (get eq old) last s marks noted (i + 1) d (keys records) (get eq records) in
     let next : Mode × List Link → List ℕ → List g.row.R-Key.Denot → g.row.R-Defaults.Denot → HashMap g.row.R-Key.Denot g.row.R.Denot ℕ → Type 0 = λ last marks noted d records. state last since (marks ++ length noted ∷ []) noted d records in
     subst (λ s. state (include_of new.last) s c.pass.new.self.marks.items c.pass.new.self.keys.items new.defaults new.walk.merged.records) (sym (c.since_after-since.ensures ∙ ap (λ y. cond (is_replace y.0) (i + 1) c.entries.since) by))
     (subst (λ marks. state (include_of new.last) since marks c.pass.new.self.keys.items new.defaults new.walk.merged.records) (sym c.in_ok-pass.ensures.marks)
@@ -128,43 +124,43 @@ entries-preserved g c = λ bodies are.
           subst (λ y. next (include_of y) new.walk.replaced.marks.items new.walk.replaced.keys.items new.defaults new.walk.merged.records) (sym w.last-is)
           (subst (λ v. next last v.replaced.marks.items v.replaced.keys.items new.defaults v.merged.records) (sym w.walk-is)
           (subst (λ e. next last then.marks.items then.keys.items e c.entries.walk.merged.records) (sym w.defaults-is)
-          (covering_past cell width eq laws rules moves bodies place xs g.met.R.Fields.same x l within is stands)))
+          (covering_past form eq laws rules moves bodies place xs g.met.R.Fields.same x l within is stands)))
       | else-stands_between+in_ok-merge_again+then-branch w ↦
           let taken = w.in_ok-merge_again.ensures.again w.if-branch.true in
           let before = taken.0 in
           let mid = w.merge_again.new.walk in
           let stood = subst (λ r. IfSome r (λ n. StoodAt c.as_slice-entries.result.now c.entries.since i n included)) taken.1 c.stood_since-stood.ensures in
           let stands = subst (λ y. StoodAt xs c.entries.since i before y) by (subst (λ ys. StoodAt ys c.entries.since i before included) value stood) in
-          let up = subst (λ (y : Mode × List Link). TakesUp cell width eq (keys_since then.marks.items then.keys.items before) (keys c.entries.walk.merged.records) (get eq c.entries.walk.merged.records) (keys mid.merged.records) (get eq mid.merged.records) (gathered eq Augment (offers_of eq rules moves (links_body bodies y.1)))) by (taken.2 rules bodies are) in
+          let up = subst (λ (y : Mode × List Link). TakesUp form eq (keys_since then.marks.items then.keys.items before) (keys c.entries.walk.merged.records) (get eq c.entries.walk.merged.records) (keys mid.merged.records) (get eq mid.merged.records) (gathered eq Augment (offers_of eq rules moves (links_body bodies y.1)))) by (taken.2 rules bodies are) in
           subst (λ y. next (include_of y) new.walk.replaced.marks.items new.walk.replaced.keys.items new.defaults new.walk.merged.records) (sym w.last-is)
           (subst (λ v. next included v.replaced.marks.items v.replaced.keys.items new.defaults v.merged.records) (sym w.walk-is)
           (subst (λ e. next included mid.replaced.marks.items mid.replaced.keys.items e mid.merged.records) (sym w.defaults-is)
           (subst (λ r. next included r.marks.items r.keys.items d mid.merged.records) (sym w.in_ok-merge_again.ensures.replaced)
           (subst (λ y. next y then.marks.items then.keys.items d mid.merged.records) (sym by)
-          (covering_again cell width eq laws rules moves bodies place xs before x l within is stands up)))))
+          (covering_again form eq laws rules moves bodies place xs before x l within is stands up)))))
       | else-stands_between+in_ok-merge_again+else-branch+in-Own+in_ok-defaults-in-Own w ↦
           let whole = w.in_ok-merge_again.ensures.whole w.if-branch.false in
           let mid = w.merge_again.new.walk in
           let now = w.merge_own.new.walk in
           let placed : Placed = record { place = place; stated = w.in-Own.stated } in
           let said = w.in_ok-defaults-in-Own.ensures in
-          let same = subst (λ r. Covering cell width eq laws rules moves bodies place xs (keys old) (get eq old) last c.entries.since r.marks.items r.keys.items i d (keys mid.merged.records) (get eq mid.merged.records)) (sym w.in_ok-merge_again.ensures.replaced)
-          (subst (λ m. Covering cell width eq laws rules moves bodies place xs (keys old) (get eq old) last c.entries.since then.marks.items then.keys.items i d (keys m) (get eq m)) (sym whole) l) in
+          let same = subst (λ r. Covering form eq laws rules moves bodies place xs (keys old) (get eq old) last c.entries.since r.marks.items r.keys.items i d (keys mid.merged.records) (get eq mid.merged.records)) (sym w.in_ok-merge_again.ensures.replaced)
+          (subst (λ m. Covering form eq laws rules moves bodies place xs (keys old) (get eq old) last c.entries.since then.marks.items then.keys.items i d (keys m) (get eq m)) (sym whole) l) in
           let back = subst (λ b. TakesBack eq b mid.replaced.keys.items now.replaced.keys.items (placed_offers rules d placed)) (sym (ap (λ e. is_replace (included_by e).0) w.in-Own.is)) said.back in
           subst (λ y. next (include_of y) new.walk.replaced.marks.items new.walk.replaced.keys.items new.defaults new.walk.merged.records) (sym w.last-is)
           (subst (λ v. next included v.replaced.marks.items v.replaced.keys.items new.defaults v.merged.records) (sym w.walk-is)
           (subst (λ e. next included now.replaced.marks.items now.replaced.keys.items e now.merged.records) (sym w.defaults-is)
           (subst (λ ms. next included ms.items now.replaced.keys.items w.in_ok-defaults-in-Own.defaults now.merged.records) (sym said.marks)
           (subst (λ y. next y mid.replaced.marks.items now.replaced.keys.items w.in_ok-defaults-in-Own.defaults now.merged.records) (sym by)
-          (covering_by cell width eq rules moves bodies place xs last i d x within is (placed_offers rules d placed) (placed_faults rules d placed)
+          (covering_by form eq rules moves bodies place xs last i d x within is (placed_offers rules d placed) (placed_faults rules d placed)
           (ap (entry_offers eq rules moves bodies place d) w.in-Own.is) (ap (entry_faults eq rules moves bodies place d) w.in-Own.is)
           laws w.in_ok-defaults-in-Own.defaults (ap (entry_next rules d) w.in-Own.is ∙ sym said.next) same back (adds_behind (included_offers eq rules moves bodies last) said.adds))))))
       | else-stands_between+in_ok-merge_again+else-branch+in-Include+in_ok-merge_after-in-Include w ↦
           let whole = w.in_ok-merge_again.ensures.whole w.if-branch.false in
           let mid = w.merge_again.new.walk in
           let now = w.merge_after.new.merged in
-          let same = subst (λ r. Covering cell width eq laws rules moves bodies place xs (keys old) (get eq old) last c.entries.since r.marks.items r.keys.items i d (keys mid.merged.records) (get eq mid.merged.records)) (sym w.in_ok-merge_again.ensures.replaced)
-          (subst (λ m. Covering cell width eq laws rules moves bodies place xs (keys old) (get eq old) last c.entries.since then.marks.items then.keys.items i d (keys m) (get eq m)) (sym whole) l) in
+          let same = subst (λ r. Covering form eq laws rules moves bodies place xs (keys old) (get eq old) last c.entries.since r.marks.items r.keys.items i d (keys mid.merged.records) (get eq mid.merged.records)) (sym w.in_ok-merge_again.ensures.replaced)
+          (subst (λ m. Covering form eq laws rules moves bodies place xs (keys old) (get eq old) last c.entries.since then.marks.items then.keys.items i d (keys m) (get eq m)) (sym whole) l) in
           let offered = subst (λ e. entry_offers eq rules moves bodies place d e ≡ included_offers eq rules moves bodies (included_by e)) (sym w.in-Include.is) refl in
           let blamed = subst (λ e. entry_faults eq rules moves bodies place d e ≡ included_faults eq rules moves bodies (included_by e)) (sym w.in-Include.is) refl in
           let noted = mid.replaced.keys.items in
@@ -173,15 +169,14 @@ entries-preserved g c = λ bodies are.
           (subst (λ v. next included v.replaced.marks.items v.replaced.keys.items new.defaults v.merged.records) (sym w.walk-is)
           (subst (λ e. next included mid.replaced.marks.items noted e now.records) (sym w.defaults-is)
           (subst (λ y. next y mid.replaced.marks.items noted d now.records) (sym by)
-          (covering_by cell width eq rules moves bodies place xs last i d x within is (included_offers eq rules moves bodies included) (included_faults eq rules moves bodies included)
+          (covering_by form eq rules moves bodies place xs last i d x within is (included_offers eq rules moves bodies included) (included_faults eq rules moves bodies included)
           (offered ∙ sym (ap (included_offers eq rules moves bodies) by)) (blamed ∙ sym (ap (included_faults eq rules moves bodies) by))
           laws d (ap (entry_next rules d) w.in-Include.is) same back (w.in_ok-merge_after-in-Include.ensures rules bodies are same.going.clean)))))
     ])))
 
 pub returns : goal.returns
 returns g c = λ bodies are.
-    let cell = g.R.Fields.cell in
-    let width = g.R.Fields.width in
+    let form = g.R.Fields.form in
     let eq = g.R.Key.PartialEq.eq in
     let rules = g.R.Fields.rules c.args.context.now in
     let moves = g.R.Fields.moves in
@@ -190,7 +185,7 @@ returns g c = λ bodies are.
     let l = (c.entries.invariant bodies are).going in
     let over = subst (λ ys. length ys ≤ c.entries.place) c.as_slice-entries.ensures.value c.entries-test.false in
     record {
-      shows = going_shown cell width eq rules moves bodies place xs l over;
-      faultless = going_clean cell width eq rules moves bodies place xs l over;
+      shows = going_shown form eq rules moves bodies place xs l over;
+      faultless = going_clean form eq rules moves bodies place xs l over;
       fault = tt;
     }

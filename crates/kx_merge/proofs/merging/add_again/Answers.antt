@@ -15,8 +15,7 @@ use Rattle.kx_merge.proofs.merging.add_again.Goals.{in-Some+in_ok-add_found, in_
 
 pub keys-preserved : goal.keys-preserved
 keys-preserved g c = λ inner shown os shows.
-    let cell = g.R.Fields.cell in
-    let width = g.R.Fields.width in
+    let form = g.R.Fields.form in
     let eq = g.R.Key.PartialEq.eq in
     let moves = g.R.Fields.moves in
     let mode = c.args.link.mode in
@@ -28,7 +27,7 @@ keys-preserved g c = λ inner shown os shows.
     let key = c.key-item.result in
     let new = c.match-get in
     let more : take (index + 1) xs ≡ take index xs ++ key ∷ [] = take_more xs index key c.keys-test.true ∙ ap (λ e. take index xs ++ e ∷ []) (sym c.key-item.is) in
-    let state : HashMap g.row.R-Key.Denot g.row.R.Denot ℕ → List g.row.R-Key.Denot → Type 0 = λ records ks. Shows cell width eq (keys records) (get eq records) (os ++ moved moves group (map (gather eq mode inner) ks)) in
+    let state : HashMap g.row.R-Key.Denot g.row.R.Denot ℕ → List g.row.R-Key.Denot → Type 0 = λ records ks. Shows form eq (keys records) (get eq records) (os ++ moved moves group (map (gather eq mode inner) ks)) in
     let before = held eq ns (take index xs) in
     let old = c.keys.invariant inner shown os shows in
     subst (λ ks. state new.records (held eq ns ks)) (sym more)
@@ -39,8 +38,8 @@ keys-preserved g c = λ inner shown os shows.
           let records = w.add_found.new.records in
           subst (λ m. state m (held eq ns (take index xs ++ key ∷ []))) (sym w.records-is)
           (subst (state records) (sym (held_more eq ns key (take index xs) named))
-          (subst (Shows cell width eq (keys records) (get eq records)) (given_more eq moves mode inner group os before key)
-          (w.in_ok-add_found.ensures.shows inner (found_good cell width eq ns (get eq given) inner key w.in-Some.one.now shown (sym at)) (os ++ moved moves group (map (gather eq mode inner) before)) old)))
+          (subst (Shows form eq (keys records) (get eq records)) (given_more eq moves mode inner group os before key)
+          (w.in_ok-add_found.ensures.shows inner (found_good form eq ns (get eq given) inner key w.in-Some.one.now shown (sym at)) (os ++ moved moves group (map (gather eq mode inner) before)) old)))
       | in_default w ↦
           let out : list_any (eq key) ns ≡ false = sym (there (eq key) given.entries) ∙ sym (ap is_some w.in_default.ensures.value) in
           subst (λ m. state m (held eq ns (take index xs ++ key ∷ []))) (sym w.records-is)
@@ -51,4 +50,4 @@ pub returns-clause-shows : goal.returns-clause-shows
 returns-clause-shows g c = λ inner shown os shows.
     let eq = g.R.Key.PartialEq.eq in
     let now = c.keys.records in
-    subst (λ ks. Shows g.R.Fields.cell g.R.Fields.width eq (keys now) (get eq now) (os ++ linked_to eq g.R.Fields.moves c.args.link (held eq (keys c.args.given.now) ks) inner)) (take_all c.keys.key-index c.args.renewed.now c.keys-test.false) (c.keys.invariant inner shown os shows)
+    subst (λ ks. Shows g.R.Fields.form eq (keys now) (get eq now) (os ++ linked_to eq g.R.Fields.moves c.args.link (held eq (keys c.args.given.now) ks) inner)) (take_all c.keys.key-index c.args.renewed.now c.keys-test.false) (c.keys.invariant inner shown os shows)

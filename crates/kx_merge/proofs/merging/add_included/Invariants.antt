@@ -8,5 +8,5 @@ use Rattle.kx_merge.proofs.merging.add_included.Given as goal
 
 abbrev pub invariant-records : goal.invariant-records
 invariant-records g l = (l.entry-items ≡ l.fn.given.entries) × ((inner : List (Offer g.row.R-Key.Denot g.row.R-Cell.Denot g.row.R-Value.Denot))
-    → AllGood g.R.Fields.cell g.R.Fields.width g.R.Key.PartialEq.eq inner (take l.entry-index l.entry-items)
-    → Merges g.R.Fields.cell g.R.Fields.width g.R.Key.PartialEq.eq l.initial.records (Ok (tt {0})) l.records (linked_to g.R.Key.PartialEq.eq g.R.Fields.moves l.link (keys_of (take l.entry-index l.entry-items)) inner))
+    → AllGood g.R.Fields.form g.R.Key.PartialEq.eq inner (take l.entry-index l.entry-items)
+    → Merges g.R.Fields.form g.R.Key.PartialEq.eq l.initial.records (Ok (tt {0})) l.records (linked_to g.R.Key.PartialEq.eq g.R.Fields.moves l.link (keys_of (take l.entry-index l.entry-items)) inner))

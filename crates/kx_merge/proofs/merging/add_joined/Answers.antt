@@ -8,8 +8,7 @@ use Rattle.kx_merge.proofs.merging.add_joined.Goals as goal
 
 pub returns : goal.returns
 returns g c =
-    let cell = g.R.Fields.cell in
-    let width = g.R.Fields.width in
+    let form = g.R.Fields.form in
     let eq = g.R.Key.PartialEq.eq in
     let mode = c.args.mode in
     let given = c.args.given in
@@ -19,8 +18,8 @@ returns g c =
     record {
       shows = λ inner shown os shows.
           let offers = λ (es : List (g.row.R-Key.Denot × g.row.R.Denot)). map (gather eq mode inner) (keys_of es) in
-          let are = all_offered cell width eq inner mode given.entries (shown_good cell width eq inner g.met.R.Key.Eq.laws given c.into_entries.ensures.unique shown) in
-          subst (λ added. OnOk c.add_all.result (Shows cell width eq (keys new) (get eq new) (os ++ added))) (ap offers is ∙ ap (map (gather eq mode inner)) shown.names_are)
-          (c.add_all.ensures.shows (offers made) (subst (λ es. AreOffered mode cell width es (offers es)) (sym is) are) os shows);
+          let are = all_offered form eq inner mode given.entries (shown_good form eq inner g.met.R.Key.Eq.laws given c.into_entries.ensures.unique shown) in
+          subst (λ added. OnOk c.add_all.result (Shows form eq (keys new) (get eq new) (os ++ added))) (ap offers is ∙ ap (map (gather eq mode inner)) shown.names_are)
+          (c.add_all.ensures.shows (offers made) (subst (λ es. AreOffered mode form es (offers es)) (sym is) are) os shows);
       err = c.add_all.ensures.err;
     }

@@ -1,6 +1,6 @@
 use Rattle.std.proofs.Common.{◌∙◌, Some, ap, sym}
 use Rattle.std.proofs.lemmas.Option.{slice_get-get_or}
-use Rattle.kx_parse.proofs.HeldSections.{elsewhere-in, numbered-in}
+use Rattle.kx_parse.proofs.BuiltSections.{elsewhere-in, numbered-in}
 use Rattle.kx_parse.proofs.outline.numbered.Goals as goal
 
 pub returns-clause-section : goal.returns-clause-section

@@ -1,4 +1,4 @@
-use Rattle.std.proofs.Common.{◌≡◌, ◌++◌, List, [], append-nil, arith, sym}
+use Rattle.std.proofs.Common.{◌≡◌, ◌++◌, List, [], append-nil, arith, sym, ◌∙◌}
 use Rattle.std.specs.Prelude.{filter}
 use Rattle.kx_lex.proofs.PassedOver.{Ends-more}
 use Rattle.kx_parse.specs.Outline.{is_include}
@@ -14,8 +14,8 @@ items-init c = record { passes = λ end found p. rw c.new-includes.ensures.items
 
 pub returns-in-Some-pass_mark-clause-passes : goal.returns-in-Some-pass_mark-clause-passes
 returns-in-Some-pass_mark-clause-passes c =
-    c.items.invariant.passes c.in-Some-pass_mark.left.now c.of.result
-    (as-known c.args.text.now (λ is e. row-none c.of.result c.items.includes.items is c.of.ensures e) (items-none c.args.text.now c.items.invariant.ends c.in-Some-pass_mark.ensures.passes))
+    c.items.invariant.passes c.in-Some-pass_mark.left.now c.fitted.result
+    (as-known c.args.text.now (λ is e. row-none c.fitted.result c.items.includes.items is (c.fitted.ensures ∙ c.of.ensures) e) (items-none c.args.text.now c.items.invariant.ends c.in-Some-pass_mark.ensures.passes))
 
 pub items-preserved : goal.items-preserved
 items-preserved c =

@@ -1,6 +1,6 @@
-use Rattle.std.proofs.Common.{refl}
-use Rattle.kx_include.proofs.Numbers.{put-files}
+use Rattle.std.proofs.Common.{◌≡◌, ℕ, List, OnOk, subst}
+use Rattle.kx_include.specs.Library.{with_file}
 use Rattle.kx_include.proofs.files.Files.insert.Goals as goal
 
 pub returns-clause-file : goal.returns-clause-file
-returns-clause-file c = put-files (λ v. v.items) c.self.inside.files.entries c.insert.new.self.entries c.args.self.now _ c.owning.result c.args.name.items c.args.bytes c.self.view_is refl c.in_ok-insert.ensures.entries c.owning.ensures
+returns-clause-file c = subst (λ (bs : List ℕ). OnOk c.insert_text.result (c.insert_text.new.self ≡ with_file c.args.self.now c.args.name.items bs)) c.in_ok-text.ensures c.insert_text.ensures.file

@@ -64,7 +64,7 @@ map_number-returns-clause-made t c =
 
 pub expand_items-returns-in_err-entry-clause-fault : goal.expand_items-returns-in_err-entry-clause-fault
 expand_items-returns-in_err-entry-clause-fault t c =
-    err_passed c.from_residual.result c.in_err-entry.field-0.0 _ c.from_residual.ensures.1
+    err_passed c.from_residual-in_err-entry.result c.in_err-entry.field-0.0 _ c.from_residual-in_err-entry.ensures.1
     (gone_fault c.args.self.now c.args.kind (λ d. in_item (in_depth d c.args.self.now c.args.kind) c.args.place.file) (AreEntries c.args.self.now c.args.kind c.args.place) (IsEntry c.args.self.now c.args.kind c.args.place) c.args.depth c.args.seen c.args.maps.now.items c.items.maps.items (items_in c.args.self.now c.args.place) c.items.left.now c.items.entries.items c.items.deepest c.items.count c.in-Some.item.now c.in-Some.rest.now c.in_err-entry.field-0.0 c.in-Some.ensures.cases.0 c.items.invariant c.in_err-entry.ensures.fault)
 
 pub expand_items-items-preserved : goal.expand_items-items-preserved
