@@ -4,7 +4,7 @@
 # where `xkbcli` (libxkbcommon-tools) is installed; the same desktop's by the include files of xkb-data, found by -I, where
 # these are installed; and a small one. xkc is run with --quiet, since libxkbcommon shows no notes, and without it. Prints of
 # each the median time of 21 runs that are taken in turn, the instructions where valgrind is installed, and the most memory
-# where /usr/bin/time is.
+# where /usr/bin/time is; and of 101 pairs of runs of xkc --quiet and libxkbcommon the processor time.
 set -eu
 . "$(dirname "$0")/program.sh"
 awk 'BEGIN {
@@ -65,6 +65,7 @@ libxkbcommon=
 if pkg-config --exists xkbcommon 2>/dev/null; then
     libxkbcommon=$work/libxkbcommon
     cc -O2 -o "$libxkbcommon" "$top/bench/compile/libxkbcommon.c" $(pkg-config --cflags --libs xkbcommon)
+    cc -O2 -o "$work/pairs" "$top/bench/compile/pairs.c"
 else
     echo 'libxkbcommon-dev is not installed'
 fi
@@ -114,5 +115,8 @@ for input in $inputs; do
     done
     told '    xkc compile --quiet' "$work/ours" "$program" compile --quiet "$@"
     told '    xkc compile' "$work/noted" "$program" compile "$@"
-    [ -z "$libxkbcommon" ] || told '    libxkbcommon' "$work/theirs" "$libxkbcommon" "$work/$input" ${folder:+"$folder"}
+    if [ "$libxkbcommon" ]; then
+        told '    libxkbcommon' "$work/theirs" "$libxkbcommon" "$work/$input" ${folder:+"$folder"}
+        echo "    $("$work/pairs" 101 "$program" compile --quiet "$@" -- "$libxkbcommon" "$work/$input" ${folder:+"$folder"})"
+    fi
 done
