@@ -6,6 +6,7 @@ use Rattle.std.specs.BTreeMap.{is_at}
 use Rattle.std.proofs.lemmas.Cmp.{tied_back}
 use Rattle.std.specs.declared.cmp.Ordering.TheVariants.{Less, Equal, Greater}
 use Rattle.std.specs.Cmp.{IsEquivalence, IsTotalOrder}
+use Rattle.std.proofs.lemmas.Map.Keys.{IsDistinct-head, IsDistinct-tail}
 use Rattle.std.specs.Ordering.{is_eq, match_ordering}
 use Rattle.std.specs.declared.cmp.Ordering.{Ordering}
 use Rattle.std.specs.List.{AllByRecursion, IsDistinct, position, position_from}
@@ -94,6 +95,19 @@ module _ {K V : Type 0} (test : K → Bool) where
   place_kept [] i w = refl
   place_kept (e ∷ es) zero w = refl
   place_kept (e ∷ es) (suc i) w = ap (λ o. cond (test e.0) (Some 0) (option_map suc o)) (place_kept es i w)
+
+later_apart : {K V : Type 0} (test : K → Bool) (es : List (K × V)) (i : ℕ) (k : K) (v : V) → AllByRecursion (λ y. test y ≡ false) (keys_of es) → slice_get es i ≡ Some (k, v) → test k ≡ false
+later_apart test [] i k v apart h = absurd (no_some h)
+later_apart test (e ∷ es) zero k v apart h = ap (λ p. test p.0) (sym (inside h)) ∙ apart.0
+later_apart test (e ∷ es) (suc i) k v apart h = later_apart test es i k v apart.1 h
+
+-- the key of an entry stands where the entry does
+pub place_from : {K V : Type 0} {eq : K → K → Bool} → IsEquivalence eq → (es : List (K × V)) (i : ℕ) (k : K) (v : V) → IsDistinct eq (keys_of es) → slice_get es i ≡ Some (k, v) → place_in (eq k) es ≡ Some i
+place_from o [] i k v d h = absurd (no_some h)
+place_from {eq = eq} o (e ∷ es) zero k v d h = ap (λ b. cond b (Some 0) (option_map suc (place_in (eq k) es))) (ap (λ p. eq k p.0) (inside h) ∙ o.refl k)
+place_from {eq = eq} o (e ∷ es) (suc i) k v d h =
+    let other : eq k e.0 ≡ false = o.symm k e.0 ∙ later_apart (eq e.0) es i k v (IsDistinct-head eq e.0 (keys_of es) d) h in
+    ap (λ b. cond b (Some 0) (option_map suc (place_in (eq k) es))) other ∙ ap (option_map suc) (place_from o es i k v (IsDistinct-tail eq e.0 (keys_of es) d) h)
 
 -- where keys that are equal are those that `cmp` doesn't tell apart
 pub by_order : {K V : Type 0} (eq : K → K → Bool) (cmp : K → K → Ordering) → ((x y : K) → eq x y ≡ is_eq (cmp x y)) → (k : K) (es : List (K × V)) → place_in (is_at (cmp k)) es ≡ place_in (eq k) es

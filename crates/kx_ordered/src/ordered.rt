@@ -29,7 +29,7 @@ const AHEAD: usize = 64;
 pub struct Ordered<K: TableKey + Drop, V> {
     entries: Vec<(K, V)>,
     /// The places of keys by their numbers, for those that are found by them.
-    numbers: Vec<Option<usize>>,
+    numbers: Vec<Option<u32>>,
     /// The places of the other keys.
     places: BTreeMap<K, usize>,
 }
@@ -55,19 +55,22 @@ impl<K: TableKey + Drop, V> Model for Ordered<K, V> {
 }
 
 /// What a table of numbers tells of one.
-fn place_of(numbers: &[Option<usize>], number: Option<u16>) -> Option<usize>
+fn place_of(numbers: &[Option<u32>], number: Option<u16>) -> Option<usize>
     ensures { result ≡ numbered numbers.now number }
 {
     match number {
         None => None,
-        Some(number) => *numbers.get(usize::from(number)).unwrap_or(&None),
+        Some(number) => match numbers.get(usize::from(number)) {
+            Some(Some(place)) => Some(*place as usize),
+            _ => None,
+        },
     }
 }
 
 /// Makes room for the number of a key after so many others, unless it is far above their count; answers it where there is
 /// room.
 fn room_for(
-    numbers: &mut Vec<Option<usize>>,
+    numbers: &mut Vec<Option<u32>>,
     number: Option<u16>,
     count: usize,
 ) -> Result<Option<usize>, AllocError>
@@ -248,8 +251,11 @@ impl<K: TableKey + Drop, V> Ordered<K, V> {
         match room_for(&mut self.numbers, key.number(), place)? {
             None => self.put_by_order(key, value),
             Some(number) => {
+                let Ok(told) = u32::try_from(place) else {
+                    return self.put_by_order(key, value);
+                };
                 self.entries.push((key, value))?;
-                self.numbers[number] = Some(place);
+                self.numbers[number] = Some(told);
                 Ok(())
             }
         }

@@ -1,5 +1,5 @@
 //! Names of at most 255 bytes.
-ghost use Rattle.std.specs.Prelude.{◌≡◌, None, ◌≤◌, ◌<◌, IfSome, length, position, slice_get, take, refl};
+ghost use Rattle.std.specs.Prelude.{◌≡◌, None, Some, ◌≤◌, ◌<◌, IfSome, length, position, slice_get, take, refl};
 ghost use Rattle.std.specs.Cmp.{partial_equiv_from_equiv, partial_order_from_own_ties, partial_order_from_total};
 ghost use Rattle.std.specs.Cmp.Lexicographic.{nat_list_eq_equiv};
 ghost use Rattle.std.specs.Map.{lookup};
@@ -159,8 +159,10 @@ impl<V> Ordered<ShortName, V> {
 
     /// The place, counted from 0, and the value of a name.
     fn found_by_order(&self, name: &[u8]) -> Option<(usize, &V)>
-        ensures { option_map (λ found. found.1.now) result
+        ensures value { option_map (λ found. found.1.now) result
             ≡ lookup (bytes_eq name.now) self.now.entries }
+        ensures place { IfSome result (λ found.
+            position (bytes_eq name.now) (keys self.now) ≡ Some found.0) }
     {
         match self.place_of_short_name(name) {
             None => None,
@@ -181,8 +183,10 @@ impl<V> Ordered<ShortName, V> {
 
     /// The place, counted from 0, and the value of a name, which is looked for first at a place where it may stand.
     pub fn found_near(&self, name: &[u8], near: usize) -> Option<(usize, &V)>
-        ensures { option_map (λ found. found.1.now) result
+        ensures value { option_map (λ found. found.1.now) result
             ≡ lookup (bytes_eq name.now) self.now.entries }
+        ensures place { IfSome result (λ found.
+            position (bytes_eq name.now) (keys self.now) ≡ Some found.0) }
     {
         if let Some((found, value)) = self.entry(near) {
             let bytes = found.as_slice();

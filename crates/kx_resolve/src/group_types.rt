@@ -162,8 +162,8 @@ pub struct GroupType<'a> {
     pub name: &'a [u8],
     /// How many levels it has, 1 to 64: what a group has after them is lost.
     pub levels: usize,
-    /// Its place among the declared types, counted from 0, where it is declared.
-    pub place: usize,
+    /// Where its name is looked for first the next time: a place among the declared types, counted from 0.
+    pub(crate) place: usize,
     /// Whether it stands in place of another that is wanted; ONE_LEVEL, which is built in, stands for itself.
     pub falls_back: bool,
 }

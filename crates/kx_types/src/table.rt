@@ -1,6 +1,6 @@
 //! Key types by name.
 ghost use Rattle.kx_types.specs.declared.limits.TheConstants.{MOST_TYPES};
-ghost use Rattle.std.specs.Prelude.{◌≡◌, ◌≤◌, ◌<◌, ◌↔◌, [], ℕ, IfSome, IsTrue, List, Option, length, map, position, slice_get};
+ghost use Rattle.std.specs.Prelude.{◌≡◌, Some, ◌≤◌, ◌<◌, ◌↔◌, [], ℕ, IfSome, IsTrue, List, Option, length, map, position, slice_get};
 ghost use Rattle.std.specs.Option.{option_map};
 ghost use Rattle.std.specs.Str.{bytes_eq};
 ghost use Rattle.kx_types.specs.Shown.{shown_entry};
@@ -69,7 +69,9 @@ impl Types {
 
     /// The place, counted from 0, and the type of a name, which is looked for first at a place where it may stand.
     pub fn named_near(&self, name: &[u8], near: usize) -> Option<(usize, &KeyType)>
-        ensures { option_map (λ t. t.1.now) result ≡ type_named self.now name.now }
+        ensures value { option_map (λ t. t.1.now) result ≡ type_named self.now name.now }
+        ensures place { IfSome result (λ t.
+            position (bytes_eq name.now) (names_in self.now) ≡ Some t.0) }
     {
         match self.by_name.found_near(name, near) {
             None => None,

@@ -24,10 +24,11 @@ invariant_of-self-in-Some g c =
     let room : (c.number.result ≡ Some n) × (n < length more) = subst (λ o. IfSome o (λ n. (c.number.result ≡ Some n) × (n < length more))) c.in-Some.is c.in_ok-room_for.ensures.room in
     let is : number key ≡ Some n = sym c.number.ensures ∙ room.0 in
     let pushed = sym c.in_ok-push-in-Some.ensures.items in
+    let told : c.in-Ok.told ≡ c.len-place.result = c.in-Ok.ensures.1 in
     let places = c.self.inside.places in (
       subst (IsEachPlaced cmp number _ places) pushed (each_by_number cmp g.met.K.Ord.total number g.met.K.TableKey.told es entry unplaced_key n is c.self.inside.numbers.items _ places c.self.invariant.0
-          (set_same more n c.len-place.result room.1 ∙ ap Some last)
-          (λ m apart. set_other more n c.len-place.result m apart ∙ c.in_ok-room_for.ensures.same m)),
+          (set_same more n c.in-Ok.told room.1 ∙ ap Some (told ∙ last))
+          (λ m apart. set_other more n c.in-Ok.told m apart ∙ c.in_ok-room_for.ensures.same m)),
       subst (ArePlaced cmp number places) pushed (placed_by_number cmp g.met.K.Ord.total number g.met.K.TableKey.told es entry unplaced_key n is places c.self.invariant.1),
       subst (λ es. IsDistinct eq (keys_of es)) pushed (distinct_more eq g.met.K.Eq.laws es entry none c.self.invariant.2),
     )
