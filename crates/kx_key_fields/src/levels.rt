@@ -90,13 +90,16 @@ impl<X: LevelValue> Levels<X> {
         }
     }
 
-    /// No levels.
-    pub(crate) fn none(alloc: Global) -> Levels<X>
-        ensures { result ≡ [] }
+    /// No levels, with room for so many.
+    ///
+    /// # Errors
+    /// Where a growth is refused.
+    pub(crate) fn with_room(alloc: Global, count: usize) -> Result<Levels<X>, AllocError>
+        ensures { IfOk result (λ levels. levels ≡ []) }
     {
-        Levels {
-            levels: Vec::new(alloc),
-        }
+        Ok(Levels {
+            levels: Vec::with_capacity(alloc, count)?,
+        })
     }
 
     /// Merges later levels under a mode that isn't replace; those stay as they are.

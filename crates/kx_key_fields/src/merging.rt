@@ -46,7 +46,7 @@ fn merged_levels_copied<X: LevelValue>(
     };
     let mut levels = match old {
         Some(levels) => levels,
-        None => Levels::none(alloc),
+        None => Levels::with_room(alloc, later.len())?,
     };
     levels.merge_copied(later, mode)?;
     Ok(Some(levels))

@@ -40,17 +40,25 @@ fn has_list<X: LevelValue>(lists: &[Option<Levels<X>>], group: usize) -> bool
     }
 }
 
-/// Makes room for so many groups at least.
-pub(crate) fn widen<X: LevelValue>(
-    lists: &mut Vec<Option<Levels<X>>>,
-    count: usize,
-) -> Result<(), AllocError>
+/// Adds groups without a list until there are so many.
+fn pad<X: LevelValue>(lists: &mut Vec<Option<Levels<X>>>, count: usize) -> Result<(), AllocError>
     ensures { OnOk result (lists.new.items ≡ widened_to count lists.old.items) }
 {
     'groups: while lists.len() < count {
         lists.push(None)?;
     }
     Ok(())
+}
+
+/// The same, in no more room than they take.
+pub(crate) fn widen<X: LevelValue>(
+    lists: &mut Vec<Option<Levels<X>>>,
+    count: usize,
+) -> Result<(), AllocError>
+    ensures { OnOk result (lists.new.items ≡ widened_to count lists.old.items) }
+{
+    lists.reserve_exact(count.saturating_sub(lists.len()))?;
+    pad(lists, count)
 }
 
 /// Gives a group, counted from 0, a list.
@@ -65,7 +73,7 @@ pub fn put_list<X: LevelValue>(
     requires { group < MOST_GROUPS }
     ensures { OnOk result (lists.new.items ≡ with_list lists.old.items group levels) }
 {
-    widen(lists, group + 1)?;
+    pad(lists, group + 1)?;
     lists[group] = Some(levels);
     Ok(())
 }

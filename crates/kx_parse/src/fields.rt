@@ -103,7 +103,7 @@ pub fn read_block<'a>(alloc: Global, text: &[u8], tokens: &'a [Token]) -> Parsed
     let (_, rest) = read_mark(text, b'{', tokens)?;
     let (fields, rest) = read_many::<BlockFields>(alloc, text, rest)?;
     let (_, rest) = read_mark(text, b'}', rest)?;
-    Ok((fields, rest))
+    Ok((fields.fitted(), rest))
 }
 
 #[inline(always)]

@@ -188,6 +188,9 @@ fn add_field(
     }
 }
 
+/// For so many lists of keysyms at most room is made before they are read: one for each field, since most fields are such lists.
+const USUAL_LISTS: usize = 4;
+
 /// The lists that the fields of a key statement give; others are passed over.
 pub(crate) fn read_lists(
     alloc: Global,
@@ -201,7 +204,7 @@ pub(crate) fn read_lists(
         (fields_faults whole.file known.now whole.span no_lists fields.now) }
 {
     let mut lists = StatementLists {
-        symbols: Vec::new(alloc),
+        symbols: Vec::with_capacity(alloc, fields.len().min(USUAL_LISTS))?,
         actions: Vec::new(alloc),
     };
     'fields: for field in fields {

@@ -1,6 +1,6 @@
 use Rattle.std.proofs.Common.{◌≡◌, ◌-◌, length}
 use Rattle.kx_key_fields.specs.Lists.{widened_to}
-use Rattle.kx_key_fields.proofs.placing.widen.Given as goal
+use Rattle.kx_key_fields.proofs.placing.pad.Given as goal
 
 abbrev pub invariant-groups : goal.invariant-groups
 invariant-groups t l = widened_to l.count l.lists.items ≡ widened_to l.count l.initial.lists.items
