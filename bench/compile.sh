@@ -3,8 +3,9 @@
 # installed: one of nearly 1 MiB and 4,096 keys, whose keysyms' names are built in; that of a desktop with three layouts,
 # where `xkbcli` (libxkbcommon-tools) is installed; the same desktop's by the include files of xkb-data, found by -I, where
 # these are installed; and a small one. xkc is run with --quiet, since libxkbcommon shows no notes, and without it. Prints of
-# each the median time of 21 runs that are taken in turn, the instructions where valgrind is installed, and the most memory
-# where /usr/bin/time is; and of 101 pairs of runs of xkc --quiet and libxkbcommon the processor time.
+# each the median time of 21 runs that are taken in turn, the instructions where valgrind is installed, and where /usr/bin/time is
+# the median of the most memory of 21 runs, which differs by 0.4 MB with where the system puts the program; and of 101 pairs of runs
+# of xkc --quiet and libxkbcommon the processor time.
 set -eu
 . "$(dirname "$0")/program.sh"
 awk 'BEGIN {
@@ -94,7 +95,8 @@ told() {
         line="$line, $count instructions"
     fi
     if [ -x /usr/bin/time ]; then
-        line="$line, $(/usr/bin/time -f '%M KB' "$@" 2>&1 > /dev/null | tail -1)"
+        most=$(for turn in $(seq 21); do /usr/bin/time -f %M "$@" 2>&1 > /dev/null | tail -1; done | sort -n | sed -n 11p)
+        line="$line, $most KB"
     fi
     echo "$line"
 }
