@@ -1,5 +1,4 @@
 //! The commands, and the words that each takes.
-use crate::naming::{rules, with_names};
 use clap::{Arg, ArgAction, Command};
 use std::alloc::{AllocError, Global};
 
@@ -16,223 +15,311 @@ pub(crate) enum Shape {
     Names,
 }
 
-fn path<'a>(alloc: Global, id: &'a str, help: &'a str) -> Arg<'a> {
-    Arg::new(alloc, id)
-        .help(help)
-        .required(true)
-        .action(ArgAction::Set)
+/// How a word is written, and what it takes.
+#[derive(Clone, Copy)]
+enum Form {
+    /// A value in its place, which has to stand there.
+    Required,
+    /// A value in its place, or none.
+    Optional,
+    /// Values in their places, one at least.
+    Several,
+    /// Values in their places, or none.
+    Any,
+    /// `--ID VALUE`, with this name of the value.
+    Option(&'static str),
+    /// `--ID VALUE` or `-I VALUE`, as often as it is wanted.
+    Folders,
+    /// `--ID`.
+    Flag,
 }
 
-fn names<'a>(alloc: Global) -> Arg<'a> {
-    Arg::new(alloc, "names")
-        .long("names")
-        .value_name("P")
-        .help("A file of lines that name further keysyms, as: Euro 0x20ac")
-        .action(ArgAction::Set)
+/// Which calls have a word.
+#[derive(Clone, Copy)]
+enum Calls {
+    All,
+    /// Those where no names stand in the place of a file.
+    OfFiles,
+    /// Those with an option: more words than others take are read anew.
+    WithOptions,
 }
 
-fn files<'a>(alloc: Global) -> Arg<'a> {
-    Arg::new(alloc, "NAME=PATH")
-        .help("A file that the source may include, under this name")
-        .action(ArgAction::Append)
+/// A word that a command takes.
+#[derive(Clone, Copy)]
+struct Word {
+    id: &'static str,
+    help: &'static str,
+    form: Form,
+    calls: Calls,
 }
 
-fn folders<'a>(alloc: Global) -> Arg<'a> {
-    Arg::new(alloc, "include")
-        .short('I')
-        .long("include")
-        .value_name("DIR")
-        .help("A folder in which included files are looked for, as /usr/share/X11/xkb")
-        .action(ArgAction::Append)
-}
-
-fn quiet<'a>(alloc: Global) -> Arg<'a> {
-    Arg::new(alloc, "quiet")
-        .long("quiet")
-        .help("Say nothing of what is passed over on standard error")
-        .action(ArgAction::SetTrue)
-}
-
-fn warn<'a>(alloc: Global) -> Arg<'a> {
-    Arg::new(alloc, "warn")
-        .long("warn")
-        .value_name("all")
-        .help("Say each place of what is passed over, those in installed files too")
-        .action(ArgAction::Set)
-}
-
-/// The word for a file, where no names stand in its place.
-fn with_file<'a>(
-    command: Command<'a>,
-    file: Arg<'a>,
-    shape: Shape,
-) -> Result<Command<'a>, AllocError> {
-    match shape {
-        Shape::Names => Ok(command),
-        Shape::Bare | Shape::Whole => command.arg(file),
-    }
-}
-
-/// Adds the word for files that a source may include, but for where a call has no option: more words than it takes are read anew.
-fn with_files<'a>(
-    alloc: Global,
-    command: Command<'a>,
-    shape: Shape,
-) -> Result<Command<'a>, AllocError> {
-    match shape {
-        Shape::Bare => Ok(command),
-        Shape::Whole | Shape::Names => command.arg(files(alloc)),
-    }
-}
-
-/// Adds the options of a command that compiles.
-fn with_options<'a>(
-    alloc: Global,
-    command: Command<'a>,
-    shape: Shape,
-) -> Result<Command<'a>, AllocError> {
-    if shape == Shape::Bare {
-        return command.arg(quiet(alloc));
-    }
-    let command = command
-        .arg(names(alloc))?
-        .arg(folders(alloc))?
-        .arg(quiet(alloc))?
-        .arg(warn(alloc))?;
-    with_names(alloc, command)
-}
-
-fn try_command<'a>(alloc: Global, shape: Shape) -> Result<Command<'a>, AllocError> {
-    let command = Command::new(alloc, "try").about(
-        "Answers events from a source on standard input (as without words), or by names",
-    );
-    with_files(alloc, with_options(alloc, command, shape)?, shape)
-}
-
-fn compile_command<'a>(alloc: Global, shape: Shape) -> Result<Command<'a>, AllocError> {
-    let command = Command::new(alloc, "compile").about(
-        "Compiles a source, or a layout by its names, to an image",
-    );
-    let source = path(alloc, "SOURCE", "The keymap's source; - is standard input");
-    let out = path(
-        alloc,
-        "OUT",
-        "The image that is written; - is standard output",
-    );
-    let command = with_file(with_options(alloc, command, shape)?, source, shape)?.arg(out)?;
-    with_files(alloc, command, shape)
-}
-
-/// Adds the word for an image, or the words for names in its place.
-fn with_keymap<'a>(
-    alloc: Global,
-    command: Command<'a>,
-    shape: Shape,
-) -> Result<Command<'a>, AllocError> {
-    let command = match shape {
-        Shape::Bare => command,
-        Shape::Whole | Shape::Names => {
-            with_names(alloc, command.arg(names(alloc))?.arg(folders(alloc))?)?
+impl Word {
+    /// Whether a call of this shape has it.
+    fn is_in(self, shape: Shape) -> bool {
+        match self.calls {
+            Calls::All => true,
+            Calls::OfFiles => shape != Shape::Names,
+            Calls::WithOptions => shape != Shape::Bare,
         }
-    };
-    with_file(
-        command,
-        path(
-            alloc,
-            "KEYMAP",
-            "The keymap's image or source; - is standard input",
-        ),
-        shape,
-    )
+    }
+
+    fn arg<'a>(self, alloc: Global) -> Arg<'a> {
+        let id = self.id;
+        let arg = Arg::new(alloc, id).help(self.help);
+        match self.form {
+            Form::Required => arg.required(true).action(ArgAction::Set),
+            Form::Optional => arg.action(ArgAction::Set),
+            Form::Several => arg.required(true).action(ArgAction::Append),
+            Form::Any => arg.action(ArgAction::Append),
+            Form::Option(value) => arg.long(id).value_name(value).action(ArgAction::Set),
+            Form::Folders => arg
+                .short('I')
+                .long(id)
+                .value_name("DIR")
+                .action(ArgAction::Append),
+            Form::Flag => arg.long(id).action(ArgAction::SetTrue),
+        }
+    }
 }
 
-fn replay_command<'a>(alloc: Global, shape: Shape) -> Result<Command<'a>, AllocError> {
-    let command = Command::new(alloc, "replay").about(
-        "Answers lines of events on standard input by a keymap",
-    );
-    with_files(alloc, with_keymap(alloc, command, shape)?, shape)
+const NAMES: Word = Word {
+    id: "names",
+    help: "A file of lines that name further keysyms, as: Euro 0x20ac",
+    form: Form::Option("P"),
+    calls: Calls::WithOptions,
+};
+
+const FOLDERS: Word = Word {
+    id: "include",
+    help: "A folder in which included files are looked for, as /usr/share/X11/xkb",
+    form: Form::Folders,
+    calls: Calls::WithOptions,
+};
+
+const QUIET: Word = Word {
+    id: "quiet",
+    help: "Say nothing of what is passed over on standard error",
+    form: Form::Flag,
+    calls: Calls::All,
+};
+
+const WARN: Word = Word {
+    id: "warn",
+    help: "Say each place of what is passed over, those in installed files too",
+    form: Form::Option("all"),
+    calls: Calls::WithOptions,
+};
+
+const RULES: Word = Word {
+    id: "rules",
+    help: "The rules by which names are read, as evdev",
+    form: Form::Option("R"),
+    calls: Calls::WithOptions,
+};
+
+const MODEL: Word = Word {
+    id: "model",
+    help: "A keyboard's model, as pc105",
+    form: Form::Option("M"),
+    calls: Calls::WithOptions,
+};
+
+const LAYOUT: Word = Word {
+    id: "layout",
+    help: "Layouts by name in the place of a file, as us,de",
+    form: Form::Option("L"),
+    calls: Calls::WithOptions,
+};
+
+const VARIANT: Word = Word {
+    id: "variant",
+    help: "A variant for each layout, as ,neo",
+    form: Form::Option("V"),
+    calls: Calls::WithOptions,
+};
+
+const OPTIONS: Word = Word {
+    id: "options",
+    help: "Options, as grp:alt_shift_toggle,caps:escape",
+    form: Form::Option("O"),
+    calls: Calls::WithOptions,
+};
+
+const FILES: Word = Word {
+    id: "NAME=PATH",
+    help: "A file that the source may include, under this name",
+    form: Form::Any,
+    calls: Calls::WithOptions,
+};
+
+const SOURCE: Word = Word {
+    id: "SOURCE",
+    help: "The keymap's source; - is standard input",
+    form: Form::Required,
+    calls: Calls::OfFiles,
+};
+
+const KEYMAP: Word = Word {
+    id: "KEYMAP",
+    help: "The keymap's image or source; - is standard input",
+    form: Form::Required,
+    calls: Calls::OfFiles,
+};
+
+const OUT: Word = Word {
+    id: "OUT",
+    help: "The image that is written; - is standard output",
+    form: Form::Required,
+    calls: Calls::All,
+};
+
+const GROUP: Word = Word {
+    id: "group",
+    help: "The group that is shown, 1 to 32; the first, where none is named",
+    form: Form::Option("N"),
+    calls: Calls::WithOptions,
+};
+
+const SVG: Word = Word {
+    id: "svg",
+    help: "Print a drawing that a browser opens",
+    form: Form::Flag,
+    calls: Calls::WithOptions,
+};
+
+const KEYSYM: Word = Word {
+    id: "KEYSYM",
+    help: "The keysym's name, or a character",
+    form: Form::Required,
+    calls: Calls::All,
+};
+
+const KIND: Word = Word {
+    id: "KIND",
+    help: "layouts, variants, options or models; without it all, with their kinds",
+    form: Form::Optional,
+    calls: Calls::All,
+};
+
+const NAMED: Word = Word {
+    id: "WORD",
+    help: "A word that the name or the description has",
+    form: Form::Optional,
+    calls: Calls::All,
+};
+
+const HEADERS: Word = Word {
+    id: "HEADER",
+    help: "A C header, as xkbcommon-keysyms.h",
+    form: Form::Several,
+    calls: Calls::All,
+};
+
+const IMAGE: Word = Word {
+    id: "IMAGE",
+    help: "The image",
+    form: Form::Required,
+    calls: Calls::All,
+};
+
+const OLDER: Word = Word {
+    id: "IMAGE",
+    help: "The image of any version",
+    form: Form::Required,
+    calls: Calls::All,
+};
+
+/// What a command does, and the words that it takes in the order in which the help has them.
+struct Described {
+    name: &'static str,
+    about: &'static str,
+    words: &'static [Word],
 }
 
-fn print_command<'a>(alloc: Global, shape: Shape) -> Result<Command<'a>, AllocError> {
-    let command = Command::new(alloc, "print").about(
-        "Prints all that a keymap's image tells as the source of a keymap",
-    );
-    with_files(alloc, with_keymap(alloc, command, shape)?, shape)
-}
+/// The commands in the order in which the help has them.
+static COMMANDS: [Described; 11] = [
+    Described {
+        name: "try",
+        about: "Answers events from a source on standard input (as without words), or by names",
+        words: &[
+            NAMES, FOLDERS, QUIET, WARN, RULES, MODEL, LAYOUT, VARIANT, OPTIONS, FILES,
+        ],
+    },
+    Described {
+        name: "compile",
+        about: "Compiles a source, or a layout by its names, to an image",
+        words: &[
+            NAMES, FOLDERS, QUIET, WARN, RULES, MODEL, LAYOUT, VARIANT, OPTIONS, SOURCE, OUT, FILES,
+        ],
+    },
+    Described {
+        name: "replay",
+        about: "Answers lines of events on standard input by a keymap",
+        words: &[
+            NAMES, FOLDERS, RULES, MODEL, LAYOUT, VARIANT, OPTIONS, KEYMAP, FILES,
+        ],
+    },
+    Described {
+        name: "print",
+        about: "Prints all that a keymap's image tells as the source of a keymap",
+        words: &[
+            NAMES, FOLDERS, RULES, MODEL, LAYOUT, VARIANT, OPTIONS, KEYMAP, FILES,
+        ],
+    },
+    Described {
+        name: "show",
+        about: "Prints a picture of a keymap's keyboard",
+        words: &[
+            GROUP, SVG, NAMES, FOLDERS, RULES, MODEL, LAYOUT, VARIANT, OPTIONS, KEYMAP, FILES,
+        ],
+    },
+    Described {
+        name: "find",
+        about: "Prints each key, group and level that gives a keysym, and the modifiers to hold",
+        words: &[
+            NAMES, FOLDERS, RULES, MODEL, LAYOUT, VARIANT, OPTIONS, KEYMAP, KEYSYM, FILES,
+        ],
+    },
+    Described {
+        name: "list",
+        about: "Prints the names of layouts, variants, options and models",
+        words: &[RULES, FOLDERS, KIND, NAMED],
+    },
+    Described {
+        name: "rules",
+        about: "Prints the source that is made of names",
+        words: &[FOLDERS, RULES, MODEL, LAYOUT, VARIANT, OPTIONS],
+    },
+    Described {
+        name: "names",
+        about: "Prints the names of keysyms that C headers define, as --names takes them",
+        words: &[HEADERS],
+    },
+    Described {
+        name: "dump",
+        about: "Prints an image's bytes in hexadecimal, 32 a line",
+        words: &[IMAGE],
+    },
+    Described {
+        name: "upgrade",
+        about: "Writes an image anew, in the newest version",
+        words: &[OLDER, OUT],
+    },
+];
 
-fn dump_command<'a>(alloc: Global) -> Result<Command<'a>, AllocError> {
-    Command::new(alloc, "dump")
-        .about("Prints an image's bytes in hexadecimal, 32 a line")
-        .arg(path(alloc, "IMAGE", "The image"))
-}
-
-fn show_command<'a>(alloc: Global, shape: Shape) -> Result<Command<'a>, AllocError> {
-    let group = Arg::new(alloc, "group")
-        .long("group")
-        .value_name("N")
-        .help("The group that is shown, 1 to 32; the first, where none is named")
-        .action(ArgAction::Set);
-    let svg = Arg::new(alloc, "svg")
-        .long("svg")
-        .help("Print a drawing that a browser opens")
-        .action(ArgAction::SetTrue);
-    let command = Command::new(alloc, "show")
-        .about("Prints a picture of a keymap's keyboard")
-        .arg(group)?
-        .arg(svg)?;
-    with_files(alloc, with_keymap(alloc, command, shape)?, shape)
-}
-
-fn find_command<'a>(alloc: Global, shape: Shape) -> Result<Command<'a>, AllocError> {
-    let command = Command::new(alloc, "find").about(
-        "Prints each key, group and level that gives a keysym, and the modifiers to hold",
-    );
-    let keysym = path(alloc, "KEYSYM", "The keysym's name, or a character");
-    with_files(
-        alloc,
-        with_keymap(alloc, command, shape)?.arg(keysym)?,
-        shape,
-    )
-}
-
-fn rules_command<'a>(alloc: Global) -> Result<Command<'a>, AllocError> {
-    let command = Command::new(alloc, "rules")
-        .about("Prints the source that is made of names")
-        .arg(folders(alloc))?;
-    with_names(alloc, command)
-}
-
-fn list_command<'a>(alloc: Global) -> Result<Command<'a>, AllocError> {
-    let kind = Arg::new(alloc, "KIND")
-        .help("layouts, variants, options or models; without it all, with their kinds")
-        .action(ArgAction::Set);
-    let word = Arg::new(alloc, "WORD")
-        .help("A word that the name or the description has")
-        .action(ArgAction::Set);
-    Command::new(alloc, "list")
-        .about("Prints the names of layouts, variants, options and models")
-        .arg(rules(alloc))?
-        .arg(folders(alloc))?
-        .arg(kind)?
-        .arg(word)
-}
-
-fn names_command<'a>(alloc: Global) -> Result<Command<'a>, AllocError> {
-    let headers = path(alloc, "HEADER", "A C header, as xkbcommon-keysyms.h");
-    Command::new(alloc, "names")
-        .about("Prints the names of keysyms that C headers define, as --names takes them")
-        .arg(headers.action(ArgAction::Append))
-}
-
-fn upgrade_command<'a>(alloc: Global) -> Result<Command<'a>, AllocError> {
-    Command::new(alloc, "upgrade")
-        .about("Writes an image anew, in the newest version")
-        .arg(path(alloc, "IMAGE", "The image of any version"))?
-        .arg(path(
-            alloc,
-            "OUT",
-            "The image that is written; - is standard output",
-        ))
+/// A command with the words that a call of this shape has.
+fn command_of<'a>(
+    alloc: Global,
+    described: &Described,
+    shape: Shape,
+) -> Result<Command<'a>, AllocError> {
+    let mut command = Command::new(alloc, described.name).about(described.about);
+    for word in described.words {
+        if word.is_in(shape) {
+            command = command.arg(word.arg(alloc))?;
+        }
+    }
+    Ok(command)
 }
 
 /// What stands below the help of the whole program.
@@ -256,42 +343,25 @@ fn program<'a>(alloc: Global) -> Command<'a> {
         .version(VERSION)
 }
 
-/// The words that name commands, in the order in which the help has them.
-const COMMANDS: [&str; 11] = [
-    "try", "compile", "replay", "print", "show", "find", "list", "rules", "names", "dump",
-    "upgrade",
-];
-
 /// The command that a word names.
 pub(crate) fn command_named<'a>(
     alloc: Global,
     word: &str,
     shape: Shape,
 ) -> Result<Option<Command<'a>>, AllocError> {
-    let command = match word {
-        "try" => try_command(alloc, shape)?,
-        "compile" => compile_command(alloc, shape)?,
-        "replay" => replay_command(alloc, shape)?,
-        "print" => print_command(alloc, shape)?,
-        "show" => show_command(alloc, shape)?,
-        "find" => find_command(alloc, shape)?,
-        "list" => list_command(alloc)?,
-        "rules" => rules_command(alloc)?,
-        "names" => names_command(alloc)?,
-        "dump" => dump_command(alloc)?,
-        "upgrade" => upgrade_command(alloc)?,
-        _ => return Ok(None),
-    };
-    Ok(Some(command))
+    for described in &COMMANDS {
+        if described.name == word {
+            return Ok(Some(command_of(alloc, described, shape)?));
+        }
+    }
+    Ok(None)
 }
 
 /// The program's words with all commands.
 pub(crate) fn whole_command<'a>(alloc: Global) -> Result<Command<'a>, AllocError> {
     let mut whole = program(alloc);
-    for word in COMMANDS {
-        if let Some(command) = command_named(alloc, word, Shape::Whole)? {
-            whole = whole.subcommand(command)?;
-        }
+    for described in &COMMANDS {
+        whole = whole.subcommand(command_of(alloc, described, Shape::Whole)?)?;
     }
     Ok(whole)
 }

@@ -1,5 +1,5 @@
 //! The words that ask for a keymap by its names.
-use clap::{Arg, ArgAction, ArgMatches, Command};
+use clap::ArgMatches;
 use kx_names::{Asked, Environment, Written};
 use std::alloc::{AllocError, Global};
 
@@ -37,46 +37,6 @@ pub fn ask_environment(words: &[String]) -> bool {
         None => false,
     };
     is_command || are_by_names(words)
-}
-
-fn name<'a>(alloc: Global, id: &'a str, value: &'a str, help: &'a str) -> Arg<'a> {
-    Arg::new(alloc, id)
-        .long(id)
-        .value_name(value)
-        .help(help)
-        .action(ArgAction::Set)
-}
-
-pub(crate) fn rules<'a>(alloc: Global) -> Arg<'a> {
-    name(
-        alloc,
-        "rules",
-        "R",
-        "The rules by which names are read, as evdev",
-    )
-}
-
-/// Adds the words for names to a command.
-pub(crate) fn with_names<'a>(
-    alloc: Global,
-    command: Command<'a>,
-) -> Result<Command<'a>, AllocError> {
-    command
-        .arg(rules(alloc))?
-        .arg(name(alloc, "model", "M", "A keyboard's model, as pc105"))?
-        .arg(name(
-            alloc,
-            "layout",
-            "L",
-            "Layouts by name in the place of a file, as us,de",
-        ))?
-        .arg(name(alloc, "variant", "V", "A variant for each layout, as ,neo"))?
-        .arg(name(
-            alloc,
-            "options",
-            "O",
-            "Options, as grp:alt_shift_toggle,caps:escape",
-        ))
 }
 
 fn written_in<'a>(matches: &ArgMatches<'a>) -> Written<'a> {
