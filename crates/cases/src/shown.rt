@@ -4,6 +4,7 @@ ghost use Rattle.kx_lex.specs.declared.scan.TheConstants.{MOST_TEXT_BYTES};
 ghost use Rattle.kx_print.specs.Printed.{printed};
 ghost use Rattle.kx_types.specs.declared.limits.TheConstants.{MOST_TYPES};
 
+use crate::rules;
 use cases_kit::{Case, Subject, Trouble};
 use ks_core::{Lent, MemFeed, Notes};
 use kx_image::View;
@@ -14,7 +15,7 @@ use kx_tool::{SessionFault, compile, compile_printed, session};
 use kx_types::MOST_TYPES;
 use std::alloc::{AllocError, Global};
 
-/// Cases over whole keymaps.
+/// Cases over whole keymaps, and over rules.
 pub struct Keymaps;
 
 impl Subject for Keymaps {
@@ -37,7 +38,7 @@ impl Subject for Keymaps {
             "notes" => notes_of(alloc, case)?,
             "prints" => printed(alloc, image_of(alloc, case)?.as_slice())?,
             "again" => again(alloc, case)?,
-            _ => return Ok(None),
+            _ => return rules::shown(alloc, case, word, wanted),
         };
         Ok(Some(found))
     }

@@ -20,7 +20,7 @@ use std::alloc::Global;
 use std::fmt::Write;
 
 /// The values of two groups.
-#[derive(Debug, Drop)]
+#[derive(Drop)]
 struct Sheet {
     one: Option<u32>,
     two: Option<u32>,

@@ -25,7 +25,7 @@ pub fn put_all<O: Out>(out: &mut O, text: &[u8]) -> io::Result<()>
 /// Gathers pieces of text for a device, and puts them in chunks.
 ///
 /// A piece is taken and nothing answered. Once the device fails no more is put, and `finish` answers the error.
-#[derive(Debug, Drop)]
+#[derive(Drop)]
 pub struct BufferedOut {
     chunk: [u8; CHUNK],
     len: usize,

@@ -42,7 +42,7 @@ pub trait Out {
 }
 
 /// A reader or a writer of std as a device. What it holds of the device's bytes is what std's traits say of them.
-#[derive(Debug, Drop)]
+#[derive(Drop)]
 pub struct Lent<D> {
     /// The reader or the writer.
     pub device: D,

@@ -10,7 +10,7 @@ use crate::keysym::Keysym;
 use crate::letter_table::{LOWER, UPPER};
 
 /// Which keysyms a table of names takes for letters with two cases.
-#[derive(Clone, Copy, Debug, PartialEq, Eq)]
+#[derive(Clone, Copy, PartialEq, Eq)]
 pub enum Letters {
     /// a to z, those of Latin-1 and Latin-2, and the Cyrillic ones.
     BuiltIn,

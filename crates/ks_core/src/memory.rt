@@ -9,7 +9,7 @@ use std::io;
 use std::marker::Model;
 
 /// How a device in memory is slow, and when it fails.
-#[derive(Debug, Drop)]
+#[derive(Drop)]
 struct Limits {
     most: Option<usize>,
     fails_in: Option<usize>,
@@ -81,7 +81,7 @@ impl Limits {
 }
 
 /// A slice to take bytes from. It can have a most of bytes a call, and a byte at which it fails from then on.
-#[derive(Debug, Drop)]
+#[derive(Drop)]
 pub struct MemFeed<'a> {
     left: &'a [u8],
     taken: usize,
@@ -175,7 +175,7 @@ impl Feed for MemFeed<'_> {
 }
 
 /// A slice to put bytes to. It can have a most of bytes a call, and a byte at which it fails from then on.
-#[derive(Debug, Drop)]
+#[derive(Drop)]
 pub struct MemOut<'a> {
     slice: &'a mut [u8],
     len: usize,

@@ -3,7 +3,7 @@ ghost use Rattle.std.specs.Prelude.{◌≡◌};
 ghost use Rattle.ks_core.specs.Notes.{counted, added};
 
 /// What is noted: it is no fault, and means less than its writer may think.
-#[derive(Clone, Copy, Debug, PartialEq, Eq)]
+#[derive(Clone, Copy, PartialEq, Eq)]
 pub enum Note {
     /// An unknown name of a keysym.
     UnknownKeysym,
@@ -18,7 +18,7 @@ pub enum Note {
 }
 
 /// Counts of notes by kind. Each stops at its greatest value.
-#[derive(Clone, Copy, Debug, Default, PartialEq, Eq)]
+#[derive(Clone, Copy, Default, PartialEq, Eq)]
 pub struct Notes {
     pub keysyms: u32,
     pub keys: u32,

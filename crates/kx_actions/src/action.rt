@@ -8,7 +8,7 @@ use kx_virtual_mods::NameSet;
 use std::marker::Model;
 
 /// The modifiers that an action is about.
-#[derive(Clone, Copy, Debug, PartialEq, Eq)]
+#[derive(Clone, Copy, PartialEq, Eq)]
 pub enum ActionMods {
     /// Those of a mask.
     Named(NameSet),
@@ -17,7 +17,7 @@ pub enum ActionMods {
 }
 
 /// What an action does to the locked modifiers.
-#[derive(Clone, Copy, Debug, PartialEq, Eq)]
+#[derive(Clone, Copy, PartialEq, Eq)]
 pub enum Affect {
     Lock,
     Unlock,
@@ -26,7 +26,7 @@ pub enum Affect {
 }
 
 /// The group that an action is about: one from 0 to 31, or from -32 to 32 groups on; seen as that change.
-#[derive(Clone, Copy, Debug, PartialEq, Eq)]
+#[derive(Clone, Copy, PartialEq, Eq)]
 pub struct ActionGroup {
     change: GroupChange,
 }
@@ -68,7 +68,7 @@ impl ActionGroup {
 }
 
 /// An action as it is written, with what its arguments and the defaults say of it.
-#[derive(Clone, Copy, Debug, PartialEq, Eq)]
+#[derive(Clone, Copy, PartialEq, Eq)]
 pub enum KeyAction {
     /// `NoAction()`
     NoAction,

@@ -13,7 +13,7 @@ use kx_parse::{Field, Setting, Value};
 use kx_virtual_mods::ModNames;
 
 /// What the default statements of a section give the arguments of actions.
-#[derive(Clone, Copy, Debug, PartialEq, Eq)]
+#[derive(Clone, Copy, PartialEq, Eq)]
 pub struct ActionDefaults {
     set_mods: Settings,
     latch_mods: Settings,

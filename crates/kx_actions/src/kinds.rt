@@ -4,7 +4,7 @@ ghost use Rattle.kx_merge.specs.Words.{among};
 ghost use Rattle.kx_actions.specs.Words.{argument_words, field_of, has_field, kind_words};
 
 /// The actions whose arguments have a meaning.
-#[derive(Clone, Copy, Debug, PartialEq, Eq)]
+#[derive(Clone, Copy, PartialEq, Eq)]
 pub(crate) enum ActionKind {
     SetMods,
     LatchMods,
@@ -16,7 +16,7 @@ pub(crate) enum ActionKind {
 }
 
 /// What arguments of actions set.
-#[derive(Clone, Copy, Debug, PartialEq, Eq)]
+#[derive(Clone, Copy, PartialEq, Eq)]
 pub(crate) enum ActionField {
     Modifiers,
     Group,

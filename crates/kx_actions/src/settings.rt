@@ -4,7 +4,7 @@ ghost use Rattle.std.specs.Prelude.{◌≡◌};
 use crate::action::{ActionGroup, ActionMods, Affect};
 
 /// What one argument, or one default for it, gives.
-#[derive(Clone, Copy, Debug, PartialEq, Eq)]
+#[derive(Clone, Copy, PartialEq, Eq)]
 pub(crate) enum Given {
     Modifiers(ActionMods),
     Group(ActionGroup),
@@ -14,7 +14,7 @@ pub(crate) enum Given {
 }
 
 /// What the fields of an action are given; `None` where they aren't.
-#[derive(Clone, Copy, Debug, PartialEq, Eq)]
+#[derive(Clone, Copy, PartialEq, Eq)]
 pub(crate) struct Settings {
     pub modifiers: Option<ActionMods>,
     pub group: Option<ActionGroup>,

@@ -5,7 +5,7 @@ ghost use Rattle.kx_builder.specs.declared.fault.BuildFault.TheVariants.{Memory}
 use std::alloc::{AllocError, AllocFailed};
 
 /// Why a builder refuses what is pushed.
-#[derive(Clone, Copy, PartialEq, Eq, Debug)]
+#[derive(Clone, Copy, PartialEq, Eq)]
 pub enum BuildFault {
     /// There is no memory.
     Memory,

@@ -2,7 +2,7 @@
 use kx_lex::Bytes;
 
 /// Another name of a key.
-#[derive(Debug, Drop)]
+#[derive(Drop)]
 pub struct Alias {
     pub name: Bytes,
     /// The key's own name.

@@ -18,7 +18,7 @@ use std::alloc::{AllocError, Global};
 use std::marker::Model;
 
 /// A key type of a source.
-#[derive(Debug, Drop)]
+#[derive(Drop)]
 pub struct DeclaredType {
     name: Bytes,
     levels: u8,

@@ -24,7 +24,7 @@ use std::marker::Model;
 pub const INDICATORS: usize = 32;
 
 /// The name of an indicator; seen as its bytes.
-#[derive(Debug, Drop)]
+#[derive(Drop)]
 pub struct IndicatorName {
     bytes: Bytes,
 }

@@ -105,7 +105,7 @@ fn default_truth(field: &Field) -> Option<bool>
 // ---- Statements
 
 /// What statements and defaults say of the repeating of an interpretation's keys.
-#[derive(Clone, Copy, Debug)]
+#[derive(Clone, Copy)]
 pub(crate) struct SaidOfMatch {
     said: Option<bool>,
 }

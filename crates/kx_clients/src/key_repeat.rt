@@ -1,7 +1,7 @@
 //! What a key says of its repeating.
 
 /// What a key says of its repeating.
-#[derive(Clone, Copy, Debug, PartialEq, Eq)]
+#[derive(Clone, Copy, PartialEq, Eq)]
 pub enum KeyRepeat {
     Yes,
     No,

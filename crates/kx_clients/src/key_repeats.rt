@@ -131,7 +131,7 @@ fn default_repeat(field: &Field) -> Option<KeyRepeat>
 // ---- Statements
 
 /// What statements and defaults say of a key's repeating.
-#[derive(Clone, Copy, Debug)]
+#[derive(Clone, Copy)]
 pub(crate) struct SaidOfKey {
     said: Option<KeyRepeat>,
 }

@@ -12,7 +12,7 @@ use kx_virtual_mods::ModNames;
 use std::alloc::{AllocError, Global};
 
 /// A virtual modifier.
-#[derive(Debug, Drop)]
+#[derive(Drop)]
 pub struct VirtualModifier {
     pub name: Bytes,
     /// The real modifiers that it stands for.

@@ -3,7 +3,7 @@ use kx_actions::KeyAction;
 use std::marker::Model;
 
 /// An action that a field gives; seen as the action.
-#[derive(Clone, Copy, Debug)]
+#[derive(Clone, Copy)]
 pub struct GivenAction {
     action: KeyAction,
 }

@@ -7,7 +7,7 @@ use kx_virtual_mods::MOST_VIRTUAL_MODIFIERS;
 use std::marker::Model;
 
 /// What a keymap says of keys with some keysyms and modifiers.
-#[derive(Clone, Copy, Debug)]
+#[derive(Clone, Copy)]
 pub struct Interpretation {
     interpretation_match: InterpretationMatch,
     action: Option<GivenAction>,

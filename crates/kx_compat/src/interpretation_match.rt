@@ -8,7 +8,7 @@ use kx_ordered::TableKey;
 use std::alloc::AllocError;
 
 /// The keysyms that an interpretation is for.
-#[derive(Clone, Copy, Debug, PartialEq, Eq, PartialOrd, Ord, Hash)]
+#[derive(Clone, Copy, PartialEq, Eq, PartialOrd, Ord, Hash)]
 pub enum WantedKeysym {
     /// Each keysym.
     Any,
@@ -32,7 +32,7 @@ pub enum Condition {
 }
 
 /// For which keys an interpretation is: two interpretations for the same are one.
-#[derive(Clone, Copy, Debug, PartialEq, Eq, PartialOrd, Ord, Hash)]
+#[derive(Clone, Copy, PartialEq, Eq, PartialOrd, Ord, Hash)]
 pub struct InterpretationMatch {
     pub keysym: WantedKeysym,
     pub condition: Condition,

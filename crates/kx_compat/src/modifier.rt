@@ -3,7 +3,7 @@ use kx_virtual_mods::MOST_VIRTUAL_MODIFIERS;
 use std::marker::Model;
 
 /// A virtual modifier that a field gives; seen as its number.
-#[derive(Clone, Copy, Debug)]
+#[derive(Clone, Copy)]
 pub struct GivenModifier {
     number: u8,
 }

@@ -20,7 +20,7 @@ use std::alloc::{AllocError, Global};
 
 /// What a person reads of a fault: what is wrong, on one line, and the texts of the includes that led to its place, the
 /// innermost first.
-#[derive(Debug, Drop)]
+#[derive(Drop)]
 pub struct Explanation {
     pub message: String,
     pub chain: Vec<At>,

@@ -59,7 +59,7 @@ pub(crate) fn letters_apart(word: &[u8], other: &[u8]) -> Option<u8>
 }
 
 /// The nearest of the names that are offered to a word, if one is near: the first of those that are equally near.
-#[derive(Clone, Copy, Debug)]
+#[derive(Clone, Copy)]
 pub struct Nearest<'a> {
     word: &'a [u8],
     found: Option<(u8, &'a [u8])>,

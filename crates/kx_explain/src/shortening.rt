@@ -3,7 +3,7 @@ use kx_lex::{Token, TokenKind};
 use std::alloc::{AllocError, Global};
 
 /// What is kept after an opening mark whose closing one isn't reached.
-#[derive(Clone, Copy, Debug)]
+#[derive(Clone, Copy)]
 struct Open {
     mark: u8,
     /// So many tokens are kept up to the mark.

@@ -7,7 +7,7 @@ use kx_parse::{
 use kx_reach::is_within;
 
 /// What has fields.
-#[derive(Clone, Copy, PartialEq, Eq, Debug)]
+#[derive(Clone, Copy, PartialEq, Eq)]
 pub(crate) enum Owner {
     Type,
     Key,

@@ -21,7 +21,7 @@ const REFUSED: u8 = 1;
 pub const DEVICE: u8 = 3;
 
 /// Why a task ended early. Each prints as the line that a user sees.
-#[derive(Debug, Drop)]
+#[derive(Drop)]
 pub enum Failure<'a> {
     /// A file at this path can't be read or written, and why.
     File(&'a str, io::ErrorKind),

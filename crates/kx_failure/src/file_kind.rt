@@ -32,7 +32,7 @@ static HEADER_WORDS: [&str; 6] = [
 ];
 
 /// What kind of file bytes are, by the first of them.
-#[derive(Clone, Copy, Debug, PartialEq, Eq)]
+#[derive(Clone, Copy, PartialEq, Eq)]
 pub enum FileKind {
     Empty,
     /// An image of a version that is read, whole or not.

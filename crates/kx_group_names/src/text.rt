@@ -4,7 +4,7 @@ use std::alloc::{AllocError, Global};
 use std::marker::Model;
 
 /// A text of at most 255 bytes; seen as its bytes.
-#[derive(Debug, Drop)]
+#[derive(Drop)]
 pub struct NameText {
     bytes: Bytes,
 }

@@ -29,7 +29,7 @@ impl Model for SharedTables {
 }
 
 /// Why an image isn't opened.
-#[derive(Clone, Copy, PartialEq, Eq, Debug)]
+#[derive(Clone, Copy, PartialEq, Eq)]
 pub enum OpenFault {
     /// A growth was refused.
     Memory,

@@ -8,7 +8,7 @@ use crate::fault::ImageFault;
 use crate::numbers::{u16_at, u16_bytes, u32_at, u32_bytes};
 
 /// A version of the image.
-#[derive(Clone, Copy, PartialEq, Eq, Debug)]
+#[derive(Clone, Copy, PartialEq, Eq)]
 pub enum ImageVersion {
     /// Without indicators and group names.
     One,
@@ -16,7 +16,7 @@ pub enum ImageVersion {
 }
 
 /// What the header of an image tells: its version, and how many rows each table has.
-#[derive(Clone, Copy, PartialEq, Eq, Debug)]
+#[derive(Clone, Copy, PartialEq, Eq)]
 pub struct Header {
     pub version: ImageVersion,
     /// The greatest number of groups of a key.

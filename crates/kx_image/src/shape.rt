@@ -11,7 +11,7 @@ use crate::records::{
 };
 
 /// The place of each table's first byte, and the end of the last.
-#[derive(Clone, Copy, PartialEq, Eq, Debug)]
+#[derive(Clone, Copy, PartialEq, Eq)]
 pub struct Starts {
     pub types: usize,
     pub entries: usize,

@@ -12,7 +12,7 @@ use std::alloc::{AllocError, Global};
 use std::marker::Model;
 
 /// A part of an include's text: what it names, and how that joins what stands before it.
-#[derive(Debug, Drop)]
+#[derive(Drop)]
 pub struct Part<'a> {
     mode: Mode,
     file: &'a [u8],

@@ -19,7 +19,7 @@ use std::alloc::{AllocError, Global};
 use std::marker::Model;
 
 /// What statements say of a key besides its lists. Where they say nothing, it takes no memory.
-#[derive(Debug, Drop)]
+#[derive(Drop)]
 pub struct KeyAttributes {
     group_types: GroupTypes,
     key_type: Option<Bytes>,

@@ -4,7 +4,7 @@ use kx_tables::Range;
 use kx_virtual_mods::NameSet;
 
 /// What can have a value in a key besides its lists.
-#[derive(Clone, Copy, Debug, PartialEq, Eq)]
+#[derive(Clone, Copy, PartialEq, Eq)]
 pub enum AttributeCell {
     /// The type of a group, counted from 0.
     GroupType(usize),
@@ -17,7 +17,7 @@ pub enum AttributeCell {
 }
 
 /// The value of a cell.
-#[derive(Debug, Drop)]
+#[derive(Drop)]
 pub enum AttributeValue {
     /// A type by its name.
     Type(Bytes),

@@ -33,7 +33,7 @@ fn read_default(names: &ModNames, file: u32, field: &Field) -> Result<Option<Giv
 }
 
 /// What the default statements of a section give keys besides lists.
-#[derive(Debug, Drop)]
+#[derive(Drop)]
 pub struct KeyDefaults {
     settings: KeyAttributes,
 }

@@ -10,7 +10,7 @@ use std::marker::Model;
 pub(crate) const MOST_KEPT_BYTES: usize = MOST_NAME_BYTES + 1;
 
 /// A type's name as far as it is kept; seen as its bytes.
-#[derive(Debug, Drop)]
+#[derive(Drop)]
 pub(crate) struct KeptName {
     len: u16,
     /// The first `len` are the name; those after them mean nothing.
@@ -64,7 +64,7 @@ impl KeptName {
 }
 
 /// What one field, or one default, gives a key.
-#[derive(Debug, Drop)]
+#[derive(Drop)]
 pub(crate) enum Given {
     /// A group, counted from 0, the type of this name.
     GroupType(u8, KeptName),

@@ -13,7 +13,7 @@ use std::marker::Model;
 
 /// The names of the types of groups, which are counted from 0; seen as a list that has `None` for a group without one. Where
 /// there are none, no memory is taken.
-#[derive(Debug, Drop)]
+#[derive(Drop)]
 pub(crate) struct GroupTypes {
     types: Vec<Option<Bytes>>,
 }

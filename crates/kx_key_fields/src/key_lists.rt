@@ -13,7 +13,7 @@ use std::alloc::{AllocError, Global};
 use std::marker::Model;
 
 /// What the lists of several statements give a key: levels for each of its groups that has a list.
-#[derive(Debug, Drop)]
+#[derive(Drop)]
 pub struct GroupLists<X> {
     /// The group of the first list, counted from 0.
     from: u8,

@@ -3,7 +3,7 @@ use kx_tables::Range;
 use std::marker::Model;
 
 /// What becomes of a group that a key doesn't have, as tables may say it; seen as that.
-#[derive(Clone, Copy, Debug, PartialEq, Eq)]
+#[derive(Clone, Copy, PartialEq, Eq)]
 pub(crate) struct KeyRange {
     range: Range,
 }

@@ -18,7 +18,7 @@ pub trait LevelValue: Drop {
 }
 
 /// The levels of a group, each with its value, or `None` where nothing gives it any.
-#[derive(Debug, Drop)]
+#[derive(Drop)]
 pub struct Levels<X> {
     levels: Vec<Option<X>>,
 }

@@ -6,7 +6,7 @@ ghost use Rattle.kx_merge.specs.Words.{among};
 use kx_parse::FieldPlace;
 
 /// The fields that set a key's range.
-#[derive(Clone, Copy, Debug, PartialEq, Eq)]
+#[derive(Clone, Copy, PartialEq, Eq)]
 pub(crate) enum RangeField {
     Wrap,
     Clamp,
@@ -14,7 +14,7 @@ pub(crate) enum RangeField {
 }
 
 /// What fields of a key set besides lists.
-#[derive(Clone, Copy, Debug, PartialEq, Eq)]
+#[derive(Clone, Copy, PartialEq, Eq)]
 pub(crate) enum AttributeField {
     KeyType,
     VirtualMods,

@@ -5,7 +5,7 @@ use std::alloc::{AllocError, Global};
 use std::marker::Model;
 
 /// A value in an allocation of its own, so that what holds it stays small; seen as the value.
-#[derive(Debug, Drop)]
+#[derive(Drop)]
 pub struct Boxed<T> {
     value: Box<T>,
 }
@@ -44,7 +44,7 @@ impl<T> Boxed<T> {
 /// So many bytes stand in [`Bytes`] itself: most names have fewer.
 const MOST_SHORT_BYTES: usize = 22;
 
-#[derive(Debug, Drop)]
+#[derive(Drop)]
 enum Kept {
     /// The first `len` of the bytes; those after them mean nothing.
     Short {
@@ -61,7 +61,7 @@ fn front_of(bytes: &[u8], len: usize) -> &[u8]
 }
 
 /// The bytes of a name, of which few take no allocation; seen as their list.
-#[derive(Debug, Drop)]
+#[derive(Drop)]
 pub struct Bytes {
     kept: Kept,
 }

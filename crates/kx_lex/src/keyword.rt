@@ -7,7 +7,7 @@ ghost use Rattle.kx_lex.specs.Keywords.{IsByLength, keyword_of, of_length, rows_
 use crate::scan::byte_at;
 
 /// A word that the grammar quotes; it may be written in capital letters or small.
-#[derive(Clone, Copy, Debug, PartialEq, Eq)]
+#[derive(Clone, Copy, PartialEq, Eq)]
 pub enum Keyword {
     Alias,
     AlphanumericKeys,

@@ -6,7 +6,7 @@ use std::alloc::AllocError;
 use std::marker::Model;
 
 /// A list that a tree owns, seen as the list of its items.
-#[derive(Debug, Drop)]
+#[derive(Drop)]
 pub struct Row<T> {
     items: Vec<T>,
 }
@@ -67,14 +67,14 @@ impl<T> Row<T> {
     }
 }
 
-#[derive(Debug, Drop)]
+#[derive(Drop)]
 enum SmallItems<T> {
     One([T; 1]),
     Others(Vec<T>),
 }
 
 /// A list that a tree owns, of which a single item takes no allocation; seen as the list of its items.
-#[derive(Debug, Drop)]
+#[derive(Drop)]
 pub struct SmallRow<T> {
     kept: SmallItems<T>,
 }
@@ -123,14 +123,14 @@ impl<T> SmallRow<T> {
 }
 
 /// A name, a word or text: its bytes, without what encloses it, and where it stands with it.
-#[derive(Debug, Drop)]
+#[derive(Drop)]
 pub struct Name {
     pub bytes: Bytes,
     pub span: Span,
 }
 
 /// A key's name, as it stands between `<` and `>`; seen as the name. Each of its bytes is visible ASCII but `>`.
-#[derive(Debug, Drop)]
+#[derive(Drop)]
 pub struct KeyName {
     name: Name,
 }
@@ -180,7 +180,7 @@ impl KeyName {
 }
 
 /// A number and where it stands.
-#[derive(Clone, Copy, Debug, PartialEq, Eq)]
+#[derive(Clone, Copy, PartialEq, Eq)]
 pub struct Number {
     pub value: u32,
     pub span: Span,

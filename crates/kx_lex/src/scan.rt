@@ -28,7 +28,7 @@ pub const MOST_TEXT_BYTES: usize = 1_048_576;
 pub(crate) const USUAL_TOKEN_BYTES: usize = 4;
 
 /// What the front of a text begins, with its length in bytes.
-#[derive(Clone, Copy, Debug, PartialEq, Eq)]
+#[derive(Clone, Copy, PartialEq, Eq)]
 pub enum Piece {
     /// Nothing is left.
     End,
@@ -210,7 +210,7 @@ pub(crate) fn are_key_bytes(bytes: &[u8]) -> bool
 }
 
 /// How far text goes after its opening quote, in bytes.
-#[derive(Clone, Copy, Debug, PartialEq, Eq)]
+#[derive(Clone, Copy, PartialEq, Eq)]
 pub enum Extent {
     /// To its closing quote, which counts.
     Closed(usize),

@@ -6,7 +6,7 @@ ghost use Rattle.kx_lex.specs.declared.string.EscapeState.TheVariants.{Plain, Es
 use std::alloc::{AllocError, Global};
 
 /// What stands before a byte of text between quotes.
-#[derive(Clone, Copy, Debug, PartialEq, Eq)]
+#[derive(Clone, Copy, PartialEq, Eq)]
 pub enum EscapeState {
     /// Nothing that changes the byte.
     Plain,

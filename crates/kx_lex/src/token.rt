@@ -19,7 +19,7 @@ impl fmt::Display for Span {
 }
 
 /// What a token is.
-#[derive(Clone, Copy, Debug, PartialEq, Eq)]
+#[derive(Clone, Copy, PartialEq, Eq)]
 pub enum TokenKind {
     /// A letter or `_`, then letters, digits and `_`; with the keyword that it spells, where it spells one.
     Word(Option<Keyword>),
@@ -36,7 +36,7 @@ pub enum TokenKind {
 }
 
 /// A token: what it is and the bytes of the text that it takes.
-#[derive(Clone, Copy, Debug, PartialEq, Eq)]
+#[derive(Clone, Copy, PartialEq, Eq)]
 pub struct Token {
     pub kind: TokenKind,
     pub span: Span,

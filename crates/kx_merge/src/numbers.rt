@@ -22,7 +22,7 @@ fn is_number(digits: &[u8]) -> bool
 }
 
 /// What has a number from 1 on, after its word or without it.
-#[derive(Clone, Copy, Debug, PartialEq, Eq)]
+#[derive(Clone, Copy, PartialEq, Eq)]
 pub enum Counted {
     Group,
     Level,

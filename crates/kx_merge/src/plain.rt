@@ -17,7 +17,7 @@ use kx_parse::Mode;
 use std::alloc::Global;
 
 /// A record without groups, by what statements give it.
-#[derive(Debug, Drop)]
+#[derive(Drop)]
 pub struct Plain<V> {
     pub values: V,
 }

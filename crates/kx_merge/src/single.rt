@@ -21,7 +21,7 @@ use kx_parse::Mode;
 use std::alloc::Global;
 
 /// A record of one value, where statements give it one.
-#[derive(Debug, Drop)]
+#[derive(Drop)]
 pub struct Single<V> {
     pub value: Option<V>,
 }

@@ -24,7 +24,7 @@ use std::alloc::Global;
 use std::marker::Model;
 
 /// A keysym, by its number, and the modifier of keys that have it; none where a modifier map says so.
-#[derive(Clone, Copy, Debug, Drop)]
+#[derive(Clone, Copy, Drop)]
 pub struct KeysymEntry {
     pub keysym: u32,
     pub modifier: Mods,

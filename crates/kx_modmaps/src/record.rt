@@ -20,7 +20,7 @@ use kx_parse::Mode;
 use std::alloc::Global;
 
 /// What can have a value in a modifier map.
-#[derive(Clone, Copy, Debug)]
+#[derive(Clone, Copy)]
 pub enum Cell {
     /// A modifier of a key, by its bit, counted from 0.
     Present(u8),
@@ -29,7 +29,7 @@ pub enum Cell {
 }
 
 /// What modifier maps give a key or a keysym.
-#[derive(Clone, Copy, Debug, Drop)]
+#[derive(Clone, Copy, Drop)]
 pub struct Assigned {
     /// Of a key, the modifiers that it has.
     pub(crate) present: Mods,

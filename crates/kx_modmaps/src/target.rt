@@ -5,7 +5,7 @@ use kx_ordered::TableKey;
 use std::alloc::AllocError;
 
 /// What a modifier map gives modifiers.
-#[derive(Clone, Copy, Debug, PartialEq, Eq, PartialOrd, Ord, Hash)]
+#[derive(Clone, Copy, PartialEq, Eq, PartialOrd, Ord, Hash)]
 pub enum Target {
     /// The key of a keycode.
     Key(u16),

@@ -5,7 +5,7 @@ ghost use Rattle.std.specs.Int.RustNames.{bit_and, bit_or};
 use bitflags::{Flag, Flags, bitflag_items};
 
 /// A set of real modifiers: bits 0 to 7 are Shift, Lock, Control and Mod1 to Mod5.
-#[derive(Clone, Copy, PartialEq, Eq, Debug)]
+#[derive(Clone, Copy, Debug, PartialEq, Eq)]
 pub struct Mods(u8);
 
 bitflag_items! {

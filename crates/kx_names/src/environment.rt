@@ -5,7 +5,7 @@ use std::rt::Files;
 use std::{env, fs, io};
 
 /// A variable of the environment that is asked for.
-#[derive(Clone, Copy, Debug, PartialEq, Eq)]
+#[derive(Clone, Copy, PartialEq, Eq)]
 pub(crate) enum Variable {
     Rules,
     Model,
@@ -52,14 +52,14 @@ const EXTRA: &str = "/etc/xkb";
 const ROOT: &str = "/usr/share/X11/xkb";
 
 /// A variable that is set.
-#[derive(Debug, Drop, PartialEq)]
+#[derive(Drop)]
 struct Setting {
     variable: Variable,
     value: String,
 }
 
 /// The variables that are set, and the folders that are there.
-#[derive(Debug, Drop, PartialEq)]
+#[derive(Drop)]
 pub struct Environment {
     settings: Vec<Setting>,
     folders: Vec<String>,

@@ -23,7 +23,7 @@ pub enum RulesFault {
 }
 
 /// Why names have no source.
-#[derive(Debug, Drop)]
+#[derive(Drop)]
 pub enum NamesFault {
     /// No folder has a file at this path below it.
     Missing(String),

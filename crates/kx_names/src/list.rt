@@ -6,7 +6,7 @@ use std::alloc::{AllocError, Global};
 use std::rt::Files;
 
 /// What a name is of.
-#[derive(Clone, Copy, Debug, PartialEq, Eq)]
+#[derive(Clone, Copy, PartialEq, Eq)]
 pub enum Kind {
     Model,
     Layout,
@@ -43,7 +43,7 @@ impl Kind {
 }
 
 /// A name with its description, which for a variant begins with its layout and a colon.
-#[derive(Clone, Copy, Debug)]
+#[derive(Clone, Copy)]
 pub(crate) struct Entry<'a> {
     pub(crate) kind: Kind,
     pub(crate) name: &'a str,

@@ -10,7 +10,7 @@ use std::alloc::Global;
 use std::rt::Files;
 
 /// The source that names make, and what was passed over for it.
-#[derive(Debug, Drop)]
+#[derive(Drop)]
 pub struct Made {
     pub source: Vec<u8>,
     pub passed: Passed,

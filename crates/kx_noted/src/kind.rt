@@ -4,7 +4,7 @@ use std::fmt::{Formatter, Write};
 
 /// A kind of what is passed over. The first five are those that a compiler counts in its notes; the others are likely slips,
 /// which change nothing of what is compiled.
-#[derive(Clone, Copy, Debug, PartialEq, Eq)]
+#[derive(Clone, Copy, PartialEq, Eq)]
 pub enum WarningKind {
     /// Names of keysyms that no table has.
     Keysyms,
@@ -107,7 +107,7 @@ impl WarningKind {
 }
 
 /// How many there are of a kind, in words.
-#[derive(Clone, Copy, Debug)]
+#[derive(Clone, Copy)]
 pub struct Counted {
     pub kind: WarningKind,
     pub count: usize,

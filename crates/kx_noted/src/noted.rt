@@ -7,7 +7,7 @@ use kx_source::{Observer, ReadSource, tables_seen};
 use std::alloc::{AllocError, Global};
 
 /// Which warnings are told.
-#[derive(Clone, Copy, Debug, PartialEq, Eq)]
+#[derive(Clone, Copy, PartialEq, Eq)]
 pub enum Telling {
     Nothing,
     /// Those of the source and of the author's files, and of installed files their counts.

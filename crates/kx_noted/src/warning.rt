@@ -16,7 +16,7 @@ const MANY: usize = 1000;
 const FEW: usize = 3;
 
 /// What is passed over at a place.
-#[derive(Debug, Drop)]
+#[derive(Drop)]
 pub struct Warning {
     pub at: At,
     pub message: String,
@@ -33,7 +33,7 @@ struct Idle {
 }
 
 /// How much is said of a text.
-#[derive(Clone, Copy, Debug, PartialEq, Eq)]
+#[derive(Clone, Copy, PartialEq, Eq)]
 enum Depth {
     /// The counts of what a compiler notes.
     Counts,

@@ -19,7 +19,7 @@ use std::marker::Model;
 
 /// A name of any length, with a number of its first eight bytes, by which names are told apart where it isn't the same. Seen
 /// as its bytes.
-#[derive(Debug, Drop)]
+#[derive(Drop)]
 pub struct OwnedName {
     head: u64,
     bytes: Vec<u8>,

@@ -24,7 +24,7 @@ use std::marker::Model;
 /// A name of at most 255 bytes, which is read exactly, with a number of its first eight bytes: names are told apart by these
 /// numbers, and their bytes are compared only where the numbers are the same. Seen as its bytes, which stand in place, so
 /// that it is taken again without an allocation.
-#[derive(Debug, Drop)]
+#[derive(Drop)]
 pub struct ShortName {
     head: u64,
     len: u8,

@@ -22,7 +22,7 @@ use kx_lex::{Fault, Keyword, MOST_TEXT_BYTES, Name, Row, Span, Token, TokenKind,
 use std::alloc::{AllocError, Global};
 
 /// The sections of a text without their statements, and where each stands, from its first token to its `;`.
-#[derive(Debug, Drop)]
+#[derive(Drop)]
 pub struct Outline {
     pub sections: Row<Section>,
     pub places: Row<Span>,

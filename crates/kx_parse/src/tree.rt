@@ -2,21 +2,21 @@
 use kx_lex::{Boxed, KeyName, Name, Number, Row, SmallRow, Span};
 
 /// A keysym as it is written: a name or a number.
-#[derive(Debug, Drop)]
+#[derive(Drop)]
 pub enum Symbol {
     Word(Name),
     Number(Number),
 }
 
 /// A sign before a number or between terms.
-#[derive(Clone, Copy, Debug, PartialEq, Eq)]
+#[derive(Clone, Copy, PartialEq, Eq)]
 pub enum Sign {
     Plus,
     Minus,
 }
 
 /// A number with the sign before it; the span is from the sign on.
-#[derive(Clone, Copy, Debug, PartialEq, Eq)]
+#[derive(Clone, Copy, PartialEq, Eq)]
 pub struct Signed {
     pub sign: Sign,
     pub number: Number,
@@ -24,7 +24,7 @@ pub struct Signed {
 }
 
 /// A part of an expression.
-#[derive(Debug, Drop)]
+#[derive(Drop)]
 pub enum Term {
     Number(Number),
     Signed(Signed),
@@ -34,14 +34,14 @@ pub enum Term {
 }
 
 /// A term that is added or taken away.
-#[derive(Debug, Drop)]
+#[derive(Drop)]
 pub struct Operation {
     pub sign: Sign,
     pub term: Term,
 }
 
 /// Terms joined by `+` and `-`, read from the left.
-#[derive(Debug, Drop)]
+#[derive(Drop)]
 pub struct Expression {
     pub first: Term,
     pub rest: Row<Operation>,
@@ -49,14 +49,14 @@ pub struct Expression {
 }
 
 /// What stands in brackets after a word, with the brackets.
-#[derive(Debug, Drop)]
+#[derive(Drop)]
 pub struct Index {
     pub value: Expression,
     pub span: Span,
 }
 
 /// What a field sets: a word, or a word of another's defaults, with an index or without.
-#[derive(Debug, Drop)]
+#[derive(Drop)]
 pub struct FieldPlace {
     pub word: Name,
     pub member: Option<Boxed<Name>>,
@@ -64,7 +64,7 @@ pub struct FieldPlace {
 }
 
 /// What an argument of a call sets.
-#[derive(Debug, Drop)]
+#[derive(Drop)]
 pub enum Argument {
     /// `!word`
     Off(Name),
@@ -79,14 +79,14 @@ pub enum Argument {
 }
 
 /// An argument with where it stands.
-#[derive(Debug, Drop)]
+#[derive(Drop)]
 pub struct PlacedArgument {
     pub argument: Argument,
     pub span: Span,
 }
 
 /// A word with arguments in parentheses.
-#[derive(Debug, Drop)]
+#[derive(Drop)]
 pub struct Call {
     pub word: Name,
     pub arguments: Row<PlacedArgument>,
@@ -94,14 +94,14 @@ pub struct Call {
 }
 
 /// What stands in braces of a list.
-#[derive(Debug, Drop)]
+#[derive(Drop)]
 pub enum BracePart {
     Symbol(Symbol),
     Call(Call),
 }
 
 /// One level of a list.
-#[derive(Debug, Drop)]
+#[derive(Drop)]
 pub enum Element {
     Symbol(Symbol),
     Call(Boxed<Call>),
@@ -109,21 +109,21 @@ pub enum Element {
 }
 
 /// Parts in braces, with the braces.
-#[derive(Debug, Drop)]
+#[derive(Drop)]
 pub struct Braces {
     pub parts: Row<BracePart>,
     pub span: Span,
 }
 
 /// Levels in brackets, with the brackets.
-#[derive(Debug, Drop)]
+#[derive(Drop)]
 pub struct List {
     pub elements: Row<Element>,
     pub span: Span,
 }
 
 /// What a field is set to.
-#[derive(Debug, Drop)]
+#[derive(Drop)]
 pub enum Value {
     Expression(Expression),
     Call(Call),
@@ -131,7 +131,7 @@ pub enum Value {
 }
 
 /// What a field says of its place.
-#[derive(Debug, Drop)]
+#[derive(Drop)]
 pub enum Setting {
     /// `!place`
     Off,
@@ -142,7 +142,7 @@ pub enum Setting {
 }
 
 /// A field, from its first token to its last; a `;` after it does not count.
-#[derive(Debug, Drop)]
+#[derive(Drop)]
 pub struct Field {
     pub place: FieldPlace,
     pub setting: Setting,
@@ -150,35 +150,35 @@ pub struct Field {
 }
 
 /// A field of a key.
-#[derive(Debug, Drop)]
+#[derive(Drop)]
 pub enum KeyField {
     Field(Boxed<Field>),
     List(List),
 }
 
 /// A virtual modifier that is declared.
-#[derive(Debug, Drop)]
+#[derive(Drop)]
 pub struct Declaration {
     pub word: Name,
     pub mask: Option<Expression>,
 }
 
 /// Which modifiers an interpretation wants.
-#[derive(Debug, Drop)]
+#[derive(Drop)]
 pub enum Predicate {
     Call(Call),
     Mask(Expression),
 }
 
 /// What a modifier map names.
-#[derive(Debug, Drop)]
+#[derive(Drop)]
 pub enum Entry {
     KeyName(KeyName),
     Symbol(Symbol),
 }
 
 /// What a statement says.
-#[derive(Debug, Drop)]
+#[derive(Drop)]
 pub enum Statement {
     /// `<NAME> = CODE`
     Keycode {
@@ -233,7 +233,7 @@ pub enum Statement {
 }
 
 /// How a statement or an include joins what stands before it.
-#[derive(Clone, Copy, Debug, PartialEq, Eq)]
+#[derive(Clone, Copy, PartialEq, Eq)]
 pub enum Mode {
     Augment,
     Override,
@@ -241,7 +241,7 @@ pub enum Mode {
 }
 
 /// A statement as it stands in a section.
-#[derive(Debug, Drop)]
+#[derive(Drop)]
 pub struct Stated {
     pub mode: Mode,
     pub statement: Statement,
@@ -252,7 +252,7 @@ pub struct Stated {
 }
 
 /// What a section holds.
-#[derive(Debug, Drop)]
+#[derive(Drop)]
 pub enum Item {
     /// An include; the span is from its word to its text.
     Include { mode: Mode, text: Name, span: Span },
@@ -260,7 +260,7 @@ pub enum Item {
 }
 
 /// What a section is about.
-#[derive(Clone, Copy, Debug, PartialEq, Eq)]
+#[derive(Clone, Copy, PartialEq, Eq)]
 pub enum Kind {
     Keycodes,
     Types,
@@ -288,7 +288,7 @@ impl Kind {
 }
 
 /// A word before a section.
-#[derive(Clone, Copy, Debug, PartialEq, Eq)]
+#[derive(Clone, Copy, PartialEq, Eq)]
 pub enum Flag {
     Default,
     Partial,
@@ -301,7 +301,7 @@ pub enum Flag {
 }
 
 /// A section; one of geometry keeps none of its content.
-#[derive(Debug, Drop)]
+#[derive(Drop)]
 pub struct Section {
     pub flags: Row<Flag>,
     pub kind: Kind,
@@ -310,7 +310,7 @@ pub struct Section {
 }
 
 /// The sections of a source or of a file.
-#[derive(Debug, Drop)]
+#[derive(Drop)]
 pub struct Tree {
     pub sections: Row<Section>,
 }

@@ -9,7 +9,7 @@ use kx_mods::Mods;
 use kx_tables::States;
 
 /// Whose names stand for the bits of a set, from bit 0 on.
-#[derive(Clone, Copy, Debug)]
+#[derive(Clone, Copy)]
 pub enum Names {
     /// The real modifiers.
     Modifiers,

@@ -12,7 +12,7 @@ use ks_core::{BufferedOut, Keysym, NameTable, Out};
 use kx_tables::{CellRow, Tables};
 
 /// The cells of a group: one for each level of its type.
-#[derive(Clone, Copy, Debug)]
+#[derive(Clone, Copy)]
 pub struct Cells {
     /// The index of the first.
     pub first: u32,

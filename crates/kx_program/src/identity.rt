@@ -5,7 +5,7 @@ use std::os::unix::fs::MetadataExt;
 use std::rt::Files as FileSystem;
 
 /// What tells a file from all others.
-#[derive(Clone, Copy, Debug, PartialEq, Eq)]
+#[derive(Clone, Copy, PartialEq, Eq)]
 pub(crate) struct Identity {
     device: u64,
     node: u64,

@@ -9,7 +9,7 @@ use std::{fs, io};
 const MOST_ROOM: u64 = 1 << 24;
 
 /// A folder under which the files of includes are looked for.
-#[derive(Debug, Drop)]
+#[derive(Drop)]
 pub struct Folder {
     /// Its path, without links and without a `/` at the end.
     path: String,

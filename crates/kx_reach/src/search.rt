@@ -11,7 +11,7 @@ use std::io;
 use std::rt::Files as FileSystem;
 
 /// A file that an include reached.
-#[derive(Debug, Drop)]
+#[derive(Drop)]
 pub struct Found {
     /// The name under which it is handed in, with the folder of its kind before it.
     pub name: String,
@@ -22,7 +22,7 @@ pub struct Found {
 }
 
 /// Why no files are found.
-#[derive(Debug, Drop)]
+#[derive(Drop)]
 pub enum FindFault {
     /// The file at this path is there and can't be read.
     File(String),

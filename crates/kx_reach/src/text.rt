@@ -2,7 +2,7 @@
 use kx_lex::Span;
 
 /// A text of a keymap: the name under which it is handed in, where it lies, and its bytes.
-#[derive(Clone, Copy, Debug)]
+#[derive(Clone, Copy)]
 pub struct Text<'a> {
     pub name: &'a str,
     pub path: &'a str,
@@ -10,7 +10,7 @@ pub struct Text<'a> {
 }
 
 /// The source of a keymap, and the files handed in with it in their order.
-#[derive(Clone, Copy, Debug)]
+#[derive(Clone, Copy)]
 pub struct Texts<'a> {
     pub source: Text<'a>,
     pub files: &'a [Text<'a>],

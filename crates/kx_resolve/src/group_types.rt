@@ -156,7 +156,7 @@ pub fn has_action(key: &KeyRecord) -> bool
 }
 
 /// The key type that a group has.
-#[derive(Clone, Copy, Debug)]
+#[derive(Clone, Copy)]
 pub struct GroupType<'a> {
     /// Its name.
     pub name: &'a [u8],

@@ -15,7 +15,7 @@ use kx_virtual_mods::{NameSet, real_of};
 use std::alloc::{AllocError, Global};
 
 /// A key type as its rows show it.
-#[derive(Debug, Drop)]
+#[derive(Drop)]
 pub struct TypeRows {
     /// The real modifiers that select a level.
     pub mods: Mods,

@@ -22,7 +22,7 @@ use kx_virtual_mods::{MOST_VIRTUAL_MODIFIERS, NameSet};
 use std::alloc::Global;
 
 /// A key that is mapped to modifiers.
-#[derive(Clone, Copy, Debug)]
+#[derive(Clone, Copy)]
 struct MappedKey {
     /// The modifiers that it is mapped to.
     mods: Mods,

@@ -11,7 +11,7 @@ use std::alloc::{AllocError, Global};
 use std::marker::Model;
 
 /// What a value left of a sign = is compared with.
-#[derive(Clone, Copy, Debug, PartialEq, Eq)]
+#[derive(Clone, Copy, PartialEq, Eq)]
 pub(crate) enum Field {
     Model,
     Layout,
@@ -20,7 +20,7 @@ pub(crate) enum Field {
 }
 
 /// What a value right of it is added to.
-#[derive(Clone, Copy, Debug, PartialEq, Eq)]
+#[derive(Clone, Copy, PartialEq, Eq)]
 pub(crate) enum Section {
     Keycodes,
     Types,
@@ -30,14 +30,14 @@ pub(crate) enum Section {
 }
 
 /// A word left of the sign, with the place that its index names.
-#[derive(Clone, Copy, Debug)]
+#[derive(Clone, Copy)]
 pub(crate) struct Column {
     pub(crate) field: Field,
     pub(crate) place: Option<usize>,
 }
 
 /// What the values of rules are.
-#[derive(Debug, Drop)]
+#[derive(Drop)]
 pub(crate) struct Mapping {
     pub(crate) columns: Vec<Column>,
     pub(crate) sections: Vec<Section>,

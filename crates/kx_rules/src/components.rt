@@ -12,7 +12,7 @@ use std::alloc::{AllocError, Global};
 use std::marker::Model;
 
 /// The texts of the includes that make up a keymap.
-#[derive(Debug, Drop)]
+#[derive(Drop)]
 pub struct Components {
     pub keycodes: Vec<u8>,
     pub types: Vec<u8>,

@@ -2,7 +2,7 @@
 use std::alloc::AllocError;
 
 /// Why there are no components.
-#[derive(Clone, Copy, Debug, PartialEq, Eq)]
+#[derive(Clone, Copy, PartialEq, Eq)]
 pub enum Fault {
     /// A growth is refused.
     Memory,

@@ -16,7 +16,7 @@ use std::alloc::{AllocError, Global};
 use std::marker::Model;
 
 /// Which of the names a group has.
-#[derive(Debug, Drop)]
+#[derive(Drop)]
 pub(crate) struct Members {
     model: bool,
     layouts: Vec<bool>,

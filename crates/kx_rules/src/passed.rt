@@ -12,7 +12,7 @@ use std::alloc::{AllocError, Global};
 use std::marker::Model;
 
 /// Why a line is passed over.
-#[derive(Clone, Copy, Debug, PartialEq, Eq)]
+#[derive(Clone, Copy, PartialEq, Eq)]
 pub enum Reason {
     /// A mapping has an unknown word or one twice, or no component on its right side; its rules are passed over too.
     Mapping,
@@ -23,7 +23,7 @@ pub enum Reason {
 }
 
 /// A line that is faulty and passed over.
-#[derive(Clone, Copy, Debug)]
+#[derive(Clone, Copy)]
 pub struct PassedLine {
     /// 0 for the rules text itself, else the place from 1 on of its name among `Passed::texts`.
     pub text: usize,
@@ -34,7 +34,7 @@ pub struct PassedLine {
 
 /// What no rule takes, and lines that are faulty and passed over. A name is taken where a rule that applies has a value for
 /// it on its left side, or writes it on its right side. Names without bytes are never told.
-#[derive(Debug, Drop)]
+#[derive(Drop)]
 pub struct Passed {
     /// Whether the model is passed over.
     pub model: bool,
@@ -50,7 +50,7 @@ pub struct Passed {
 }
 
 /// What was taken and passed over so far. Seen as what was taken.
-#[derive(Debug, Drop)]
+#[derive(Drop)]
 pub(crate) struct Uses {
     taken: Vec<Use>,
     texts: Vec<Vec<u8>>,

@@ -108,7 +108,7 @@ fn read_first(
 }
 
 /// The components, and what was passed over for them.
-#[derive(Debug, Drop)]
+#[derive(Drop)]
 pub struct Answer {
     pub components: Components,
     pub passed: Passed,

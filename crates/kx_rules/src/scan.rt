@@ -8,7 +8,7 @@ ghost use Rattle.std.specs.Prelude.{nat_le, ◌==◌, ◌||◌};
 use crate::bytes::is_word_byte;
 
 /// What a piece is. A `Bad` one begins with a byte that begins no piece.
-#[derive(Clone, Copy, Debug, PartialEq, Eq)]
+#[derive(Clone, Copy, PartialEq, Eq)]
 pub(crate) enum Kind {
     NewLine,
     Bang,

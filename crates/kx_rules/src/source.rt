@@ -8,7 +8,7 @@ use crate::components::Components;
 use std::alloc::{AllocError, Global};
 
 /// Why components have no source.
-#[derive(Clone, Copy, Debug, PartialEq, Eq)]
+#[derive(Clone, Copy, PartialEq, Eq)]
 pub enum SourceFault {
     /// A growth is refused.
     Memory,

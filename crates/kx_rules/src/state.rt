@@ -25,7 +25,7 @@ use std::alloc::{AllocError, Global};
 use std::marker::Model;
 
 /// Which rules may stand in the next line.
-#[derive(Debug, Drop)]
+#[derive(Drop)]
 pub(crate) enum Rules {
     NoRules,
     PassedOver,

@@ -16,7 +16,7 @@ use crate::word::Piece;
 use std::alloc::{AllocError, Global};
 
 /// What a rule takes that applies.
-#[derive(Clone, Copy, Debug)]
+#[derive(Clone, Copy)]
 pub(crate) enum Use {
     /// The name of a field at a place, also an option.
     Named(Field, usize),

@@ -5,7 +5,7 @@ use crate::scan::Kind;
 use std::marker::Model;
 
 /// A word that is lent. Seen as its bytes.
-#[derive(Debug, Drop)]
+#[derive(Drop)]
 pub(crate) struct Word<'a> {
     bytes: &'a [u8],
 }
@@ -33,7 +33,7 @@ impl<'a> Word<'a> {
 }
 
 /// A piece with its text, as far as it has one, and how many bytes of the whole text are left where it begins.
-#[derive(Debug, Drop)]
+#[derive(Drop)]
 pub(crate) struct Piece<'a> {
     kind: Kind,
     text: &'a [u8],

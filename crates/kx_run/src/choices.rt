@@ -10,7 +10,7 @@ use std::alloc::{AllocError, Global};
 use std::marker::Model;
 
 /// What a type gives under some modifiers.
-#[derive(Clone, Copy, Debug)]
+#[derive(Clone, Copy)]
 pub struct Choice {
     /// The type's modifiers.
     pub type_mods: Mods,
@@ -41,7 +41,7 @@ pub fn choice_of<T: Tables>(tables: &T, row: TypeRow, mods: Mods) -> Choice
 }
 
 /// What each type gave last, since most events find the modifiers as the last one left them.
-#[derive(Debug, Drop)]
+#[derive(Drop)]
 pub struct Choices {
     choices: Vec<Choice>,
 }

@@ -1,6 +1,6 @@
 //! Events.
 /// What happens to a key in an event.
-#[derive(Clone, Copy, PartialEq, Eq, Debug)]
+#[derive(Clone, Copy, Debug, PartialEq, Eq)]
 pub enum Direction {
     /// The key is pressed.
     Down,
@@ -9,7 +9,7 @@ pub enum Direction {
 }
 
 /// One event: a press or a release of a keycode.
-#[derive(Clone, Copy, PartialEq, Eq, Debug)]
+#[derive(Clone, Copy, PartialEq, Eq)]
 pub struct Event {
     /// The keycode.
     pub code: u16,

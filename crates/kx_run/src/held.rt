@@ -14,7 +14,7 @@ use std::alloc::{AllocError, Global};
 use std::marker::Model;
 
 /// A key that is down, with what its press found.
-#[derive(Clone, Copy, PartialEq, Eq, Debug)]
+#[derive(Clone, Copy, PartialEq, Eq)]
 pub struct HeldKey {
     /// The keycode.
     pub code: u16,
@@ -47,7 +47,7 @@ pub fn mods_of(action: Action) -> Mods
 }
 
 /// The keys that are down, in the order of their presses.
-#[derive(Debug, Drop)]
+#[derive(Drop)]
 pub struct HeldKeys {
     keys: Presses,
     counts: Counts,

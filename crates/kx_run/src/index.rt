@@ -11,7 +11,7 @@ use std::alloc::{AllocError, Global};
 use std::marker::Model;
 
 /// The key of each code.
-#[derive(Debug, Drop)]
+#[derive(Drop)]
 pub struct KeyIndex {
     keys: Vec<Option<KeyRow>>,
 }

@@ -21,7 +21,7 @@ use std::alloc::{AllocError, Global};
 use std::marker::Model;
 
 /// The state of a keyboard. What a call does depends on the keymap's number of groups, at least 1, alone.
-#[derive(Debug, Drop)]
+#[derive(Drop)]
 pub struct Keyboard {
     held: HeldKeys,
     latched: Mods,

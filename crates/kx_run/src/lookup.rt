@@ -12,7 +12,7 @@ use kx_mods::Mods;
 use kx_tables::{Action, CellRow, EntryRow, GroupRow, KeyRow, Tables, TypeRow, wrap_group};
 
 /// What a key gives in a state.
-#[derive(Clone, Copy, Debug)]
+#[derive(Clone, Copy)]
 pub struct Found {
     /// The level, which has its keysyms and its action.
     pub cell: CellRow,

@@ -17,7 +17,7 @@ const SPARE: usize = 64;
 
 /// The keys that are down, in the order of their presses. A key that is let go leaves an empty entry after, so that
 /// no other key moves; where the empty entries outnumber the keys by far, the next press drops them all.
-#[derive(Debug, Drop)]
+#[derive(Drop)]
 pub struct Presses {
     entries: Vec<Option<HeldKey>>,
     /// Which entry is each code's, if its key is down.

@@ -3,7 +3,7 @@ use arrayvec::ArrayVec;
 use kx_mods::Mods;
 
 /// The modifiers and groups of a keyboard, as a program that draws a keyboard's state shows them.
-#[derive(Clone, Copy, PartialEq, Eq, Debug)]
+#[derive(Clone, Copy, PartialEq, Eq)]
 pub struct Components {
     /// The modifiers that keys which are down set.
     pub base: Mods,
@@ -22,7 +22,7 @@ pub struct Components {
 }
 
 /// What a keyboard answers to an event.
-#[derive(Drop, PartialEq, Eq, Debug)]
+#[derive(Drop)]
 pub struct Reply {
     /// Whether the keymap has the key.
     pub known: bool,
@@ -37,7 +37,7 @@ pub struct Reply {
 }
 
 /// What a keycode gives in a state.
-#[derive(Drop, PartialEq, Eq, Debug)]
+#[derive(Drop)]
 pub struct Look {
     /// Whether the keymap has the key.
     pub known: bool,

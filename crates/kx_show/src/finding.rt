@@ -7,7 +7,7 @@ use kx_tables::{CellRow, GroupRow, Tables};
 use std::alloc::{AllocError, Global};
 
 /// Where one of the keysyms is given: the index of a key, and a group and a level counted from 0.
-#[derive(Clone, Copy, Debug, PartialEq, Eq)]
+#[derive(Clone, Copy, PartialEq, Eq)]
 pub struct Spot {
     pub key: u16,
     pub group: u8,

@@ -12,7 +12,7 @@ use std::alloc::{AllocError, Global};
 const MOST_HOLDERS: usize = 64;
 
 /// How a key gives modifiers.
-#[derive(Clone, Copy, Debug, PartialEq, Eq, PartialOrd, Ord)]
+#[derive(Clone, Copy, PartialEq, Eq, PartialOrd, Ord)]
 enum Way {
     /// While it is held.
     Held,
@@ -23,7 +23,7 @@ enum Way {
 }
 
 /// How handy a key is: those that lie on a PC keyboard come first, and of them those that are held.
-#[derive(Clone, Copy, Debug, PartialEq, Eq, PartialOrd, Ord)]
+#[derive(Clone, Copy, PartialEq, Eq, PartialOrd, Ord)]
 struct Rank {
     is_elsewhere: bool,
     way: Way,

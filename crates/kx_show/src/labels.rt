@@ -9,7 +9,7 @@ use std::alloc::{AllocError, Global};
 use unicode_width::UnicodeWidthChar;
 
 /// What kind of keysym a level gives.
-#[derive(Clone, Copy, Debug, PartialEq, Eq)]
+#[derive(Clone, Copy, PartialEq, Eq)]
 pub(crate) enum Look {
     Plain,
     Dead,

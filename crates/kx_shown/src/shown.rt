@@ -14,7 +14,7 @@ const MOST_BEFORE: usize = 60;
 const MOST_BEHIND: usize = 100;
 
 /// A fault, and the texts in which it is found.
-#[derive(Debug, Drop)]
+#[derive(Drop)]
 pub struct Shown<'a> {
     fault: Fault,
     texts: Texts<'a>,

@@ -17,7 +17,7 @@ use std::alloc::{AllocError, Global};
 use std::marker::Model;
 
 /// An action as a level has it.
-#[derive(Debug, Drop)]
+#[derive(Drop)]
 pub(crate) struct LevelAction {
     action: KeyAction,
 }

@@ -4,7 +4,7 @@ use kx_actions::KeyAction;
 use kx_key_fields::{AttributeCell, AttributeValue};
 
 /// What can have a value in a key; groups and levels are counted from 0.
-#[derive(Clone, Copy, Debug, PartialEq, Eq)]
+#[derive(Clone, Copy, PartialEq, Eq)]
 pub enum Cell {
     /// The keysyms of a group and a level.
     Keysyms(usize, usize),
@@ -15,7 +15,7 @@ pub enum Cell {
 }
 
 /// The value of a cell.
-#[derive(Debug, Drop)]
+#[derive(Drop)]
 pub enum CellValue {
     Keysyms(Keysyms),
     Action(KeyAction),

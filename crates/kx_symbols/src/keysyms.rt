@@ -21,7 +21,7 @@ use std::slice;
 const VOID: u32 = 0xff_ffff;
 
 /// Keysyms that stand in braces, eight at most.
-#[derive(Debug, Drop)]
+#[derive(Drop)]
 pub struct BracedKeysyms {
     numbers: ArrayVec<u32, MOST_KEYSYMS>,
 }
@@ -73,14 +73,14 @@ impl BracedKeysyms {
 }
 
 /// Most levels have one keysym, which takes no allocation.
-#[derive(Debug, Drop)]
+#[derive(Drop)]
 enum KeptKeysyms {
     One(u32),
     Several(Box<BracedKeysyms>),
 }
 
 /// The keysyms of a level, one to eight.
-#[derive(Debug, Drop)]
+#[derive(Drop)]
 pub struct Keysyms {
     kept: KeptKeysyms,
 }

@@ -6,7 +6,7 @@ ghost use Rattle.kx_symbols.specs.Lists.{bare_kind, field_kind, has_call, is_cal
 use kx_parse::{BracePart, Element, FieldPlace, List as Listed};
 
 /// What a list of a key statement gives.
-#[derive(Clone, Copy, Debug, PartialEq, Eq)]
+#[derive(Clone, Copy, PartialEq, Eq)]
 pub(crate) enum ListKind {
     /// Keysyms by level.
     Symbols,

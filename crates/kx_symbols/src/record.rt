@@ -20,7 +20,7 @@ use std::marker::Model;
 
 /// What the statements of a key give: for each group a list of keysyms and one of actions, where it has them, and what they
 /// say of the key besides.
-#[derive(Debug, Drop)]
+#[derive(Drop)]
 pub struct KeyRecord {
     symbols: GroupLists<Keysyms>,
     actions: GroupLists<LevelAction>,

@@ -25,7 +25,7 @@ use std::fmt;
 use types::check_types;
 
 /// A kind of record of a keymap's tables.
-#[derive(Clone, Copy, PartialEq, Eq, Debug)]
+#[derive(Clone, Copy, Debug, PartialEq, Eq)]
 pub enum RecordKind {
     /// The counts of all tables.
     Header,
@@ -59,7 +59,7 @@ impl fmt::Display for RecordKind {
 }
 
 /// A record that breaks a rule: its kind, and its index counted from 0.
-#[derive(Clone, Copy, PartialEq, Eq, Debug)]
+#[derive(Clone, Copy, PartialEq, Eq)]
 pub struct Broken {
     pub part: RecordKind,
     pub index: u32,

@@ -5,7 +5,7 @@ use bitflags::{Flag, Flags, bitflag_items};
 use kx_mods::Mods;
 
 /// What becomes of an effective group that a key doesn't have. Groups are counted from 0.
-#[derive(Clone, Copy, PartialEq, Eq, Debug)]
+#[derive(Clone, Copy, Debug, PartialEq, Eq)]
 pub enum Range {
     /// The group is taken modulo the key's number of groups.
     Wrap,
@@ -16,7 +16,7 @@ pub enum Range {
 }
 
 /// The group that an action names.
-#[derive(Clone, Copy, PartialEq, Eq, Debug)]
+#[derive(Clone, Copy, Debug, PartialEq, Eq)]
 pub enum GroupChange {
     /// This group, counted from 0, at most 31.
     Absolute(u8),
@@ -25,7 +25,7 @@ pub enum GroupChange {
 }
 
 /// What a level does to the keyboard's state.
-#[derive(Clone, Copy, PartialEq, Eq, Debug)]
+#[derive(Clone, Copy, Debug, PartialEq, Eq)]
 pub enum Action {
     /// Nothing.
     None,
@@ -64,7 +64,7 @@ pub enum Action {
 }
 
 /// The states that an indicator looks at: bit 0 is base, 1 latched, 2 locked, 3 effective.
-#[derive(Clone, Copy, PartialEq, Eq, Debug)]
+#[derive(Clone, Copy, PartialEq, Eq)]
 pub struct States(u8);
 
 bitflag_items! {
@@ -119,7 +119,7 @@ impl States {
 }
 
 /// A key type: which modifiers select a level, and how.
-#[derive(Clone, Copy, PartialEq, Eq, Debug)]
+#[derive(Clone, Copy, PartialEq, Eq)]
 pub struct TypeRow {
     /// The modifiers that select a level.
     pub mods: Mods,
@@ -136,7 +136,7 @@ pub struct TypeRow {
 }
 
 /// An entry of a key type: the modifiers that select a level.
-#[derive(Clone, Copy, PartialEq, Eq, Debug)]
+#[derive(Clone, Copy, PartialEq, Eq)]
 pub struct EntryRow {
     /// The modifiers that select the level.
     pub mods: Mods,
@@ -147,7 +147,7 @@ pub struct EntryRow {
 }
 
 /// A key.
-#[derive(Clone, Copy, PartialEq, Eq, Debug)]
+#[derive(Clone, Copy, PartialEq, Eq)]
 pub struct KeyRow {
     /// The keycode, at most 4095.
     pub code: u16,
@@ -166,7 +166,7 @@ pub struct KeyRow {
 }
 
 /// A group of a key.
-#[derive(Clone, Copy, PartialEq, Eq, Debug)]
+#[derive(Clone, Copy, PartialEq, Eq)]
 pub struct GroupRow {
     /// The index of its key type.
     pub key_type: u16,
@@ -175,7 +175,7 @@ pub struct GroupRow {
 }
 
 /// A level of a group.
-#[derive(Clone, Copy, PartialEq, Eq, Debug)]
+#[derive(Clone, Copy, PartialEq, Eq)]
 pub struct CellRow {
     /// How many keysyms the level has, at most 8.
     pub keysyms: u8,
@@ -186,7 +186,7 @@ pub struct CellRow {
 }
 
 /// An indicator: lit while its modifiers or its groups are among those of the states it looks at.
-#[derive(Clone, Copy, PartialEq, Eq, Debug)]
+#[derive(Clone, Copy, PartialEq, Eq)]
 pub struct IndicatorRow {
     /// The modifiers that light it.
     pub mods: Mods,
@@ -203,7 +203,7 @@ pub struct IndicatorRow {
 }
 
 /// The name of a group.
-#[derive(Clone, Copy, PartialEq, Eq, Debug)]
+#[derive(Clone, Copy, PartialEq, Eq)]
 pub struct GroupNameRow {
     /// How many bytes it has, 0 for a group without a name.
     pub name_length: u16,

@@ -7,7 +7,7 @@ ghost use Rattle.kx_tables.specs.Sound.{Sound};
 use crate::rows::{CellRow, EntryRow, GroupNameRow, GroupRow, IndicatorRow, KeyRow, TypeRow};
 
 /// How many rows each table has, and how many bytes the names.
-#[derive(Clone, Copy, PartialEq, Eq, Debug)]
+#[derive(Clone, Copy, PartialEq, Eq)]
 pub struct Counts {
     pub types: u16,
     pub entries: u32,

@@ -28,7 +28,7 @@ impl Model for Line {
 }
 
 /// What a line says.
-#[derive(Clone, Copy, Debug, PartialEq, Eq)]
+#[derive(Clone, Copy, PartialEq, Eq)]
 pub enum Said {
     /// Nothing: the line is empty.
     Nothing,

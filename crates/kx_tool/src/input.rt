@@ -15,7 +15,7 @@ pub const MOST_BYTES: u64 = 67_108_864;
 const CHUNK: usize = 4096;
 
 /// The reader failed, or gave a byte past the limit.
-#[derive(Clone, Copy, Debug, PartialEq, Eq)]
+#[derive(Clone, Copy, PartialEq, Eq)]
 pub struct ReadFailed;
 
 /// Bytes that were taken from a reader and not used yet; the reader stands beside them.

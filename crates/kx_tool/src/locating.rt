@@ -3,7 +3,7 @@ ghost use Rattle.std.specs.Prelude.{◌≡◌, ◌+◌, ◌≤◌, length, min, 
 ghost use Rattle.kx_tool.specs.Locating.{line_feeds, since_line_feed};
 
 /// Where a byte of a text stands: its line, and its place among the line's bytes, both counted from 1.
-#[derive(Clone, Copy, Debug, PartialEq, Eq)]
+#[derive(Clone, Copy, PartialEq, Eq)]
 pub struct Position {
     pub line: usize,
     pub column: usize,

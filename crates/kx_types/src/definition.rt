@@ -15,7 +15,7 @@ use std::alloc::{AllocError, Global};
 use std::marker::Model;
 
 /// A key type: which modifiers select a level, and how.
-#[derive(Debug, Drop)]
+#[derive(Drop)]
 pub struct KeyType {
     modifiers: NameSet,
     levels: u8,

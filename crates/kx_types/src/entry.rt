@@ -2,7 +2,7 @@
 use kx_virtual_mods::NameSet;
 
 /// An entry of a key type.
-#[derive(Clone, Copy, Debug, PartialEq, Eq)]
+#[derive(Clone, Copy, PartialEq, Eq)]
 pub struct TypeEntry {
     /// The modifiers that select the level.
     pub mask: NameSet,

@@ -21,7 +21,7 @@ use kx_virtual_mods::{ModNames, NameSet};
 use std::alloc::Global;
 
 /// What a field of a type sets.
-#[derive(Clone, Copy, Debug, PartialEq, Eq)]
+#[derive(Clone, Copy, PartialEq, Eq)]
 pub enum Slot {
     Modifiers,
     Map,

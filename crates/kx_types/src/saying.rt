@@ -2,7 +2,7 @@
 use kx_virtual_mods::NameSet;
 
 /// What a field of a type says.
-#[derive(Clone, Copy, Debug, PartialEq, Eq)]
+#[derive(Clone, Copy, PartialEq, Eq)]
 pub enum Saying {
     /// The type's modifiers.
     Modifiers(NameSet),

@@ -10,7 +10,7 @@ use std::marker::Model;
 
 /// A set of names of modifiers: bits 0 to 7 are the real ones, Shift, Lock, Control and Mod1 to Mod5, and bits 8 to 31 the
 /// virtual ones by their numbers, 0 to 23; seen as the number.
-#[derive(Clone, Copy, Debug, PartialEq, Eq, PartialOrd, Ord, Hash)]
+#[derive(Clone, Copy, PartialEq, Eq, PartialOrd, Ord, Hash)]
 pub struct NameSet {
     bits: u32,
 }

@@ -5,7 +5,7 @@ use std::alloc::{AllocError, Global};
 const VERSION: &str = "1.0.0";
 
 /// Which words a command has that reads a keymap.
-#[derive(Clone, Copy, Debug, PartialEq, Eq)]
+#[derive(Clone, Copy, PartialEq, Eq)]
 pub(crate) enum Shape {
     /// Those of files, and no option but `--quiet`: all that most calls ask for, since each word takes time to make.
     Bare,

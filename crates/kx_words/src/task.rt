@@ -6,21 +6,21 @@ use kx_noted::Telling;
 pub const INPUT: &str = "-";
 
 /// A file that a source may include: its name, and where it lies.
-#[derive(Clone, Copy, Debug, PartialEq, Eq)]
+#[derive(Clone, Copy)]
 pub struct Included<'a> {
     pub name: &'a str,
     pub path: &'a str,
 }
 
 /// What a source may include: files by name, and the folders in which others are looked for.
-#[derive(Debug, Drop, PartialEq)]
+#[derive(Drop)]
 pub struct Includes<'a> {
     pub files: Vec<Included<'a>>,
     pub folders: Vec<&'a str>,
 }
 
 /// Where a source is taken from.
-#[derive(Clone, Copy, Debug, PartialEq, Eq)]
+#[derive(Clone, Copy, PartialEq, Eq)]
 pub enum Source<'a> {
     /// The file at a path, or standard input for [`INPUT`].
     File(&'a str),
@@ -40,7 +40,7 @@ impl<'a> Source<'a> {
 }
 
 /// A keymap that is looked at: an image, or a source, which is compiled in memory.
-#[derive(Debug, Drop, PartialEq)]
+#[derive(Drop)]
 pub struct Keymap<'a> {
     /// Where the source is taken from; a file may hold an image in its place.
     pub source: Source<'a>,
@@ -49,7 +49,7 @@ pub struct Keymap<'a> {
 }
 
 /// A source that is compiled to an image.
-#[derive(Debug, Drop, PartialEq)]
+#[derive(Drop)]
 pub struct Compile<'a> {
     pub names: Option<&'a str>,
     pub source: Source<'a>,
@@ -60,7 +60,7 @@ pub struct Compile<'a> {
 }
 
 /// What the words ask for.
-#[derive(Debug, Drop, PartialEq)]
+#[derive(Drop)]
 pub enum Task<'a> {
     /// Compile a source from standard input, and answer the events after it; or compile what names mean, and answer events.
     Try {

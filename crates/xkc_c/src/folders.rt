@@ -22,7 +22,7 @@ pub struct XkcAsked<'a> {
 }
 
 /// Why paths or names aren't taken.
-#[derive(Clone, Copy, Debug, PartialEq, Eq)]
+#[derive(Clone, Copy, PartialEq, Eq)]
 pub enum PassedFault {
     Memory,
     /// Bytes are no text in UTF-8.

@@ -232,7 +232,7 @@ const WORDS: &[Rule] = &[
 ];
 
 /// A row of numbers by chance, each from the one before it.
-#[derive(Clone, Copy, Debug)]
+#[derive(Clone, Copy)]
 pub struct Chance(u64);
 
 impl Chance {

@@ -1,14 +1,11 @@
-//! The words by which cases ask for what rules give.
-use cases_kit::{Case, Subject, Trouble};
+//! What rules give, as text. A line wants what a model, layouts, variants and options give: these with slashes between them, an
+//! arrow, and what is given. Files are called by their numbers in includes.
+use cases_kit::{Case, Trouble};
 use kx_rules::{
     Answer, Fault, Names, Passed, Reason, SourceFault, Texts, components_of, source_of,
 };
 use std::alloc::{AllocError, Global};
 use std::fmt::Write;
-
-/// Cases over rules. A line wants what a model, layouts, variants and options give: these with slashes between them, an
-/// arrow, and what is given. Files are called by their numbers in includes.
-pub struct Rules;
 
 /// The files of a case by their numbers, counted from 1.
 fn texts_of(alloc: Global, case: &Case) -> Result<Texts, Trouble> {
@@ -118,27 +115,28 @@ fn source_shown(alloc: Global, answer: &Answer) -> Result<String, Trouble> {
     }
 }
 
-impl Subject for Rules {
-    fn shown(
-        &self,
-        alloc: Global,
-        case: &Case,
-        word: &str,
-        wanted: &str,
-    ) -> Result<Option<String>, Trouble> {
-        let (asked, _) = wanted.split_once("=>").unwrap_or((wanted, ""));
-        let found = match answer_of(alloc, case, asked)? {
-            Err(fault) => {
-                let fault = fault_shown(alloc, fault)?;
-                format!(in alloc; " {fault}")?
-            }
-            Ok(answer) => match word {
-                "gives" => components_shown(alloc, &answer)?,
-                "passes" => passed_shown(alloc, &answer.passed)?,
-                "makes" => source_shown(alloc, &answer)?,
-                _ => return Ok(None),
-            },
-        };
-        Ok(Some(format!(in alloc; "{asked}=>{found}")?))
+/// What a line wants with what is given in the place of what stands behind its arrow; nothing where no line of rules has this
+/// word.
+pub fn shown(
+    alloc: Global,
+    case: &Case,
+    word: &str,
+    wanted: &str,
+) -> Result<Option<String>, Trouble> {
+    if !matches!(word, "gives" | "passes" | "makes") {
+        return Ok(None);
     }
+    let (asked, _) = wanted.split_once("=>").unwrap_or((wanted, ""));
+    let found = match answer_of(alloc, case, asked)? {
+        Err(fault) => {
+            let fault = fault_shown(alloc, fault)?;
+            format!(in alloc; " {fault}")?
+        }
+        Ok(answer) => match word {
+            "gives" => components_shown(alloc, &answer)?,
+            "passes" => passed_shown(alloc, &answer.passed)?,
+            _ => source_shown(alloc, &answer)?,
+        },
+    };
+    Ok(Some(format!(in alloc; "{asked}=>{found}")?))
 }
