@@ -15,8 +15,7 @@ mod tasks;
 mod usage;
 mod writing;
 
-pub use kx_failure::Failure;
-pub use kx_shown::Shown;
+pub use kx_failure::{Failure, Shown};
 pub use showing::Warned;
 pub use tasks::{run, run_words};
 pub use usage::{awaited, out_of_memory, word_that_is_not_text};

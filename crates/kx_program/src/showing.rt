@@ -1,8 +1,8 @@
 //! What a layout author sees on standard error of a fault, and of what was passed over.
 use kx_explain::{Text, Texts};
+use kx_failure::{Shown, show_position};
 use kx_lex::{At, Fault};
 use kx_noted::{KINDS, TextWarnings, Warnings};
-use kx_shown::{Shown, show_position};
 use kx_tool::{Position, locate};
 use kx_words::Includes;
 use std::fmt;

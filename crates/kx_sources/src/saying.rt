@@ -2,8 +2,8 @@
 use crate::source::HeldSource;
 use crate::words::Words;
 use kx_explain::{Text, Texts};
+use kx_failure::Shown;
 use kx_lex::Fault;
-use kx_shown::Shown;
 use std::alloc::{AllocError, Global};
 use std::fmt::Write;
 
