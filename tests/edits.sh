@@ -14,10 +14,11 @@ git ls-files -z crates crates.txt HANDLES | tar --null --files-from=- -cf - | ta
 cd "$work/tree" || exit 2
 rm -rf crates/*/must-fail
 for name in "$@"; do
-    if ! mv "crates/$name/edits" "crates/$name/must-fail"; then
+    if [ ! -d "crates/$name/edits" ]; then
         echo "edits.sh: there is no folder crates/$name/edits" >&2
         exit 2
     fi
+    mv "crates/$name/edits" "crates/$name/must-fail" || exit 2
 done
 rt must-fail "$@" > "$work/said" 2>&1
 status=$?
