@@ -15,10 +15,18 @@ use std::marker::Model;
 
 /// The pairs that keycodes leave at the end, by name and by code, which agree, and the aliases. The names of pairs are
 /// lent by the trees of the source.
-#[derive(Drop)]
 pub struct Codes<'l> {
     pairs: NamedPairs<'l>,
     aliases: Ordered<ShortName, Single<AliasTarget>>,
+}
+
+impl Drop for Codes<'_> {
+    fn drop(self) {
+        let Codes {
+            pairs: _,
+            aliases: _,
+        } = self;
+    }
 }
 
 impl<'l> Model for Codes<'l> {

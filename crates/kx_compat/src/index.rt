@@ -17,13 +17,22 @@ use std::alloc::Global;
 use std::marker::Model;
 
 /// The interpretations of a keymap, in the order in which they are first named; seen as their list.
-#[derive(Drop)]
 pub struct Interpretations {
     all: Vec<Interpretation>,
     /// Those of a keysym, by its number.
     named: SortedNumbers<Bucket>,
     /// Those of any keysym.
     any: Bucket,
+}
+
+impl Drop for Interpretations {
+    fn drop(self) {
+        let Interpretations {
+            all: _,
+            named: _,
+            any: _,
+        } = self;
+    }
 }
 
 impl Model for Interpretations {

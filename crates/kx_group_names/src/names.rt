@@ -19,9 +19,14 @@ use std::marker::Model;
 const GROUPS: usize = 32;
 
 /// The names of groups, from the first to the last that has a name of a byte or more; seen as the list of their bytes.
-#[derive(Drop)]
 pub struct GroupNames {
     names: Vec<NameText>,
+}
+
+impl Drop for GroupNames {
+    fn drop(self) {
+        let GroupNames { names: _ } = self;
+    }
 }
 
 impl Model for GroupNames {

@@ -23,11 +23,20 @@ fn maps_of(alloc: Global, outline: &Option<Outline>) -> Result<MapIndex, AllocEr
 }
 
 /// A file's bytes with their outline, where they have one, and the index of its maps.
-#[derive(Drop)]
 pub struct FileText {
     bytes: Vec<u8>,
     outline: Option<Outline>,
     maps: MapIndex,
+}
+
+impl Drop for FileText {
+    fn drop(self) {
+        let FileText {
+            bytes: _,
+            outline: _,
+            maps: _,
+        } = self;
+    }
 }
 
 impl Model for FileText {
@@ -68,7 +77,12 @@ impl FileText {
     pub fn into_bytes(self) -> Vec<u8>
         ensures { result.items ≡ self.bytes }
     {
-        self.bytes
+        let FileText {
+            bytes,
+            outline: _,
+            maps: _,
+        } = self;
+        bytes
     }
 
     /// The file's outline; none where it has no tree.

@@ -13,9 +13,14 @@ use std::alloc::Global;
 use std::marker::Model;
 
 /// The files handed in, by name; includes find them. The n-th has the number n, counted from 1.
-#[derive(Drop)]
 pub struct Files {
     files: Ordered<OwnedName, FileText>,
+}
+
+impl Drop for Files {
+    fn drop(self) {
+        let Files { files: _ } = self;
+    }
 }
 
 impl Model for Files {

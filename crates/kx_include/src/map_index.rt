@@ -37,11 +37,20 @@ fn with_flagged(flagged: KindMaps, section: &Section, number: usize) -> KindMaps
 
 /// Where the maps of a text stand, by kind and name, so that an include finds its map by one look-up, in the
 /// logarithm of how many names there are. Of several that fit, the first is found.
-#[derive(Drop)]
 pub struct MapIndex {
     named: BTreeMap<OwnedName, KindMaps>,
     flagged: KindMaps,
     first: KindMaps,
+}
+
+impl Drop for MapIndex {
+    fn drop(self) {
+        let MapIndex {
+            named: _,
+            flagged: _,
+            first: _,
+        } = self;
+    }
 }
 
 impl Model for MapIndex {

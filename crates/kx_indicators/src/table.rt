@@ -7,10 +7,18 @@ use kx_virtual_mods::Names;
 use std::marker::Model;
 
 /// The indicators of a keymap, numbered from 0 in the order in which they are first named.
-#[derive(Drop)]
 pub struct Indicators {
     names: Names,
     indicator_maps: Vec<IndicatorMap>,
+}
+
+impl Drop for Indicators {
+    fn drop(self) {
+        let Indicators {
+            names: _,
+            indicator_maps: _,
+        } = self;
+    }
 }
 
 impl Model for Indicators {

@@ -31,10 +31,18 @@ pub struct KeysymEntry {
 }
 
 /// The modifiers that modifier maps give keys and keysyms.
-#[derive(Drop)]
 pub struct ModifierMaps {
     records: Ordered<Target, Plain<Assigned>>,
     keysyms: Vec<KeysymEntry>,
+}
+
+impl Drop for ModifierMaps {
+    fn drop(self) {
+        let ModifierMaps {
+            records: _,
+            keysyms: _,
+        } = self;
+    }
 }
 
 impl Model for ModifierMaps {

@@ -211,10 +211,15 @@ impl TextWarnings {
 }
 
 /// What is passed over, by text: that of the source, and of the files in their order.
-#[derive(Drop)]
 pub struct Warnings {
     alloc: Global,
     texts: Vec<TextWarnings>,
+}
+
+impl Drop for Warnings {
+    fn drop(self) {
+        let Warnings { alloc: _, texts: _ } = self;
+    }
 }
 
 impl Warnings {

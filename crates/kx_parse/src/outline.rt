@@ -22,10 +22,18 @@ use kx_lex::{Fault, Keyword, MOST_TEXT_BYTES, Name, Row, Span, Token, TokenKind,
 use std::alloc::{AllocError, Global};
 
 /// The sections of a text without their statements, and where each stands, from its first token to its `;`.
-#[derive(Drop)]
 pub struct Outline {
     pub sections: Row<Section>,
     pub places: Row<Span>,
+}
+
+impl Drop for Outline {
+    fn drop(self) {
+        let Outline {
+            sections: _,
+            places: _,
+        } = self;
+    }
 }
 
 /// What is known of a value that is passed over, and what stands after it; nothing where none is spelled, and an error where

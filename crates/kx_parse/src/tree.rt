@@ -301,7 +301,6 @@ pub enum Flag {
 }
 
 /// A section; one of geometry keeps none of its content.
-#[derive(Drop)]
 pub struct Section {
     pub flags: Row<Flag>,
     pub kind: Kind,
@@ -309,10 +308,26 @@ pub struct Section {
     pub items: Row<Item>,
 }
 
+impl Drop for Section {
+    fn drop(self) {
+        let Section {
+            flags: _,
+            kind: _,
+            name: _,
+            items: _,
+        } = self;
+    }
+}
+
 /// The sections of a source or of a file.
-#[derive(Drop)]
 pub struct Tree {
     pub sections: Row<Section>,
+}
+
+impl Drop for Tree {
+    fn drop(self) {
+        let Tree { sections: _ } = self;
+    }
 }
 
 impl Stated {

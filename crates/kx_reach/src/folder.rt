@@ -9,12 +9,17 @@ use std::{fs, io};
 const MOST_ROOM: u64 = 1 << 24;
 
 /// A folder under which the files of includes are looked for.
-#[derive(Drop)]
 pub struct Folder {
     /// Its path, without links and without a `/` at the end.
     path: String,
     /// The kinds of which a folder of files lies in it that is no link.
     own: Vec<Kind>,
+}
+
+impl Drop for Folder {
+    fn drop(self) {
+        let Folder { path: _, own: _ } = self;
+    }
 }
 
 /// The kinds of sections that files are looked for by.

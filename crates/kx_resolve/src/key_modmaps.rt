@@ -21,11 +21,19 @@ use std::marker::Model;
 
 /// The real modifiers that keys are mapped to, by their codes: those that modifier maps give a key by its name, and those
 /// that they give the keysyms of which it has the first place.
-#[derive(Drop)]
 pub struct KeyModmaps {
     maps: ModifierMaps,
     /// What keys are mapped to by their keysyms, by code.
     by_keysym: IndexMap<u16, Mods>,
+}
+
+impl Drop for KeyModmaps {
+    fn drop(self) {
+        let KeyModmaps {
+            maps: _,
+            by_keysym: _,
+        } = self;
+    }
 }
 
 impl Model for KeyModmaps {

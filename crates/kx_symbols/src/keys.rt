@@ -248,9 +248,14 @@ impl<'a, 'l> Fields<Context<'a, 'l>> for KeyRecord {
 }
 
 /// The keys that statements give something, by keycode.
-#[derive(Drop)]
 pub struct Keys {
     by_code: Ordered<u16, KeyRecord>,
+}
+
+impl Drop for Keys {
+    fn drop(self) {
+        let Keys { by_code: _ } = self;
+    }
 }
 
 impl Model for Keys {

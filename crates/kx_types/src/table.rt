@@ -13,9 +13,14 @@ use std::marker::Model;
 
 /// The key types that statements declare, in the order in which they are first named; seen as their names and
 /// definitions.
-#[derive(Drop)]
 pub struct Types {
     by_name: Ordered<ShortName, Single<KeyType>>,
+}
+
+impl Drop for Types {
+    fn drop(self) {
+        let Types { by_name: _ } = self;
+    }
 }
 
 impl Model for Types {

@@ -95,10 +95,15 @@ fn declared_masks(alloc: Global, names: &Names, bodies: &Bodies) -> Result<Vec<M
 
 /// The virtual modifiers of a keymap, numbered from 0 in the order in which the bodies of types, compat and symbols name
 /// them, and the masks that these declare.
-#[derive(Drop)]
 pub struct ModNames {
     names: Names,
     masks: Vec<Mods>,
+}
+
+impl Drop for ModNames {
+    fn drop(self) {
+        let ModNames { names: _, masks: _ } = self;
+    }
 }
 
 impl Model for ModNames {

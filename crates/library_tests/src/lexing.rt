@@ -9,7 +9,9 @@ use kx_lex::tokens::{
     read_key_name, read_keyword, read_mark, read_number, read_text, read_word, span_between,
     syntax,
 };
-use kx_lex::{Boxed, Bytes, Fault, KeyName, Keyword, Name, Row, Span, Token, TokenKind, lex};
+use kx_lex::{
+    Boxed, Bytes, Fault, KeyName, Keyword, Name, Number, Row, Span, Token, TokenKind, lex,
+};
 use std::alloc::Global;
 use std::process::Abort;
 use std::test::Fail;
@@ -122,25 +124,74 @@ fn key_name_shown(
     }
 }
 
+/// The value and the span of a number with how many tokens are left, or the fault.
+fn number_shown(
+    rt: &(impl Abort + AllocGlobal),
+    reading: Parsed<'_, Number>,
+) -> Result<String, Fail> {
+    match reading {
+        Ok((number, rest)) => {
+            let left = rest.len();
+            let value = number.value;
+            let span = number.span;
+            Ok(format!(in rt.alloc(); "{value} {span} {left}")?)
+        }
+        Err(fault) => Ok(format!(in rt.alloc(); "{fault}")?),
+    }
+}
+
+/// What one token is read as.
+#[derive(Clone, Copy)]
+enum Reader {
+    Word,
+    Text,
+    KeyName,
+    Number,
+}
+
+/// Asserts what is read of a text where these tokens stand.
+fn reads(
+    rt: &(impl Abort + AllocGlobal),
+    reader: Reader,
+    text: &[u8],
+    tokens: &[Token],
+    wanted: &str,
+) -> Result<(), Fail> {
+    let shown = match reader {
+        Reader::Word => name_shown(rt, read_word(rt.alloc(), text, tokens))?,
+        Reader::Text => name_shown(rt, read_text(rt.alloc(), text, tokens))?,
+        Reader::KeyName => key_name_shown(rt, read_key_name(rt.alloc(), text, tokens))?,
+        Reader::Number => number_shown(rt, read_number(text, tokens))?,
+    };
+    assert!(rt; shown.as_str() == wanted);
+    Ok(())
+}
+
+/// The tokens behind the first so many.
+fn behind(tokens: &[Token], count: usize) -> &[Token] {
+    let mut left = tokens;
+    for _ in 0..count {
+        left = behind_front(left);
+    }
+    left
+}
+
 #[test]
 fn names_are_read_without_what_encloses_them(rt: HostRuntime) -> Result<(), Fail> {
-    let text = b"ab <cd> \"e\\n\"";
-    let all = lex(rt.alloc(), text)?;
-    let tokens = all.as_slice();
-    let word = read_word(rt.alloc(), text, tokens);
-    assert!(rt; name_shown(&rt, word)?.as_str() == "[97, 98] 0-2 2");
-    let behind = behind_front(tokens);
-    let key = read_key_name(rt.alloc(), text, behind);
-    assert!(rt; key_name_shown(&rt, key)?.as_str() == "[99, 100] 3-7 1");
-    let last = behind_front(behind);
-    let quoted = read_text(rt.alloc(), text, last);
-    assert!(rt; name_shown(&rt, quoted)?.as_str() == "[101, 10] 8-13 0");
-    let no_word = read_word(rt.alloc(), text, behind);
-    assert!(rt; name_shown(&rt, no_word)?.as_str() == "F6 Syntax at 0:3-7");
-    let no_key = read_key_name(rt.alloc(), text, behind_front(last));
-    assert!(rt; key_name_shown(&rt, no_key)?.as_str() == "F6 Syntax at 0:13-13");
-    let no_text = read_text(rt.alloc(), text, tokens);
-    assert!(rt; name_shown(&rt, no_text)?.as_str() == "F6 Syntax at 0:0-2");
+    let text = b"ab <cd> \"e\\n\"".as_slice();
+    let tokens = lex(rt.alloc(), text)?;
+    let rows = [
+        (Reader::Word, 0, "[97, 98] 0-2 2"),
+        (Reader::KeyName, 1, "[99, 100] 3-7 1"),
+        (Reader::Text, 2, "[101, 10] 8-13 0"),
+        (Reader::Word, 1, "F6 Syntax at 0:3-7"),
+        (Reader::KeyName, 3, "F6 Syntax at 0:13-13"),
+        (Reader::Text, 0, "F6 Syntax at 0:0-2"),
+    ];
+    for (reader, count, wanted) in rows {
+        let left = behind(tokens.as_slice(), count);
+        reads(&rt, reader, text, left, wanted)?;
+    }
     Ok(())
 }
 
@@ -154,24 +205,9 @@ fn tokens_of_another_text_may_enclose_no_key_name(rt: HostRuntime) -> Result<(),
         (b"<a\x7fc>", "F6 Syntax at 0:0-5"),
     ];
     for (text, wanted) in rows {
-        let key = read_key_name(rt.alloc(), text, tokens.as_slice());
-        assert!(rt; key_name_shown(&rt, key)?.as_str() == wanted);
+        reads(&rt, Reader::KeyName, text, tokens.as_slice(), wanted)?;
     }
     Ok(())
-}
-
-/// The value and the span of a number with how many tokens are left, or the fault.
-fn number_shown(rt: &impl AllocGlobal, text: &[u8]) -> Result<String, Fail> {
-    let tokens = lex(rt.alloc(), text)?;
-    match read_number(text, tokens.as_slice()) {
-        Ok((number, rest)) => {
-            let left = rest.len();
-            let value = number.value;
-            let span = number.span;
-            Ok(format!(in rt.alloc(); "{value} {span} {left}")?)
-        }
-        Err(fault) => Ok(format!(in rt.alloc(); "{fault}")?),
-    }
 }
 
 #[test]
@@ -185,8 +221,8 @@ fn numbers_are_at_most_4294967295(rt: HostRuntime) -> Result<(), Fail> {
         (b"", "F6 Syntax at 0:0-0"),
     ];
     for (text, wanted) in rows {
-        let shown = number_shown(&rt, text)?;
-        assert!(rt; shown.as_str() == wanted);
+        let tokens = lex(rt.alloc(), text)?;
+        reads(&rt, Reader::Number, text, tokens.as_slice(), wanted)?;
     }
     Ok(())
 }
