@@ -9,9 +9,7 @@ use kx_lex::tokens::{
     read_key_name, read_keyword, read_mark, read_number, read_text, read_word, span_between,
     syntax,
 };
-use kx_lex::{
-    Boxed, Bytes, Fault, KeyName, Keyword, Name, Number, Row, Span, Token, TokenKind, lex,
-};
+use kx_lex::{Boxed, Bytes, KeyName, Keyword, Name, Number, Row, Span, Token, lex};
 use std::alloc::Global;
 use std::process::Abort;
 use std::test::Fail;
