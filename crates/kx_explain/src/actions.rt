@@ -15,7 +15,7 @@ static ARGUMENTS: [(&str, &str); 7] = [
 
 /// An action by its name as it is usually written, and its arguments.
 pub(crate) fn action_named(word: &[u8]) -> Option<(&'static str, &'static str)> {
-    for (name, arguments) in ARGUMENTS {
+    for (name, arguments) in &ARGUMENTS {
         if name.as_bytes().eq_ignore_ascii_case(word) {
             return Some((name, arguments));
         }
@@ -26,7 +26,7 @@ pub(crate) fn action_named(word: &[u8]) -> Option<(&'static str, &'static str)> 
 /// The name of an action that has an effect, to which a word is near.
 pub fn near_action(word: &[u8]) -> Option<&[u8]> {
     let mut nearest = Nearest::to(word);
-    for (name, _) in ARGUMENTS {
+    for (name, _) in &ARGUMENTS {
         nearest.offer(name.as_bytes());
     }
     nearest.name()

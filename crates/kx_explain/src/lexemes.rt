@@ -21,6 +21,9 @@ fn first_character(text: &[u8]) -> Option<&[u8]> {
     None
 }
 
+/// What is written in the place of a straight double quote.
+static QUOTES: [&str; 10] = ["'", "`", "´", "“", "”", "„", "‘", "’", "«", "»"];
+
 /// Says which character that stands for a mark begins nothing, and which mark does; answers whether it is one.
 fn write_mistaken_mark(out: &mut String, front: &[u8]) -> Result<bool, AllocError> {
     let first = front.get(..1).unwrap_or(&[]);
@@ -29,10 +32,10 @@ fn write_mistaken_mark(out: &mut String, front: &[u8]) -> Result<bool, AllocErro
         _ => first,
     };
     let wanted = match str::from_utf8(character) {
-        Ok("'" | "`" | "´" | "“" | "”" | "„" | "‘" | "’" | "«" | "»") => {
+        Ok(":") => "a value stands behind '='",
+        Ok(text) if QUOTES.contains(&text) => {
             "a text stands between straight double quotes, as \"us\""
         }
-        Ok(":") => "a value stands behind '='",
         _ => return Ok(false),
     };
     let mark = quoted(character);

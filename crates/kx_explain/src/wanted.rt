@@ -55,7 +55,7 @@ static VALUES: [(&str, &str); 33] = [
 
 /// What a field or an argument of a word wants.
 pub(crate) fn wanted_value(word: &[u8]) -> Option<&'static str> {
-    for (name, wanted) in VALUES {
+    for (name, wanted) in &VALUES {
         if name.as_bytes().eq_ignore_ascii_case(word) {
             return Some(wanted);
         }

@@ -30,6 +30,37 @@ fn view_of<'a>(bytes: &[u8]) -> Result<View<'_>, Failure<'a>> {
     }
 }
 
+/// What is said of a group that a keymap doesn't have.
+fn refuse_group(rt: &impl Eprint, group: u8, groups: u8) -> u8 {
+    let number = group.saturating_add(1);
+    let noun = if groups == 1 { "group" } else { "groups" };
+    refuse_words(
+        rt,
+        format_args!("'{number}' is no group of this keymap, which has {groups} {noun}"),
+    )
+}
+
+/// Prints a picture of an image's keys, or a drawing, and answers the status to end with.
+fn show_image<'a>(
+    rt: &(impl Print + Eprint + AllocGlobal),
+    image: &[u8],
+    names: &NameTable,
+    group: u8,
+    is_drawn: bool,
+) -> Result<u8, Failure<'a>> {
+    let view = view_of(image)?;
+    let groups = group_count(&view);
+    if group > 0 && group >= groups {
+        return Ok(refuse_group(rt, group, groups));
+    }
+    let text = match is_drawn {
+        true => draw(rt.alloc(), &view, names, group),
+        false => picture(rt.alloc(), &view, names, group),
+    };
+    print_text(rt, text)?;
+    Ok(0)
+}
+
 /// Prints a picture of a keymap's keys, or a drawing, in an effective group from 0; answers the status to end with, since the
 /// keymap may have no such group.
 pub(crate) fn show_keymap<'a>(
@@ -41,23 +72,7 @@ pub(crate) fn show_keymap<'a>(
 ) -> Result<u8, Failure<'a>> {
     let names = read_names(rt, names)?;
     let bytes = read_keymap(rt, &names, keymap)?;
-    let view = view_of(bytes.as_slice())?;
-    let groups = group_count(&view);
-    if group > 0 && group >= groups {
-        let number = group.saturating_add(1);
-        let noun = if groups == 1 { "group" } else { "groups" };
-        return Ok(refuse_words(
-            rt,
-            format_args!("'{number}' is no group of this keymap, which has {groups} {noun}"),
-        ));
-    }
-    let text = if is_drawn {
-        draw(rt.alloc(), &view, &names, group)
-    } else {
-        picture(rt.alloc(), &view, &names, group)
-    };
-    print_text(rt, text)?;
-    Ok(0)
+    show_image(rt, bytes.as_slice(), &names, group, is_drawn)
 }
 
 /// The keysyms that a word means: the one of this name, and, where it is one character, each that gives it. None is of a word
@@ -76,6 +91,23 @@ fn keysyms_in(alloc: Global, names: &NameTable, word: &str) -> Result<Vec<u32>, 
     Ok(keysyms)
 }
 
+/// The places of an image that give what a word means.
+fn places_in<'a>(
+    alloc: Global,
+    image: &[u8],
+    names: &NameTable,
+    word: &'a str,
+) -> Result<String, Failure<'a>> {
+    let view = view_of(image)?;
+    let keysyms = keysyms_in(alloc, names, word)?;
+    if keysyms.is_empty() {
+        return Err(Failure::Keysym(word));
+    }
+    let mut text = String::new(alloc);
+    write_places(alloc, &view, names, keysyms.as_slice(), &mut text)?;
+    Ok(text)
+}
+
 /// Prints the places that give what a word means.
 pub(crate) fn find_in_keymap<'a>(
     rt: &(impl FileSystem + Input + Print + Eprint + AllocGlobal),
@@ -85,17 +117,11 @@ pub(crate) fn find_in_keymap<'a>(
 ) -> Result<(), Failure<'a>> {
     let names = read_names(rt, names)?;
     let bytes = read_keymap(rt, &names, keymap)?;
-    let view = view_of(bytes.as_slice())?;
-    let keysyms = keysyms_in(rt.alloc(), &names, word)?;
-    if keysyms.is_empty() {
-        return Err(Failure::Keysym(word));
+    let text = places_in(rt.alloc(), bytes.as_slice(), &names, word)?;
+    match text.is_empty() {
+        true => Err(Failure::NoKey(word)),
+        false => print_text(rt, Ok(text)),
     }
-    let mut text = String::new(rt.alloc());
-    write_places(rt.alloc(), &view, &names, keysyms.as_slice(), &mut text)?;
-    if text.is_empty() {
-        return Err(Failure::NoKey(word));
-    }
-    print_text(rt, Ok(text))
 }
 
 pub(crate) fn print_names<'a>(

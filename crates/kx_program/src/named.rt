@@ -181,10 +181,10 @@ pub(crate) fn read_keymap<'a>(
 /// Prints the source that names make.
 pub(crate) fn print_source<'a>(
     rt: &(impl FileSystem + Print + Eprint + AllocGlobal),
-    asked: Asked<'a>,
+    asked: &Asked<'a>,
     folders: &[&'a str],
 ) -> Result<(), Failure<'a>> {
-    let source = source_named(rt, &asked, folders, false)?;
+    let source = source_named(rt, asked, folders, false)?;
     print_text(rt, String::from_utf8_lossy(rt.alloc(), source.as_slice()))
 }
 

@@ -60,7 +60,7 @@ pub(crate) fn read_names<'a>(
 }
 
 /// The bytes of the files that a source may include.
-pub(crate) fn read_included<'a>(
+fn read_included<'a>(
     rt: &(impl FileSystem + AllocGlobal),
     included: &[Included<'a>],
 ) -> Result<Vec<Vec<u8>>, Failure<'a>> {
@@ -75,7 +75,7 @@ pub(crate) fn read_included<'a>(
 }
 
 /// The files that are handed in.
-pub(crate) fn handed_in(
+fn handed_in(
     alloc: Global,
     included: &[Included],
     bytes: Vec<Vec<u8>>,
@@ -85,6 +85,15 @@ pub(crate) fn handed_in(
         hand_in(&mut files, file.name, bytes)?;
     }
     Ok(files)
+}
+
+/// Reads the files that are handed in.
+pub(crate) fn read_handed<'a>(
+    rt: &(impl FileSystem + AllocGlobal),
+    included: &[Included<'a>],
+) -> Result<Files, Failure<'a>> {
+    let bytes = read_included(rt, included)?;
+    Ok(handed_in(rt.alloc(), included, bytes)?)
 }
 
 /// The files that a source may include, as texts: those that are handed in, and after them those that were found.
@@ -223,12 +232,22 @@ pub(crate) fn gather<'a>(
     bytes: Vec<u8>,
     includes: &Includes<'a>,
 ) -> Result<Gathered, Failure<'a>> {
-    let included = includes.files.as_slice();
-    let handed = handed_in(rt.alloc(), included, read_included(rt, included)?)?;
+    let handed = read_handed(rt, includes.files.as_slice())?;
     let (files, found) = find(rt, includes, handed, bytes.as_slice())?;
     Ok(Gathered {
         bytes,
         files,
         found,
     })
+}
+
+/// Reads a source, or makes it of names, and reads the files that it may include.
+pub(crate) fn gather_source<'a>(
+    rt: &(impl FileSystem + Input + Eprint + AllocGlobal),
+    source: Source<'a>,
+    includes: &Includes<'a>,
+    is_quiet: bool,
+) -> Result<Gathered, Failure<'a>> {
+    let bytes = read_source(rt, source, includes, is_quiet)?;
+    gather(rt, bytes, includes)
 }

@@ -8,8 +8,7 @@ use crate::printing::print_keymap;
 use crate::putting::{Put, is_output, put_image};
 use crate::showing::{Warned, show_fault};
 use crate::sources::{
-    all_handed, find, gather, handed_in, read_included, read_names, read_or_input, read_source,
-    texts_of,
+    Gathered, all_handed, find, gather_source, read_handed, read_names, read_or_input, texts_of,
 };
 use crate::usage::{explain, out_of_memory};
 use ks_core::{Feed, Lent, NameTable, Notes};
@@ -21,7 +20,7 @@ use kx_names::{Environment, read_environment};
 use kx_noted::{Noted, Telling};
 use kx_reach::Ahead;
 use kx_tool::{Files, ReplayFault, SessionFault, compile_once, dump, replay, session};
-use kx_words::{Compile, INPUT, Includes, Keymap, Source, Task, ask_environment, task_in};
+use kx_words::{Compile, INPUT, Includes, Keymap, Source, Task, Try, ask_environment, task_in};
 use std::alloc::{AllocError, Global};
 use std::env::Env;
 use std::rt::Files as FileSystem;
@@ -65,37 +64,44 @@ fn keep_on_heap(alloc: Global) {
     let _: Result<Vec<u8>, AllocError> = Vec::with_capacity(alloc, GREATEST_BLOCK);
 }
 
+/// Compiles a source to an image, and answers the status to end with. What was read is left to the system, since the program
+/// ends soon after.
 fn compile_to<'a>(
     rt: &(impl FileSystem + Input + Print + Eprint + AllocGlobal),
     task: &Compile<'a>,
 ) -> Result<u8, Failure<'a>> {
     keep_on_heap(rt.alloc());
     let names = read_names(rt, task.names)?;
-    let source = task.source;
-    let includes = &task.includes;
-    let bytes = read_source(rt, source, includes, task.telling == Telling::Nothing)?;
-    let gathered = gather(rt, bytes, includes)?;
-    let handed = gathered.handed(rt.alloc(), includes)?;
-    let texts = Texts {
-        source: Text {
-            name: "",
-            path: source.path(),
-            bytes: gathered.bytes.as_slice(),
-        },
-        files: handed.texts.as_slice(),
-    };
-    let noted = Noted::new(task.telling, handed.installed.as_slice());
+    let is_quiet = task.telling == Telling::Nothing;
+    let gathered = gather_source(rt, task.source, &task.includes, is_quiet)?;
+    let outcome = compile_read(rt, task, &names, &gathered);
+    mem::forget(gathered);
+    outcome
+}
+
+/// Compiles a source that was read, and answers the status to end with. Its texts are left to the system too.
+fn compile_read<'a>(
+    rt: &(impl FileSystem + Print + Eprint + AllocGlobal),
+    task: &Compile<'a>,
+    names: &NameTable,
+    gathered: &Gathered,
+) -> Result<u8, Failure<'a>> {
+    let handed = gathered.handed(rt.alloc(), &task.includes)?;
     let read = Compiled {
-        texts,
+        texts: Texts {
+            source: Text {
+                name: "",
+                path: task.source.path(),
+                bytes: gathered.bytes.as_slice(),
+            },
+            files: handed.texts.as_slice(),
+        },
         files: &gathered.files,
     };
-    let outcome = compile_texts(rt, task, &names, read, noted);
-    if let Err(Failure::Source(fault)) = &outcome {
-        show_asked(rt, *fault, source, includes);
-    }
-    // The program ends soon after, so what was read is left to the system.
+    let mut noted = Noted::new(task.telling, handed.installed.as_slice());
+    let outcome = compile_texts(rt, task, names, read, &mut noted);
+    mem::forget(noted);
     mem::forget(handed);
-    mem::forget(gathered);
     outcome
 }
 
@@ -112,26 +118,22 @@ fn compile_texts<'a>(
     task: &Compile<'a>,
     names: &NameTable,
     read: Compiled,
-    mut noted: Noted,
+    noted: &mut Noted,
 ) -> Result<u8, Failure<'a>> {
     let texts = read.texts;
-    match compile_once(
-        rt.alloc(),
-        texts.source.bytes,
-        read.files,
-        names,
-        &mut noted,
-    ) {
+    let source = texts.source.bytes;
+    match compile_once(rt.alloc(), source, read.files, names, noted) {
         Ok((bytes, notes)) => {
             let status = put_compiled(rt, task, read, bytes.as_slice())?;
             if status == 0 {
-                show_noted(rt, &noted, texts);
+                show_noted(rt, noted, texts);
                 print_notes(rt, task.image, notes)?;
             }
             Ok(status)
         }
         Err(fault) => {
             show_fault(rt, fault, texts, &task.includes);
+            show_asked(rt, fault, task.source, &task.includes);
             Err(Failure::Source(fault))
         }
     }
@@ -212,14 +214,29 @@ fn answer_feed<'a, F: Feed + Drop>(
 }
 
 /// Shows on standard error what is passed over in a source that was read ahead.
-fn show_ahead(rt: &impl Eprint, noted: &Noted, source: &[u8], texts: &[Text]) {
+fn show_ahead(
+    rt: &(impl Eprint + AllocGlobal),
+    names: &NameTable,
+    source: &[u8],
+    includable: Includable,
+    mut noted: Noted,
+) {
+    noted.look(rt.alloc(), source, includable.files, names);
     let source = Text {
         name: "",
         path: "<stdin>",
         bytes: source,
     };
-    let files = texts;
-    show_noted(rt, noted, Texts { source, files });
+    let files = includable.texts;
+    show_noted(rt, &noted, Texts { source, files });
+}
+
+/// What ends a task whose source can't be read ahead.
+fn failure_ahead<'a>(fault: io::Error) -> Failure<'a> {
+    match fault.kind() {
+        io::ErrorKind::OutOfMemory => Failure::from(AllocError),
+        _ => Failure::Replay(ReplayFault::Read),
+    }
 }
 
 /// Answers a source, which is read first, and the events after it, with the files that it includes from folders. What is passed
@@ -227,52 +244,53 @@ fn show_ahead(rt: &impl Eprint, noted: &Noted, source: &[u8], texts: &[Text]) {
 fn answer_ahead<'a>(
     rt: &(impl FileSystem + Input + Print + Eprint + AllocGlobal),
     names: &NameTable,
-    includes: &Includes<'a>,
+    task: &Try<'a>,
     files: Files,
-    telling: Telling,
 ) -> Result<(), Failure<'a>> {
     let feed = match Ahead::read(rt.alloc(), Lent::new(rt.reader())) {
         Ok(feed) => feed,
-        Err(fault) if fault.kind() == io::ErrorKind::OutOfMemory => {
-            return Err(Failure::from(AllocError));
-        }
-        Err(_) => return Err(Failure::Replay(ReplayFault::Read)),
+        Err(fault) => return Err(failure_ahead(fault)),
     };
+    let includes = &task.includes;
     let (files, found) = find(rt, includes, files, feed.source())?;
-    let handed = all_handed(
-        rt.alloc(),
-        includes.files.as_slice(),
-        found.as_slice(),
-        &files,
-    )?;
-    let texts = handed.texts.as_slice();
-    if telling != Telling::Nothing {
-        let mut noted = Noted::new(telling, handed.installed.as_slice());
-        noted.look(rt.alloc(), feed.source(), &files, names);
-        show_ahead(rt, &noted, feed.source(), texts);
+    let included = includes.files.as_slice();
+    let handed = all_handed(rt.alloc(), included, found.as_slice(), &files)?;
+    let includable = Includable {
+        texts: handed.texts.as_slice(),
+        files: &files,
+    };
+    if task.telling != Telling::Nothing {
+        let noted = Noted::new(task.telling, handed.installed.as_slice());
+        show_ahead(rt, names, feed.source(), includable, noted);
     }
-    let files = &files;
-    answer_feed(rt, feed, names, Includable { texts, files }, includes)
+    answer_feed(rt, feed, names, includable, includes)
+}
+
+/// Answers a source and the events after it as they are read, with the files that are handed in.
+fn answer_at_once<'a>(
+    rt: &(impl Input + Print + Eprint + AllocGlobal),
+    names: &NameTable,
+    includes: &Includes<'a>,
+    files: &Files,
+) -> Result<(), Failure<'a>> {
+    let texts = texts_of(rt.alloc(), includes.files.as_slice(), &[], files)?;
+    let includable = Includable {
+        texts: texts.as_slice(),
+        files,
+    };
+    answer_feed(rt, Lent::new(rt.reader()), names, includable, includes)
 }
 
 fn answer_source<'a>(
     rt: &(impl FileSystem + Input + Print + Eprint + AllocGlobal),
-    names: Option<&'a str>,
-    includes: &Includes<'a>,
-    telling: Telling,
+    task: &Try<'a>,
 ) -> Result<(), Failure<'a>> {
-    let names = read_names(rt, names)?;
-    let included = includes.files.as_slice();
-    let files = handed_in(rt.alloc(), included, read_included(rt, included)?)?;
-    if telling != Telling::Nothing || !includes.folders.is_empty() {
-        return answer_ahead(rt, &names, includes, files, telling);
+    let names = read_names(rt, task.names)?;
+    let files = read_handed(rt, task.includes.files.as_slice())?;
+    match task.telling == Telling::Nothing && task.includes.folders.is_empty() {
+        true => answer_at_once(rt, &names, &task.includes, &files),
+        false => answer_ahead(rt, &names, task, files),
     }
-    let texts = texts_of(rt.alloc(), included, &[], &files)?;
-    let includable = Includable {
-        texts: texts.as_slice(),
-        files: &files,
-    };
-    answer_feed(rt, Lent::new(rt.reader()), &names, includable, includes)
 }
 
 /// Answers events by an image.
@@ -349,39 +367,25 @@ fn upgrade_image<'a>(
 /// system, so the program is to end soon after.
 pub fn run<'a>(
     rt: &(impl FileSystem + Input + Print + Eprint + AllocGlobal),
-    task: Task<'a>,
+    task: &Task<'a>,
 ) -> Result<u8, Failure<'a>> {
     match task {
-        Task::Compile(compile) => return compile_to(rt, &compile),
+        Task::Compile(compile) => return compile_to(rt, compile),
         Task::Upgrade { image, newer } => return upgrade_image(rt, image, newer),
         Task::Show {
             names,
             keymap,
             group,
             is_drawn,
-        } => return show_keymap(rt, names, &keymap, group, is_drawn),
+        } => return show_keymap(rt, *names, keymap, *group, *is_drawn),
         Task::Find {
             names,
             keymap,
             keysym,
-        } => find_in_keymap(rt, names, &keymap, keysym)?,
-        Task::Try {
-            names,
-            asked: None,
-            includes,
-            telling,
-        } => answer_source(rt, names, &includes, telling)?,
-        Task::Try {
-            names,
-            asked: Some(asked),
-            includes,
-            ..
-        } => {
-            let source = Source::Names(asked);
-            answer_keymap(rt, names, &Keymap { source, includes })?;
-        }
-        Task::Replay { names, keymap } => answer_keymap(rt, names, &keymap)?,
-        Task::Print { names, keymap } => print_keymap(rt, names, &keymap)?,
+        } => find_in_keymap(rt, *names, keymap, keysym)?,
+        Task::Try(task) => answer_source(rt, task)?,
+        Task::Replay { names, keymap } => answer_keymap(rt, *names, keymap)?,
+        Task::Print { names, keymap } => print_keymap(rt, *names, keymap)?,
         Task::Dump { image } => dump_image(rt, image)?,
         Task::Names { headers } => print_names(rt, headers.as_slice())?,
         Task::Rules { asked, folders } => print_source(rt, asked, folders.as_slice())?,
@@ -389,7 +393,7 @@ pub fn run<'a>(
             rules,
             folders,
             wanted,
-        } => print_list(rt, rules, folders.as_slice(), wanted)?,
+        } => print_list(rt, rules, folders.as_slice(), *wanted)?,
     }
     Ok(0)
 }
@@ -430,7 +434,7 @@ pub fn run_words(
         Err(error) => return explain(rt, error),
     };
     let is_piped = is_piped(&task);
-    match run(rt, task) {
+    match run(rt, &task) {
         Ok(status) => status,
         Err(failure) if is_piped => fail_aside(rt, failure),
         Err(failure) => fail(rt, failure),

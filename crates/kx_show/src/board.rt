@@ -1,6 +1,6 @@
 //! Which key of the tables lies where.
 use crate::labels::{Label, labels_of};
-use crate::slots::{OTHER_NAMES, ROWS, SLOTS};
+use crate::slots::{OTHER_NAMES, ROWS, slots};
 use ks_core::NameTable;
 use kx_tables::Tables;
 use std::alloc::{AllocError, Global};
@@ -28,14 +28,16 @@ pub(crate) fn place_of(name: &[u8]) -> Option<usize> {
             wanted = other.slot.as_bytes();
         }
     }
-    SLOTS.iter().position(|slot| slot.name.as_bytes() == wanted)
+    slots()
+        .iter()
+        .position(|slot| slot.name.as_bytes() == wanted)
 }
 
 impl<'a> Board<'a> {
     /// A keyboard without keys.
     fn new(alloc: Global) -> Result<Board<'a>, AllocError> {
         let mut keys = Vec::new(alloc);
-        for _ in &SLOTS {
+        for _ in slots() {
             keys.push(None)?;
         }
         Ok(Board {
@@ -79,7 +81,7 @@ impl<'a> Board<'a> {
     /// How many levels each row of keys shows, 1 at least.
     pub(crate) fn heights(&self) -> [usize; ROWS] {
         let mut heights = [1; ROWS];
-        for (slot, key) in SLOTS.iter().zip(self.keys.iter()) {
+        for (slot, key) in slots().iter().zip(self.keys.iter()) {
             if let Some(key) = key
                 && let Some(height) = heights.get_mut(usize::from(slot.row))
             {
@@ -92,8 +94,8 @@ impl<'a> Board<'a> {
     /// How many levels keys show at the most.
     pub(crate) fn levels(&self) -> usize {
         let mut most = 0;
-        for height in self.heights() {
-            most = height.max(most);
+        for height in &self.heights() {
+            most = most.max(*height);
         }
         most
     }

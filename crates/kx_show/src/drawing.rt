@@ -3,7 +3,7 @@ use crate::board::{Board, Shown};
 use crate::canvas::cut;
 use crate::labels::{Label, Look, columns_of};
 use crate::listing::{entry, write_title};
-use crate::slots::{SLOTS, Slot};
+use crate::slots::{Slot, slots};
 use ks_core::NameTable;
 use kx_tables::Tables;
 use std::alloc::{AllocError, Global};
@@ -358,24 +358,8 @@ fn write_others(out: &mut String, alloc: Global, others: &[Shown]) -> Result<(),
     Ok(())
 }
 
-/// A drawing of the keys of tables in an effective group, counted from 0, as SVG.
-///
-/// # Errors
-/// Where a growth is refused.
-pub fn draw<T: Tables>(
-    alloc: Global,
-    tables: &T,
-    names: &NameTable,
-    group: u8,
-) -> Result<String, AllocError> {
-    let board = Board::of(alloc, tables, names, group)?;
-    let lines = board.others.len().div_ceil(ENTRIES);
-    let height = LEGEND
-        .saturating_add(30)
-        .saturating_add(lines.saturating_mul(16));
-    let mut title = String::new(alloc);
-    write_title(&mut title, tables, group)?;
-    let mut out = String::new(alloc);
+/// Begins a drawing of a height: its paper and its title.
+fn write_paper(out: &mut String, height: usize, title: &str) -> Result<(), AllocError> {
     write!(
         out,
         "<svg xmlns=\"http://www.w3.org/2000/svg\" viewBox=\"0 0 {WIDTH} {height}\" width=\"{WIDTH}\" height=\"{height}\">\n"
@@ -390,14 +374,45 @@ pub fn draw<T: Tables>(
         class: "title",
         size: 18,
         length: None,
-        text: title.as_str(),
+        text: title,
     }
-    .write(&mut out)?;
-    for (slot, key) in SLOTS.iter().zip(board.keys.iter()) {
-        write_key(&mut out, alloc, slot, key)?;
+    .write(out)
+}
+
+/// Adds a drawing of keys.
+fn write_drawing(
+    out: &mut String,
+    alloc: Global,
+    board: &Board,
+    title: &str,
+) -> Result<(), AllocError> {
+    let lines = board.others.len().div_ceil(ENTRIES);
+    let height = LEGEND
+        .saturating_add(30)
+        .saturating_add(lines.saturating_mul(16));
+    write_paper(out, height, title)?;
+    for (slot, key) in slots().iter().zip(board.keys.iter()) {
+        write_key(out, alloc, slot, key)?;
     }
-    write_legend(&mut out, board.levels())?;
-    write_others(&mut out, alloc, board.others.as_slice())?;
-    out.push_str("</svg>\n")?;
+    write_legend(out, board.levels())?;
+    write_others(out, alloc, board.others.as_slice())?;
+    out.push_str("</svg>\n")
+}
+
+/// A drawing of the keys of tables in an effective group, counted from 0, as SVG.
+///
+/// # Errors
+/// Where a growth is refused.
+pub fn draw<T: Tables>(
+    alloc: Global,
+    tables: &T,
+    names: &NameTable,
+    group: u8,
+) -> Result<String, AllocError> {
+    let board = Board::of(alloc, tables, names, group)?;
+    let mut title = String::new(alloc);
+    write_title(&mut title, tables, group)?;
+    let mut out = String::new(alloc);
+    write_drawing(&mut out, alloc, &board, title.as_str())?;
     Ok(out)
 }

@@ -95,7 +95,7 @@ pub(crate) fn columns_of(text: &str) -> usize {
 
 /// The part of a keysym's name that stands on a key.
 fn short_name(name: &str) -> &str {
-    for prefix in PREFIXES {
+    for prefix in &PREFIXES {
         if let Some(rest) = name.strip_prefix(prefix) {
             return rest;
         }

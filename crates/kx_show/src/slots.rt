@@ -15,7 +15,7 @@ pub(crate) struct Slot {
 pub(crate) const ROWS: usize = 12;
 
 #[rattlefmt::skip]
-pub(crate) static SLOTS: [Slot; 105] = [
+static SLOTS: [Slot; 105] = [
     Slot { name: "ESC", left: 0, row: 0, width: 4, height: 1 },
     Slot { name: "FK01", left: 8, row: 0, width: 4, height: 1 },
     Slot { name: "FK02", left: 12, row: 0, width: 4, height: 1 },
@@ -122,6 +122,11 @@ pub(crate) static SLOTS: [Slot; 105] = [
     Slot { name: "KP0", left: 14, row: 11, width: 8, height: 1 },
     Slot { name: "KPDL", left: 22, row: 11, width: 4, height: 1 },
 ];
+
+/// The places of a keyboard's keys. A function that names the table itself is proved with all its rows.
+pub(crate) fn slots() -> &'static [Slot] {
+    &SLOTS
+}
 
 /// A name that keymaps have for a key, and the one that it has here.
 pub(crate) struct OtherName {

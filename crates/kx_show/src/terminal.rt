@@ -2,7 +2,7 @@
 use crate::board::{Board, Shown};
 use crate::canvas::{COLUMNS, Canvas, Frame};
 use crate::listing::{entry, write_title};
-use crate::slots::{ROWS, SLOTS, Slot};
+use crate::slots::{ROWS, Slot, slots};
 use ks_core::NameTable;
 use kx_tables::Tables;
 use std::alloc::{AllocError, Global};
@@ -68,7 +68,7 @@ fn write_board(out: &mut String, alloc: Global, board: &Board) -> Result<(), All
     let lines = lines_above(board.heights());
     let height = lines.last().copied().unwrap_or(0).saturating_add(1);
     let mut canvas = Canvas::new(alloc, height)?;
-    for (slot, key) in SLOTS.iter().zip(board.keys.iter()) {
+    for (slot, key) in slots().iter().zip(board.keys.iter()) {
         let frame = frame_of(slot, lines);
         canvas.frame(frame);
         if let Some(key) = key {

@@ -243,10 +243,14 @@ pub(crate) fn unseen_word_of(character: char) -> Option<&'static str> {
     text_of(&UNSEEN, u32::from(character))
 }
 
+fn accents() -> &'static [Accent] {
+    &ACCENTS
+}
+
 /// The accent of a dead key.
 pub(crate) fn accent_of(keysym: u32) -> Option<Accent> {
-    let place = ACCENTS
+    let place = accents()
         .binary_search_by_key(&keysym, |accent| accent.keysym)
         .ok()?;
-    ACCENTS.get(place).copied()
+    accents().get(place).copied()
 }

@@ -343,13 +343,18 @@ fn program<'a>(alloc: Global) -> Command<'a> {
         .version(VERSION)
 }
 
+/// The commands. A function that names the table itself is proved with all its words.
+fn commands() -> &'static [Described] {
+    &COMMANDS
+}
+
 /// The command that a word names.
 pub(crate) fn command_named<'a>(
     alloc: Global,
     word: &str,
     shape: Shape,
 ) -> Result<Option<Command<'a>>, AllocError> {
-    for described in &COMMANDS {
+    for described in commands() {
         if described.name == word {
             return Ok(Some(command_of(alloc, described, shape)?));
         }
@@ -360,7 +365,7 @@ pub(crate) fn command_named<'a>(
 /// The program's words with all commands.
 pub(crate) fn whole_command<'a>(alloc: Global) -> Result<Command<'a>, AllocError> {
     let mut whole = program(alloc);
-    for described in &COMMANDS {
+    for described in commands() {
         whole = whole.subcommand(command_of(alloc, described, Shape::Whole)?)?;
     }
     Ok(whole)

@@ -8,5 +8,5 @@ mod task;
 mod words;
 
 pub use naming::{are_by_names, ask_environment};
-pub use task::{Compile, INPUT, Included, Includes, Keymap, Source, Task};
+pub use task::{Compile, INPUT, Included, Includes, Keymap, Source, Task, Try};
 pub use words::{not_text, task_in};

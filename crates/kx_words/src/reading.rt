@@ -1,7 +1,7 @@
 //! What the words of a command ask for.
 use crate::commands::{Shape, command_named, whole_command};
 use crate::naming::{asked_in, folders_in, lack_layouts, rules_in};
-use crate::task::{Compile, INPUT, Included, Includes, Keymap, Source, Task};
+use crate::task::{Compile, INPUT, Included, Includes, Keymap, Source, Task, Try};
 use clap::error::ErrorKind;
 use clap::{ArgMatches, Error};
 use kx_names::{Asked, Environment, Kind, Wanted};
@@ -153,13 +153,24 @@ fn compile_of<'a>(reading: Reading<'a>, matches: &ArgMatches<'a>) -> Result<Task
     }))
 }
 
+/// By names the events are all that standard input has, as for `replay`.
 fn try_of<'a>(reading: Reading<'a>, matches: &ArgMatches<'a>) -> Result<Task<'a>, Error> {
-    Ok(Task::Try {
-        names: matches.get_str("names"),
-        asked: asked_of(reading, matches)?,
-        includes: includes_of(reading, matches)?,
-        telling: telling_of(reading, matches)?,
-    })
+    let names = matches.get_str("names");
+    let asked = asked_of(reading, matches)?;
+    let includes = includes_of(reading, matches)?;
+    let telling = telling_of(reading, matches)?;
+    match asked {
+        Some(asked) => {
+            let source = Source::Names(asked);
+            let keymap = Keymap { source, includes };
+            Ok(Task::Replay { names, keymap })
+        }
+        None => Ok(Task::Try(Try {
+            names,
+            includes,
+            telling,
+        })),
+    }
 }
 
 fn upgrade_of<'a>(reading: Reading, matches: &ArgMatches<'a>) -> Result<Task<'a>, Error> {
@@ -292,13 +303,12 @@ pub(crate) fn task_of<'a>(
 
 /// What no words ask for.
 pub(crate) fn bare_task<'a>(alloc: Global) -> Task<'a> {
-    Task::Try {
+    Task::Try(Try {
         names: None,
-        asked: None,
         includes: Includes {
             files: Vec::new(alloc),
             folders: Vec::new(alloc),
         },
         telling: Telling::Own,
-    }
+    })
 }

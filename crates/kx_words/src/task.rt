@@ -59,16 +59,18 @@ pub struct Compile<'a> {
     pub telling: Telling,
 }
 
+/// A source on standard input that is compiled, and the events after it, which are answered.
+#[derive(Drop)]
+pub struct Try<'a> {
+    pub names: Option<&'a str>,
+    pub includes: Includes<'a>,
+    pub telling: Telling,
+}
+
 /// What the words ask for.
 #[derive(Drop)]
 pub enum Task<'a> {
-    /// Compile a source from standard input, and answer the events after it; or compile what names mean, and answer events.
-    Try {
-        names: Option<&'a str>,
-        asked: Option<Asked<'a>>,
-        includes: Includes<'a>,
-        telling: Telling,
-    },
+    Try(Try<'a>),
     Compile(Compile<'a>),
     /// Answer events from standard input by a keymap.
     Replay {

@@ -8,19 +8,29 @@ use kx_tables::{
 use std::alloc::Global;
 use std::test::Fail;
 
-/// `<A>` with the groups a A and Cyrillic_ef, of the types TWO and ONE, and `<B>` with no group.
-fn push_rows(builder: &mut Builder) -> Result<(), BuildFault> {
+/// The types TWO and ONE.
+fn push_types(builder: &mut Builder) -> Result<(), BuildFault> {
     let entry = EntryRow {
         mods: Mods::SHIFT,
         level: 2,
         preserve: Mods::NONE,
     };
     builder.push_type(b"TWO", Mods::SHIFT, 2, [entry].as_slice())?;
-    builder.push_type(b"ONE", Mods::NONE, 1, [].as_slice())?;
-    builder.push_key(38, b"A", Mods::NONE, Range::Wrap)?;
+    builder.push_type(b"ONE", Mods::NONE, 1, [].as_slice())
+}
+
+/// A group of the type TWO: a and A, with Cyrillic_ef.
+fn push_two_levels(builder: &mut Builder) -> Result<(), BuildFault> {
     builder.push_group(0)?;
     builder.push_cell([0x61].as_slice(), Action::None)?;
-    builder.push_cell([0x41, 0xc1].as_slice(), Action::None)?;
+    builder.push_cell([0x41, 0xc1].as_slice(), Action::None)
+}
+
+/// `<A>` with a group of each type, and `<B>` with no group.
+fn push_rows(builder: &mut Builder) -> Result<(), BuildFault> {
+    push_types(builder)?;
+    builder.push_key(38, b"A", Mods::NONE, Range::Wrap)?;
+    push_two_levels(builder)?;
     builder.push_group(1)?;
     builder.push_cell([].as_slice(), LOCK)?;
     builder.push_key(40, b"BB", Mods::LOCK, Range::Redirect(1))

@@ -153,8 +153,8 @@ fn finds_maps(rt: &(impl Abort + AllocGlobal), library: &Library) -> Result<(), 
         (Kind::Symbols, b"us(x)", None),
         (Kind::Types, b"nope", None),
     ];
-    for (kind, name, wanted) in rows {
-        assert!(rt; place_named(rt, library, kind, name)? == wanted);
+    for (kind, name, wanted) in &rows {
+        assert!(rt; place_named(rt, library, *kind, name)? == *wanted);
     }
     let first = Place {
         file: 1,

@@ -3,7 +3,7 @@ use ks_core::{Keysym, Letters, Note, Notes};
 
 #[test]
 fn tells_cases_and_keypad(rt: HostRuntime) {
-    for (keysym, is_lower, is_upper) in [
+    for (keysym, is_lower, is_upper) in &[
         (0x61, true, false),
         (0x5a, false, true),
         (0x5b, false, false),
@@ -21,19 +21,19 @@ fn tells_cases_and_keypad(rt: HostRuntime) {
         (0x100_0410, false, true),
         (0x100_0450, false, false),
     ] {
-        let keysym = Keysym(keysym);
+        let keysym = Keysym(*keysym);
         assert!(rt;
-            Letters::BuiltIn.is_lower(keysym) == is_lower,
+            Letters::BuiltIn.is_lower(keysym) == *is_lower,
             "at {keysym:?}"
         );
         assert!(rt;
-            Letters::BuiltIn.is_upper(keysym) == is_upper,
+            Letters::BuiltIn.is_upper(keysym) == *is_upper,
             "at {keysym:?}"
         );
     }
     // Those of Unicode, with the same and with others: y with diaeresis, ghe with upturn, alpha, its accented form, an Armenian
     // and a Georgian letter, the titled dz, which is neither, and signs.
-    for (keysym, is_lower, is_upper) in [
+    for (keysym, is_lower, is_upper) in &[
         (0x61, true, false),
         (0x100_0410, false, true),
         (0xff, true, false),
@@ -49,23 +49,23 @@ fn tells_cases_and_keypad(rt: HostRuntime) {
         (0x21, false, false),
         (0x1fff_ffff, false, false),
     ] {
-        let keysym = Keysym(keysym);
+        let keysym = Keysym(*keysym);
         assert!(rt;
-            Letters::Unicode.is_lower(keysym) == is_lower,
+            Letters::Unicode.is_lower(keysym) == *is_lower,
             "at {keysym:?}"
         );
         assert!(rt;
-            Letters::Unicode.is_upper(keysym) == is_upper,
+            Letters::Unicode.is_upper(keysym) == *is_upper,
             "at {keysym:?}"
         );
     }
-    for (keysym, want) in [
+    for (keysym, want) in &[
         (0xff7f, false),
         (0xff80, true),
         (0xffbd, true),
         (0xffbe, false),
     ] {
-        assert!(rt; Keysym(keysym).is_keypad() == want, "at {keysym:#x}");
+        assert!(rt; Keysym(*keysym).is_keypad() == *want, "at {keysym:#x}");
     }
 }
 

@@ -83,9 +83,9 @@ fn fronts_are_told_apart(rt: HostRuntime) -> Result<(), Fail> {
         (b";", [false, false, false, false, true, false, false]),
         (b"", [false, false, false, false, false, false, false]),
     ];
-    for (text, wanted) in rows {
+    for (text, wanted) in &rows {
         let tokens = lex(rt.alloc(), text)?;
-        assert!(rt; kinds_of_front(tokens.as_slice()) == wanted, "{:?}", text);
+        assert!(rt; kinds_of_front(tokens.as_slice()) == *wanted, "{:?}", text);
         if let Some(token) = tokens.as_slice().first() {
             assert!(rt; kinds_of(token) == [wanted[0], wanted[1], wanted[4], wanted[5]]);
         }
@@ -186,9 +186,9 @@ fn names_are_read_without_what_encloses_them(rt: HostRuntime) -> Result<(), Fail
         (Reader::KeyName, 3, "F6 Syntax at 0:13-13"),
         (Reader::Text, 0, "F6 Syntax at 0:0-2"),
     ];
-    for (reader, count, wanted) in rows {
-        let left = behind(tokens.as_slice(), count);
-        reads(&rt, reader, text, left, wanted)?;
+    for (reader, count, wanted) in &rows {
+        let left = behind(tokens.as_slice(), *count);
+        reads(&rt, *reader, text, left, wanted)?;
     }
     Ok(())
 }
@@ -202,7 +202,7 @@ fn tokens_of_another_text_may_enclose_no_key_name(rt: HostRuntime) -> Result<(),
         (b"<a>c>", "F6 Syntax at 0:0-5"),
         (b"<a\x7fc>", "F6 Syntax at 0:0-5"),
     ];
-    for (text, wanted) in rows {
+    for (text, wanted) in &rows {
         reads(&rt, Reader::KeyName, text, tokens.as_slice(), wanted)?;
     }
     Ok(())
@@ -218,7 +218,7 @@ fn numbers_are_at_most_4294967295(rt: HostRuntime) -> Result<(), Fail> {
         (b"18.5", "F6 Syntax at 0:0-4"),
         (b"", "F6 Syntax at 0:0-0"),
     ];
-    for (text, wanted) in rows {
+    for (text, wanted) in &rows {
         let tokens = lex(rt.alloc(), text)?;
         reads(&rt, Reader::Number, text, tokens.as_slice(), wanted)?;
     }

@@ -44,9 +44,9 @@ fn faults_of_sources(rt: HostRuntime) -> Result<(), Fail> {
         (Fault::LevelRange(at), "F17 LevelRange at 2:5-17"),
         (Fault::CodeRange(at), "F18 CodeRange at 2:5-17"),
     ];
-    for (fault, wanted) in rows {
-        prints(&rt, fault, wanted)?;
-        prints(&rt, SessionFault::Compile(fault), wanted)?;
+    for (fault, wanted) in &rows {
+        prints(&rt, *fault, wanted)?;
+        prints(&rt, SessionFault::Compile(*fault), wanted)?;
     }
     Ok(())
 }
@@ -65,8 +65,8 @@ fn faults_of_images_and_lines(rt: HostRuntime) -> Result<(), Fail> {
         (RecordKind::GroupName, "I5 BadRecord groupname 7"),
         (RecordKind::Name, "I5 BadRecord name 7"),
     ];
-    for (part, wanted) in parts {
-        let fault = ImageFault::BadRecord(part, 7);
+    for (part, wanted) in &parts {
+        let fault = ImageFault::BadRecord(*part, 7);
         prints(&rt, fault, wanted)?;
         prints(&rt, ReplayFault::Image(fault), wanted)?;
     }
@@ -80,9 +80,9 @@ fn faults_of_images_and_lines(rt: HostRuntime) -> Result<(), Fail> {
         (ReplayFault::Read, "P4 Read"),
         (ReplayFault::Write, "P5 Write"),
     ];
-    for (fault, wanted) in rows {
-        prints(&rt, fault, wanted)?;
-        prints(&rt, SessionFault::Replay(fault), wanted)?;
+    for (fault, wanted) in &rows {
+        prints(&rt, *fault, wanted)?;
+        prints(&rt, SessionFault::Replay(*fault), wanted)?;
     }
     Ok(())
 }
@@ -95,8 +95,8 @@ fn faults_of_names(rt: HostRuntime) -> Result<(), Fail> {
         (NameFault::Twice(4), "N3 Twice 4"),
         (NameFault::Value(5), "N4 Value 5"),
     ];
-    for (fault, wanted) in rows {
-        prints(&rt, fault, wanted)?;
+    for (fault, wanted) in &rows {
+        prints(&rt, *fault, wanted)?;
     }
     Ok(())
 }

@@ -148,12 +148,12 @@ fn put_names(alloc: Global, bytes: &mut Vec<u8>) -> Result<(), AllocError> {
     Ok(())
 }
 
-#[test]
-fn each_key_and_type_has_its_record(rt: HostRuntime) -> Result<(), Fail> {
-    let mut wanted = Vec::from_slice(rt.alloc(), b"KXI\n\x02\0\x01\0")?;
+/// The header, with how many of each record there are and the bytes of all names.
+fn put_header(bytes: &mut Vec<u8>) -> Result<(), AllocError> {
     let all_names = NAME_BYTES.saturating_add(NAME_BYTES);
+    bytes.extend_from_slice(b"KXI\n\x02\0\x01\0")?;
     put(
-        &mut wanted,
+        bytes,
         &[
             (COUNT, 2),
             (COUNT, 2),
@@ -163,15 +163,32 @@ fn each_key_and_type_has_its_record(rt: HostRuntime) -> Result<(), Fail> {
             (all_names, 4),
             (0, 4),
         ],
-    )?;
-    put_types(&mut wanted)?;
-    put_keys(&mut wanted)?;
-    put_levels(&mut wanted)?;
-    put_names(rt.alloc(), &mut wanted)?;
-    let source = source(rt.alloc())?;
-    let files = no_files(rt.alloc())?;
-    let names = builtin(rt.alloc())?;
-    let (image, _) = compile(rt.alloc(), source.as_bytes(), &files, &names)?;
+    )
+}
+
+/// The image that is wanted.
+fn wanted(alloc: Global) -> Result<Vec<u8>, AllocError> {
+    let mut bytes = Vec::new(alloc);
+    put_header(&mut bytes)?;
+    put_types(&mut bytes)?;
+    put_keys(&mut bytes)?;
+    put_levels(&mut bytes)?;
+    put_names(alloc, &mut bytes)?;
+    Ok(bytes)
+}
+
+fn compiled(alloc: Global) -> Result<Vec<u8>, Fail> {
+    let source = source(alloc)?;
+    let files = no_files(alloc)?;
+    let names = builtin(alloc)?;
+    let (image, _) = compile(alloc, source.as_bytes(), &files, &names)?;
+    Ok(image)
+}
+
+#[test]
+fn each_key_and_type_has_its_record(rt: HostRuntime) -> Result<(), Fail> {
+    let wanted = wanted(rt.alloc())?;
+    let image = compiled(rt.alloc())?;
     assert!(rt; image.len() == 268_148);
     assert!(rt; image.as_slice() == wanted.as_slice());
     Ok(())

@@ -13,9 +13,13 @@ fn bytes_stand_on_lines(rt: HostRuntime) {
         (6, 3, 3),
         (70, 3, 3),
     ];
-    for (place, line, column) in rows {
+    for (place, line, column) in &rows {
         assert!(rt;
-            locate(text, place) == Position { line, column },
+            locate(text, *place)
+                == Position {
+                    line: *line,
+                    column: *column
+                },
             "at {place}"
         );
     }

@@ -3,9 +3,10 @@ ghost use Rattle.std.specs.Prelude.{None};
 
 use super::SAMPLE;
 use crate::sources::{builtin, no_files};
-use ks_core::{Feed, MemFeed, MemOut};
+use ks_core::{Feed, MemFeed, MemOut, NameTable};
 use kx_image::ImageFault;
-use kx_tool::{MOST_BYTES, ReplayFault, SessionFault, dump, replay, session};
+use kx_tool::{Files, MOST_BYTES, ReplayFault, SessionFault, dump, replay, session};
+use std::alloc::{AllocError, Global};
 use std::io;
 use std::process::Abort;
 use std::test::Fail;
@@ -88,55 +89,88 @@ fn replay_refuses_what_is_no_image(rt: HostRuntime) -> Result<(), Fail> {
     Ok(())
 }
 
+/// A replay ends so over a reader that fails there.
+fn check_reader_of_lines(rt: &(impl Abort + AllocGlobal), names: &NameTable, place: usize) {
+    let mut feed = MemFeed::new(LINES).failing_after(place);
+    let mut room = [0u8; 512];
+    let mut out = MemOut::new(&mut room);
+    let ended = replay(rt.alloc(), &mut feed, &IMAGE, names, &mut out);
+    assert!(rt; ended == Err(ReplayFault::Read), "at {place}");
+    assert!(rt; ANSWERS.starts_with(out.written()), "at {place}");
+}
+
+/// A source, its mark, and the lines after it.
+pub fn session_input(alloc: Global) -> Result<Vec<u8>, AllocError> {
+    [SAMPLE, b"%%\n".as_slice(), LINES].concat(alloc)
+}
+
+/// The same of a session, which begins with a source.
+fn check_reader_of_session(
+    rt: &(impl Abort + AllocGlobal),
+    files: &Files,
+    names: &NameTable,
+    input: &[u8],
+    place: usize,
+) {
+    let mut feed = MemFeed::new(input).failing_after(place);
+    let mut room = [0u8; 512];
+    let mut out = MemOut::new(&mut room);
+    let ended = session(rt.alloc(), &mut feed, files, names, &mut out);
+    let wanted = Err(SessionFault::Replay(ReplayFault::Read));
+    assert!(rt; ended == wanted, "at {place}");
+    assert!(rt; ANSWERS.starts_with(out.written()), "at {place}");
+}
+
 /// Readers fail at each byte, and after the last in place of the end.
 #[test]
 fn readers_that_fail_at_each_byte(rt: HostRuntime) -> Result<(), Fail> {
     let names = builtin(rt.alloc())?;
     let files = no_files(rt.alloc())?;
     for place in 0..=LINES.len() {
-        let mut feed = MemFeed::new(LINES).failing_after(place);
-        let mut room = [0u8; 512];
-        let mut out = MemOut::new(&mut room);
-        let ended = replay(rt.alloc(), &mut feed, &IMAGE, &names, &mut out);
-        assert!(rt; ended == Err(ReplayFault::Read), "at {place}");
-        assert!(rt; ANSWERS.starts_with(out.written()), "at {place}");
+        check_reader_of_lines(&rt, &names, place);
     }
-    let input = [SAMPLE, b"%%\n".as_slice(), LINES].concat(rt.alloc())?;
+    let input = session_input(rt.alloc())?;
     for place in 0..=input.len() {
-        let mut feed = MemFeed::new(input.as_slice()).failing_after(place);
-        let mut room = [0u8; 512];
-        let mut out = MemOut::new(&mut room);
-        let ended = session(rt.alloc(), &mut feed, &files, &names, &mut out);
-        assert!(rt;
-            ended == Err(SessionFault::Replay(ReplayFault::Read)),
-            "at {place}"
-        );
-        assert!(rt; ANSWERS.starts_with(out.written()), "at {place}");
+        check_reader_of_session(&rt, &files, &names, input.as_slice(), place);
     }
     Ok(())
+}
+
+/// A replay ends so over a writer that fails there.
+fn check_writer_of_lines(rt: &(impl Abort + AllocGlobal), names: &NameTable, place: usize) {
+    let mut feed = MemFeed::new(LINES);
+    let mut room = [0u8; 512];
+    let mut out = MemOut::new(&mut room).failing_after(place);
+    let ended = replay(rt.alloc(), &mut feed, &IMAGE, names, &mut out);
+    assert!(rt; ended == Err(ReplayFault::Write), "at {place}");
+    assert!(rt; ANSWERS.starts_with(out.written()), "at {place}");
+}
+
+/// The same of a session.
+fn check_writer_of_session(
+    rt: &(impl Abort + AllocGlobal),
+    files: &Files,
+    names: &NameTable,
+    input: &[u8],
+    place: usize,
+) {
+    let mut feed = MemFeed::new(input);
+    let mut room = [0u8; 512];
+    let mut out = MemOut::new(&mut room).failing_after(place);
+    let ended = session(rt.alloc(), &mut feed, files, names, &mut out);
+    let wanted = Err(SessionFault::Replay(ReplayFault::Write));
+    assert!(rt; ended == wanted, "at {place}");
+    assert!(rt; ANSWERS.starts_with(out.written()), "at {place}");
 }
 
 #[test]
 fn writers_that_fail_at_each_byte(rt: HostRuntime) -> Result<(), Fail> {
     let names = builtin(rt.alloc())?;
     let files = no_files(rt.alloc())?;
-    let input = [SAMPLE, b"%%\n".as_slice(), LINES].concat(rt.alloc())?;
+    let input = session_input(rt.alloc())?;
     for place in 0..ANSWERS.len() {
-        let mut feed = MemFeed::new(LINES);
-        let mut room = [0u8; 512];
-        let mut out = MemOut::new(&mut room).failing_after(place);
-        let ended = replay(rt.alloc(), &mut feed, &IMAGE, &names, &mut out);
-        assert!(rt; ended == Err(ReplayFault::Write), "at {place}");
-        assert!(rt; ANSWERS.starts_with(out.written()), "at {place}");
-        let mut feed = MemFeed::new(input.as_slice());
-        let mut room = [0u8; 512];
-        let mut out = MemOut::new(&mut room).failing_after(place);
-        let ended = session(rt.alloc(), &mut feed, &files, &names, &mut out);
-        assert!(rt;
-            ended == Err(SessionFault::Replay(ReplayFault::Write)),
-            "at {place}"
-        );
-        assert!(rt; ANSWERS.starts_with(out.written()), "at {place}");
+        check_writer_of_lines(&rt, &names, place);
+        check_writer_of_session(&rt, &files, &names, input.as_slice(), place);
     }
     Ok(())
 }
