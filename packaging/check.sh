@@ -109,6 +109,7 @@ tries_release() {
     git init -q . && commits
     PATH=$work/path:$PATH ./check > "$work/out" 2>&1
     holds "./check with stand-ins: $(cat "$work/out")" [ "$(tail -n 1 "$work/out")" = '6 passed, 0 failed' ]
+    holds "it says what it took: $(cat "$work/out")" grep -Eqx 'took [0-9]+\.[0-9] minutes, [0-9]+\.[0-9] CPU-minutes, on [0-9]+ processors' "$work/out"
     holds "its record: $(cat out/checked)" [ "$(head -n 3 out/checked | tr '\n' ' ')" = "tree $(git rev-parse 'HEAD^{tree}') kit logic rt ci: 2 passed, 0 failed " ]
     holds 'the record has other sums' sha256sum -c --quiet <(grep '  crates/' out/checked)
     echo > added
