@@ -19,6 +19,7 @@ mod shortening;
 mod site;
 mod slips;
 mod syntax;
+mod telling;
 mod values;
 mod wanted;
 
@@ -28,3 +29,4 @@ pub use kx_reach::{Text, Texts};
 pub use near::Nearest;
 pub use plain::{place_of, plain_message};
 pub use quotes::{Quotation, quoted, write_shown};
+pub use telling::Telling;

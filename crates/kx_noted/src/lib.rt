@@ -17,5 +17,5 @@ mod type_slips;
 mod warning;
 
 pub use kind::{Counted, KINDS, WarningKind};
-pub use noted::{Noted, Telling};
+pub use noted::Noted;
 pub use warning::{TextWarnings, Warning, Warnings};

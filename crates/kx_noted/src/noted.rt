@@ -2,19 +2,10 @@
 use crate::statements::Reader;
 use crate::warning::Warnings;
 use ks_core::NameTable;
+use kx_explain::Telling;
 use kx_include::Files;
 use kx_source::{Observer, ReadSource, tables_seen};
 use std::alloc::{AllocError, Global};
-
-/// Which warnings are told.
-#[derive(Clone, Copy, PartialEq, Eq)]
-pub enum Telling {
-    Nothing,
-    /// Those of the source and of the author's files, and of installed files their counts.
-    Own,
-    /// Those of all files.
-    All,
-}
 
 /// Goes through what was read of a source: the source first, then the author's files, then installed ones.
 fn note_all(alloc: Global, reader: &mut Reader) -> Result<(), AllocError> {

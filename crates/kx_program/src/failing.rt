@@ -1,7 +1,7 @@
 //! What a task that ends early says.
-use crate::hearing::Heard;
 use ks_core::Feed;
 use kx_failure::Failure;
+use kx_files::Heard;
 use kx_reach::read_file;
 use kx_tool::ReplayFault;
 use std::alloc::Global;

@@ -2,9 +2,6 @@
 #![tactic(auto)]
 
 mod failing;
-mod hearing;
-mod identity;
-mod keeping;
 mod looking;
 mod named;
 mod printing;
@@ -13,9 +10,9 @@ mod showing;
 mod sources;
 mod tasks;
 mod usage;
-mod writing;
 
 pub use kx_failure::{Failure, Shown};
+pub use kx_words::awaited;
 pub use showing::Warned;
 pub use tasks::{run, run_words};
-pub use usage::{awaited, out_of_memory, word_that_is_not_text};
+pub use usage::{out_of_memory, word_that_is_not_text};

@@ -198,7 +198,7 @@ pub(crate) fn find<'a>(
 pub(crate) struct Gathered {
     pub(crate) bytes: Vec<u8>,
     pub(crate) files: Files,
-    found: Vec<Found>,
+    pub(crate) found: Vec<Found>,
 }
 
 impl Gathered {

@@ -1,26 +1,24 @@
 //! What the program does.
 use crate::failing::{fail, fail_aside, with_line};
-use crate::hearing::{Heard, lines_in};
-use crate::keeping::Kept;
 use crate::looking::{find_in_keymap, print_names, show_keymap};
 use crate::named::{print_list, print_source, read_keymap, show_asked};
 use crate::printing::print_keymap;
-use crate::putting::{Put, is_output, put_image};
+use crate::putting::put_image;
 use crate::showing::{Warned, show_fault};
 use crate::sources::{
     Gathered, all_handed, find, gather_source, read_handed, read_names, read_or_input, texts_of,
 };
 use crate::usage::{explain, out_of_memory};
 use ks_core::{Feed, Lent, NameTable, Notes};
-use kx_explain::{Text, Texts};
+use kx_explain::{Telling, Text, Texts};
 use kx_failure::{Failure, FileKind};
+use kx_files::{Heard, Kept, Put, lines_in};
 use kx_image::{UpgradeFault, View, upgrade};
 use kx_lex::Fault;
-use kx_names::{Environment, read_environment};
-use kx_noted::{Noted, Telling};
-use kx_reach::Ahead;
+use kx_noted::Noted;
+use kx_reach::{Ahead, Found};
 use kx_tool::{Files, ReplayFault, SessionFault, compile_once, dump, replay, session};
-use kx_words::{Compile, INPUT, Includes, Keymap, Source, Task, Try, ask_environment, task_in};
+use kx_words::{Compile, Includes, Keymap, Task, Try, environment_for, is_output, task_in};
 use std::alloc::{AllocError, Global};
 use std::env::Env;
 use std::rt::Files as FileSystem;
@@ -97,6 +95,7 @@ fn compile_read<'a>(
             files: handed.texts.as_slice(),
         },
         files: &gathered.files,
+        found: gathered.found.as_slice(),
     };
     let mut noted = Noted::new(task.telling, handed.installed.as_slice());
     let outcome = compile_texts(rt, task, names, read, &mut noted);
@@ -110,6 +109,7 @@ fn compile_read<'a>(
 struct Compiled<'t> {
     texts: Texts<'t>,
     files: &'t Files,
+    found: &'t [Found],
 }
 
 /// Compiles a source, and answers the status to end with.
@@ -146,35 +146,16 @@ fn put_compiled<'a>(
     read: Compiled,
     bytes: &[u8],
 ) -> Result<u8, Failure<'a>> {
-    let named = other_paths_in(rt.alloc(), task)?;
+    let named = task.other_paths(rt.alloc())?;
     let put = Put {
         out: task.image,
-        source: read_path_of(task.source, read.texts.source.bytes.len()),
+        source: task.source.file(),
+        length: read.texts.source.bytes.len(),
         named: named.as_slice(),
-        texts: read.texts.files,
+        found: read.found,
         folders: task.includes.folders.as_slice(),
     };
     put_image(rt, put, bytes)
-}
-
-/// The path of a source that was read from a file, with how many bytes it gave.
-fn read_path_of(source: Source, length: usize) -> Option<(&str, usize)> {
-    match source {
-        Source::File(INPUT) | Source::Names(_) => None,
-        Source::File(path) => Some((path, length)),
-    }
-}
-
-/// The paths of files that the words name to be read, but for the source.
-fn other_paths_in<'a>(alloc: Global, task: &Compile<'a>) -> Result<Vec<&'a str>, AllocError> {
-    let mut paths = Vec::new(alloc);
-    if let Some(path) = task.names {
-        paths.push(path)?;
-    }
-    for file in task.includes.files.as_slice() {
-        paths.push(file.path)?;
-    }
-    Ok(paths)
 }
 
 /// The files that a source may include, and their texts to be shown.
@@ -352,8 +333,9 @@ fn upgrade_image<'a>(
             let put = Put {
                 out: newer,
                 source: None,
+                length: 0,
                 named: &[image],
-                texts: &[],
+                found: &[],
                 folders: &[],
             };
             put_image(rt, put, out.device.as_slice())
@@ -398,26 +380,6 @@ pub fn run<'a>(
     Ok(0)
 }
 
-/// Whether a task writes an image on standard output, where nothing else may stand.
-fn is_piped(task: &Task) -> bool {
-    match task {
-        Task::Compile(compile) => is_output(compile.image),
-        Task::Upgrade { newer, .. } => is_output(newer),
-        _ => false,
-    }
-}
-
-/// What the environment has for names, where the words ask for it.
-fn environment_for(
-    rt: &(impl Env + FileSystem + AllocGlobal),
-    words: &[String],
-) -> Result<Environment, AllocError> {
-    match ask_environment(words) {
-        true => read_environment(rt),
-        false => Ok(Environment::none(rt.alloc())),
-    }
-}
-
 /// Does what the words ask for, and answers the status to end with: 0, 1 where something is refused, 2 where the words
 /// are wrong, 3 where a file, the input or the output can't be used. The first word is the program's own name.
 /// Memory is left as by [`run`].
@@ -433,7 +395,7 @@ pub fn run_words(
         Ok(task) => task,
         Err(error) => return explain(rt, error),
     };
-    let is_piped = is_piped(&task);
+    let is_piped = task.is_piped();
     match run(rt, &task) {
         Ok(status) => status,
         Err(failure) if is_piped => fail_aside(rt, failure),

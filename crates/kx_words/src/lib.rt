@@ -2,11 +2,13 @@
 #![tactic(auto)]
 
 mod commands;
+mod input;
 mod naming;
 mod reading;
 mod task;
 mod words;
 
-pub use naming::{are_by_names, ask_environment};
-pub use task::{Compile, INPUT, Included, Includes, Keymap, Source, Task, Try};
-pub use words::{not_text, task_in};
+pub use input::{awaited, not_text};
+pub use naming::environment_for;
+pub use task::{Compile, INPUT, Included, Includes, Keymap, Source, Task, Try, is_output};
+pub use words::task_in;

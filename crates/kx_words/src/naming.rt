@@ -1,7 +1,9 @@
 //! The words that ask for a keymap by its names.
 use clap::ArgMatches;
-use kx_names::{Asked, Environment, Written};
+use kx_names::{Asked, Environment, Written, read_environment};
 use std::alloc::{AllocError, Global};
+use std::env::Env;
+use std::rt::Files as FileSystem;
 
 /// The words that ask for a keymap by its names.
 const NAME_WORDS: [&str; 5] = ["rules", "model", "layout", "variant", "options"];
@@ -31,12 +33,26 @@ pub fn are_by_names(words: &[String]) -> bool {
 }
 
 /// Whether the environment may stand for words that aren't written.
-pub fn ask_environment(words: &[String]) -> bool {
+fn ask_environment(words: &[String]) -> bool {
     let is_command = match words.get(1) {
         Some(word) => NAME_COMMANDS.contains(&word.as_str()),
         None => false,
     };
     is_command || are_by_names(words)
+}
+
+/// What the environment has for names, where the words ask for it. The first word is the program's own name.
+///
+/// # Errors
+/// Where there is no memory for it.
+pub fn environment_for(
+    rt: &(impl Env + FileSystem + AllocGlobal),
+    words: &[String],
+) -> Result<Environment, AllocError> {
+    match ask_environment(words) {
+        true => read_environment(rt),
+        false => Ok(Environment::none(rt.alloc())),
+    }
 }
 
 fn written_in<'a>(matches: &ArgMatches<'a>) -> Written<'a> {

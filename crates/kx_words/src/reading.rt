@@ -4,8 +4,8 @@ use crate::naming::{asked_in, folders_in, lack_layouts, rules_in};
 use crate::task::{Compile, INPUT, Included, Includes, Keymap, Source, Task, Try};
 use clap::error::ErrorKind;
 use clap::{ArgMatches, Error};
+use kx_explain::Telling;
 use kx_names::{Asked, Environment, Kind, Wanted};
-use kx_noted::Telling;
 use std::alloc::{AllocError, Global};
 
 /// How the words of a command are read.

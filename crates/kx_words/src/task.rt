@@ -1,9 +1,18 @@
 //! What the program's words ask for.
+use kx_explain::Telling;
 use kx_names::{Asked, Wanted};
-use kx_noted::Telling;
+use std::alloc::{AllocError, Global};
 
 /// The word for standard input in the place of a file that is read, and for standard output in the place of one that is written.
 pub const INPUT: &str = "-";
+
+/// Whether a path is standard output's.
+pub fn is_output(path: &str) -> bool {
+    matches!(
+        path,
+        INPUT | "/dev/stdout" | "/dev/fd/1" | "/proc/self/fd/1"
+    )
+}
 
 /// A file that a source may include: its name, and where it lies.
 #[derive(Clone, Copy)]
@@ -37,6 +46,14 @@ impl<'a> Source<'a> {
             Source::Names(_) => "<names>",
         }
     }
+
+    /// The path of the source, where it is a file.
+    pub fn file(self) -> Option<&'a str> {
+        match self {
+            Source::File(INPUT) | Source::Names(_) => None,
+            Source::File(path) => Some(path),
+        }
+    }
 }
 
 /// A keymap that is looked at: an image, or a source, which is compiled in memory.
@@ -57,6 +74,23 @@ pub struct Compile<'a> {
     pub image: &'a str,
     pub includes: Includes<'a>,
     pub telling: Telling,
+}
+
+impl<'a> Compile<'a> {
+    /// The paths of files that the words name to be read, but for the source.
+    ///
+    /// # Errors
+    /// Where there is no memory for them.
+    pub fn other_paths(&self, alloc: Global) -> Result<Vec<&'a str>, AllocError> {
+        let mut paths = Vec::new(alloc);
+        if let Some(path) = self.names {
+            paths.push(path)?;
+        }
+        for file in self.includes.files.as_slice() {
+            paths.push(file.path)?;
+        }
+        Ok(paths)
+    }
 }
 
 /// A source on standard input that is compiled, and the events after it, which are answered.
@@ -119,4 +153,15 @@ pub enum Task<'a> {
         folders: Vec<&'a str>,
         wanted: Wanted<'a>,
     },
+}
+
+impl Task<'_> {
+    /// Whether an image is written on standard output, where nothing else may stand.
+    pub fn is_piped(&self) -> bool {
+        match self {
+            Task::Compile(compile) => is_output(compile.image),
+            Task::Upgrade { newer, .. } => is_output(newer),
+            _ => false,
+        }
+    }
 }

@@ -1,20 +1,12 @@
 //! From the words that the program is called with to what they ask for.
-use crate::commands::{Shape, command_for, whole_command};
+use crate::commands::{Shape, command_for};
 use crate::naming::are_by_names;
 use crate::reading::{Reading, bare_task, task_of};
 use crate::task::Task;
 use clap::error::ErrorKind;
 use clap::{ArgMatches, Error};
 use kx_names::Environment;
-use std::alloc::{AllocError, Global};
-
-/// A word that isn't text, which is printed as text has it.
-pub fn not_text(alloc: Global, printed: &str) -> Result<Error, AllocError> {
-    let message = format!(in alloc;
-        "the word '{printed}' is not text in UTF-8, as each name of a file has to be here"
-    )?;
-    whole_command(alloc)?.error(ErrorKind::ValueValidation, message.as_str())
-}
+use std::alloc::Global;
 
 /// Whether a word is an option that few calls have.
 fn is_option(word: &str) -> bool {

@@ -14,6 +14,7 @@ pub struct Kept<F> {
 }
 
 impl<F: Feed> Kept<F> {
+    /// Of a reader of which nothing was taken: no memory is asked for yet.
     pub fn new(alloc: Global, feed: F) -> Kept<F> {
         Kept {
             feed,

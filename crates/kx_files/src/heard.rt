@@ -20,12 +20,13 @@ struct Lines {
 /// A reader that keeps the lines among the bytes that it gave last, so that one that is refused can be shown.
 #[derive(Drop)]
 pub struct Heard<F> {
+    /// The reader itself.
     pub feed: F,
     lines: Lines,
 }
 
-/// How many lines end in bytes.
-pub(crate) fn lines_in(bytes: &[u8]) -> u64 {
+/// How many lines end in bytes, which is how many line feeds there are.
+pub fn lines_in(bytes: &[u8]) -> u64 {
     bytes.iter().fold(0u64, |count, byte| {
         count.saturating_add(u64::from(*byte == b'\n'))
     })
@@ -67,6 +68,7 @@ impl Lines {
 }
 
 impl<F: Feed> Heard<F> {
+    /// Of a reader of which nothing was taken: no memory is asked for yet.
     pub fn new(alloc: Global, feed: F) -> Heard<F> {
         let bytes = Vec::new(alloc);
         Heard {

@@ -1,0 +1,12 @@
+//! What the program reads is kept to be shown, and a file that it writes stands whole or not at all.
+#![tactic(auto)]
+
+mod heard;
+mod identity;
+mod kept;
+mod put;
+mod writing;
+
+pub use heard::{Heard, lines_in};
+pub use kept::Kept;
+pub use put::{Put, PutFault};
