@@ -2,11 +2,11 @@
 use crate::failing::unusable;
 use crate::named::source_named;
 use ks_core::NameTable;
-use kx_explain::Text;
 use kx_failure::Failure;
-use kx_reach::{FindFault, Folder, Found, find_files, hand_in, read_file};
+use kx_files::{Handed, Included, all_handed, handed_in};
+use kx_reach::{FindFault, Folder, Found, find_files, read_file};
 use kx_tool::{Files, ReplayFault};
-use kx_words::{INPUT, Included, Includes, Source};
+use kx_words::{INPUT, Includes, Source};
 use std::alloc::{AllocError, Global};
 use std::io;
 use std::io::Read;
@@ -74,19 +74,6 @@ fn read_included<'a>(
     Ok(bytes)
 }
 
-/// The files that are handed in.
-fn handed_in(
-    alloc: Global,
-    included: &[Included],
-    bytes: Vec<Vec<u8>>,
-) -> Result<Files, AllocError> {
-    let mut files = Files::new(alloc);
-    for (file, bytes) in included.iter().zip(bytes) {
-        hand_in(&mut files, file.name, bytes)?;
-    }
-    Ok(files)
-}
-
 /// Reads the files that are handed in.
 pub(crate) fn read_handed<'a>(
     rt: &(impl FileSystem + AllocGlobal),
@@ -94,66 +81,6 @@ pub(crate) fn read_handed<'a>(
 ) -> Result<Files, Failure<'a>> {
     let bytes = read_included(rt, included)?;
     Ok(handed_in(rt.alloc(), included, bytes)?)
-}
-
-/// The files that a source may include, as texts: those that are handed in, and after them those that were found.
-pub(crate) fn texts_of<'t, 'a: 't>(
-    alloc: Global,
-    included: &[Included<'a>],
-    found: &'t [Found],
-    files: &'t Files,
-) -> Result<Vec<Text<'t>>, AllocError> {
-    let mut texts = Vec::new(alloc);
-    for file in included {
-        let name = file.name;
-        let path = file.path;
-        let bytes = files.bytes_at(texts.len());
-        texts.push(Text { name, path, bytes })?;
-    }
-    for file in found {
-        let name = file.name.as_str();
-        let path = file.path.as_str();
-        let bytes = files.bytes_at(texts.len());
-        texts.push(Text { name, path, bytes })?;
-    }
-    Ok(texts)
-}
-
-/// Of each file that a source may include, whether it is installed: of those that are handed in none is, since a word names
-/// them.
-fn installed_among(
-    alloc: Global,
-    included: &[Included],
-    found: &[Found],
-) -> Result<Vec<bool>, AllocError> {
-    let mut installed = Vec::new(alloc);
-    for _ in included {
-        installed.push(false)?;
-    }
-    for file in found {
-        installed.push(file.is_installed)?;
-    }
-    Ok(installed)
-}
-
-/// The files that a source may include.
-#[derive(Drop)]
-pub(crate) struct Handed<'t> {
-    pub texts: Vec<Text<'t>>,
-    /// Of each text whether it is installed.
-    pub installed: Vec<bool>,
-}
-
-/// The same files as [`texts_of`], and which of them are installed.
-pub(crate) fn all_handed<'t, 'a: 't>(
-    alloc: Global,
-    included: &[Included<'a>],
-    found: &'t [Found],
-    files: &'t Files,
-) -> Result<Box<Handed<'t>>, AllocError> {
-    let texts = texts_of(alloc, included, found, files)?;
-    let installed = installed_among(alloc, included, found)?;
-    Ok(Box::new(alloc, Handed { texts, installed })?)
 }
 
 /// The folders in which files are looked for.

@@ -5,16 +5,15 @@ use crate::named::{print_list, print_source, read_keymap, show_asked};
 use crate::printing::print_keymap;
 use crate::putting::put_image;
 use crate::showing::{Warned, show_fault};
-use crate::sources::{
-    Gathered, all_handed, find, gather_source, read_handed, read_names, read_or_input, texts_of,
-};
+use crate::sources::{Gathered, find, gather_source, read_handed, read_names, read_or_input};
 use crate::usage::{explain, out_of_memory};
 use ks_core::{Feed, Lent, NameTable, Notes};
 use kx_explain::{Telling, Text, Texts};
 use kx_failure::{Failure, FileKind};
-use kx_files::{Heard, Kept, Put, lines_in};
+use kx_files::{Heard, Kept, Put, all_handed, lines_in, texts_of};
 use kx_image::{UpgradeFault, View, upgrade};
 use kx_lex::Fault;
+use kx_names::Environment;
 use kx_noted::Noted;
 use kx_reach::{Ahead, Found};
 use kx_tool::{Files, ReplayFault, SessionFault, compile_once, dump, replay, session};
@@ -380,6 +379,27 @@ pub fn run<'a>(
     Ok(0)
 }
 
+/// Does a task, and answers the status to end with.
+fn run_task(rt: &(impl FileSystem + Input + Print + Eprint + AllocGlobal), task: &Task) -> u8 {
+    match run(rt, task) {
+        Ok(status) => status,
+        Err(failure) if task.is_piped() => fail_aside(rt, failure),
+        Err(failure) => fail(rt, failure),
+    }
+}
+
+/// Does what the words ask for in an environment, and answers the status to end with.
+fn run_asked(
+    rt: &(impl FileSystem + Input + Print + Eprint + AllocGlobal),
+    words: &[String],
+    environment: &Environment,
+) -> u8 {
+    match task_in(rt.alloc(), words, environment) {
+        Ok(task) => run_task(rt, &task),
+        Err(error) => explain(rt, error),
+    }
+}
+
 /// Does what the words ask for, and answers the status to end with: 0, 1 where something is refused, 2 where the words
 /// are wrong, 3 where a file, the input or the output can't be used. The first word is the program's own name.
 /// Memory is left as by [`run`].
@@ -387,18 +407,8 @@ pub fn run_words(
     rt: &(impl Env + FileSystem + Input + Print + Eprint + AllocGlobal),
     words: &[String],
 ) -> u8 {
-    let environment = match environment_for(rt, words) {
-        Ok(environment) => environment,
-        Err(_) => return out_of_memory(rt),
-    };
-    let task = match task_in(rt.alloc(), words, &environment) {
-        Ok(task) => task,
-        Err(error) => return explain(rt, error),
-    };
-    let is_piped = task.is_piped();
-    match run(rt, &task) {
-        Ok(status) => status,
-        Err(failure) if is_piped => fail_aside(rt, failure),
-        Err(failure) => fail(rt, failure),
+    match environment_for(rt, words) {
+        Ok(environment) => run_asked(rt, words, &environment),
+        Err(_) => out_of_memory(rt),
     }
 }

@@ -10,5 +10,5 @@ mod words;
 
 pub use input::{awaited, not_text};
 pub use naming::environment_for;
-pub use task::{Compile, INPUT, Included, Includes, Keymap, Source, Task, Try, is_output};
+pub use task::{Compile, INPUT, Includes, Keymap, Source, Task, Try, is_output};
 pub use words::task_in;

@@ -1,10 +1,11 @@
 //! What the words of a command ask for.
 use crate::commands::{Shape, command_named, whole_command};
 use crate::naming::{asked_in, folders_in, lack_layouts, rules_in};
-use crate::task::{Compile, INPUT, Included, Includes, Keymap, Source, Task, Try};
+use crate::task::{Compile, INPUT, Includes, Keymap, Source, Task, Try};
 use clap::error::ErrorKind;
 use clap::{ArgMatches, Error};
 use kx_explain::Telling;
+use kx_files::Included;
 use kx_names::{Asked, Environment, Kind, Wanted};
 use std::alloc::{AllocError, Global};
 

@@ -1,5 +1,6 @@
 //! What the program's words ask for.
 use kx_explain::Telling;
+use kx_files::Included;
 use kx_names::{Asked, Wanted};
 use std::alloc::{AllocError, Global};
 
@@ -12,13 +13,6 @@ pub fn is_output(path: &str) -> bool {
         path,
         INPUT | "/dev/stdout" | "/dev/fd/1" | "/proc/self/fd/1"
     )
-}
-
-/// A file that a source may include: its name, and where it lies.
-#[derive(Clone, Copy)]
-pub struct Included<'a> {
-    pub name: &'a str,
-    pub path: &'a str,
 }
 
 /// What a source may include: files by name, and the folders in which others are looked for.
