@@ -1,7 +1,8 @@
 #!/bin/sh
 # Refuses each growth of memory in turn: of five calls on a desktop's keymap, each of which CALLS makes twice, and of the
 # tasks of PROGRAM over that keymap. A growth that is refused gives want of memory, no byte of an answer, and no file, or the
-# call or task does without it (as for room asked for ahead) and ends whole; and the same call with memory answers as ever.
+# call or task does without it (as for room asked for ahead) and ends whole; and the same call with memory answers as ever. A
+# file that is read is never OUT.
 #   tests/refused.sh CALLS PROGRAM
 # Each growth at which it is otherwise is a line, and the last line counts the growths.
 set -u
@@ -136,6 +137,29 @@ task() {
     echo "xkc $*: $(sort ../ends | uniq -c | awk '{ printf "%s%s %s", mark, $1, $2; mark = ", " }')"
 }
 
+# keeps FILE WORD..: refuses each growth of a task whose OUT is a file that its source includes, which stays as it is. With
+# memory the words are wrong.
+keeps() {
+    file=$1
+    shift
+    cp "$file" ../kept
+    number=0
+    while
+        number=$((number + 1))
+        refuse "$program" "$@" > ../out 2> ../err
+        grep -qx refused ../err
+    do
+        if [ "$status" -ne 0 ] && cmp -s "$file" ../kept; then
+            passed=$((passed + 1))
+        else
+            fails "xkc $*, growth $number: ended with status $status, and $file isn't as it was"
+            cp ../kept "$file"
+        fi
+    done
+    { [ "$status" -eq 2 ] && cmp -s "$file" ../kept; } || fails "xkc $* with memory: status $status"
+    echo "xkc $*: $((number - 1)) growths, and $file stays"
+}
+
 keymap=$tests/../crates/refused_calls/stdin
 input=$keymap
 for name in compile with_lines start replay session; do call "$name"; done
@@ -157,6 +181,7 @@ echo 'xkb_symbols { key <A> {[a]}; };' > kit/symbols/one
 XKB_CONFIG_ROOT=$PWD/kit
 export XKB_CONFIG_ROOT
 task F1 compile -I kit --layout one --options one,none out
+keeps kit/symbols/one compile -I kit --layout one kit/symbols/one
 task F1 list -I kit
 task F1 upgrade image out
 task F1 print image

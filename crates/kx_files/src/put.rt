@@ -2,6 +2,7 @@
 use crate::identity::Identity;
 use crate::writing::{Standing, standing_at, write_over};
 use kx_reach::Found;
+use std::alloc::AllocError;
 use std::io;
 use std::rt::Files as FileSystem;
 
@@ -40,43 +41,54 @@ fn last_name(path: &str) -> &str {
 }
 
 impl Put<'_, '_> {
-    /// Writes the file, whole or not at all.
+    /// Writes the file: a new or plain one whole or not at all; into a device or a link it is written.
     ///
     /// # Errors
-    /// Where it is one of those that are read, by whatever path, or where the system refuses it.
+    /// Where it is one of those that are read, by whatever path; what was found only by one with the same name at its end.
+    /// Where the system refuses it, or there is no memory.
     pub fn write(
         &self,
         rt: &(impl FileSystem + AllocGlobal),
         bytes: &[u8],
     ) -> Result<(), PutFault> {
         let standing = standing_at(rt, self.out);
-        if self.is_read(rt, &standing) {
-            return Err(PutFault::Read);
+        match self.is_read(rt, &standing) {
+            Ok(true) => Err(PutFault::Read),
+            Ok(false) => write_over(rt, self.out, bytes, standing).map_err(PutFault::Write),
+            Err(refused) => Err(PutFault::Write(io::Error::from(refused))),
         }
-        write_over(rt, self.out, bytes, standing).map_err(PutFault::Write)
     }
 
     /// Whether the file that is written is one of those that are read. What was found has its own name, so that no other is
     /// looked at.
-    fn is_read(&self, rt: &(impl FileSystem + AllocGlobal), standing: &Standing) -> bool {
+    fn is_read(
+        &self,
+        rt: &(impl FileSystem + AllocGlobal),
+        standing: &Standing,
+    ) -> Result<bool, AllocError> {
         let (identity, length) = match standing {
             Standing::Nothing => (None, None),
             Standing::Plain(found) => (Identity::of(found), Some(found.len())),
             Standing::Other => (Identity::at(rt, self.out), None),
         };
         if identity.is_none() {
-            return false;
+            return Ok(false);
         }
-        self.is_source(rt, identity, length)
+        if self.is_source(rt, identity, length)
             || self
                 .named
                 .iter()
                 .any(|path| Identity::at(rt, path) == identity)
-            || self
-                .found
-                .iter()
-                .filter(|found| last_name(found.path.as_str()) == last_name(self.out))
-                .any(|found| self.is_found(rt, found.path.as_str(), identity))
+        {
+            return Ok(true);
+        }
+        for found in self.found {
+            let path = found.path.as_str();
+            if last_name(path) == last_name(self.out) && self.is_found(rt, path, identity)? {
+                return Ok(true);
+            }
+        }
+        Ok(false)
     }
 
     /// Whether a file is the source; one of another length isn't, which spares most calls a question.
@@ -99,12 +111,13 @@ impl Put<'_, '_> {
         rt: &(impl FileSystem + AllocGlobal),
         path: &str,
         identity: Option<Identity>,
-    ) -> bool {
-        self.folders
-            .iter()
-            .any(|folder| match format!(in rt.alloc(); "{folder}/{path}") {
-                Ok(whole) => Identity::at(rt, whole.as_str()) == identity,
-                Err(_) => false,
-            })
+    ) -> Result<bool, AllocError> {
+        for folder in self.folders {
+            let whole = format!(in rt.alloc(); "{folder}/{path}")?;
+            if Identity::at(rt, whole.as_str()) == identity {
+                return Ok(true);
+            }
+        }
+        Ok(false)
     }
 }
