@@ -1,5 +1,5 @@
 -- What holds of each built-in name, by computing.
-use Rattle.std.proofs.Common.{◌≡◌, ℕ, ◌<◌, ◌≤◌, Bool, true, false, not, ◌&&◌, ◌||◌, nat_le, nat_lt, List, get_or, length, Option, None, Some, is_some, refl, sym, ap, subst, ◌∙◌}
+use Rattle.std.proofs.Common.{◌≡◌, ℕ, ◌<◌, ◌≤◌, Bool, true, false, not, ◌&&◌, ◌||◌, nat_le, nat_lt, List, [], get_or, length, Option, None, Some, is_some, refl, sym, ap, subst, ◌∙◌}
 use Rattle.std.proofs.lemmas.Bool.{and_parts, leb-true, ltb-true}
 use Rattle.std.proofs.lemmas.List.Sums.{AllPass-from_list_all}
 use Rattle.std.proofs.lemmas.Str.Ascii.{IsAscii-from_all}
@@ -30,6 +30,13 @@ built_in-named name keysym found =
       subst (λ n. length n ≤ 64) e.3 (leb-true (length e.0.0) 64 two.0),
       subst (λ n. is_word_or_number n ≡ true) e.3 three.0,
     )
+
+-- an entry is found by its name
+pub built_in-found : (k : ℕ) → k < length built_in → keysym_in built_in (get_or built_in k ([], 0)).0 ≡ Some (get_or built_in k ([], 0)).1
+built_in-found k within =
+    let e : Entry = get_or built_in k ([], 0) in
+    let valid = AllPass-from_list_all is_valid built_in all_valid k ([], 0) within in
+    is_keysym-true (keysym_in built_in e.0) e.1 (and_parts (is_keysym (keysym_in built_in e.0) e.1) _ valid).0
 
 no-true : (b : Bool) → not b ≡ true → b ≡ true → ⊥
 no-true true h k = cc

@@ -1,6 +1,6 @@
 -- Tests that compute, by which a list of rows is shown to be an index of the built-in names.
-use Rattle.std.proofs.Common.{◌≡◌, ℕ, zero, suc, Bool, true, false, not, ◌&&◌, ◌==◌, List, [], ◌∷◌, get_or, Option, None, Some, Err, length, slice_index_or, refl, sym, ap, subst, ◌∙◌, add-one, inl, inr, zero-le, eqb-true, cond, arith, find}
-use Rattle.std.proofs.lemmas.Bool.{cases_lt, and_parts}
+use Rattle.std.proofs.Common.{◌≡◌, ℕ, zero, suc, Bool, true, false, not, ◌&&◌, ◌==◌, List, [], ◌∷◌, get_or, nat_lt, Option, None, Some, Err, length, slice_index, refl, sym, ap, subst, ◌∙◌, add-one, inl, inr, zero-le, eqb-true, cond, arith, find}
+use Rattle.std.proofs.lemmas.Bool.{cases_lt, and_parts, ltb-true}
 use Rattle.std.proofs.lemmas.Cmp.{tied_itself}
 use Rattle.std.proofs.lemmas.List.Folds.{Any-from_list_any}
 use Rattle.std.proofs.lemmas.List.Sorted.{searchable_from_sorted}
@@ -16,7 +16,7 @@ use Rattle.std.specs.declared.cmp.Ordering.TheVariants.{Equal}
 use Rattle.std.specs.Str.{bytes_eq}
 use Rattle.ks_core.specs.Entry.{Entry, keysym_in, name_in}
 use Rattle.ks_core.specs.BuiltIn.{built_in}
-use Rattle.ks_core.specs.HashIndex.{IsHashIndex, no_row, slot_of}
+use Rattle.ks_core.specs.HashIndex.{IsHashIndex, entry_at, slot_of}
 use Rattle.ks_core.specs.Index.{Row, IsKeysymIndex}
 
 -- no row is less than the one before it
@@ -94,23 +94,23 @@ unfolding is_name
 is_name-true None n h = cc
 is_name-true (Some m) n h = ap Some (same_bytes m n h)
 
--- rows by hash
-abbrev pub row_right : Row → Bool
-row_right row = is_keysym (keysym_in built_in row.0.now) row.1
+-- places by hash
+abbrev pub is_place : ℕ → Bool
+is_place place = nat_lt place (length built_in)
 
-abbrev pub has_slot : List ℕ → List Row → Entry → Bool
-has_slot shifts rows e = bytes_eq (slice_index_or rows (slot_of shifts e.0) no_row).0.now e.0
+abbrev pub has_slot : List ℕ → List ℕ → Entry → Bool
+has_slot shifts slots e = bytes_eq (entry_at (slice_index slots (slot_of shifts e.0))).0 e.0
 
-pub hash_index : (shifts : List ℕ) (rows : List Row) → length shifts ≡ 128 → length rows ≡ 512 → list_all row_right rows ≡ true → list_all (has_slot shifts rows) built_in ≡ true → IsHashIndex shifts rows
-hash_index shifts rows shifted slotted right whole =
+pub hash_index : (shifts slots : List ℕ) → length shifts ≡ 128 → length slots ≡ 512 → list_all is_place slots ≡ true → list_all (has_slot shifts slots) built_in ≡ true → IsHashIndex shifts slots
+hash_index shifts slots shifted slotted placed whole =
     record {
       shifted = shifted;
       slotted = slotted;
-      right = λ k d within. is_keysym-true _ _ (AllPass-from_list_all row_right rows right k d within);
+      placed = λ k d within. ltb-true _ _ (AllPass-from_list_all is_place slots placed k d within);
       whole = λ name keysym found.
-          let e = keysym_in-entry (has_slot shifts rows) built_in name keysym whole found in
-          let here = same_bytes (slice_index_or rows (slot_of shifts e.0.0) no_row).0.now e.0.0 e.1 in
-          subst (λ (n : List ℕ). (slice_index_or rows (slot_of shifts n) no_row).0.now ≡ n) e.2 here;
+          let e = keysym_in-entry (has_slot shifts slots) built_in name keysym whole found in
+          let here = same_bytes (entry_at (slice_index slots (slot_of shifts e.0.0))).0 e.0.0 e.1 in
+          subst (λ (n : List ℕ). (entry_at (slice_index slots (slot_of shifts n))).0 ≡ n) e.2 here;
     }
 
 -- rows by keysym

@@ -8,36 +8,32 @@ ghost use Rattle.ks_core.specs.HashIndex.{IsHashIndex, hash_of, slot_of};
 ghost use Rattle.ks_core.specs.Index.{IsKeysymIndex};
 ghost use Rattle.ks_core.specs.Names.{is_written_back};
 
-use crate::table::{BY_HASH, BY_KEYSYM, Entry, SHIFTS};
+use crate::table::{BY_KEYSYM, Entry, SHIFTS, SLOTS};
 
 /// The length of the longest built-in name.
 const LONGEST: usize = 20;
 
-/// The built-in names by hash.
+/// By the hash of a name, where it stands among the built-in names.
 #[derive(Clone, Copy)]
 struct HashIndex {
     shifts: &'static [u8],
-    rows: &'static [Entry],
+    slots: &'static [u16],
 }
 
 fn by_hash() -> HashIndex
-    ensures { IsHashIndex result.shifts.now result.rows.now }
+    ensures { IsHashIndex result.shifts.now result.slots.now }
 {
     HashIndex {
         shifts: &SHIFTS,
-        rows: &BY_HASH,
+        slots: &SLOTS,
     }
 }
 
+/// The built-in names as they are defined, one after another, by keysym. A table of texts is proved anew, slowly, in each function
+/// that names it, so no other does.
 fn by_keysym() -> &'static [Entry]
-    ensures { IsKeysymIndex result.now }
-{
-    &BY_KEYSYM
-}
-
-/// The built-in names as they are defined, one after another.
-fn in_order() -> &'static [Entry]
-    ensures { map (λ row. (row.0.now, row.1)) result.now ≡ built_in }
+    ensures names { map (λ row. (row.0.now, row.1)) result.now ≡ built_in }
+    ensures index { IsKeysymIndex result.now }
 {
     &BY_KEYSYM
 }
@@ -118,7 +114,7 @@ pub(crate) fn keysym_of(name: &[u8]) -> Option<u32>
     let index = by_hash();
     let hash = hash_of(name);
     let slot = (hash + usize::from(index.shifts[hash / 512 % 128])) % 512;
-    let (known, keysym) = index.rows[slot];
+    let (known, keysym) = by_keysym()[usize::from(index.slots[slot])];
     if same_name(name, known.as_bytes()) {
         Some(keysym)
     } else {
@@ -142,7 +138,7 @@ pub(crate) fn name_at(place: usize) -> Option<&'static str>
     ensures { option_map (λ name. name.now) result
         ≡ option_map (λ e. e.0) (slice_get built_in place) }
 {
-    match in_order().get(place) {
+    match by_keysym().get(place) {
         Some((name, _)) => Some(*name),
         None => None,
     }

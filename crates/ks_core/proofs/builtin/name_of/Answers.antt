@@ -13,7 +13,7 @@ pub returns-in-Ok : goal.returns-in-Ok
 returns-in-Ok c =
     let keysym = c.args.keysym in
     let at = c.in-Ok.ensures.position (λ (e : Row). nat_cmp e.1 keysym) (always_returns_same _ _ _ (λ a r f called. search rules)) (record { ref_ptr = (0, 0); now = [] }, 0) in
-    let right = c.by_keysym-entries.ensures.right c.in-Ok.index (record { ref_ptr = (0, 0); now = [] }, 0) c.in-Ok.ensures.bound in
+    let right = c.by_keysym-entries.ensures.index.right c.in-Ok.index (record { ref_ptr = (0, 0); now = [] }, 0) c.in-Ok.ensures.bound in
     sym right ∙ ap (name_in built_in) (exact_unsigned _ _ at)
 
 pub returns-in-Err : goal.returns-in-Err
@@ -22,5 +22,5 @@ returns-in-Err c = by (name_in built_in c.args.keysym) refl
     by : (r : Option (List ℕ)) → name_in built_in c.args.keysym ≡ r → ◌≡◌ {A = Option (List ℕ)} None (name_in built_in c.args.keysym)
     by None none = sym none
     by (Some name) some =
-        absurd (not_found nat_cmp_total (λ (e : Row). e.1) c.by_keysym-entries.result.now c.args.keysym c.in-Err.field-0 c.by_keysym-entries.ensures.rising
-        (c.in-Err.ensures.position (λ (e : Row). nat_cmp e.1 c.args.keysym) (always_returns_same _ _ _ (λ a r f called. search rules))) (c.by_keysym-entries.ensures.whole name c.args.keysym some))
+        absurd (not_found nat_cmp_total (λ (e : Row). e.1) c.by_keysym-entries.result.now c.args.keysym c.in-Err.field-0 c.by_keysym-entries.ensures.index.rising
+        (c.in-Err.ensures.position (λ (e : Row). nat_cmp e.1 c.args.keysym) (always_returns_same _ _ _ (λ a r f called. search rules))) (c.by_keysym-entries.ensures.index.whole name c.args.keysym some))
