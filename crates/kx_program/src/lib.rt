@@ -1,18 +1,13 @@
-//! What the program does: its words, the tasks that they ask for, and what a user sees where one ends early.
+//! What the program does: the tasks that its words ask for, and what a user sees of each.
 #![tactic(auto)]
 
-mod failing;
-mod looking;
-mod named;
-mod printing;
+mod answering;
 mod putting;
 mod showing;
-mod sources;
 mod tasks;
-mod usage;
 
 pub use kx_failure::{Failure, Shown};
+pub use kx_keymaps::{out_of_memory, word_that_is_not_text};
 pub use kx_words::awaited;
 pub use showing::Warned;
 pub use tasks::{run, run_words};
-pub use usage::{out_of_memory, word_that_is_not_text};

@@ -1,7 +1,7 @@
 //! Where an image is written.
-use crate::usage::refuse_words;
 use kx_failure::Failure;
 use kx_files::{Put, PutFault};
+use kx_keymaps::refuse_words;
 use kx_words::is_output;
 use std::io;
 use std::io::Write;

@@ -1,10 +1,9 @@
-//! What a layout author sees on standard error of a fault, and of what was passed over.
+//! What a layout author sees on standard error of what was passed over.
 use kx_explain::{Text, Texts};
-use kx_failure::{Shown, show_position};
-use kx_lex::{At, Fault};
-use kx_noted::{KINDS, TextWarnings, Warnings};
+use kx_failure::show_position;
+use kx_lex::At;
+use kx_noted::{KINDS, Noted, TextWarnings, Warnings};
 use kx_tool::{Position, locate};
-use kx_words::Includes;
 use std::fmt;
 use std::fmt::{Formatter, Write};
 
@@ -115,21 +114,9 @@ impl fmt::Display for Warned<'_> {
     }
 }
 
-/// Shows a fault on standard error, in the text in which it stands; of a file that isn't there also the folders in which it
-/// was looked for. Lack of memory stands in none.
-pub(crate) fn show_fault(
-    rt: &(impl Eprint + AllocGlobal),
-    fault: Fault,
-    texts: Texts,
-    includes: &Includes,
-) {
-    if fault == Fault::Memory {
-        return;
-    }
-    let _ = rt.eprint(Shown::of(rt.alloc(), fault, texts));
-    if matches!(fault, Fault::FileMissing(_)) {
-        for folder in includes.folders.as_slice() {
-            let _ = rt.eprintln(format_args!("looked for in {folder}"));
-        }
+/// Shows on standard error what was passed over, and where it stands.
+pub(crate) fn show_noted(rt: &impl Eprint, noted: &Noted, texts: Texts) {
+    if let Some(warnings) = &noted.warnings {
+        let _ = rt.eprint(Warned { warnings, texts });
     }
 }

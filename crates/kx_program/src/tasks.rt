@@ -1,34 +1,27 @@
 //! What the program does.
-use crate::failing::{fail, fail_aside, with_line};
-use crate::looking::{find_in_keymap, print_names, show_keymap};
-use crate::named::{print_list, print_source, read_keymap, show_asked};
-use crate::printing::print_keymap;
+use crate::answering::{answer_keymap, answer_source};
 use crate::putting::put_image;
-use crate::showing::{Warned, show_fault};
-use crate::sources::{Gathered, find, gather_source, read_handed, read_names, read_or_input};
-use crate::usage::{explain, out_of_memory};
-use ks_core::{Feed, Lent, NameTable, Notes};
+use crate::showing::show_noted;
+use ks_core::{Lent, NameTable, Notes};
 use kx_explain::{Telling, Text, Texts};
 use kx_failure::{Failure, FileKind};
-use kx_files::{Heard, Kept, Put, all_handed, lines_in, texts_of};
+use kx_files::Put;
 use kx_image::{UpgradeFault, View, upgrade};
+use kx_keymaps::{
+    Gathered, explain, fail, fail_aside, find_in_keymap, gather_source, out_of_memory,
+    print_keymap, print_list, print_names, print_source, read_names, read_or_input, show_asked,
+    show_fault, show_keymap,
+};
 use kx_lex::Fault;
 use kx_names::Environment;
 use kx_noted::Noted;
-use kx_reach::{Ahead, Found};
-use kx_tool::{Files, ReplayFault, SessionFault, compile_once, dump, replay, session};
-use kx_words::{Compile, Includes, Keymap, Task, Try, environment_for, is_output, task_in};
+use kx_reach::Found;
+use kx_tool::{Files, compile_once, dump};
+use kx_words::{Compile, Task, environment_for, is_output, task_in};
 use std::alloc::{AllocError, Global};
 use std::env::Env;
 use std::rt::Files as FileSystem;
 use std::{io, mem};
-
-/// Shows on standard error what was passed over, and where it stands.
-fn show_noted(rt: &impl Eprint, noted: &Noted, texts: Texts) {
-    if let Some(warnings) = &noted.warnings {
-        let _ = rt.eprint(Warned { warnings, texts });
-    }
-}
 
 /// Tells what was passed over: on standard output, or on standard error where the image went there.
 fn print_notes<'a>(rt: &(impl Print + Eprint), out: &str, notes: Notes) -> Result<(), Failure<'a>> {
@@ -155,150 +148,6 @@ fn put_compiled<'a>(
         folders: task.includes.folders.as_slice(),
     };
     put_image(rt, put, bytes)
-}
-
-/// The files that a source may include, and their texts to be shown.
-#[derive(Clone, Copy)]
-struct Includable<'t> {
-    texts: &'t [Text<'t>],
-    files: &'t Files,
-}
-
-/// Answers a source and the events after it.
-fn answer_feed<'a, F: Feed + Drop>(
-    rt: &(impl Print + Eprint + AllocGlobal),
-    feed: F,
-    names: &NameTable,
-    includable: Includable,
-    includes: &Includes,
-) -> Result<(), Failure<'a>> {
-    let files = includable.files;
-    let mut feed = Heard::new(rt.alloc(), Kept::new(rt.alloc(), feed));
-    let mut out = Lent::new(io::writer(rt));
-    match session(rt.alloc(), &mut feed, files, names, &mut out) {
-        Ok(()) => Ok(()),
-        Err(fault) => {
-            if let SessionFault::Compile(fault) = fault {
-                let source = Text {
-                    name: "",
-                    path: "<stdin>",
-                    bytes: feed.feed.source(),
-                };
-                let files = includable.texts;
-                show_fault(rt, fault, Texts { source, files }, includes);
-            }
-            let before = lines_in(feed.feed.source()).saturating_add(1);
-            Err(with_line(rt.alloc(), &feed, before, Failure::of_session(fault)))
-        }
-    }
-}
-
-/// Shows on standard error what is passed over in a source that was read ahead.
-fn show_ahead(
-    rt: &(impl Eprint + AllocGlobal),
-    names: &NameTable,
-    source: &[u8],
-    includable: Includable,
-    mut noted: Noted,
-) {
-    noted.look(rt.alloc(), source, includable.files, names);
-    let source = Text {
-        name: "",
-        path: "<stdin>",
-        bytes: source,
-    };
-    let files = includable.texts;
-    show_noted(rt, &noted, Texts { source, files });
-}
-
-/// What ends a task whose source can't be read ahead.
-fn failure_ahead<'a>(fault: io::Error) -> Failure<'a> {
-    match fault.kind() {
-        io::ErrorKind::OutOfMemory => Failure::from(AllocError),
-        _ => Failure::Replay(ReplayFault::Read),
-    }
-}
-
-/// Answers a source, which is read first, and the events after it, with the files that it includes from folders. What is passed
-/// over is shown before.
-fn answer_ahead<'a>(
-    rt: &(impl FileSystem + Input + Print + Eprint + AllocGlobal),
-    names: &NameTable,
-    task: &Try<'a>,
-    files: Files,
-) -> Result<(), Failure<'a>> {
-    let feed = match Ahead::read(rt.alloc(), Lent::new(rt.reader())) {
-        Ok(feed) => feed,
-        Err(fault) => return Err(failure_ahead(fault)),
-    };
-    let includes = &task.includes;
-    let (files, found) = find(rt, includes, files, feed.source())?;
-    let included = includes.files.as_slice();
-    let handed = all_handed(rt.alloc(), included, found.as_slice(), &files)?;
-    let includable = Includable {
-        texts: handed.texts.as_slice(),
-        files: &files,
-    };
-    if task.telling != Telling::Nothing {
-        let noted = Noted::new(task.telling, handed.installed.as_slice());
-        show_ahead(rt, names, feed.source(), includable, noted);
-    }
-    answer_feed(rt, feed, names, includable, includes)
-}
-
-/// Answers a source and the events after it as they are read, with the files that are handed in.
-fn answer_at_once<'a>(
-    rt: &(impl Input + Print + Eprint + AllocGlobal),
-    names: &NameTable,
-    includes: &Includes<'a>,
-    files: &Files,
-) -> Result<(), Failure<'a>> {
-    let texts = texts_of(rt.alloc(), includes.files.as_slice(), &[], files)?;
-    let includable = Includable {
-        texts: texts.as_slice(),
-        files,
-    };
-    answer_feed(rt, Lent::new(rt.reader()), names, includable, includes)
-}
-
-fn answer_source<'a>(
-    rt: &(impl FileSystem + Input + Print + Eprint + AllocGlobal),
-    task: &Try<'a>,
-) -> Result<(), Failure<'a>> {
-    let names = read_names(rt, task.names)?;
-    let files = read_handed(rt, task.includes.files.as_slice())?;
-    match task.telling == Telling::Nothing && task.includes.folders.is_empty() {
-        true => answer_at_once(rt, &names, &task.includes, &files),
-        false => answer_ahead(rt, &names, task, files),
-    }
-}
-
-/// Answers events by an image.
-fn answer_events<'a>(
-    rt: &(impl Input + Print + AllocGlobal),
-    names: &NameTable,
-    image: &[u8],
-) -> Result<(), Failure<'a>> {
-    let mut feed = Heard::new(rt.alloc(), Lent::new(rt.reader()));
-    let mut out = Lent::new(io::writer(rt));
-    match replay(rt.alloc(), &mut feed, image, names, &mut out) {
-        Ok(()) => Ok(()),
-        Err(fault) => {
-            let failure = Failure::of_replay(fault, FileKind::of(image));
-            Err(with_line(rt.alloc(), &feed, 0, failure))
-        }
-    }
-}
-
-/// Answers events by a keymap.
-fn answer_keymap<'a>(
-    rt: &(impl FileSystem + Input + Print + Eprint + AllocGlobal),
-    names: Option<&'a str>,
-    keymap: &Keymap<'a>,
-) -> Result<(), Failure<'a>> {
-    let names = read_names(rt, names)?;
-    let bytes = read_keymap(rt, &names, keymap)?;
-    answer_events(rt, &names, bytes.as_slice())
 }
 
 fn dump_image<'a>(

@@ -12,7 +12,10 @@ use std::io;
 use std::io::Read;
 use std::rt::Files as FileSystem;
 
-/// Reads a file.
+/// Reads a file whole.
+///
+/// # Errors
+/// What a file that can't be used ends with ([`Failure::of_file`]).
 pub(crate) fn read<'a>(
     rt: &(impl FileSystem + AllocGlobal),
     path: &'a str,
@@ -33,8 +36,11 @@ fn read_input<'a>(rt: &(impl Input + AllocGlobal)) -> Result<Vec<u8>, Failure<'a
     }
 }
 
-/// Reads a file, or standard input in its place.
-pub(crate) fn read_or_input<'a>(
+/// Reads a file whole, or standard input to its end where the path is `-`.
+///
+/// # Errors
+/// Lack of memory; [`ReplayFault::Read`] of standard input, or what a file that can't be used ends with.
+pub fn read_or_input<'a>(
     rt: &(impl FileSystem + Input + AllocGlobal),
     path: &'a str,
 ) -> Result<Vec<u8>, Failure<'a>> {
@@ -45,7 +51,10 @@ pub(crate) fn read_or_input<'a>(
 }
 
 /// The names of keysyms: those of X11, or the built-in ones with those of a file where one is given.
-pub(crate) fn read_names<'a>(
+///
+/// # Errors
+/// What a file that can't be used ends with, or [`Failure::Names`] with the first line that is refused.
+pub fn read_names<'a>(
     rt: &(impl FileSystem + AllocGlobal),
     path: Option<&'a str>,
 ) -> Result<NameTable, Failure<'a>> {
@@ -74,8 +83,11 @@ fn read_included<'a>(
     Ok(bytes)
 }
 
-/// Reads the files that are handed in.
-pub(crate) fn read_handed<'a>(
+/// Reads the files that are handed in, in their order.
+///
+/// # Errors
+/// Lack of memory, or what the first file that can't be used ends with.
+pub fn read_handed<'a>(
     rt: &(impl FileSystem + AllocGlobal),
     included: &[Included<'a>],
 ) -> Result<Files, Failure<'a>> {
@@ -103,7 +115,10 @@ pub(crate) fn open_folders<'a>(
 
 /// Adds to the files that are handed in those that a source's includes reach in folders, and answers what is known of these.
 /// Where no folders are named, nothing is looked for.
-pub(crate) fn find<'a>(
+///
+/// # Errors
+/// Lack of memory, or what a folder, or a file that was found and can't be read, ends with.
+pub fn find<'a>(
     rt: &(impl FileSystem + AllocGlobal),
     includes: &Includes<'a>,
     handed: Files,
@@ -122,15 +137,18 @@ pub(crate) fn find<'a>(
 
 /// A source with the files that it may include: those that are handed in, and after them those that were found.
 #[derive(Drop)]
-pub(crate) struct Gathered {
-    pub(crate) bytes: Vec<u8>,
-    pub(crate) files: Files,
-    pub(crate) found: Vec<Found>,
+pub struct Gathered {
+    pub bytes: Vec<u8>,
+    pub files: Files,
+    pub found: Vec<Found>,
 }
 
 impl Gathered {
     /// The files as texts, and which of them are installed.
-    pub(crate) fn handed<'t, 'a: 't>(
+    ///
+    /// # Errors
+    /// Lack of memory.
+    pub fn handed<'t, 'a: 't>(
         &'t self,
         alloc: Global,
         includes: &Includes<'a>,
@@ -168,8 +186,12 @@ pub(crate) fn gather<'a>(
     })
 }
 
-/// Reads a source, or makes it of names, and reads the files that it may include.
-pub(crate) fn gather_source<'a>(
+/// Reads a source, or makes it of names, and reads the files that it may include. Unless it is to be quiet, names that no rule
+/// takes are shown.
+///
+/// # Errors
+/// Lack of memory, what an input that can't be used ends with, or names that have no source; standard error says more of these.
+pub fn gather_source<'a>(
     rt: &(impl FileSystem + Input + Eprint + AllocGlobal),
     source: Source<'a>,
     includes: &Includes<'a>,

@@ -12,7 +12,7 @@ use std::fmt;
 const USAGE: u8 = 2;
 
 /// Says what is wrong with the words, where only what they name tells it, and answers the status to end with.
-pub(crate) fn refuse_words(rt: &impl Eprint, message: impl fmt::Display + Drop) -> u8 {
+pub fn refuse_words(rt: &impl Eprint, message: impl fmt::Display + Drop) -> u8 {
     let _ = eprintln!(rt; "error: {message}\n\nFor more information, try '--help'.");
     USAGE
 }

@@ -1,16 +1,15 @@
 //! What a task that ends early says.
-use ks_core::Feed;
-use kx_failure::Failure;
-use kx_files::Heard;
+use kx_explain::Texts;
+use kx_failure::{Failure, Shown};
+use kx_lex::Fault;
 use kx_reach::read_file;
-use kx_tool::ReplayFault;
-use std::alloc::Global;
+use kx_words::Includes;
 use std::io;
 use std::rt::Files as FileSystem;
 
 /// Prints a failure's line, says on standard error what is wrong, and answers the failure's status, which stands where the line
 /// can't be written.
-pub(crate) fn fail(rt: &(impl Print + Eprint), failure: Failure) -> u8 {
+pub fn fail(rt: &(impl Print + Eprint), failure: Failure) -> u8 {
     let status = failure.status();
     let _ = rt.eprint(format_args!("{}", failure.words()));
     let _ = rt.println(failure);
@@ -18,7 +17,7 @@ pub(crate) fn fail(rt: &(impl Print + Eprint), failure: Failure) -> u8 {
 }
 
 /// The same where an image was to go to standard output: nothing else may stand there.
-pub(crate) fn fail_aside(rt: &impl Eprint, failure: Failure) -> u8 {
+pub fn fail_aside(rt: &impl Eprint, failure: Failure) -> u8 {
     let status = failure.status();
     let _ = rt.eprint(format_args!("{}", failure.words()));
     let _ = rt.eprintln(failure);
@@ -34,22 +33,21 @@ pub(crate) fn unusable<'a>(rt: &(impl FileSystem + AllocGlobal), path: String) -
     Failure::Found(path, kind)
 }
 
-/// The failure of events, with the line that was refused where that was kept; so many lines stand before the events.
-pub(crate) fn with_line<'a, F: Feed + Drop>(
-    alloc: Global,
-    heard: &Heard<F>,
-    before: u64,
-    failure: Failure<'a>,
-) -> Failure<'a> {
-    let Failure::Replay(ReplayFault::Line(number)) = failure else {
-        return failure;
-    };
-    let line = match heard.line(before.saturating_add(number)) {
-        Some(line) => String::from_utf8_lossy(alloc, line).ok(),
-        None => None,
-    };
-    match line {
-        Some(line) => Failure::Event(number, line),
-        None => Failure::Replay(ReplayFault::Line(number)),
+/// Shows a fault on standard error, in the text in which it stands; of a file that isn't there also the folders in which it
+/// was looked for. Lack of memory stands in none.
+pub fn show_fault(
+    rt: &(impl Eprint + AllocGlobal),
+    fault: Fault,
+    texts: Texts,
+    includes: &Includes,
+) {
+    if fault == Fault::Memory {
+        return;
+    }
+    let _ = rt.eprint(Shown::of(rt.alloc(), fault, texts));
+    if matches!(fault, Fault::FileMissing(_)) {
+        for folder in includes.folders.as_slice() {
+            let _ = rt.eprintln(format_args!("looked for in {folder}"));
+        }
     }
 }

@@ -61,9 +61,12 @@ fn show_image<'a>(
     Ok(0)
 }
 
-/// Prints a picture of a keymap's keys, or a drawing, in an effective group from 0; answers the status to end with, since the
-/// keymap may have no such group.
-pub(crate) fn show_keymap<'a>(
+/// Prints a picture of a keymap's keys, or a drawing, in an effective group from 0; answers the status to end with: 0, or 2 where
+/// the keymap has no such group, which standard error says.
+///
+/// # Errors
+/// As of [`crate::read_keymap`]; bytes that are no image; lack of memory; [`Failure::Write`].
+pub fn show_keymap<'a>(
     rt: &(impl FileSystem + Input + Print + Eprint + AllocGlobal),
     names: Option<&'a str>,
     keymap: &Keymap<'a>,
@@ -108,8 +111,12 @@ fn places_in<'a>(
     Ok(text)
 }
 
-/// Prints the places that give what a word means.
-pub(crate) fn find_in_keymap<'a>(
+/// Prints the keys, groups and levels of a keymap that give the keysym of a name, or the character that the word is.
+///
+/// # Errors
+/// As of [`crate::read_keymap`]; bytes that are no image; a word that means no keysym; no such key; lack of memory;
+/// [`Failure::Write`].
+pub fn find_in_keymap<'a>(
     rt: &(impl FileSystem + Input + Print + Eprint + AllocGlobal),
     names: Option<&'a str>,
     keymap: &Keymap<'a>,
@@ -124,7 +131,11 @@ pub(crate) fn find_in_keymap<'a>(
     }
 }
 
-pub(crate) fn print_names<'a>(
+/// Prints the lines of names that headers of C define, in their order.
+///
+/// # Errors
+/// What a header that can't be used ends with; lack of memory; [`Failure::Write`].
+pub fn print_names<'a>(
     rt: &(impl FileSystem + Print + AllocGlobal),
     headers: &[&'a str],
 ) -> Result<(), Failure<'a>> {

@@ -48,8 +48,12 @@ fn print_gathered<'a>(
     }
 }
 
-/// Prints the text that clients read of a source, or all that an image tells.
-pub(crate) fn print_keymap<'a>(
+/// Prints the text that clients read of a source, or all that an image tells. Standard error says what isn't printed.
+///
+/// # Errors
+/// What an input that can't be used ends with; the fault of a source, which standard error shows; bytes that are no image; lack
+/// of memory; [`Failure::Write`].
+pub fn print_keymap<'a>(
     rt: &(impl FileSystem + Input + Print + Eprint + AllocGlobal),
     names: Option<&'a str>,
     keymap: &Keymap<'a>,

@@ -1,7 +1,6 @@
 //! Keymaps that are asked for by names.
-use crate::failing::unusable;
+use crate::failing::{show_fault, unusable};
 use crate::looking::print_text;
-use crate::showing::show_fault;
 use crate::sources::{Gathered, gather, open_folders, read_source};
 use ks_core::NameTable;
 use kx_explain::{Text, Texts};
@@ -85,8 +84,9 @@ fn show_hints<'a>(
     Ok(())
 }
 
-/// Shows the names that led to a fault, and of a file or map that isn't there those that aren't listed.
-pub(crate) fn show_asked(
+/// Shows on standard error the names that led to a fault, and of a file or map that isn't there those that aren't listed; of a
+/// source that wasn't asked for by names nothing.
+pub fn show_asked(
     rt: &(impl FileSystem + Eprint + AllocGlobal),
     fault: Fault,
     source: Source,
@@ -104,7 +104,7 @@ pub(crate) fn show_asked(
     }
 }
 
-/// Shows a fault of a source with its files, and answers what ends the task.
+/// Shows a fault of a source with its files on standard error, and answers what ends the task: the fault, or lack of memory.
 pub(crate) fn refuse_source<'a>(
     rt: &(impl FileSystem + Eprint + AllocGlobal),
     fault: Fault,
@@ -129,7 +129,10 @@ pub(crate) fn refuse_source<'a>(
     Failure::Source(fault)
 }
 
-/// Compiles in memory a source with its files.
+/// The image of a source with its files.
+///
+/// # Errors
+/// The fault of the source, which standard error shows, or lack of memory.
 pub(crate) fn compile_gathered<'a>(
     rt: &(impl FileSystem + Eprint + AllocGlobal),
     names: &NameTable,
@@ -152,7 +155,10 @@ pub(crate) enum Looked {
     Source(Gathered),
 }
 
-/// Reads a keymap that is looked at.
+/// Reads a keymap that is looked at: bytes that begin as an image's are none of a source.
+///
+/// # Errors
+/// As of [`crate::gather_source`].
 pub(crate) fn read_looked<'a>(
     rt: &(impl FileSystem + Input + Eprint + AllocGlobal),
     keymap: &Keymap<'a>,
@@ -166,8 +172,11 @@ pub(crate) fn read_looked<'a>(
     Ok(Looked::Source(gather(rt, bytes, includes)?))
 }
 
-/// The image of a keymap that is looked at.
-pub(crate) fn read_keymap<'a>(
+/// The bytes of the image of a keymap that is looked at; where they were read, who opens them says what they are.
+///
+/// # Errors
+/// As of [`read_looked`] and [`compile_gathered`].
+pub fn read_keymap<'a>(
     rt: &(impl FileSystem + Input + Eprint + AllocGlobal),
     names: &NameTable,
     keymap: &Keymap<'a>,
@@ -179,7 +188,10 @@ pub(crate) fn read_keymap<'a>(
 }
 
 /// Prints the source that names make.
-pub(crate) fn print_source<'a>(
+///
+/// # Errors
+/// Names that have no source, which standard error tells; lack of memory; [`Failure::Write`].
+pub fn print_source<'a>(
     rt: &(impl FileSystem + Print + Eprint + AllocGlobal),
     asked: &Asked<'a>,
     folders: &[&'a str],
@@ -188,8 +200,11 @@ pub(crate) fn print_source<'a>(
     print_text(rt, String::from_utf8_lossy(rt.alloc(), source.as_slice()))
 }
 
-/// Prints the names that are listed for rules.
-pub(crate) fn print_list<'a>(
+/// Prints the names that are listed for rules, a line each.
+///
+/// # Errors
+/// A list that isn't there or can't be read, which standard error tells; lack of memory; [`Failure::Write`].
+pub fn print_list<'a>(
     rt: &(impl FileSystem + Print + Eprint + AllocGlobal),
     rules: &str,
     folders: &[&'a str],
