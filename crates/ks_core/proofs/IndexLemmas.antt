@@ -1,7 +1,8 @@
 -- Tests that compute, by which a list of rows is shown to be an index of the built-in names.
-use Rattle.std.proofs.Common.{◌≡◌, ℕ, zero, suc, Bool, true, false, not, ◌&&◌, ◌==◌, List, [], ◌∷◌, get_or, nat_lt, Option, None, Some, Err, length, slice_index, refl, sym, ap, subst, ◌∙◌, add-one, inl, inr, zero-le, eqb-true, cond, arith, find}
-use Rattle.std.proofs.lemmas.Bool.{cases_lt, and_parts, ltb-true}
+use Rattle.std.proofs.Common.{◌≡◌, ℕ, zero, suc, Bool, true, false, not, ◌&&◌, ◌==◌, List, [], ◌∷◌, get_or, nat_lt, Option, None, Some, Err, length, slice_index, refl, sym, ap, subst, ◌∙◌, add-one, inl, inr, zero-le, eqb-true, cond, arith, find, ◌<◌, ◌≤◌, ◌++◌, ◌||◌, map, nat_le}
+use Rattle.std.proofs.lemmas.Bool.{cases_lt, and_parts, ltb-true, leb-true, eqb-false}
 use Rattle.std.proofs.lemmas.Cmp.{tied_itself}
+use Rattle.std.proofs.lemmas.List.{append-nil, get_or-map, length-map}
 use Rattle.std.proofs.lemmas.List.Folds.{Any-from_list_any}
 use Rattle.std.proofs.lemmas.List.Sorted.{searchable_from_sorted}
 use Rattle.std.proofs.lemmas.List.Sums.{AllPass-from_list_all}
@@ -85,15 +86,6 @@ unfolding is_keysym
 is_keysym-true None n h = cc
 is_keysym-true (Some m) n h = ap Some (eqb-true m n h)
 
-unfoldable pub is_name : Option (List ℕ) → List ℕ → Bool
-is_name None n = false
-is_name (Some m) n = bytes_eq m n
-
-pub is_name-true : (o : Option (List ℕ)) (n : List ℕ) → is_name o n ≡ true → o ≡ Some n
-unfolding is_name
-is_name-true None n h = cc
-is_name-true (Some m) n h = ap Some (same_bytes m n h)
-
 -- places by hash
 abbrev pub is_place : ℕ → Bool
 is_place place = nat_lt place (length built_in)
@@ -117,12 +109,6 @@ hash_index shifts slots shifted slotted placed whole =
 abbrev pub keysym_less : Row → Row → Bool
 keysym_less a b = is_lt (nat_cmp a.1 b.1)
 
-abbrev pub keysym_right : Row → Bool
-keysym_right row = is_name (name_in built_in row.1) row.0.now
-
-abbrev pub has_keysym : List Row → Entry → Bool
-has_keysym rows e = list_any (λ row. row.1 == e.1) rows
-
 pub name_in-entry : (p : Entry → Bool) (es : List Entry) (name : List ℕ) (keysym : ℕ) → list_all p es ≡ true → name_in es keysym ≡ Some name → (e : Entry) × (p e ≡ true) × (e.1 ≡ keysym) × (e.0 ≡ name)
 name_in-entry p es name keysym all found = by (find (λ (e : Entry). e.1 == keysym) es) refl
   where
@@ -133,12 +119,70 @@ name_in-entry p es name keysym all found = by (find (λ (e : Entry). e.1 == keys
         let named : name_in es keysym ≡ Some e.0 = ap (λ r. option_map (λ (e : Entry). e.0) r) some in
         (e, known.0, eqb-true e.1 keysym known.1, cc)
 
-pub keysym_index : (rows : List Row) → rises keysym_less rows ≡ true → list_all keysym_right rows ≡ true → list_all (has_keysym rows) built_in ≡ true → IsKeysymIndex rows
-keysym_index rows rise right whole =
+-- each keysym is at least the number, and more than those before it
+unfoldable pub climbs : ℕ → List Entry → Bool
+climbs low [] = true
+climbs low (e ∷ es) = nat_le low e.1 && climbs (suc e.1) es
+
+climbs-low : (es : List Entry) (low d : ℕ) (o : Entry) → climbs low es ≡ true → d < length es → low ≤ (get_or es d o).1
+unfolding climbs
+climbs-low [] low d o h within = absurd (omega (arith, within))
+climbs-low (e ∷ es) low zero o h within = leb-true low e.1 (and_parts (nat_le low e.1) (climbs (suc e.1) es) h).0
+climbs-low (e ∷ es) low (suc d) o h within =
+    let parts = and_parts (nat_le low e.1) (climbs (suc e.1) es) h in
+    let rest = climbs-low es (suc e.1) d o parts.1 (omega (arith, within)) in
+    omega (arith, rest, leb-true low e.1 parts.0)
+
+-- where the keysyms climb, an entry is the first of its keysym
+pub first-at : (es more : List Entry) (low d : ℕ) (o : Entry) (keysym : ℕ) → climbs low es ≡ true → d < length es → (get_or es d o).1 ≡ keysym → name_in (es ++ more) keysym ≡ Some (get_or es d o).0
+unfolding climbs
+first-at [] more low d o keysym h within is = absurd (omega (arith, within))
+first-at (e ∷ es) more low zero o keysym h within is = by (e.1 == keysym) refl
+  where
+    by : (b : Bool) → (e.1 == keysym) ≡ b → name_in (e ∷ es ++ more) keysym ≡ Some e.0
+    by true same = ap (λ b. option_map (λ (x : Entry). x.0) (cond b (Some e) (find (λ (x : Entry). x.1 == keysym) (es ++ more)))) same
+    by false other = absurd (eqb-false e.1 keysym other is)
+first-at (e ∷ es) more low (suc d) o keysym h within is = by (first-at es more (suc e.1) d o keysym parts.1 (omega (arith, within)) is) (e.1 == keysym) refl
+  where
+    parts : (nat_le low e.1 ≡ true) × (climbs (suc e.1) es ≡ true)
+    parts = and_parts (nat_le low e.1) (climbs (suc e.1) es) h
+
+    by : name_in (es ++ more) keysym ≡ Some (get_or es d o).0 → (b : Bool) → (e.1 == keysym) ≡ b → name_in (e ∷ es ++ more) keysym ≡ Some (get_or es d o).0
+    by rest true same = let low = climbs-low es (suc e.1) d o parts.1 (omega (arith, within)) in absurd (omega (arith, is, low, eqb-true e.1 keysym same))
+    by rest false other =
+        ap (λ b. option_map (λ (x : Entry). x.0) (cond b (Some e) (find (λ (x : Entry). x.1 == keysym) (es ++ more)))) other
+        ∙ rest
+
+-- the entry of a row
+abbrev pub entry_of : Row → Entry
+entry_of row = (row.0.now, row.1)
+
+-- a keysym that an entry has is that of a row
+row-among : (rows : List Row) (name : List ℕ) (keysym : ℕ) → name_in (map entry_of rows) keysym ≡ Some name → list_any (λ row. row.1 == keysym) rows ≡ true
+row-among [] name keysym found = cc
+row-among (row ∷ rows) name keysym found = by (row-among rows name keysym) (row.1 == keysym) found
+  where
+    by : (name_in (map entry_of rows) keysym ≡ Some name → list_any (λ (r : Row). r.1 == keysym) rows ≡ true)
+        → (b : Bool) → option_map (λ (x : Entry). x.0) (cond b (Some (entry_of row)) (find (λ (x : Entry). x.1 == keysym) (map entry_of rows))) ≡ Some name
+        → (b || list_any (λ (r : Row). r.1 == keysym) rows) ≡ true
+    by rest true found = refl
+    by rest false found = rest found
+
+-- a row whose keysym is no other's is the one of its keysym
+row-right : (rows : List Row) (k : ℕ) (d : Row) → climbs 0 (map entry_of rows) ≡ true → k < length rows → name_in (map entry_of rows) (get_or rows k d).1 ≡ Some (get_or rows k d).0.now
+row-right rows k d climb within =
+    let at = get_or-map entry_of rows k d (entry_of d) within in
+    let count : length (map entry_of rows) ≡ length rows = length-map rows entry_of in
+    let first = first-at (map entry_of rows) [] 0 k (entry_of d) (get_or rows k d).1 climb (omega (arith, count, within)) (ap (λ (x : Entry). x.1) at) in
+    sym (ap (λ es. name_in es (get_or rows k d).1) (append-nil (map entry_of rows))) ∙ first ∙ ap (λ (x : Entry). Some x.0) at
+
+pub keysym_index : (rows : List Row) → rises keysym_less rows ≡ true → map entry_of rows ≡ built_in → climbs 0 built_in ≡ true → IsKeysymIndex rows
+keysym_index rows rise named climb =
     record {
       rising = sorted-rises keysym_less rows rise;
-      right = λ k d within. is_name-true _ _ (AllPass-from_list_all keysym_right rows right k d within);
+      right = λ k d within.
+          let is = row-right rows k d (ap (climbs 0) named ∙ climb) within in sym (ap (λ es. name_in es (get_or rows k d).1) named) ∙ is;
       whole = λ name keysym found.
-          let e = name_in-entry (has_keysym rows) built_in name keysym whole found in
-          let row = Any-from_list_any (λ (row : Row). row.1 == e.0.1) rows e.1 in (row.0, row.1, row.2, row.3, eqb-true row.1.1 e.0.1 row.4 ∙ e.2);
+          let row = Any-from_list_any (λ (row : Row). row.1 == keysym) rows (row-among rows name keysym (ap (λ es. name_in es keysym) named ∙ found)) in
+          (row.0, row.1, row.2, row.3, eqb-true row.1.1 keysym row.4);
     }

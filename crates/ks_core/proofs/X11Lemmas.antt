@@ -1,10 +1,11 @@
 -- What the tables of X11's names show: where a name stands in their text, and where it is found by its hash.
-use Rattle.std.proofs.Common.{◌≡◌, ℕ, ◌≤◌, ◌<◌, ◌+◌, ◌-◌, zero, suc, Bool, true, false, not, ◌&&◌, ◌||◌, ◌==◌, nat_le, List, [], ◌∷◌, ◌++◌, get_or, Option, None, Some, is_some, slice_index, take, drop, length, refl, sym, ap, ap₂, subst, ◌∙◌, cond, eqb-true, find, arith, map, zero-le}
-use Rattle.std.proofs.lemmas.Bool.{and_parts, leb-true, eqb-false}
+use Rattle.std.proofs.Common.{◌≡◌, ℕ, ◌≤◌, ◌<◌, ◌+◌, ◌-◌, zero, suc, Bool, true, false, not, ◌&&◌, ◌||◌, ◌==◌, nat_le, List, [], ◌∷◌, ◌++◌, get_or, Option, None, Some, is_some, slice_index, take, drop, length, refl, sym, ap, ap₂, subst, ◌∙◌, cond, eqb-true, find, arith, map, zero-le, nat_lt, filter}
+use Rattle.std.proofs.lemmas.Bool.{and_parts, leb-true}
 use Rattle.std.proofs.lemmas.Bool.Decides.{nat_tests}
 use Rattle.std.proofs.lemmas.Str.{IsUtf8-from_ascii}
 use Rattle.std.proofs.lemmas.Slice.Eq.{bytes_eq-Decides}
 use Rattle.std.proofs.lemmas.List.Sums.{AllPass-from_list_all}
+use Rattle.std.proofs.lemmas.Map.Entries.{lookup-filter-keys}
 use Rattle.std.proofs.lemmas.Str.Ascii.{IsAscii-from_all}
 use Rattle.std.specs.List.{list_all, list_any}
 use Rattle.std.specs.Option.{option_map}
@@ -16,7 +17,7 @@ use Rattle.kx_basics.specs.Keysyms.{is_keysym}
 use Rattle.ks_core.specs.Name.{is_word, is_word_start, is_word_byte, is_hex, is_u_form}
 use Rattle.ks_core.specs.X11.{x11_runs, x11_others, x11_firsts, x11_seconds, underscored, x11_names}
 use Rattle.ks_core.specs.X11Index.{cut, steps, IsText, place_of, all_placed}
-use Rattle.ks_core.proofs.IndexLemmas.{same_bytes}
+use Rattle.ks_core.proofs.IndexLemmas.{same_bytes, climbs, first-at}
 use Rattle.ks_core.proofs.NamedLemmas.{sound-parts}
 
 -- ---- A part of a text
@@ -171,40 +172,6 @@ module _ (shifts slots : List (List ℕ)) (es : List Entry) (placed : all_placed
 
 -- ---- The first name of a keysym
 
--- each keysym is at least the number, and more than those before it
-unfoldable pub climbs : ℕ → List Entry → Bool
-climbs low [] = true
-climbs low (e ∷ es) = nat_le low e.1 && climbs (suc e.1) es
-
-climbs-low : (es : List Entry) (low d : ℕ) (o : Entry) → climbs low es ≡ true → d < length es → low ≤ (get_or es d o).1
-unfolding climbs
-climbs-low [] low d o h within = absurd (omega (arith, within))
-climbs-low (e ∷ es) low zero o h within = leb-true low e.1 (and_parts (nat_le low e.1) (climbs (suc e.1) es) h).0
-climbs-low (e ∷ es) low (suc d) o h within =
-    let parts = and_parts (nat_le low e.1) (climbs (suc e.1) es) h in
-    let rest = climbs-low es (suc e.1) d o parts.1 (omega (arith, within)) in
-    omega (arith, rest, leb-true low e.1 parts.0)
-
--- where the keysyms climb, an entry is the first of its keysym
-first-at : (es more : List Entry) (low d : ℕ) (o : Entry) (keysym : ℕ) → climbs low es ≡ true → d < length es → (get_or es d o).1 ≡ keysym → name_in (es ++ more) keysym ≡ Some (get_or es d o).0
-unfolding climbs
-first-at [] more low d o keysym h within is = absurd (omega (arith, within))
-first-at (e ∷ es) more low zero o keysym h within is = by (e.1 == keysym) refl
-  where
-    by : (b : Bool) → (e.1 == keysym) ≡ b → name_in (e ∷ es ++ more) keysym ≡ Some e.0
-    by true same = ap (λ b. option_map (λ (x : Entry). x.0) (cond b (Some e) (find (λ (x : Entry). x.1 == keysym) (es ++ more)))) same
-    by false other = absurd (eqb-false e.1 keysym other is)
-first-at (e ∷ es) more low (suc d) o keysym h within is = by (first-at es more (suc e.1) d o keysym parts.1 (omega (arith, within)) is) (e.1 == keysym) refl
-  where
-    parts : (nat_le low e.1 ≡ true) × (climbs (suc e.1) es ≡ true)
-    parts = and_parts (nat_le low e.1) (climbs (suc e.1) es) h
-
-    by : name_in (es ++ more) keysym ≡ Some (get_or es d o).0 → (b : Bool) → (e.1 == keysym) ≡ b → name_in (e ∷ es ++ more) keysym ≡ Some (get_or es d o).0
-    by rest true same = let low = climbs-low es (suc e.1) d o parts.1 (omega (arith, within)) in absurd (omega (arith, is, low, eqb-true e.1 keysym same))
-    by rest false other =
-        ap (λ b. option_map (λ (x : Entry). x.0) (cond b (Some e) (find (λ (x : Entry). x.1 == keysym) (es ++ more)))) other
-        ∙ rest
-
 -- each of the second entries has the keysym of a first one
 unfoldable pub covered : List Entry → List Entry → Bool
 covered firsts [] = true
@@ -274,37 +241,79 @@ all_named : list_all is_named x11_names ≡ true
 unfolding x11_runs x11_others numbered entries_of_run x11_firsts x11_seconds underscored x11_names is_given_name is_word is_hex is_u_form
 all_named = refl
 
--- and not built in: in four parts, since one is more than the prover takes at once
+-- and not built in
+abbrev new_in : List Entry → Entry → Bool
+new_in fs e = not (is_some (keysym_in fs e.0))
+
 abbrev is_new : Entry → Bool
-is_new e = not (is_some (keysym_in built_in e.0))
+is_new e = new_in built_in e
 
-new_1 : list_all is_new (take 600 x11_names) ≡ true
-unfolding x11_runs x11_others numbered entries_of_run x11_firsts x11_seconds underscored x11_names built_in built_in_runs
-new_1 = refl
+-- no name of the first entries is one of the others: each test splits both, so that few are left to compare
+unfoldable apart : List (List ℕ → Bool) → List Entry → List Entry → Bool
+apart [] es fs = list_all (new_in fs) es
+apart (t ∷ ts) [] fs = true
+apart (t ∷ ts) (e ∷ es) [] = true
+apart (t ∷ ts) (e ∷ es) (f ∷ fs) =
+    apart ts (filter (λ x. t x.0) (e ∷ es)) (filter (λ x. t x.0) (f ∷ fs))
+    && apart ts (filter (λ x. not (t x.0)) (e ∷ es)) (filter (λ x. not (t x.0)) (f ∷ fs))
 
-new_2 : list_all is_new (take 600 (drop 600 x11_names)) ≡ true
-unfolding x11_runs x11_others numbered entries_of_run x11_firsts x11_seconds underscored x11_names built_in built_in_runs
-new_2 = refl
+abbrev below_at : ℕ → ℕ → List ℕ → Bool
+below_at k m name = nat_lt (get_or name k 0) m
 
-new_3 : list_all is_new (take 600 (drop 1200 x11_names)) ≡ true
-unfolding x11_runs x11_others numbered entries_of_run x11_firsts x11_seconds underscored x11_names built_in built_in_runs
-new_3 = refl
+abbrev splits : List (List ℕ → Bool)
+splits = (λ name. nat_lt (length name) 9) ∷ below_at 1 102 ∷ below_at 0 86 ∷ below_at 2 98 ∷ below_at 3 100 ∷ below_at 4 109
+    ∷ below_at 6 106 ∷ below_at 0 76 ∷ below_at 5 102 ∷ []
 
-new_4 : list_all is_new (drop 1800 x11_names) ≡ true
-unfolding x11_runs x11_others numbered entries_of_run x11_firsts x11_seconds underscored x11_names built_in built_in_runs
-new_4 = refl
+apart_here : apart splits x11_names built_in ≡ true
+unfolding x11_runs x11_others numbered entries_of_run x11_firsts x11_seconds underscored x11_names built_in built_in_runs apart
+apart_here = refl
 
-in_parts : (p : Entry → Bool) (n : ℕ) (es : List Entry) → list_all p (take n es) ≡ true → list_all p (drop n es) ≡ true → list_all p es ≡ true
-in_parts p zero es one other = other
-in_parts p (suc n) [] one other = refl
-in_parts p (suc n) (e ∷ es) one other =
-    let parts = and_parts (p e) (list_all p (take n es)) one in ap (λ b. b && list_all p es) parts.0 ∙ in_parts p n es parts.1 other
+-- in the entries that pass a test, a name that passes is found as in all
+among : (t : List ℕ → Bool) (fs es : List Entry) → list_all (new_in (filter (λ x. t x.0) fs)) (filter (λ x. t x.0) es) ≡ true → list_all (new_in fs) (filter (λ x. t x.0) es) ≡ true
+among t fs [] h = refl
+among t fs (e ∷ es) h = by (among t fs es) (t e.0) refl h
+  where
+    by : (list_all (new_in (filter (λ x. t x.0) fs)) (filter (λ x. t x.0) es) ≡ true → list_all (new_in fs) (filter (λ x. t x.0) es) ≡ true)
+        → (b : Bool) → t e.0 ≡ b
+        → list_all (new_in (filter (λ x. t x.0) fs)) (cond b (e ∷ filter (λ x. t x.0) es) (filter (λ x. t x.0) es)) ≡ true
+        → list_all (new_in fs) (cond b (e ∷ filter (λ x. t x.0) es) (filter (λ x. t x.0) es)) ≡ true
+    by rest true passes h =
+        let parts = and_parts (new_in (filter (λ x. t x.0) fs) e) (list_all (new_in (filter (λ x. t x.0) fs)) (filter (λ x. t x.0) es)) h in
+        let found = lookup-filter-keys (bytes_eq e.0) t true (λ k same. ap t (sym (same_bytes e.0 k same)) ∙ passes) fs in
+        let new : new_in fs e ≡ true = sym (ap (λ o. not (is_some o)) found) ∙ parts.0 in
+        ap (λ b. b && list_all (new_in fs) (filter (λ x. t x.0) es)) new ∙ rest parts.1
+    by rest false fails h = rest h
+
+-- each entry passes a test or its opposite
+either-all : (p t : Entry → Bool) (es : List Entry) → list_all p (filter t es) ≡ true → list_all p (filter (λ x. not (t x)) es) ≡ true → list_all p es ≡ true
+either-all p t [] h k = refl
+either-all p t (e ∷ es) h k = by (either-all p t es) (t e) h k
+  where
+    by : (list_all p (filter t es) ≡ true → list_all p (filter (λ x. not (t x)) es) ≡ true → list_all p es ≡ true)
+        → (b : Bool) → list_all p (cond b (e ∷ filter t es) (filter t es)) ≡ true
+        → list_all p (cond (not b) (e ∷ filter (λ x. not (t x)) es) (filter (λ x. not (t x)) es)) ≡ true → list_all p (e ∷ es) ≡ true
+    by rest true h k = let parts = and_parts (p e) (list_all p (filter t es)) h in ap (λ b. b && list_all p es) parts.0 ∙ rest parts.1 k
+    by rest false h k = let parts = and_parts (p e) (list_all p (filter (λ x. not (t x)) es)) k in ap (λ b. b && list_all p es) parts.0 ∙ rest h parts.1
+
+new_in-nil : (es : List Entry) → list_all (new_in []) es ≡ true
+new_in-nil [] = refl
+new_in-nil (e ∷ es) = new_in-nil es
+
+apart-new : (ts : List (List ℕ → Bool)) (es fs : List Entry) → apart ts es fs ≡ true → list_all (new_in fs) es ≡ true
+unfolding apart
+apart-new [] es fs h = h
+apart-new (t ∷ ts) [] fs h = refl
+apart-new (t ∷ ts) (e ∷ es) [] h = new_in-nil (e ∷ es)
+apart-new (t ∷ ts) (e ∷ es) (f ∷ fs) h =
+    let pass = λ (x : Entry). t x.0 in
+    let fail = λ (x : Entry). not (t x.0) in
+    let parts = and_parts (apart ts (filter pass (e ∷ es)) (filter pass (f ∷ fs))) (apart ts (filter fail (e ∷ es)) (filter fail (f ∷ fs))) h in
+    let one = among t (f ∷ fs) (e ∷ es) (apart-new ts (filter pass (e ∷ es)) (filter pass (f ∷ fs)) parts.0) in
+    let other = among (λ name. not (t name)) (f ∷ fs) (e ∷ es) (apart-new ts (filter fail (e ∷ es)) (filter fail (f ∷ fs)) parts.1) in
+    either-all (new_in (f ∷ fs)) pass (e ∷ es) one other
 
 all_new : list_all is_new x11_names ≡ true
-all_new =
-    let last = in_parts is_new 600 (drop 1200 x11_names) new_3 (ap (list_all is_new) (drop-after 600 1200 x11_names) ∙ new_4) in
-    let later = in_parts is_new 600 (drop 600 x11_names) new_2 (ap (list_all is_new) (drop-after 600 600 x11_names) ∙ last) in
-    in_parts is_new 600 x11_names new_1 later
+all_new = apart-new splits x11_names built_in apart_here
 
 both_all : (p q : Entry → Bool) (es : List Entry) → list_all p es ≡ true → list_all q es ≡ true → list_all (λ e. p e && q e) es ≡ true
 both_all p q [] h k = refl
