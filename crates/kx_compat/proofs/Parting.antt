@@ -5,8 +5,8 @@ use Rattle.std.proofs.lemmas.Bool.Decides.{nat_tests}
 use Rattle.kx_compat.specs.Choosing.{allows, chosen, condition_rank, earlier, fits, keysym_rank, least, matches, rank}
 use Rattle.kx_compat.specs.Interpretations.{Interpretation}
 use Rattle.kx_compat.specs.Indexed.{is_for_any, is_named, names_keysym, wants_any}
-use Rattle.kx_compat.specs.declared.interpretation_match.Condition.{Condition}
-use Rattle.kx_compat.specs.declared.interpretation_match.Condition.TheVariants.{Exactly}
+use Rattle.kx_mods.specs.declared.condition.Condition.{Condition}
+use Rattle.kx_mods.specs.declared.condition.Condition.TheVariants.{Exactly}
 use Rattle.kx_compat.specs.declared.interpretation_match.WantedKeysym.{WantedKeysym}
 use Rattle.kx_compat.specs.declared.interpretation_match.WantedKeysym.TheVariants.{Any, Named}
 

@@ -1,19 +1,11 @@
 -- The interpretation that is chosen for a keysym of a key (the X Keyboard Extension's compatibility map).
 use Rattle.std.specs.Prelude.{◌≡◌, ℕ, ◌<◌, ◌≤◌, ◌∷◌, ◌++◌, All, ◌+◌, ◌==◌, ◌&&◌, ◌||◌, not, nat_eq, nat_lt, Bool, true, false, List, fold, Option, None, Some, if◌then◌else◌, filter}
-use Rattle.kx_virtual_mods.specs.Sets.{meet}
+use Rattle.kx_mods.specs.Conditions.{holds}
 use Rattle.kx_compat.specs.Interpretations.{Interpretation}
-use Rattle.kx_compat.specs.declared.interpretation_match.Condition.{Condition}
-use Rattle.kx_compat.specs.declared.interpretation_match.Condition.TheVariants.{Exactly, AllOf, NoneOf, AnyOf, AnyOfOrNone}
+use Rattle.kx_mods.specs.declared.condition.Condition.{Condition}
+use Rattle.kx_mods.specs.declared.condition.Condition.TheVariants.{Exactly, AllOf, NoneOf, AnyOf, AnyOfOrNone}
 use Rattle.kx_compat.specs.declared.interpretation_match.WantedKeysym.{WantedKeysym}
 use Rattle.kx_compat.specs.declared.interpretation_match.WantedKeysym.TheVariants.{Any, Named}
-
--- whether an interpretation's modifiers, a mask, go together with those of a key, a mask
-abbrev pub holds : Condition → ℕ → ℕ → Bool
-holds Exactly wanted key = wanted == key
-holds AllOf wanted key = meet wanted key == wanted
-holds NoneOf wanted key = meet wanted key == 0
-holds AnyOf wanted key = not (meet wanted key == 0)
-holds AnyOfOrNone wanted key = key == 0 || not (meet wanted key == 0)
 
 abbrev pub fits : WantedKeysym → ℕ → Bool
 fits Any keysym = true

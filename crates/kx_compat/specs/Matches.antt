@@ -19,8 +19,8 @@ use Rattle.kx_parse.specs.declared.tree.Predicate.TheVariants as predicates
 use Rattle.kx_parse.specs.declared.tree.Symbol.{Symbol}
 use Rattle.kx_parse.specs.declared.tree.Symbol.TheVariants.{Word, Number}
 use Rattle.kx_symbols.specs.Keysyms.{is_no_symbol, symbol_keysym}
-use Rattle.kx_compat.specs.declared.interpretation_match.Condition.{Condition}
-use Rattle.kx_compat.specs.declared.interpretation_match.Condition.TheVariants.{Exactly, AllOf, NoneOf, AnyOf, AnyOfOrNone}
+use Rattle.kx_mods.specs.declared.condition.Condition.{Condition}
+use Rattle.kx_mods.specs.declared.condition.Condition.TheVariants.{Exactly, AllOf, NoneOf, AnyOf, AnyOfOrNone}
 use Rattle.kx_compat.specs.declared.interpretation_match.InterpretationMatch.{InterpretationMatch}
 use Rattle.kx_compat.specs.declared.interpretation_match.WantedKeysym.{WantedKeysym}
 use Rattle.kx_compat.specs.declared.interpretation_match.WantedKeysym.TheVariants.{Any, Named}

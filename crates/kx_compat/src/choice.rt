@@ -2,25 +2,11 @@
 ghost use Rattle.std.specs.Prelude.{◌≡◌, filter, if◌then◌else◌};
 ghost use Rattle.std.specs.Option.{option_map};
 ghost use Rattle.kx_mods.specs.Mods.{mask};
-ghost use Rattle.kx_compat.specs.Choosing.{allows, condition_rank, earlier, holds, keysym_rank, least, rank, seen_modmap};
+ghost use Rattle.kx_compat.specs.Choosing.{allows, condition_rank, earlier, keysym_rank, least, rank, seen_modmap};
 
 use crate::interpretation::Interpretation;
-use crate::interpretation_match::{Condition, WantedKeysym};
-use kx_mods::Mods;
-
-/// Whether an interpretation's modifiers go together with those of a key.
-fn holds(condition: Condition, wanted: Mods, key: Mods) -> bool
-    ensures { result ≡ holds condition (mask wanted) (mask key) }
-{
-    let common = wanted.meet(key);
-    match condition {
-        Condition::Exactly => wanted.mask() == key.mask(),
-        Condition::AllOf => common.mask() == wanted.mask(),
-        Condition::NoneOf => common.is_none(),
-        Condition::AnyOf => !common.is_none(),
-        Condition::AnyOfOrNone => key.is_none() || !common.is_none(),
-    }
-}
+use crate::interpretation_match::WantedKeysym;
+use kx_mods::{Condition, Mods};
 
 /// What an interpretation sees of a key's modifiers.
 fn seen_modmap(interpretation: &Interpretation, first_level: bool, modmap: Mods) -> Mods
@@ -38,8 +24,7 @@ fn allows(interpretation: &Interpretation, first_level: bool, modmap: Mods) -> b
     ensures { result ≡ allows first_level (mask modmap) interpretation.now }
 {
     let interpretation_match = interpretation.interpretation_match();
-    holds(
-        interpretation_match.condition,
+    interpretation_match.condition.holds(
         interpretation_match.mods(),
         seen_modmap(interpretation, first_level, modmap),
     )

@@ -80,7 +80,7 @@ impl Interpretations {
 
     /// The interpretation that is chosen for a keysym at the first level of a key, or at another, where the key is mapped
     /// to these modifiers: of those that are for it one of a named keysym, else one of any keysym, and of those the first
-    /// in the order of [`Condition`](crate::Condition), then of the keymap. None where none is for it.
+    /// in the order of [`Condition`](kx_mods::Condition), then of the keymap. None where none is for it.
     #[inline(always)]
     pub fn choose(&self, keysym: u32, first_level: bool, modmap: Mods) -> Option<&Interpretation>
         ensures value { option_map (λ i. i.now) result

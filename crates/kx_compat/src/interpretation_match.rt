@@ -3,7 +3,7 @@ ghost use Rattle.std.specs.Prelude.{None, ◌≡◌};
 ghost use Rattle.kx_mods.specs.Mods.{mask};
 ghost use Rattle.kx_ordered.specs.Numbers.{untold};
 
-use kx_mods::Mods;
+use kx_mods::{Condition, Mods};
 use kx_ordered::TableKey;
 use std::alloc::AllocError;
 
@@ -14,21 +14,6 @@ pub enum WantedKeysym {
     Any,
     /// One, by its number.
     Named(u32),
-}
-
-/// How the modifiers of an interpretation go together with those of a key's modifier map.
-#[derive(Clone, Copy, Debug, PartialEq, Eq, PartialOrd, Ord, Hash)]
-pub enum Condition {
-    /// The key has these and no others.
-    Exactly,
-    /// The key has all of these.
-    AllOf,
-    /// The key has none of these.
-    NoneOf,
-    /// The key has one of these.
-    AnyOf,
-    /// The key has one of these, or no modifiers at all.
-    AnyOfOrNone,
 }
 
 /// For which keys an interpretation is: two interpretations for the same are one.

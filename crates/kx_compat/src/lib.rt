@@ -19,7 +19,7 @@ mod values;
 pub use action::GivenAction;
 pub use index::Interpretations;
 pub use interpretation::Interpretation;
-pub use interpretation_match::{Condition, InterpretationMatch, WantedKeysym};
+pub use interpretation_match::{InterpretationMatch, WantedKeysym};
 pub use listing::interpretations;
 pub use modifier::GivenModifier;
 pub use statements::{FileContext, WrittenInterpretation, interpretation_in, read_match};

@@ -8,11 +8,11 @@ ghost use Rattle.kx_symbols.specs.KeyFaults.{symbol_faults};
 ghost use Rattle.kx_compat.specs.Matches.{call_wants, condition_faults, condition_words, is_any, is_any_word, keysym_among, mask_predicate_faults, mask_wants, only_mask, only_mask_faults, plain_mask, predicate_faults, predicate_wants, wanted_keysym};
 ghost use Rattle.kx_merge.specs.Reports.{Reports, ReportsOrRunsOut};
 
-use crate::interpretation_match::{Condition, WantedKeysym};
+use crate::interpretation_match::WantedKeysym;
 use ks_core::{NameTable, Notes};
 use kx_lex::{At, Boxed, Fault, Name, Span};
 use kx_merge::{bad_value, lone_word, unknown_field};
-use kx_mods::Mods;
+use kx_mods::{Condition, Mods};
 use kx_parse::{Argument, Call, Expression, PlacedArgument, Predicate, Symbol, Term};
 use kx_symbols::symbol_keysym;
 use kx_virtual_mods::ModNames;

@@ -16,13 +16,13 @@ ghost use Rattle.kx_merge.specs.Reports.{Reports, ReportsOrRunsOut};
 
 use crate::defaults::CompatDefaults;
 use crate::fields::read_field;
-use crate::interpretation_match::{Condition, InterpretationMatch, WantedKeysym};
+use crate::interpretation_match::{InterpretationMatch, WantedKeysym};
 use crate::predicates::{read_keysym, read_predicate};
 use crate::values::{FieldValue, FieldValues};
 use ks_core::{NameTable, Notes};
 use kx_lex::{Boxed, Fault};
 use kx_merge::{Placed, Plain, records_for, unknown_field};
-use kx_mods::Mods;
+use kx_mods::{Condition, Mods};
 use kx_parse::{Field, Predicate, Statement, Symbol};
 use kx_virtual_mods::ModNames;
 use std::alloc::Global;

@@ -12,7 +12,7 @@ use Rattle.kx_include.specs.Complete.{Includes, LeadsTo, LeavesNothingOut, Names
 use Rattle.kx_include.specs.Chosen.{found_body, in_place, text_body, unless}
 use Rattle.kx_include.specs.Expansion.{Body, Begin, End, Inc, Own, items_body, map_body, parts_body, sections_body}
 use Rattle.kx_include.specs.IncludeFaults.{Findings, all_of, at, fault_in, in_depth, in_file, in_include, in_item, in_map, in_part, in_sections, IsWhole}
-use Rattle.kx_include.specs.IncludeText.{Part, parts_of}
+use Rattle.kx_parse.specs.IncludeText.{Part, parts_of}
 use Rattle.kx_include.specs.Library.{Library, file_of, is_of, items_in, place_in, place_of, sections_in}
 use Rattle.kx_include.specs.Limits.{most_depth}
 use Rattle.kx_include.specs.Sharing.{part_body}

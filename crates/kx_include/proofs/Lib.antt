@@ -1,4 +1,3 @@
-pub mod Cutting
 pub mod TextLists
 pub mod Numbers
 pub mod Progress

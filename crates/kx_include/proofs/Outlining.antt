@@ -11,7 +11,7 @@ use Rattle.kx_parse.specs.declared.tree.Kind.{Kind}
 use Rattle.kx_parse.specs.declared.tree.Section.{Section}
 use Rattle.kx_include.specs.Held.{AreHeld, Flags, Holds, IsClosed, all, closed_item, closed_part, closed_text, flags_of, held_more, held_none, held_section, held_sections, is_wanted, some}
 use Rattle.kx_include.specs.IncludeFaults.{fault_in}
-use Rattle.kx_include.specs.IncludeText.{Part, parts_of}
+use Rattle.kx_parse.specs.IncludeText.{Part, parts_of}
 use Rattle.kx_include.specs.Library.{Library, Text, file_of, has_name, is_default_flag, is_of, items_in, map_of, place_in, place_of, sections_in, sections_of}
 use Rattle.kx_include.specs.declared.place.Place.{Place}
 use Rattle.kx_include.proofs.Reached.{Agrees, EachIncluded, EachOfText, EachPart, Reaches}

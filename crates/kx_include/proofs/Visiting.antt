@@ -15,7 +15,7 @@ use Rattle.kx_parse.specs.declared.tree.Mode.{Mode}
 use Rattle.kx_include.specs.Chosen.{found_body, in_place, unless}
 use Rattle.kx_include.specs.Expansion.{Body, Begin, Inc, items_body, map_body}
 use Rattle.kx_include.specs.IncludeFaults.{Findings, at, fault_in, in_depth, in_file, in_include, in_item, in_map, in_part, only, HasFaultFrom}
-use Rattle.kx_include.specs.IncludeText.{Part, parts_of}
+use Rattle.kx_parse.specs.IncludeText.{Part, parts_of}
 use Rattle.kx_include.specs.Library.{Library, file_of, items_in, place_in}
 use Rattle.kx_include.specs.Limits.{most_parts}
 use Rattle.kx_include.specs.Shared.{body_at, entries_body, links_body}

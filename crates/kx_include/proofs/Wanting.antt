@@ -9,7 +9,7 @@ use Rattle.kx_parse.specs.declared.tree.Item.TheVariants.{Include, Statement}
 use Rattle.kx_parse.specs.declared.tree.Kind.{Kind}
 use Rattle.kx_parse.specs.declared.tree.Section.{Section}
 use Rattle.kx_include.specs.Held.{Flags, IsAll, IsClosed, IsClosedAt, IsClosedIn, closed_item, closed_part, flags_of, is_wanted}
-use Rattle.kx_include.specs.IncludeText.{Part, parts_of}
+use Rattle.kx_parse.specs.IncludeText.{Part, parts_of}
 use Rattle.kx_include.specs.Library.{Library, Text, file_of, map_of, place_in, sections_in, sections_of}
 use Rattle.kx_include.specs.declared.place.Place.{Place}
 use Rattle.kx_include.proofs.Outlining.{found-map_of}

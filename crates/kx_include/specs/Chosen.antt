@@ -6,7 +6,7 @@ use Rattle.kx_lex.specs.declared.fault.Fault.{Fault}
 use Rattle.kx_lex.specs.declared.fault.Fault.TheVariants as fault
 use Rattle.kx_include.specs.Expansion.{Body, End, parts_body}
 use Rattle.kx_include.specs.IncludeFaults.{Findings, only}
-use Rattle.kx_include.specs.IncludeText.{Part}
+use Rattle.kx_parse.specs.IncludeText.{Part}
 use Rattle.kx_include.specs.declared.place.Place.{Place}
 
 abbrev pub text_body : (Part → Body) → Option (List Part) → Body

@@ -7,7 +7,7 @@ use Rattle.kx_parse.specs.declared.tree.Kind.{Kind}
 use Rattle.kx_parse.specs.declared.tree.Mode.{Mode}
 use Rattle.kx_parse.specs.declared.tree.Section.{Section}
 use Rattle.kx_include.specs.Expansion.{map_body, sections_body, body_of}
-use Rattle.kx_include.specs.IncludeText.{Part, parts_of}
+use Rattle.kx_parse.specs.IncludeText.{Part, parts_of}
 use Rattle.kx_include.specs.Library.{Library, items_in, place_of, sections_in}
 use Rattle.kx_include.specs.Limits.{most_depth}
 use Rattle.kx_include.specs.declared.place.Place.{Place}

@@ -7,7 +7,7 @@ use Rattle.kx_parse.specs.declared.tree.Kind.{Kind}
 use Rattle.kx_parse.specs.declared.tree.Mode.{Mode}
 use Rattle.kx_parse.specs.declared.tree.Section.{Section}
 use Rattle.kx_parse.specs.declared.tree.Stated.{Stated}
-use Rattle.kx_include.specs.IncludeText.{Part, parts_of}
+use Rattle.kx_parse.specs.IncludeText.{Part, parts_of}
 use Rattle.kx_include.specs.Library.{Library, items_in, sections_in, place_of, is_of}
 use Rattle.kx_include.specs.declared.expanding.TheConstants.{MOST_DEPTH}
 use Rattle.kx_include.specs.declared.place.Place.{Place}

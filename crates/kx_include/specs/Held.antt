@@ -12,7 +12,7 @@ use Rattle.kx_parse.specs.declared.tree.Tree.{Tree}
 use Rattle.kx_include.specs.Expansion.{body_of}
 use Rattle.kx_include.specs.FileText.{FileText}
 use Rattle.kx_include.specs.IncludeFaults.{findings}
-use Rattle.kx_include.specs.IncludeText.{Part, parts_of}
+use Rattle.kx_parse.specs.IncludeText.{Part, parts_of}
 use Rattle.kx_include.specs.Library.{Library, Text, place_of, sections_in}
 use Rattle.kx_include.specs.Source.{Handed, IsRead}
 use Rattle.kx_include.specs.Texts.{AreTexts, IsLibrary}

@@ -9,7 +9,7 @@ use Rattle.kx_parse.specs.declared.tree.Item.{Item}
 use Rattle.kx_parse.specs.declared.tree.Item.TheVariants.{Include, Statement}
 use Rattle.kx_parse.specs.declared.tree.Kind.{Kind}
 use Rattle.kx_parse.specs.declared.tree.Section.{Section}
-use Rattle.kx_include.specs.IncludeText.{Part, parts_of}
+use Rattle.kx_parse.specs.IncludeText.{Part, parts_of}
 use Rattle.kx_include.specs.Library.{Library, Text, items_in, sections_in, file_of, place_in}
 use Rattle.kx_include.specs.declared.expanding.TheConstants.{MOST_DEPTH, MOST_PARTS}
 use Rattle.kx_include.specs.declared.place.Place.{Place}

@@ -1,5 +1,4 @@
 pub mod Limits
-pub mod IncludeText
 pub mod Library
 pub mod MapIndex
 pub mod Expansion
@@ -9,7 +8,6 @@ pub mod Chosen
 pub mod Complete
 pub mod Bodies
 pub mod Sharing
-pub mod Splits
 pub mod Texts
 pub mod Source
 pub mod Held

@@ -12,7 +12,7 @@ use Rattle.kx_parse.specs.Sections.{kind_word}
 use Rattle.kx_lex.specs.declared.name.Name.{Name}
 use Rattle.kx_parse.specs.declared.tree.Section.{Section}
 use Rattle.kx_parse.specs.declared.tree.Tree.{Tree}
-use Rattle.kx_include.specs.IncludeText.{Part}
+use Rattle.kx_parse.specs.IncludeText.{Part}
 use Rattle.kx_include.specs.declared.place.Place.{Place}
 use Rattle.kx_parse.specs.contracts.tree.KindPartialEq.TheImpl.{ghosts}
 

@@ -7,7 +7,7 @@ use Rattle.kx_parse.specs.declared.tree.Kind.{Kind}
 use Rattle.kx_include.specs.Chosen.{found_body, text_body}
 use Rattle.kx_include.specs.Expansion.{Body, End, Inc, items_body, map_body, parts_body}
 use Rattle.kx_include.specs.IncludeFaults.{Findings, HasFaultFrom, in_map}
-use Rattle.kx_include.specs.IncludeText.{Part}
+use Rattle.kx_parse.specs.IncludeText.{Part}
 use Rattle.kx_include.specs.Library.{Library, place_of}
 use Rattle.kx_include.specs.Limits.{most_depth, most_parts}
 use Rattle.kx_include.specs.Shared.{bodies_behind, body_at, entries_body, links_body, shared_body}

@@ -5,7 +5,7 @@ ghost use Rattle.kx_include.specs.Bodies.{AreBodies, expansion_of};
 ghost use Rattle.kx_include.specs.Complete.{LeavesNothingOut};
 ghost use Rattle.kx_include.specs.Held.{StandsFor};
 ghost use Rattle.kx_include.specs.IncludeFaults.{all_of, in_depth, in_file, in_include, in_item, in_map, in_part, HasIncludeFault, IsWhole};
-ghost use Rattle.kx_include.specs.IncludeText.{parts_of};
+ghost use Rattle.kx_parse.specs.IncludeText.{parts_of};
 ghost use Rattle.kx_include.specs.Library.{Library as LibraryValue, items_in, place_in};
 ghost use Rattle.kx_include.specs.Limits.{most_depth, most_parts};
 ghost use Rattle.kx_include.specs.Sharing.{AddsSection, AreEntriesOf, AreKnown, AreLinksOf, Blames, Expands, IsFound, IsKnownMap, IsLinkOf, IsMapOf, IsNumberOf, IsTextOf};
@@ -13,11 +13,10 @@ ghost use Rattle.kx_lex.specs.declared.fault.Fault.TheVariants.{Memory};
 ghost use Rattle.kx_parse.specs.declared.tree.Kind.{Kind};
 
 use crate::expansion::{Bodies, Entry, Expansion, Link, Map};
-use crate::part::{Part, include_parts};
 use crate::place::Place;
 use crate::sources::Library;
 use kx_lex::{At, Fault};
-use kx_parse::{Item, Kind};
+use kx_parse::{Item, Kind, Part, include_parts};
 use std::alloc::Global;
 
 /// At most this many parts of includes are expanded.

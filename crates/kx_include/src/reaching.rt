@@ -3,10 +3,9 @@ ghost use Rattle.std.specs.Prelude.{◌≡◌, true, IfOk};
 ghost use Rattle.std.specs.List.{list_all};
 ghost use Rattle.kx_include.specs.Held.{Flags, IsAll, IsClosed, IsClosedAt, IsClosedIn, closed_item, closed_text, flags_of, is_wanted};
 
-use crate::part::include_parts;
 use crate::place::Place;
 use crate::sources::Library;
-use kx_parse::{Item, Kind};
+use kx_parse::{Item, Kind, include_parts};
 use std::alloc::{AllocError, Global};
 use std::marker::Model;
 

@@ -11,12 +11,11 @@ ghost use Rattle.kx_parse.specs.declared.tree.Tree.{Tree as TreeValue};
 use crate::file_text::FileText;
 use crate::files::Files;
 use crate::indexed::IndexedText;
-use crate::part::Part;
 use crate::place::Place;
 use crate::reaching::Wanted;
 use crate::text::outline_text;
 use kx_lex::{At, Fault, Span};
-use kx_parse::{Item, Kind, Section, Tree};
+use kx_parse::{Item, Kind, Part, Section, Tree};
 use std::alloc::{AllocError, Global};
 use std::marker::Model;
 

@@ -5,7 +5,7 @@ use Rattle.std.specs.Str.Parse.{digits_value}
 use Rattle.std.specs.Option.{option_and_then, option_map_or}
 use Rattle.kx_basics.specs.declared.limits.TheConstants.{MOST_GROUPS, MOST_LEVELS}
 use Rattle.kx_include.specs.IncludeFaults.{at}
-use Rattle.kx_include.specs.IncludeText.{is_number}
+use Rattle.kx_parse.specs.IncludeText.{is_number}
 use Rattle.kx_lex.specs.declared.fault.At.{At}
 use Rattle.kx_lex.specs.declared.fault.Fault.{Fault}
 use Rattle.kx_lex.specs.declared.fault.Fault.TheVariants.{BadValue, GroupRange, LevelRange}

@@ -2,7 +2,7 @@
 ghost use Rattle.std.specs.Prelude.{◌≡◌};
 ghost use Rattle.std.specs.Char.{is_ascii_digit};
 ghost use Rattle.std.specs.List.{list_all};
-ghost use Rattle.kx_include.specs.IncludeText.{is_number};
+ghost use Rattle.kx_parse.specs.IncludeText.{is_number};
 ghost use Rattle.kx_merge.specs.Reports.{Reports};
 
 use kx_basics::{MOST_GROUPS, MOST_LEVELS, decimal_value};

@@ -12,3 +12,4 @@ mod PassedSections
 pub mod PlacedSections
 pub mod BuiltSections
 pub mod OutlinedTexts
+pub mod Cutting

@@ -1,8 +1,9 @@
-//! Tokens as trees: the grammar of keymap text.
+//! Tokens as trees: the grammar of keymap text, and of the texts of its includes.
 #![tactic(auto)]
 
 mod fields;
 mod outline;
+mod part;
 mod passing;
 mod passing_statements;
 mod sections;
@@ -12,6 +13,7 @@ mod values;
 
 pub use kx_lex::{Boxed, Bytes, KeyName, Name, Number, Row, SmallRow};
 pub use outline::{Outline, built_sections, outline_file, outline_source};
+pub use part::{Part, include_parts};
 pub use sections::{one_stop, one_tree, parse, parse_file, stops};
 pub use tree::{
     Argument, BracePart, Braces, Call, Declaration, Element, Entry, Expression, Field, FieldPlace,

@@ -4,7 +4,6 @@
 mod board;
 mod canvas;
 mod drawing;
-mod finding;
 mod headers;
 mod holding;
 mod labels;
@@ -16,7 +15,6 @@ mod terminal;
 mod words;
 
 pub use drawing::draw;
-pub use finding::{Spot, spots};
 pub use headers::write_names;
 pub use kx_text::{character_of, keysyms_of};
 pub use listing::group_count;

@@ -1,11 +1,11 @@
 //! Lines on the keys that give keysyms, and on what is held for them.
-use crate::finding::{Spot, spots};
 use crate::holding::Holders;
 use crate::levels::{entry_at, group_at};
 use crate::listing::as_text;
 use ks_core::NameTable;
 use kx_mods::Mods;
 use kx_tables::{Rows, Tables, TypeRow};
+use kx_text::{Spot, spots};
 use std::alloc::{AllocError, Global};
 
 /// The level that each set of modifiers chooses, by its mask, counted from 0.

@@ -56,6 +56,3 @@ levels_of names list = map (element_level names) list.elements
 
 abbrev pub keysym_of_text : KeysymTable → List ℕ → Option ℕ
 keysym_of_text names word = if is_utf8 word then keysym_named names word else None
-
-abbrev pub number_keysym : ℕ → ℕ
-number_keysym n = if nat_lt n 10 then 48 + n else n

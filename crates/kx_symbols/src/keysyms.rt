@@ -4,12 +4,12 @@ ghost use Rattle.std.specs.List.{flat_map};
 ghost use Rattle.ks_core.specs.Names.{is_written_back};
 ghost use Rattle.kx_symbols.specs.KeyFaults.{count_faults, element_faults, elements_faults, part_faults, symbol_faults};
 ghost use Rattle.kx_basics.specs.Keysyms.{IsKeysym};
-ghost use Rattle.kx_symbols.specs.Keysyms.{element_level, given, keysym_of_text, levels_of, number_keysym, part_keysyms, symbol_keysym, word_keysym};
+ghost use Rattle.kx_symbols.specs.Keysyms.{element_level, given, keysym_of_text, levels_of, part_keysyms, symbol_keysym, word_keysym};
 ghost use Rattle.kx_merge.specs.Reports.{ReportsOrRunsOut};
 
 use arrayvec::ArrayVec;
 use ks_core::{NameTable, Note, Notes};
-use kx_basics::{GREATEST_KEYSYM, MOST_KEYSYMS};
+use kx_basics::{GREATEST_KEYSYM, MOST_KEYSYMS, number_keysym};
 use kx_key_fields::{LevelValue, Levels};
 use kx_lex::{At, Fault};
 use kx_parse::{BracePart, Element, List as Listed, Symbol};
@@ -173,15 +173,6 @@ fn keysym_of_text(names: &NameTable, word: &[u8]) -> Option<u32>
         Some(keysym) => Some(keysym.0),
         None => None,
     }
-}
-
-/// The keysym of a number: that of the digit where it has one digit.
-fn number_keysym(number: u32) -> u32
-    requires { number ≤ 536870911 }
-    ensures value { result ≡ number_keysym number }
-    ensures within { IsKeysym result }
-{
-    if number < 10 { 0x30 + number } else { number }
 }
 
 /// The keysym that a symbol of a file stands for, as lists of keysyms have it: none where it says so, or where no keysym

@@ -2,7 +2,7 @@
 use Rattle.std.proofs.Common.{◌≡◌, ℕ, List, [], ◌∷◌, length, map, refl, ap, ap₂, subst, arith}
 use Rattle.kx_include.specs.Expansion.{Begin, Body, End, Own, body_of, items_body}
 use Rattle.kx_include.specs.IncludeFaults.{Findings, IsWhole, all_of, both, findings, in_depth, in_item, nothing}
-use Rattle.kx_include.specs.IncludeText.{Part}
+use Rattle.kx_parse.specs.IncludeText.{Part}
 use Rattle.kx_include.specs.Library.{Library}
 use Rattle.kx_include.specs.Texts.{IsLibrary}
 use Rattle.kx_include.specs.declared.expanding.TheConstants.{MOST_DEPTH}

@@ -1,8 +1,8 @@
 -- Where a keymap gives a keysym, as C reads it.
 use Rattle.std.specs.Prelude.{ℕ, ◌≡◌, ◌<◌, ◌≤◌, ◌++◌, [], ◌∷◌, List, drop, length, map}
 use Rattle.std.specs.List.{Contains}
-use Rattle.kx_show.specs.Finding.{Gives}
-use Rattle.kx_show.specs.declared.finding.Spot.{Spot}
+use Rattle.kx_text.specs.Finding.{Gives}
+use Rattle.kx_text.specs.declared.finding.Spot.{Spot}
 use Rattle.kx_tables.specs.Content.{Content}
 use Rattle.xkc_c.specs.declared.spots.XkcSpot.{XkcSpot}
 use Rattle.xkc_c.specs.declared.status.TheConstants.{OK, ROOM}

@@ -1,13 +1,13 @@
 //! Where a keymap gives a keysym.
 ghost use Rattle.std.specs.Prelude.{◌≡◌, ◌⊎◌, ◌≤◌, ◌++◌, List, None, Some, drop, length, map};
-ghost use Rattle.kx_show.specs.declared.finding.Spot.{Spot as SpotValue};
+ghost use Rattle.kx_text.specs.declared.finding.Spot.{Spot as SpotValue};
 ghost use Rattle.kx_tables.specs.Content.{Content};
 ghost use Rattle.xkc_c.specs.SpotsInC.{AreSpots, TellsSpots, spot_in_c};
 ghost use Rattle.xkc_c.specs.declared.status.TheConstants.{EMPTY, MEMORY};
 
 use crate::status::{EMPTY, MEMORY, OK, ROOM};
 use kx_handles::{KeymapHandle, SharedTables};
-use kx_show::{Spot, spots};
+use kx_text::{Spot, spots};
 use std::alloc::Global;
 
 /// Where a keysym is given: the index of a key, and a group and a level.

@@ -1,5 +1,5 @@
 use Rattle.std.proofs.Common.{List, inr, subst}
-use Rattle.kx_show.specs.declared.finding.Spot.{Spot}
+use Rattle.kx_text.specs.declared.finding.Spot.{Spot}
 use Rattle.xkc_c.specs.SpotsInC.{TellsSpots}
 use Rattle.xkc_c.proofs.spots.spots_in.Goals as goal
 

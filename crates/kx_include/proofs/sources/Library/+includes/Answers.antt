@@ -4,7 +4,7 @@ use Rattle.kx_include.proofs.Knowing.{number_known, number_pushed}
 use Rattle.kx_include.proofs.Walking.{gone_all, gone_fault, gone_step}
 use Rattle.kx_include.proofs.Visiting.{AreEntries, AreLinks, IsEntry, IsLink, no_entries, no_links, one_entry, one_link, drop_next, below, blamed_only, err_passed, file_made, include_made, map_made, ok_as, part_blamed, part_made, positive}
 use Rattle.kx_include.specs.IncludeFaults.{at, in_depth, in_file, in_include, in_item, in_map, in_part}
-use Rattle.kx_include.specs.IncludeText.{parts_of}
+use Rattle.kx_parse.specs.IncludeText.{parts_of}
 use Rattle.kx_include.specs.Library.{file_of, items_in, place_in}
 use Rattle.kx_include.specs.Limits.{most_parts}
 use Rattle.kx_include.specs.Sharing.{Blames, Expands, IsFound, IsKnownMap, IsTextOf}

@@ -2,7 +2,7 @@
 use Rattle.std.specs.Prelude.{ℕ, Bool, not, List, [], Option, None, Some, is_some}
 use Rattle.std.specs.Borrow.{Bor}
 use Rattle.kx_parse.specs.declared.tree.Mode.{Mode}
-use Rattle.kx_include.specs.IncludeText.{join_of, joined, split}
+use Rattle.kx_parse.specs.IncludeText.{join_of, joined, split}
 
 -- no join
 abbrev pub is_inner : ℕ → Bool

@@ -1,7 +1,7 @@
 //! The keys that give keysyms.
 ghost use Rattle.std.specs.Prelude.{◌≡◌, ◌+◌, ◌^◌, ◌<◌, ◌≤◌, ◌⊎◌, Contains, IfOk, OnOk, length, true, false};
 ghost use Rattle.kx_tables.specs.Sound.{Sound};
-ghost use Rattle.kx_show.specs.Finding.{CellGives, Gives, IsLevelOf, LevelGives};
+ghost use Rattle.kx_text.specs.Finding.{CellGives, Gives, IsLevelOf, LevelGives};
 
 use kx_tables::{CellRow, GroupRow, Tables};
 use std::alloc::{AllocError, Global};

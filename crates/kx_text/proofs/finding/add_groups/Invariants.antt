@@ -1,8 +1,8 @@
 use Rattle.std.proofs.Common.{◌≡◌, ◌<◌, ◌⊎◌}
 use Rattle.std.specs.List.{Contains}
-use Rattle.kx_show.specs.Finding.{Gives}
-use Rattle.kx_show.specs.declared.finding.Spot.{Spot}
-use Rattle.kx_show.proofs.finding.add_groups.Given as goal
+use Rattle.kx_text.specs.Finding.{Gives}
+use Rattle.kx_text.specs.declared.finding.Spot.{Spot}
+use Rattle.kx_text.proofs.finding.add_groups.Given as goal
 
 abbrev pub invariant-loop-group : goal.invariant-loop-group
 invariant-loop-group g l = record {

@@ -1,13 +1,13 @@
 //! The text of an include as parts.
 ghost use Rattle.std.specs.Prelude.{◌≡◌, ◌<◌, ◌≤◌, length, IfOk, IfSome};
 ghost use Rattle.std.specs.Option.{option_map};
-ghost use Rattle.kx_include.specs.IncludeText.{is_name_byte, is_number, name_len, group_number, ending, closing, behind_file, part_of, join_of, split, parts_of};
-ghost use Rattle.kx_include.specs.Splits.{is_inner, cut_at};
+ghost use Rattle.kx_parse.specs.IncludeText.{is_name_byte, is_number, name_len, group_number, ending, closing, behind_file, part_of, join_of, split, parts_of};
+ghost use Rattle.kx_parse.specs.Splits.{is_inner, cut_at};
 ghost use Rattle.std.specs.Char.{is_ascii_digit};
 ghost use Rattle.std.specs.List.{list_all, prefix_len};
 
+use crate::tree::Mode;
 use kx_basics::{MOST_GROUPS, decimal_value};
-use kx_parse::Mode;
 use std::alloc::{AllocError, Global};
 use std::marker::Model;
 
@@ -22,7 +22,7 @@ pub struct Part<'a> {
 
 impl<'a> Model for Part<'a> {
     ghost use Rattle.std.specs.Option.{option_map};
-    ghost use Rattle.kx_include.specs.IncludeText.{Part};
+    ghost use Rattle.kx_parse.specs.IncludeText.{Part};
 
     ghost Value = { Part };
 

@@ -1,8 +1,8 @@
 use Rattle.std.proofs.Common.{◌≡◌, ◌<◌, ◌++◌, ◌∷◌, [], rules}
-use Rattle.kx_show.specs.Finding.{IsLevelOf}
-use Rattle.kx_show.proofs.FoundSpots.{level_spot, all_push, all_same, kept_push, each_push}
-use Rattle.kx_show.proofs.finding.add_levels.Goals as goal
-use Rattle.kx_show.proofs.finding.add_levels.Goals.{then-level_gives+in_ok-push, else-level_gives}
+use Rattle.kx_text.specs.Finding.{IsLevelOf}
+use Rattle.kx_text.proofs.FoundSpots.{level_spot, all_push, all_same, kept_push, each_push}
+use Rattle.kx_text.proofs.finding.add_levels.Goals as goal
+use Rattle.kx_text.proofs.finding.add_levels.Goals.{then-level_gives+in_ok-push, else-level_gives}
 
 pub loop-level-preserved : goal.loop-level-preserved
 loop-level-preserved g c =

@@ -1,8 +1,8 @@
 use Rattle.std.proofs.Common.{◌≡◌, ◌+◌, ◌<◌, inl, inr, Some, slice_get, arith, rules}
 use Rattle.std.proofs.lemmas.Bool.{cases_lt}
 use Rattle.kx_tables.proofs.Bounds.{cells_within, groups_within, few_groups}
-use Rattle.kx_show.proofs.FoundSpots.{gives_level, level_gives}
-use Rattle.kx_show.proofs.finding.add_groups.Goals as goal
+use Rattle.kx_text.proofs.FoundSpots.{gives_level, level_gives}
+use Rattle.kx_text.proofs.finding.add_groups.Goals as goal
 
 pub group_row-at-requires : goal.group_row-at-requires
 group_row-at-requires g c =

@@ -6,7 +6,7 @@ use Rattle.kx_tables.specs.declared.rows.CellRow.{CellRow}
 use Rattle.kx_tables.specs.declared.rows.GroupRow.{GroupRow}
 use Rattle.kx_tables.specs.declared.rows.KeyRow.{KeyRow}
 use Rattle.kx_tables.specs.declared.rows.TypeRow.{TypeRow}
-use Rattle.kx_show.specs.declared.finding.Spot.{Spot}
+use Rattle.kx_text.specs.declared.finding.Spot.{Spot}
 
 -- a cell gives a keysym that is wanted, alone or with others
 pub record CellGives (c : Content) (wanted : List ℕ) (cell : CellRow) : Type 0 where

@@ -1,8 +1,8 @@
 use Rattle.std.proofs.Common.{◌<◌}
 use Rattle.std.specs.List.{Contains}
-use Rattle.kx_show.specs.Finding.{Gives}
-use Rattle.kx_show.specs.declared.finding.Spot.{Spot}
-use Rattle.kx_show.proofs.finding.spots.Given as goal
+use Rattle.kx_text.specs.Finding.{Gives}
+use Rattle.kx_text.specs.declared.finding.Spot.{Spot}
+use Rattle.kx_text.proofs.finding.spots.Given as goal
 
 abbrev pub invariant-loop-key : goal.invariant-loop-key
 invariant-loop-key g l = record {

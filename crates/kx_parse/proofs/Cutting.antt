@@ -2,8 +2,8 @@
 use Rattle.std.proofs.Common.{◌≡◌, ℕ, ◌+◌, suc, Bool, true, false, not, cond, List, [], ◌∷◌, Option, None, Some, is_some, refl, sym, ap, ◌∙◌, take, drop, length, arith}
 use Rattle.std.specs.List.{prefix_len}
 use Rattle.kx_parse.specs.declared.tree.Mode.{Mode}
-use Rattle.kx_include.specs.IncludeText.{join_of, joined, split, split_by}
-use Rattle.kx_include.specs.Splits.{is_inner}
+use Rattle.kx_parse.specs.IncludeText.{join_of, joined, split, split_by}
+use Rattle.kx_parse.specs.Splits.{is_inner}
 
 inner-none : (o : Option Mode) → not (is_some o) ≡ true → o ≡ None
 inner-none None h = refl

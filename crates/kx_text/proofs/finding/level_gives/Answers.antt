@@ -1,5 +1,5 @@
 use Rattle.kx_tables.proofs.Bounds.{keysyms_within}
-use Rattle.kx_show.proofs.finding.level_gives.Goals as goal
+use Rattle.kx_text.proofs.finding.level_gives.Goals as goal
 
 pub cell_gives-requires-clause-within : goal.cell_gives-requires-clause-within
 cell_gives-requires-clause-within g c =

@@ -1,6 +1,6 @@
 use Rattle.std.proofs.Common.{◌≡◌, ℕ, ◌+◌, ◌<◌, Some, slice_get}
 use Rattle.std.specs.List.{Contains}
-use Rattle.kx_show.proofs.finding.cell_gives.Given as goal
+use Rattle.kx_text.proofs.finding.cell_gives.Given as goal
 
 abbrev pub invariant-loop-index : goal.invariant-loop-index
 invariant-loop-index g l =

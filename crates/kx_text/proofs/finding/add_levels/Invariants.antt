@@ -1,8 +1,8 @@
 use Rattle.std.proofs.Common.{◌⊎◌}
 use Rattle.std.specs.List.{Contains}
-use Rattle.kx_show.specs.Finding.{IsLevelOf}
-use Rattle.kx_show.specs.declared.finding.Spot.{Spot}
-use Rattle.kx_show.proofs.finding.add_levels.Given as goal
+use Rattle.kx_text.specs.Finding.{IsLevelOf}
+use Rattle.kx_text.specs.declared.finding.Spot.{Spot}
+use Rattle.kx_text.proofs.finding.add_levels.Given as goal
 
 abbrev pub invariant-loop-level : goal.invariant-loop-level
 invariant-loop-level g l = record {

@@ -7,8 +7,8 @@ use Rattle.kx_tables.specs.Content.{Content}
 use Rattle.kx_tables.specs.declared.rows.GroupRow.{GroupRow}
 use Rattle.kx_tables.specs.declared.rows.KeyRow.{KeyRow}
 use Rattle.kx_tables.specs.declared.rows.TypeRow.{TypeRow}
-use Rattle.kx_show.specs.Finding.{Gives, IsLevelOf, LevelGives}
-use Rattle.kx_show.specs.declared.finding.Spot.{Spot}
+use Rattle.kx_text.specs.Finding.{Gives, IsLevelOf, LevelGives}
+use Rattle.kx_text.specs.declared.finding.Spot.{Spot}
 
 spot_is : (s : Spot) (key group level : ℕ) → s.key ≡ key → s.group ≡ group → s.level ≡ level → record { key = key; group = group; level = level } ≡ s
 spot_is s key group level a b d = rw (← a, ← b, ← d) refl
