@@ -1,7 +1,7 @@
 -- Where keys stand that are told by numbers.
 use Rattle.std.proofs.Common.{arith, take, ◌≡◌, ℕ, ◌<◌, Bool, true, false, cond, List, [], ◌∷◌, ◌++◌, length, set, Option, None, Some, is_some, refl, sym, ap, ◌∙◌, true≢false}
 use Rattle.std.proofs.Math.Seq.{take-append_seam}
-use Rattle.std.proofs.lemmas.List.{length-append, get_or-set_other, get_or-set_same}
+use Rattle.std.proofs.lemmas.List.{append_cancel_left, length-append, get_or-set_other, get_or-set_same}
 use Rattle.std.specs.BTreeMap as tree
 use Rattle.std.specs.BTreeMap.{BTreeMap, is_at}
 use Rattle.std.specs.Cmp.{IsTotalOrder}
@@ -19,6 +19,11 @@ popped es left e (Some x) h some = sym (take-append_seam es (e ∷ [])) ∙ (λ 
   where
     long : length es ≡ length left
     long = omega (arith, ap length h, length-append es (e ∷ []), length-append left (x ∷ []))
+
+pub popped_last : {X : Type 0} (es left : List X) (e x : X) → es ++ e ∷ [] ≡ left ++ x ∷ [] → x ≡ e
+popped_last es left e x h =
+    let ends : e ∷ [] ≡ x ∷ [] = append_cancel_left es (e ∷ []) (x ∷ []) (h ∙ ap (λ es. es ++ x ∷ []) (sym (popped es left e (Some x) h refl))) in
+    cc
 
 -- a table without numbers
 pub nothing : (m : Option ℕ) → numbered [] m ≡ None

@@ -1,7 +1,9 @@
-use Rattle.std.proofs.Common.{◌≡◌, ◌<◌, Some, None, length, sym, ap, subst, ◌∙◌}
+use Rattle.std.proofs.Common.{◌≡◌, ◌<◌, Some, None, [], ◌∷◌, ◌++◌, OnOk, length, sym, ap, subst, ◌∙◌}
 use Rattle.std.specs.Prelude.{IfSome}
 use Rattle.std.specs.List.{IsDistinct}
 use Rattle.std.specs.Map.{keys_of}
+use Rattle.std.specs.BTreeMap as tree
+use Rattle.std.specs.Option.{option_or}
 use Rattle.indexmap.specs.IndexMap.{get}
 use Rattle.kx_ordered.specs.KeyPlaces.{ArePlaced, IsEachPlaced}
 use Rattle.kx_ordered.proofs.KeyPlaces.{by_order, distinct_more, unplaced}
@@ -41,3 +43,40 @@ returns-in_ok-push-in-Some-clause-unique g c =
     let entry : g.row.K.Denot × g.row.V.Denot = (key, c.args.value) in
     let none = unplaced (eq key) es (subst (λ m. get eq m key ≡ None) (sym c.self.view_is) c.requires) in
     subst (λ es. IsDistinct eq (keys_of es)) (sym c.in_ok-push-in-Some.ensures.items) (distinct_more eq g.met.K.Eq.laws es entry none c.self.invariant.2)
+
+pub invariant_of-self : goal.invariant_of-self
+invariant_of-self g c =
+    let there = c.self.invariant in
+    (λ k. ap (λ n. option_or n (tree.get_by (g.K.Ord.cmp k) c.self.inside.places)) (c.in_err-room_for.ensures.same (g.K.TableKey.number k)) ∙ there.0 k, there.1, there.2)
+
+pub invariant_of-self-in-None : goal.invariant_of-self-in-None
+invariant_of-self-in-None g c =
+    let there = c.self.invariant in
+    (λ k. ap (λ n. option_or n (tree.get_by (g.K.Ord.cmp k) c.self.inside.places)) (c.in_ok-room_for.ensures.same (g.K.TableKey.number k)) ∙ there.0 k, there.1, there.2)
+
+pub invariant_of-self-in_default : goal.invariant_of-self-in_default
+invariant_of-self-in_default g c =
+    let there = c.self.invariant in
+    (λ k. ap (λ n. option_or n (tree.get_by (g.K.Ord.cmp k) c.self.inside.places)) (c.in_ok-room_for.ensures.same (g.K.TableKey.number k)) ∙ there.0 k, there.1, there.2)
+
+pub invariant_of-self-in_err-push-in-Some : goal.invariant_of-self-in_err-push-in-Some
+invariant_of-self-in_err-push-in-Some g c =
+    let cmp = g.K.Ord.cmp in
+    let number = g.K.TableKey.number in
+    let places = c.self.inside.places in
+    let there = c.self.invariant in
+    subst (λ es. IsEachPlaced cmp number c.room_for.new.numbers.items places es × ArePlaced cmp number places es × IsDistinct g.K.PartialEq.eq (keys_of es)) (sym c.in_err-push-in-Some.ensures.items)
+        (λ k. ap (λ n. option_or n (tree.get_by (cmp k) places)) (c.in_ok-room_for.ensures.same (number k)) ∙ there.0 k, there.1, there.2)
+
+pub returns-in_default-clause-entries : goal.returns-in_default-clause-entries
+returns-in_default-clause-entries g c =
+    let call = c.put_by_order-in_default in
+    subst (λ m. OnOk call.result (call.new.self.entries ≡ m.entries ++ (c.args.key, c.args.value) ∷ [])) c.self.view_is call.ensures.entries
+
+pub returns-in-None-clause-entries : goal.returns-in-None-clause-entries
+returns-in-None-clause-entries g c =
+    let call = c.put_by_order in
+    subst (λ m. OnOk call.result (call.new.self.entries ≡ m.entries ++ (c.args.key, c.args.value) ∷ [])) c.self.view_is call.ensures.entries
+
+pub returns-in_ok-push-in-Some-clause-entries : goal.returns-in_ok-push-in-Some-clause-entries
+returns-in_ok-push-in-Some-clause-entries g c = c.in_ok-push-in-Some.ensures.items ∙ ap (λ m. m.entries ++ (c.args.key, c.args.value) ∷ []) c.self.view_is

@@ -1,14 +1,15 @@
-use Rattle.std.proofs.Common.{arith, ◌<◌, vec_len, Some, None, ◌≡◌, cond, length, sym, ap, subst, ◌∙◌}
+use Rattle.std.proofs.Common.{arith, ◌<◌, vec_len, Some, None, ◌≡◌, ◌∷◌, [], ◌++◌, cond, length, sym, ap, subst, ◌∙◌}
 use Rattle.std.specs.BTreeMap as tree
 use Rattle.std.specs.BTreeMap.{is_at}
 use Rattle.std.specs.declared.cmp.Ordering.{Ordering}
 use Rattle.std.specs.List.{IsDistinct, position}
 use Rattle.std.specs.Map.{keys_of, lookup}
 use Rattle.std.specs.Option.{option_or}
+use Rattle.indexmap.specs.Layout.{hash_map}
 use Rattle.kx_ordered.specs.Numbers.{numbered}
-use Rattle.kx_ordered.specs.KeyPlaces.{IsEachPlaced, Respects, place_in}
-use Rattle.kx_ordered.proofs.KeyPlaces.{by_order, distinct_more, look_again, place_is, place_pushed}
-use Rattle.kx_ordered.proofs.Numbers.{each_by_order, popped}
+use Rattle.kx_ordered.specs.KeyPlaces.{ArePlaced, IsEachPlaced, Respects, place_in}
+use Rattle.kx_ordered.proofs.KeyPlaces.{by_order, distinct_more, look_again, no_some, place_is, place_pushed}
+use Rattle.kx_ordered.proofs.Numbers.{each_by_order, popped, popped_last}
 use Rattle.kx_ordered.proofs.Putting.{kept_there, told_by_tree, was_nowhere, was_there}
 use Rattle.kx_ordered.proofs.ordered.Ordered.put_new_by_order.Goals as goal
 
@@ -102,3 +103,66 @@ invariant_of-self-in-Err g c =
       λ compare respects unnumbered. ap (lookup (is_at compare)) (sym kept) ∙ c.self.invariant.1 compare respects unnumbered ∙ ap (place_in (is_at compare)) same,
       subst (λ es. IsDistinct g.K.PartialEq.eq (keys_of es)) same c.self.invariant.2,
     )
+
+pub returns-in-Ok-clause-put : goal.returns-in-Ok-clause-put
+returns-in-Ok-clause-put g c none = c.in_ok-push.ensures.items ∙ ap (λ m. m.entries ++ (c.args.key, c.args.value) ∷ []) c.self.view_is
+
+pub returns-in-Some-clause-back : goal.returns-in-Some-clause-back
+returns-in-Some-clause-back g c =
+    let es = c.self.inside.entries.items in
+    let entry : g.row.K.Denot × g.row.V.Denot = (c.args.key, c.args.value) in
+    let more : 0 < vec_len c.push.new.self = omega (arith, c.in_ok-push.ensures.len) in
+    let same = popped es c.pop.new.self.items entry c.pop.result (sym c.in_ok-push.ensures.items ∙ c.pop.ensures.items) (c.pop.ensures.variant.1 more) in
+    let last = popped_last es c.pop.new.self.items entry (c.in-Some.field-0-0, c.in-Some.value) (sym c.in_ok-push.ensures.items ∙ c.in-Some.ensures.items) in
+    (ap (λ e. e.1) last, ap (λ es. hash_map es 0 0) (sym same) ∙ c.self.view_is)
+
+pub returns-in-Some-clause-put : goal.returns-in-Some-clause-put
+returns-in-Some-clause-put g c some = absurd (no_some (sym some))
+
+pub returns-in-Some-clause-unique : goal.returns-in-Some-clause-unique
+returns-in-Some-clause-unique g c =
+    let es = c.self.inside.entries.items in
+    let entry : g.row.K.Denot × g.row.V.Denot = (c.args.key, c.args.value) in
+    let more : 0 < vec_len c.push.new.self = omega (arith, c.in_ok-push.ensures.len) in
+    let same = popped es c.pop.new.self.items entry c.pop.result (sym c.in_ok-push.ensures.items ∙ c.pop.ensures.items) (c.pop.ensures.variant.1 more) in
+    subst (λ es. IsDistinct g.K.PartialEq.eq (keys_of es)) same c.self.invariant.2
+
+pub returns-in-Ok-2-clause-unique : goal.returns-in-Ok-2-clause-unique
+returns-in-Ok-2-clause-unique g c =
+    let es = c.self.inside.entries.items in
+    let entry : g.row.K.Denot × g.row.V.Denot = (c.args.key, c.args.value) in
+    let more : 0 < vec_len c.push.new.self = omega (arith, c.in_ok-push.ensures.len) in
+    let same = popped es c.pop.new.self.items entry c.pop.result (sym c.in_ok-push.ensures.items ∙ c.pop.ensures.items) (c.pop.ensures.variant.1 more) in
+    subst (λ es. IsDistinct g.K.PartialEq.eq (keys_of es)) same c.self.invariant.2
+
+pub returns-in-Ok-2-clause-err : goal.returns-in-Ok-2-clause-err
+returns-in-Ok-2-clause-err g c =
+    let es = c.self.inside.entries.items in
+    let entry : g.row.K.Denot × g.row.V.Denot = (c.args.key, c.args.value) in
+    let more : 0 < vec_len c.push.new.self = omega (arith, c.in_ok-push.ensures.len) in
+    let same = popped es c.pop.new.self.items entry c.pop.result (sym c.in_ok-push.ensures.items ∙ c.pop.ensures.items) (c.pop.ensures.variant.1 more) in
+    ap (λ es. hash_map es 0 0) (sym same) ∙ c.self.view_is
+
+pub returns-clause-unique : goal.returns-clause-unique
+returns-clause-unique g c =
+    let es = c.self.inside.entries.items in
+    let entry : g.row.K.Denot × g.row.V.Denot = (c.args.key, c.args.value) in
+    let more : 0 < vec_len c.push.new.self = omega (arith, c.in_ok-push.ensures.len) in
+    let same = popped es c.pop-in-Err.new.self.items entry c.pop-in-Err.result (sym c.in_ok-push.ensures.items ∙ c.pop-in-Err.ensures.items) (c.pop-in-Err.ensures.variant.1 more) in
+    subst (λ es. IsDistinct g.K.PartialEq.eq (keys_of es)) same c.self.invariant.2
+
+pub returns-clause-err : goal.returns-clause-err
+returns-clause-err g c =
+    let es = c.self.inside.entries.items in
+    let entry : g.row.K.Denot × g.row.V.Denot = (c.args.key, c.args.value) in
+    let more : 0 < vec_len c.push.new.self = omega (arith, c.in_ok-push.ensures.len) in
+    let same = popped es c.pop-in-Err.new.self.items entry c.pop-in-Err.result (sym c.in_ok-push.ensures.items ∙ c.pop-in-Err.ensures.items) (c.pop-in-Err.ensures.variant.1 more) in
+    ap (λ es. hash_map es 0 0) (sym same) ∙ c.self.view_is
+
+pub invariant_of-self : goal.invariant_of-self
+invariant_of-self g c =
+    let cmp = g.K.Ord.cmp in
+    let number = g.K.TableKey.number in
+    let numbers = c.self.inside.numbers.items in
+    let places = c.self.inside.places in
+    subst (λ es. IsEachPlaced cmp number numbers places es × ArePlaced cmp number places es × IsDistinct g.K.PartialEq.eq (keys_of es)) (sym c.in_err-push.ensures.items) c.self.invariant
