@@ -1,4 +1,5 @@
 pub mod Cutting
+pub mod EachNew
 pub mod Expanding
 pub mod InWords
 pub mod Including

@@ -66,7 +66,7 @@ invariant_of-self-in_err-push-in-Some g c =
     let places = c.self.inside.places in
     let there = c.self.invariant in
     subst (λ es. IsEachPlaced cmp number c.room_for.new.numbers.items places es × ArePlaced cmp number places es × IsDistinct g.K.PartialEq.eq (keys_of es)) (sym c.in_err-push-in-Some.ensures.items)
-        (λ k. ap (λ n. option_or n (tree.get_by (cmp k) places)) (c.in_ok-room_for.ensures.same (number k)) ∙ there.0 k, there.1, there.2)
+    (λ k. ap (λ n. option_or n (tree.get_by (cmp k) places)) (c.in_ok-room_for.ensures.same (number k)) ∙ there.0 k, there.1, there.2)
 
 pub returns-in_default-clause-entries : goal.returns-in_default-clause-entries
 returns-in_default-clause-entries g c =

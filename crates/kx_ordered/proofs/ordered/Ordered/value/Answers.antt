@@ -11,7 +11,7 @@ returns-in-Some g c =
     let same = c.deref.ensures.value ∙ ap (λ m. m.entries) c.self.view_is in
     let within = ltb-true c.args.place (length es) (sym c.in-Some.ensures.lookup.0) in
     ap (option_map (λ e. e.1)) (subst (λ es. Some c.in-Some.field-0.now ≡ slice_get es c.args.place) same
-        (sym (slice_get_read es (length es) c.args.place c.in-Some.field-0.now refl within c.in-Some.ensures.lookup.1)))
+    (sym (slice_get_read es (length es) c.args.place c.in-Some.field-0.now refl within c.in-Some.ensures.lookup.1)))
 
 pub returns-in-None : goal.returns-in-None
 returns-in-None g c =
