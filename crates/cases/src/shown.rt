@@ -1,11 +1,10 @@
-//! What a source gives, as text.
+//! What a whole source gives, as text.
 ghost use Rattle.std.specs.Prelude.{◌≤◌, IfOk, IsTrue, length};
 ghost use Rattle.kx_lex.specs.declared.scan.TheConstants.{MOST_TEXT_BYTES};
 ghost use Rattle.kx_print.specs.Printed.{printed};
 ghost use Rattle.kx_types.specs.declared.limits.TheConstants.{MOST_TYPES};
 
-use crate::rules;
-use cases_kit::{Case, Subject, Trouble};
+use cases_kit::{Case, Trouble};
 use ks_core::{Lent, MemFeed, Notes};
 use kx_image::View;
 use kx_lex::{Fault, MOST_TEXT_BYTES};
@@ -15,33 +14,28 @@ use kx_tool::{SessionFault, compile, compile_printed, session};
 use kx_types::MOST_TYPES;
 use std::alloc::{AllocError, Global};
 
-/// Cases over whole keymaps, and over rules.
-pub struct Keymaps;
-
-impl Subject for Keymaps {
-    fn shown(
-        &self,
-        alloc: Global,
-        case: &Case,
-        word: &str,
-        wanted: &str,
-    ) -> Result<Option<String>, Trouble> {
-        let found = match word {
-            "answers" => shortened_lines(alloc, session_of(alloc, case)?.0.as_str())?,
-            "lines" => session_of(alloc, case)?.0,
-            "ends" => end_shown(alloc, session_of(alloc, case)?.1)?,
-            "refused" => refusal(alloc, case)?,
-            "length" => image_of(alloc, case)?.len().to_string(alloc)?,
-            "image" => hex::encode(alloc, image_of(alloc, case)?.as_slice())?,
-            "bytes" => bytes_from(alloc, case, wanted)?,
-            "changed" => opened_changed(alloc, case, wanted)?,
-            "notes" => notes_of(alloc, case)?,
-            "prints" => printed(alloc, image_of(alloc, case)?.as_slice())?,
-            "again" => again(alloc, case)?,
-            _ => return rules::shown(alloc, case, word, wanted),
-        };
-        Ok(Some(found))
-    }
+/// What a line's word asks of a whole keymap; nothing where it is no word of one.
+pub fn of_keymap(
+    alloc: Global,
+    case: &Case,
+    word: &str,
+    wanted: &str,
+) -> Result<Option<String>, Trouble> {
+    let found = match word {
+        "answers" => shortened_lines(alloc, session_of(alloc, case)?.0.as_str())?,
+        "lines" => session_of(alloc, case)?.0,
+        "ends" => end_shown(alloc, session_of(alloc, case)?.1)?,
+        "refused" => refusal(alloc, case)?,
+        "length" => image_of(alloc, case)?.len().to_string(alloc)?,
+        "image" => hex::encode(alloc, image_of(alloc, case)?.as_slice())?,
+        "bytes" => bytes_from(alloc, case, wanted)?,
+        "changed" => opened_changed(alloc, case, wanted)?,
+        "notes" => notes_of(alloc, case)?,
+        "prints" => printed(alloc, image_of(alloc, case)?.as_slice())?,
+        "again" => again(alloc, case)?,
+        _ => return Ok(None),
+    };
+    Ok(Some(found))
 }
 
 /// What an answer leaves out here.

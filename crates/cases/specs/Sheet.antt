@@ -7,7 +7,7 @@ use Rattle.kx_parse.specs.declared.tree.Statement.TheVariants.{Keycode}
 use Rattle.kx_merge.specs.Bodies.{Rules, Moves}
 use Rattle.kx_merge.specs.Offers.{Offer}
 use Rattle.kx_merge.specs.Records.{Form}
-use Rattle.cases_parts.specs.declared.precedence.Sheet.{Sheet}
+use Rattle.cases.specs.declared.precedence.Sheet.{Sheet}
 
 abbrev pub sheet_cell : Option ℕ → Option ℕ → ℕ → Option ℕ
 sheet_cell one two cell = if cell == 0 then one else (if cell == 1 then two else None)

@@ -3,11 +3,8 @@ use crate::{
     actions, codes, indicators, interpretations, key_types, keys, modifiers, names, notes,
     precedence, settings, symbols, texts, values,
 };
-use cases_kit::{Case, Subject, Trouble};
+use cases_kit::{Case, Trouble};
 use std::alloc::Global;
-
-/// Cases over the parts of compiling.
-pub struct Parts;
 
 /// What a text is read as.
 fn of_text(alloc: Global, case: &Case, word: &str) -> Result<Option<String>, Trouble> {
@@ -75,20 +72,18 @@ fn of_symbols(
     Ok(Some(found))
 }
 
-impl Subject for Parts {
-    fn shown(
-        &self,
-        alloc: Global,
-        case: &Case,
-        word: &str,
-        wanted: &str,
-    ) -> Result<Option<String>, Trouble> {
-        if let Some(found) = of_text(alloc, case, word)? {
-            return Ok(Some(found));
-        }
-        if let Some(found) = of_sections(alloc, case, word, wanted)? {
-            return Ok(Some(found));
-        }
-        of_symbols(alloc, case, word, wanted)
+/// What a line's word asks of a part of compiling; nothing where it is no word of one.
+pub fn shown(
+    alloc: Global,
+    case: &Case,
+    word: &str,
+    wanted: &str,
+) -> Result<Option<String>, Trouble> {
+    if let Some(found) = of_text(alloc, case, word)? {
+        return Ok(Some(found));
     }
+    if let Some(found) = of_sections(alloc, case, word, wanted)? {
+        return Ok(Some(found));
+    }
+    of_symbols(alloc, case, word, wanted)
 }

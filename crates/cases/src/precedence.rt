@@ -7,7 +7,7 @@ ghost use Rattle.kx_parse.specs.declared.tree.Mode.{Mode as ModeValue};
 ghost use Rattle.kx_merge.specs.Moved.{moved_value};
 ghost use Rattle.kx_merge.specs.Offers.{merged_value};
 ghost use Rattle.kx_merge.specs.Records.{AreOffered};
-ghost use Rattle.cases_parts.specs.Sheet.{keycode_in, sheet_cell, sheet_form, sheet_moves, sheet_offer, sheet_rules};
+ghost use Rattle.cases.specs.Sheet.{keycode_in, sheet_cell, sheet_form, sheet_moves, sheet_offer, sheet_rules};
 
 use crate::sources::{bodies_of, library_of, text_of};
 use cases_kit::{Case, Trouble};
