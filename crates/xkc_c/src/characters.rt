@@ -3,7 +3,7 @@ ghost use Rattle.std.specs.Prelude.{◌≡◌};
 ghost use Rattle.kx_text.specs.Case.{lower, upper};
 ghost use Rattle.kx_text.specs.Characters.{code_point_of};
 ghost use Rattle.kx_text.specs.FirstKeysym.{keysym_of};
-ghost use Rattle.xkc_c.specs.Typed.{or_zero};
+ghost use Rattle.kx_calls.specs.Typed.{or_zero};
 
 use ks_core::Keysym;
 

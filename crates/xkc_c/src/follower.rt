@@ -5,17 +5,18 @@ ghost use Rattle.kx_run.specs.Replies.{lit_in, look_at, status_in};
 ghost use Rattle.kx_run.specs.World.{opening};
 ghost use Rattle.kx_tables.specs.Content.{Content};
 ghost use Rattle.kx_tables.specs.Keymap.{keymap_of};
-ghost use Rattle.xkc_c.specs.InC.{IsLook, status};
-ghost use Rattle.xkc_c.specs.Out.{Copies};
-ghost use Rattle.xkc_c.specs.Typed.{keysym_in, text_in};
-ghost use Rattle.xkc_c.specs.declared.status.TheConstants.{EMPTY, MEMORY, MISSING, OK};
+ghost use Rattle.kx_calls.specs.InC.{IsLook, status};
+ghost use Rattle.kx_calls.specs.Out.{Copies};
+ghost use Rattle.kx_calls.specs.Typed.{keysym_in, text_in};
+ghost use Rattle.kx_calls.specs.declared.status.TheConstants.{EMPTY, MEMORY, MISSING, OK};
 
-use crate::out::copy;
-use crate::reply::XkcLook;
-use crate::state::XkcState;
-use crate::status::{EMPTY, MEMORY, MISSING, OK};
-use crate::typed::{keysym_of, text_of};
-use kx_handles::{FollowerHandle, KeymapHandle, SharedFollower, SharedTables};
+use kx_calls::follower::{looked, started};
+use kx_calls::out::copy;
+use kx_calls::reply::XkcLook;
+use kx_calls::state::XkcState;
+use kx_calls::status::{EMPTY, MEMORY, MISSING, OK};
+use kx_calls::typed::{keysym_of, text_of};
+use kx_handles::{FollowerHandle, KeymapHandle};
 use std::alloc::Global;
 
 /// Starts a follower of a keyboard over a keymap, with nothing held, latched or locked, and puts it in the place of what
@@ -181,31 +182,4 @@ pub extern "C" fn xkc_follower_end(alloc: Global, follower: &mut FollowerHandle)
     ensures { follower.new.value ≡ None }
 {
     follower.end(alloc);
-}
-
-/// A follower on the heap.
-fn started(alloc: Global, tables: &SharedTables) -> Option<Box<SharedFollower>>
-    ensures { IfSome result (λ b. b.value
-        ≡ record { content = tables.now; status = status_in (keymap_of tables.now) opening }) }
-{
-    let Ok(shared) = tables.again() else {
-        return None;
-    };
-    match Box::new(alloc, SharedFollower::start(shared)) {
-        Err(_) => None,
-        Ok(boxed) => Some(boxed),
-    }
-}
-
-/// What the key of a code gives, where keys have codes so great.
-fn looked(follower: &SharedFollower, code: u32, look: &mut XkcLook) -> u32
-    ensures looked { code < 65536 → (result ≡ OK)
-        × IsLook look.new (look_at (keymap_of follower.now.content) follower.now.status code) }
-    ensures missing { 65536 ≤ code → (result ≡ MISSING) × (look.new ≡ look.old) }
-{
-    if code > 0xffff {
-        return MISSING;
-    }
-    *look = XkcLook::of(&follower.look(code as u16));
-    OK
 }

@@ -5,14 +5,14 @@ ghost use Rattle.kx_run.specs.Replies.{lit_in, status_in};
 ghost use Rattle.kx_run.specs.World.{opening};
 ghost use Rattle.kx_tables.specs.Content.{Content};
 ghost use Rattle.kx_tables.specs.Keymap.{keymap_of};
-ghost use Rattle.xkc_c.specs.InC.{IsReply, behind, reply_to, status};
-ghost use Rattle.xkc_c.specs.declared.status.TheConstants.{EMPTY, MEMORY, MISSING, OK};
+ghost use Rattle.kx_calls.specs.InC.{IsReply, behind, reply_to, status};
+ghost use Rattle.kx_calls.specs.declared.status.TheConstants.{EMPTY, MEMORY, MISSING, OK};
 
-use crate::reply::XkcReply;
-use crate::state::XkcState;
-use crate::status::{EMPTY, MEMORY, MISSING, OK};
-use kx_handles::{KeyboardHandle, KeymapHandle, SharedKeyboard, SharedTables};
-use kx_run::Direction;
+use kx_calls::keyboard::{started, told};
+use kx_calls::reply::XkcReply;
+use kx_calls::state::XkcState;
+use kx_calls::status::{EMPTY, MEMORY, MISSING, OK};
+use kx_handles::{KeyboardHandle, KeymapHandle};
 use std::alloc::Global;
 
 /// Starts a keyboard over a keymap, with nothing held, latched or locked, and puts it in the place of what the handle
@@ -139,48 +139,4 @@ pub extern "C" fn xkc_keyboard_end(alloc: Global, keyboard: &mut KeyboardHandle)
     ensures { keyboard.new.value ≡ None }
 {
     keyboard.end(alloc);
-}
-
-/// A keyboard on the heap.
-fn started(alloc: Global, tables: &SharedTables) -> Option<Box<SharedKeyboard>>
-    ensures { IfSome result (λ b. b.value ≡ record { content = tables.now; world = opening }) }
-{
-    let Ok(shared) = tables.again() else {
-        return None;
-    };
-    let Ok(keyboard) = SharedKeyboard::start(alloc, shared) else {
-        return None;
-    };
-    match Box::new(alloc, keyboard) {
-        Err(_) => None,
-        Ok(boxed) => Some(boxed),
-    }
-}
-
-/// Tells a keyboard of an event, where keys have codes so great.
-fn told(keyboard: &mut SharedKeyboard, code: u32, down: u8, reply: &mut XkcReply) -> u32
-    ensures stepped { code < 65536
-        → (result ≡ OK) × ((keyboard.new ≡ behind keyboard.old code down)
-        × IsReply reply.new (reply_to keyboard.old code down)) }
-    ensures missing { 65536 ≤ code
-        → (result ≡ MISSING) × ((keyboard.new ≡ keyboard.old) × (reply.new ≡ reply.old)) }
-{
-    if code > 0xffff {
-        return MISSING;
-    }
-    *reply = answered(keyboard, code as u16, down);
-    OK
-}
-
-/// What a keyboard answers to an event.
-fn answered(keyboard: &mut SharedKeyboard, code: u16, down: u8) -> XkcReply
-    ensures keyboard { keyboard.new ≡ behind keyboard.old code down }
-    ensures reply { IsReply result (reply_to keyboard.old code down) }
-{
-    let direction = if down == 0 {
-        Direction::Up
-    } else {
-        Direction::Down
-    };
-    XkcReply::of(&keyboard.event(code, direction))
 }

@@ -1,17 +1,15 @@
 //! Keymaps from images, and back.
-ghost use Rattle.std.specs.Prelude.{◌≡◌, ◌≢◌, ◌⊎◌, ℕ, List, IfErr, IfOk, IsSomeAnd, None, Some};
+ghost use Rattle.std.specs.Prelude.{◌≡◌, ◌≢◌, ◌⊎◌, ℕ, List, IsSomeAnd, None, Some};
 ghost use Rattle.kx_image.specs.Image.{IsImage};
 ghost use Rattle.kx_print.specs.Printed.{printed};
-ghost use Rattle.kx_handles.specs.Open.{IsRefused};
 ghost use Rattle.kx_tables.specs.Content.{Content};
-ghost use Rattle.xkc_c.specs.Out.{Copies};
-ghost use Rattle.xkc_c.specs.declared.status.TheConstants.{EMPTY, IMAGE, MEMORY, OK};
+ghost use Rattle.kx_calls.specs.Out.{Copies};
+ghost use Rattle.kx_calls.specs.declared.status.TheConstants.{EMPTY, IMAGE, MEMORY, OK};
 
-use crate::out::copy;
-use crate::status::{EMPTY, IMAGE, MEMORY, OK};
-use ks_core::Lent;
-use kx_handles::{KeymapHandle, OpenFault, SharedTables};
-use kx_print::print;
+use kx_calls::keymap::{opened, print_into};
+use kx_calls::out::copy;
+use kx_calls::status::{EMPTY, IMAGE, MEMORY, OK};
+use kx_handles::{KeymapHandle, OpenFault};
 use std::alloc::Global;
 
 /// Opens an image, whose bytes are copied, and puts the keymap in the place of what the handle has.
@@ -84,31 +82,4 @@ pub extern "C" fn xkc_keymap_end(alloc: Global, keymap: &mut KeymapHandle)
     ensures { keymap.new.value ≡ None }
 {
     keymap.end(alloc);
-}
-
-/// The tables of an image on the heap.
-fn opened(alloc: Global, image: &[u8]) -> Result<Box<SharedTables>, OpenFault>
-    ensures opened { IfOk result (λ b. IsImage b.value image.now) }
-    ensures refused { IfErr result (IsRefused image.now) }
-{
-    let Ok(bytes) = image.to_vec(alloc) else {
-        return Err(OpenFault::Memory);
-    };
-    let tables = SharedTables::open(alloc, bytes)?;
-    match Box::new(alloc, tables) {
-        Err(_) => Err(OpenFault::Memory),
-        Ok(boxed) => Ok(boxed),
-    }
-}
-
-/// Copies the printed text of tables.
-fn print_into(alloc: Global, tables: &SharedTables, out: &mut [u8], size: &mut usize) -> u32
-    ensures memory { result ≡ MEMORY → (out.new ≡ out.old) × (size.new ≡ size.old) }
-    ensures text { (result ≡ MEMORY) ⊎ Copies (printed tables.now) out.old out.new size.new result }
-{
-    let mut text = Lent::new(Vec::new(alloc));
-    match print(tables, &mut text) {
-        Err(_) => MEMORY,
-        Ok(()) => copy(text.device.as_slice(), out, size),
-    }
 }

@@ -3,25 +3,15 @@
 
 mod characters;
 mod compiling;
-mod fault;
-mod files;
-mod folders;
 mod follower;
 mod gathering;
 mod keyboard;
 mod keymap;
 mod left;
 mod names;
-mod notes;
-mod out;
-mod reply;
-mod row;
 mod rows;
 mod source;
 mod source_compiling;
 mod spots;
-mod state;
-mod status;
 mod text;
-mod typed;
 mod words;

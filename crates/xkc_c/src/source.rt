@@ -1,11 +1,11 @@
 //! Sources with the files that their includes reach.
 ghost use Rattle.std.specs.Prelude.{◌≡◌, None, Some};
 ghost use Rattle.kx_sources.specs.Given.{Given};
-ghost use Rattle.xkc_c.specs.Out.{Copies};
-ghost use Rattle.xkc_c.specs.declared.status.TheConstants.{EMPTY};
+ghost use Rattle.kx_calls.specs.Out.{Copies};
+ghost use Rattle.kx_calls.specs.declared.status.TheConstants.{EMPTY};
 
-use crate::out::copy;
-use crate::status::EMPTY;
+use kx_calls::out::copy;
+use kx_calls::status::EMPTY;
 use kx_sources::SourceHandle;
 use std::alloc::Global;
 

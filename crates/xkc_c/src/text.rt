@@ -2,15 +2,8 @@
 ghost use Rattle.std.specs.Prelude.{◌≡◌, ◌+◌, take};
 ghost use Rattle.kx_tool.specs.Locating.{line_feeds, since_line_feed};
 
+use kx_calls::text::XkcPosition;
 use kx_tool::locate;
-
-/// Where a byte of a text stands: its line, and its place among the line's bytes, both counted from 1.
-#[repr(C)]
-#[derive(Clone, Copy)]
-pub struct XkcPosition {
-    pub line: usize,
-    pub column: usize,
-}
 
 /// Where the byte at a place stands, or the end where the text is shorter. The place is counted from 0.
 #[unsafe(no_mangle)]

@@ -1,12 +1,13 @@
 //! What is said of something that went wrong.
-ghost use Rattle.std.specs.Prelude.{◌≡◌, ℕ, List, IfOk, None, Some};
-ghost use Rattle.xkc_c.specs.Out.{Copies};
-ghost use Rattle.xkc_c.specs.declared.status.TheConstants.{EMPTY};
+ghost use Rattle.std.specs.Prelude.{◌≡◌, ℕ, List, None, Some};
+ghost use Rattle.kx_calls.specs.Out.{Copies};
+ghost use Rattle.kx_calls.specs.declared.status.TheConstants.{EMPTY};
 
-use crate::out::copy;
-use crate::status::EMPTY;
-use kx_sources::{Words, WordsHandle};
-use std::alloc::{AllocError, Global};
+use kx_calls::out::copy;
+use kx_calls::status::EMPTY;
+use kx_calls::words::boxed;
+use kx_sources::WordsHandle;
+use std::alloc::Global;
 
 /// Copies the lines where there is room for them, and tells their size.
 #[unsafe(no_mangle)]
@@ -36,14 +37,4 @@ pub extern "C" fn xkc_words_end(alloc: Global, words: &mut WordsHandle)
     ensures { words.new.value ≡ None }
 {
     words.end(alloc);
-}
-
-/// Lines on the heap.
-///
-/// # Errors
-/// Where a growth is refused.
-pub fn boxed(alloc: Global, words: Words) -> Result<Box<Words>, AllocError>
-    ensures { IfOk result (λ b. b.value ≡ words) }
-{
-    Ok(Box::new(alloc, words)?)
 }

@@ -1,6 +1,6 @@
 use Rattle.std.proofs.Common.{◌∙◌, sym}
-use Rattle.xkc_c.specs.NamesInC.{names_in}
-use Rattle.xkc_c.proofs.Refusing.{has_fault, is_given, not_memory, not_ok}
+use Rattle.kx_calls.specs.NamesInC.{names_in}
+use Rattle.kx_calls.proofs.Refusing.{has_fault, is_given, not_memory, not_ok}
 use Rattle.xkc_c.proofs.source_compiling.xkc_source_compile.Goals.{in-Err+in-None, in-Err+in-Some-told, in-Ok}
 use Rattle.xkc_c.proofs.source_compiling.xkc_source_compile.Goals as goal
 

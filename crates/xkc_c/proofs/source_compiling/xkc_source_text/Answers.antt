@@ -2,8 +2,8 @@ use Rattle.std.proofs.Common.{◌≡◌, ◌∙◌, inl, inr, subst, sym}
 use Rattle.std.specs.Prelude.{IfSome}
 use Rattle.kx_client_text.specs.ClientText.{IsClientText}
 use Rattle.kx_sources.specs.Given.{Given}
-use Rattle.xkc_c.specs.NamesInC.{names_in}
-use Rattle.xkc_c.proofs.Refusing.{has_fault, is_given, is_lasting, not_copied, not_missing}
+use Rattle.kx_calls.specs.NamesInC.{names_in}
+use Rattle.kx_calls.proofs.Refusing.{has_fault, is_given, is_lasting, not_copied, not_missing}
 use Rattle.xkc_c.proofs.source_compiling.xkc_source_text.Goals.{in-Err, in-Ok-None, in-Ok-Some}
 use Rattle.xkc_c.proofs.source_compiling.xkc_source_text.Goals as goal
 
