@@ -63,7 +63,12 @@ pub fn keysym_named(alloc: Global, names: &mut NamesHandle, name: &[u8]) -> Opti
 }
 
 /// Sets a text to the name of a keysym.
-pub fn write_name(alloc: Global, names: &mut NamesHandle, keysym: Keysym, name: &mut ArrayString<64>)
+pub fn write_name(
+    alloc: Global,
+    names: &mut NamesHandle,
+    keysym: Keysym,
+    name: &mut ArrayString<64>,
+)
     ensures names { names.new.value ≡ names.old.value }
     ensures name { name.new.bytes ≡ name_of_keysym (names_in names.old.value) keysym.0 }
 {

@@ -3,7 +3,9 @@ ghost use Rattle.std.specs.Prelude.{◌≡◌};
 ghost use Rattle.kx_calls.specs.RowsInC.{action_in_c, counts_in_c, entry_in_c, group_action_in_c, group_in_c, indicator_in_c, key_in_c, level_in_c, type_in_c};
 
 use crate::reply::byte;
-use kx_tables::{Action, CellRow, Counts, EntryRow, GroupChange, GroupRow, IndicatorRow, KeyRow, Range, TypeRow};
+use kx_tables::{
+    Action, CellRow, Counts, EntryRow, GroupChange, GroupRow, IndicatorRow, KeyRow, Range, TypeRow,
+};
 
 /// How many rows of each kind there are.
 #[repr(C)]

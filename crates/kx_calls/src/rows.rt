@@ -9,6 +9,7 @@ ghost use Rattle.kx_calls.specs.declared.status.TheConstants.{MISSING, OK};
 use crate::row::{XkcEntry, XkcGroup, XkcIndicator, XkcKey, XkcLevel, XkcType};
 use crate::status::{MISSING, OK};
 use kx_handles::SharedTables;
+use kx_tables::{Rows, Tables};
 
 /// Sets a key to the one of an index.
 pub fn key_of(tables: &SharedTables, index: u32, key: &mut XkcKey) -> u32

@@ -2,8 +2,4 @@ mod Cellwise
 mod Going
 mod Moving
 mod Virtual
-mod LaterLists
-mod Settling
-mod Values
-mod Widening
 mod Usual

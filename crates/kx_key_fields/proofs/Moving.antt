@@ -8,6 +8,7 @@ use Rattle.std.proofs.lemmas.Bool.{false≢true, eqb-true, eq-eqb, ltb-true, ltb
 use Rattle.kx_parse.specs.declared.tree.Mode.{Mode}
 use Rattle.kx_parse.specs.declared.tree.Mode.TheVariants.{Augment, Override, Replace}
 use Rattle.kx_merge.specs.Offers.{is_replace, merged_value}
+use Rattle.kx_key_lists.proofs.Replaced.{set-here, set-other}
 use Rattle.kx_key_fields.specs.Attributes.{GroupTypes, type_at, widened_to, with_type}
 
 -- of later types those before a place were merged, and the others are still there
@@ -23,18 +24,6 @@ nothing_taken Augment None h = refl
 nothing_taken Augment (Some x) h = refl
 nothing_taken Override o h = refl
 nothing_taken Replace o h = absurd (false≢true (sym h))
-
-pub set-other : {X : Type 0} (xs : List X) (i : ℕ) (y : X) (k : ℕ) → (k ≡ i → ⊥) → slice_get (slice_set xs i y) k ≡ slice_get xs k
-set-other [] i y k other = refl
-set-other (x ∷ xs) zero y zero other = absurd (other refl)
-set-other (x ∷ xs) zero y (suc k) other = refl
-set-other (x ∷ xs) (suc i) y zero other = refl
-set-other (x ∷ xs) (suc i) y (suc k) other = set-other xs i y k (λ e. other (ap suc e))
-
-pub set-here : {X : Type 0} (xs : List X) (i : ℕ) (y : X) → i < length xs → slice_get (slice_set xs i y) i ≡ Some y
-set-here [] i y within = absurd (omega (arith, within))
-set-here (x ∷ xs) zero y within = refl
-set-here (x ∷ xs) (suc i) y within = set-here xs i y (omega (arith, within))
 
 type-past : (xs : GroupTypes) (k : ℕ) → length xs ≤ k → type_at xs k ≡ None
 type-past xs k past = ap (λ o. option_and_then (λ p. p) o) (slice_get_past xs k past)
@@ -78,13 +67,6 @@ module _ (mode : Mode) (old other : GroupTypes) where
       by : (before : Bool) → nat_lt k place ≡ before → cond before (merged_value mode (type_at old k) (type_at other k)) (type_at old k) ≡ merged_value mode (type_at old k) (type_at other k)
       by true f = refl
       by false f = sym (ap (merged_value mode (type_at old k)) (type-past other k (let past = ltb-false k place f in omega (arith, past, all))) ∙ nothing_taken mode (type_at old k) strong)
-
--- an element that is taken out, and those after it
-pub taken_at : {X : Type 0} (xs : List (Option X)) (i : ℕ) (x d : Option X) → i < length xs → x ≡ get_or xs i d → x ≡ option_and_then (λ p. p) (slice_get xs i)
-taken_at xs i x d within is = is ∙ sym (ap (λ o. option_and_then (λ p. p) o) (slice_get-get_or xs i d within))
-
-pub kept_at : {X : Type 0} (xs : List (Option X)) (i : ℕ) (y : Option X) (k : ℕ) → i + 1 ≤ k → option_and_then (λ p. p) (slice_get (slice_set xs i y) k) ≡ option_and_then (λ p. p) (slice_get xs k)
-kept_at xs i y k behind = ap (λ o. option_and_then (λ p. p) o) (set-other xs i y k (λ e. absurd (omega (arith, behind, e))))
 
 none-at : (n k : ℕ) → type_at (replicate n None) k ≡ None
 none-at zero k = refl

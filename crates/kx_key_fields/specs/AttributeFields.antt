@@ -19,7 +19,7 @@ use Rattle.kx_merge.specs.Faults.{expression_in, value_faults}
 use Rattle.kx_merge.specs.Numbers.{number_faults}
 use Rattle.kx_merge.specs.Words.{meaning_among, truth_words, lone_text, term_text as lone_term_text}
 use Rattle.kx_merge.specs.declared.numbers.Counted.TheVariants.{Group}
-use Rattle.kx_key_fields.specs.Groups.{group_at}
+use Rattle.kx_key_lists.specs.Groups.{group_at}
 use Rattle.kx_key_fields.specs.Attributes.{kept_name}
 use Rattle.kx_key_fields.specs.VirtualMasks.{virtual_mask, virtual_mask_faults}
 use Rattle.kx_key_fields.specs.Words.{field_named}

@@ -1,4 +1,3 @@
-pub mod Groups
 pub mod Ranges
 pub mod Words
 pub mod VirtualMasks
@@ -6,6 +5,3 @@ pub mod Attributes
 pub mod AttributeFields
 pub mod KeyFields
 pub mod TypesMoved
-pub mod Lists
-pub mod Places
-pub mod Records

@@ -7,11 +7,11 @@ ghost use Rattle.kx_key_fields.specs.declared.words.RangeField.TheVariants as wo
 ghost use Rattle.kx_merge.specs.Reports.{Reports};
 
 use crate::given::{Given, KeptName};
-use crate::groups::read_group;
 use crate::key_range::KeyRange;
 use crate::masks::virtual_mask;
 use crate::truths::read_flag;
 use crate::words::{AttributeField, RangeField, field_named};
+use kx_key_lists::read_group;
 use kx_lex::{Fault, Name};
 use kx_merge::{bad_value, expression_of, unknown_field};
 use kx_parse::{Expression, Field, Term};

@@ -5,7 +5,7 @@ use crate::masks::{index_of, is_of, value_of};
 use crate::statements::Reader;
 use ks_core::Notes;
 use kx_explain::quoted;
-use kx_key_fields::read_group;
+use kx_key_lists::read_group;
 use kx_lex::{At, Number};
 use kx_parse::{Entry, Expression, Field, KeyField, Setting, Symbol, Term};
 use kx_symbols::symbol_keysym;

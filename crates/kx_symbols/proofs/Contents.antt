@@ -1,7 +1,7 @@
 -- The cells of a key, by its lists of both kinds.
 use Rattle.std.proofs.Common.{◌≡◌, ℕ, Option, None, Some, refl, ap, ◌∙◌}
 use Rattle.std.specs.Option.{option_and_then, option_map}
-use Rattle.kx_key_fields.specs.Records.{moved_in, value_in}
+use Rattle.kx_key_lists.specs.Records.{moved_in, value_in}
 use Rattle.kx_merge.specs.ByGroup.{group_before}
 use Rattle.kx_merge.specs.Moved.{moved_value}
 use Rattle.kx_merge.specs.Offers.{merged_value}

@@ -2,8 +2,8 @@
 use Rattle.std.proofs.Common.{◌≡◌, ℕ, ◌-◌, cond, false, max, nat_lt, List, [], ◌∷◌, None, refl, sym, ap, ◌∙◌, arith}
 use Rattle.std.specs.Option.{option_map}
 use Rattle.std.proofs.lemmas.Bool.{le-ltb}
-use Rattle.kx_key_fields.specs.Lists.{Lists, level_in, width_in}
-use Rattle.kx_key_fields.specs.Records.{value_in, width_in_key as list_width}
+use Rattle.kx_key_lists.specs.Lists.{Lists, level_in, width_in}
+use Rattle.kx_key_lists.specs.Records.{value_in, width_in_key as list_width}
 use Rattle.kx_key_fields.specs.KeyFields.{effective}
 use Rattle.kx_key_fields.specs.Attributes.{Settings, attribute_in}
 use Rattle.kx_key_fields.specs.declared.cells.AttributeCell.{AttributeCell}

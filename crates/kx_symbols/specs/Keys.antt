@@ -8,8 +8,8 @@ use Rattle.kx_actions.specs.declared.action.KeyAction.{KeyAction}
 use Rattle.kx_codes.specs.Codes.{Codes, code_of}
 use Rattle.kx_include.specs.Expansion.{Body}
 use Rattle.kx_lex.specs.declared.name.Name.{Name}
-use Rattle.kx_key_fields.specs.Lists.{level_in, width_in}
-use Rattle.kx_key_fields.specs.Records.{KeyLists, value_in, width_in_key as list_width}
+use Rattle.kx_key_lists.specs.Lists.{level_in, width_in}
+use Rattle.kx_key_lists.specs.Records.{KeyLists, value_in, width_in_key as list_width}
 use Rattle.kx_merge.specs.ByGroup.{group_before}
 use Rattle.kx_merge.specs.Bodies.{Rules, Moves, offers_of}
 use Rattle.kx_merge.specs.Offers.{Offer, value_of, width_of}

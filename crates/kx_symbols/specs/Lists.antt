@@ -4,8 +4,8 @@ use Rattle.std.specs.List.{list_any}
 use Rattle.std.specs.Str.{str_eq_ignore_ascii_case}
 use Rattle.std.specs.Option.{option_map_or}
 use Rattle.kx_actions.specs.declared.action.KeyAction.{KeyAction}
-use Rattle.kx_key_fields.specs.Lists.{Lists}
-use Rattle.kx_key_fields.specs.Places.{given_list, group_for}
+use Rattle.kx_key_lists.specs.Lists.{Lists}
+use Rattle.kx_key_lists.specs.Places.{given_list, group_for}
 use Rattle.kx_parse.specs.declared.tree.Element.{Element}
 use Rattle.kx_parse.specs.declared.tree.Element.TheVariants as elements
 use Rattle.kx_parse.specs.declared.tree.Field.{Field}

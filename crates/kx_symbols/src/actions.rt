@@ -10,7 +10,7 @@ ghost use Rattle.kx_merge.specs.Reports.{Reports, ReportsOrRunsOut};
 use crate::known::Known;
 use ks_core::{Note, Notes};
 use kx_actions::{KeyAction, read};
-use kx_key_fields::{LevelValue, Levels};
+use kx_key_lists::{LevelValue, Levels};
 use kx_lex::{At, Fault, Span};
 use kx_parse::{BracePart, Braces, Call, Element, List as Listed, Symbol};
 use std::alloc::{AllocError, Global};

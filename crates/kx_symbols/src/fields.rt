@@ -1,6 +1,6 @@
 //! The lists of a key statement, each of its kind and with its group.
 ghost use Rattle.std.specs.Prelude.{◌≡◌, ◌++◌, IfOk, None, OnOk, Some};
-ghost use Rattle.kx_key_fields.specs.Places.{given_list, group_for, place_faults};
+ghost use Rattle.kx_key_lists.specs.Places.{given_list, group_for, place_faults};
 ghost use Rattle.kx_symbols.specs.Actions.{actions_of};
 ghost use Rattle.kx_symbols.specs.KeyFaults.{actions_faults, elements_faults, field_faults, fields_faults, list_faults, named_faults, set_faults};
 ghost use Rattle.kx_symbols.specs.Keysyms.{levels_of};
@@ -12,7 +12,7 @@ use crate::keysyms::{Keysyms, read_levels};
 use crate::kinds::{ListKind, bare_kind, field_kind};
 use crate::known::Known;
 use ks_core::{NameTable, Notes};
-use kx_key_fields::{Levels, group_for, put_list};
+use kx_key_lists::{Levels, group_for, put_list};
 use kx_lex::{At, Fault};
 use kx_parse::{Boxed, Field, Index, KeyField, List as Listed, Setting, Value};
 use std::alloc::Global;

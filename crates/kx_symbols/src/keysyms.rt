@@ -10,7 +10,7 @@ ghost use Rattle.kx_merge.specs.Reports.{ReportsOrRunsOut};
 use arrayvec::ArrayVec;
 use ks_core::{NameTable, Note, Notes};
 use kx_basics::{GREATEST_KEYSYM, MOST_KEYSYMS, number_keysym};
-use kx_key_fields::{LevelValue, Levels};
+use kx_key_lists::{LevelValue, Levels};
 use kx_lex::{At, Fault};
 use kx_parse::{BracePart, Element, List as Listed, Symbol};
 use std::alloc::{AllocError, Global};

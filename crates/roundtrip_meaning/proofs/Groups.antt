@@ -2,7 +2,7 @@
 use Rattle.std.proofs.Common.{◌≡◌, ℕ, ◌+◌, false, is_some, codes, List, [], ◌∷◌, ◌++◌, length, map, fold, Option, None, Some, refl, sym, ap, ap₂, ◌∙◌, arith, append_assoc, append-nil}
 use Rattle.std.specs.Option.{option_map_or}
 use Rattle.kx_actions.specs.declared.action.KeyAction.{KeyAction}
-use Rattle.kx_key_fields.specs.Places.{given_list, group_for}
+use Rattle.kx_key_lists.specs.Places.{given_list, group_for}
 use Rattle.kx_parse.specs.declared.tree.KeyField.{KeyField}
 use Rattle.kx_parse.specs.declared.tree.KeyField.TheVariants as fields
 use Rattle.kx_parse.specs.declared.tree.List.{List as Listed}

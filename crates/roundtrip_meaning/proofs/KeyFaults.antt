@@ -13,8 +13,8 @@ use Rattle.kx_lex.specs.Kinds.{number_value}
 use Rattle.kx_lex.specs.declared.fault.Fault.{Fault}
 use Rattle.kx_lex.specs.declared.fault.Fault.TheVariants.{BadValue, TooMany}
 use Rattle.kx_lex.specs.declared.token.Span.{Span}
-use Rattle.kx_key_fields.specs.Lists.{Lists, has_list}
-use Rattle.kx_key_fields.specs.Places.{place_faults, second_faults}
+use Rattle.kx_key_lists.specs.Lists.{Lists, has_list}
+use Rattle.kx_key_lists.specs.Places.{place_faults, second_faults}
 use Rattle.kx_parse.specs.declared.tree.BracePart.{BracePart}
 use Rattle.kx_parse.specs.declared.tree.Element.{Element}
 use Rattle.kx_parse.specs.declared.tree.Index.{Index}

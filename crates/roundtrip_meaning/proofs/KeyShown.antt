@@ -15,7 +15,7 @@ use Rattle.kx_parse.specs.declared.tree.Setting.TheVariants.{On, To}
 use Rattle.kx_parse.specs.declared.tree.Term.TheVariants as terms
 use Rattle.kx_parse.specs.declared.tree.Value.{Value}
 use Rattle.kx_parse.specs.declared.tree.Value.TheVariants as values
-use Rattle.kx_key_fields.specs.Groups.{group_at}
+use Rattle.kx_key_lists.specs.Groups.{group_at}
 use Rattle.kx_merge.specs.Numbers.{number_faults}
 use Rattle.kx_merge.specs.declared.numbers.Counted.TheVariants.{Group}
 use Rattle.roundtrip_tree.specs.Keys.{IsIndexedField, IsBareField, IsNumberField, indexed_place, plain_place}

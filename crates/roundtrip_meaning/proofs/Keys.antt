@@ -11,7 +11,7 @@ use Rattle.kx_builder.specs.Resolved.{ResolvedCell}
 use Rattle.kx_codes.specs.Codes.{Codes, code_of}
 use Rattle.kx_include.specs.Expansion.{Body, Begin, End}
 use Rattle.kx_include.specs.declared.place.Place.{Place}
-use Rattle.kx_key_fields.specs.Lists.{level_in, width_in}
+use Rattle.kx_key_lists.specs.Lists.{level_in, width_in}
 use Rattle.kx_merge.specs.Bodies.{offers_of, faults_of}
 use Rattle.kx_merge.specs.Offers.{Offer, value_of, width_of}
 use Rattle.kx_parse.specs.declared.tree.Stated.{Stated}

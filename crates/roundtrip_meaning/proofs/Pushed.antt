@@ -1,10 +1,10 @@
 -- A list for the group after those that have one.
 use Rattle.std.proofs.Common.{◌≡◌, ℕ, zero, suc, ◌+◌, ◌-◌, false, cond, List, [], ◌∷◌, ◌++◌, length, map, replicate, slice_get, set, Option, None, Some, is_some, refl, ap, ap₂, ◌∙◌, arith}
 use Rattle.std.specs.Option.{option_and_then, option_map_or}
-use Rattle.kx_key_fields.specs.Lists.{Lists, has_list, level_in, width_in}
-use Rattle.kx_key_fields.specs.Places.{given_list, group_for}
+use Rattle.kx_key_lists.specs.Lists.{Lists, has_list, level_in, width_in}
+use Rattle.kx_key_lists.specs.Places.{given_list, group_for}
 use Rattle.kx_parse.specs.declared.tree.Index.{Index}
-use Rattle.kx_key_fields.specs.Groups.{group_at}
+use Rattle.kx_key_lists.specs.Groups.{group_at}
 use Rattle.kx_merge.specs.ByGroup.{at_group, with_group}
 
 set_end : {X : Type 0} (xs : List X) (a b : X) → set (xs ++ a ∷ []) (length xs) b ≡ xs ++ b ∷ []

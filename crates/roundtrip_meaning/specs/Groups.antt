@@ -10,7 +10,7 @@ use Rattle.kx_parse.specs.declared.tree.KeyField.TheVariants as fields
 use Rattle.kx_parse.specs.declared.tree.List.{List as Listed}
 use Rattle.kx_parse.specs.declared.tree.Setting.TheVariants.{To}
 use Rattle.kx_parse.specs.declared.tree.Value.TheVariants as values
-use Rattle.kx_key_fields.specs.Groups.{group_at}
+use Rattle.kx_key_lists.specs.Groups.{group_at}
 use Rattle.kx_symbols.specs.Actions.{actions_of}
 use Rattle.kx_symbols.specs.Keysyms.{Level, levels_of}
 use Rattle.kx_symbols.specs.Known.{Known}

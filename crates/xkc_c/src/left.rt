@@ -5,7 +5,9 @@ ghost use Rattle.kx_calls.specs.InC.{byte};
 ghost use Rattle.kx_calls.specs.LeftInC.{CopiesFound, alias_key, alias_name, left_counts_in_c, modifier_mods, modifier_name, repeats_in_c};
 ghost use Rattle.kx_calls.specs.declared.status.TheConstants.{EMPTY, OK};
 
-use kx_calls::left::{XkcLeftCounts, alias_at, alias_key_at, copy_found, does_repeat, indicator_at, modifier_at};
+use kx_calls::left::{
+    XkcLeftCounts, alias_at, alias_key_at, copy_found, does_repeat, indicator_at, modifier_at,
+};
 use kx_calls::status::{EMPTY, OK};
 use kx_sources::LeftHandle;
 use std::alloc::Global;

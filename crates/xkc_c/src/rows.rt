@@ -8,9 +8,12 @@ ghost use Rattle.kx_calls.specs.declared.status.TheConstants.{EMPTY, MISSING, OK
 
 use kx_calls::out::copy;
 use kx_calls::row::{XkcCounts, XkcEntry, XkcGroup, XkcIndicator, XkcKey, XkcLevel, XkcType};
-use kx_calls::rows::{entry_of, group_of, index_of, indicator_of, key_of, key_type_of, keysym_of, level_of, name_of};
+use kx_calls::rows::{
+    entry_of, group_of, index_of, indicator_of, key_of, key_type_of, keysym_of, level_of, name_of,
+};
 use kx_calls::status::{EMPTY, MISSING, OK};
 use kx_handles::KeymapHandle;
+use kx_tables::Rows;
 use std::alloc::Global;
 
 /// How many rows of each kind there are.

@@ -1,5 +1,5 @@
 use Rattle.std.proofs.Common.{◌++◌, Contains, subst}
-use Rattle.kx_key_fields.specs.Places.{place_faults}
+use Rattle.kx_key_lists.specs.Places.{place_faults}
 use Rattle.kx_symbols.specs.KeyFaults.{elements_faults}
 use Rattle.kx_symbols.proofs.Statements.{front_blames}
 use Rattle.kx_merge.proofs.Going.{reported_or_out}

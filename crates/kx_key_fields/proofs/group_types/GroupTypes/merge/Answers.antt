@@ -1,6 +1,7 @@
 use Rattle.std.proofs.Common.{◌∙◌, length, slice_set, ap, arith}
 use Rattle.std.proofs.lemmas.List.{length-set}
-use Rattle.kx_key_fields.proofs.Moving.{types_go, types_end, taken_at, kept_at}
+use Rattle.kx_key_fields.proofs.Moving.{types_go, types_end}
+use Rattle.kx_key_lists.proofs.Replaced.{taken_at, kept_at}
 use Rattle.kx_key_fields.proofs.group_types.GroupTypes.merge.Goals as goal
 
 pub types-preserved : goal.types-preserved

@@ -1,5 +1,0 @@
-use Rattle.kx_key_fields.proofs.LaterLists.{ListsBehind}
-use Rattle.kx_key_fields.proofs.merging.merge_groups.Given as goal
-
-abbrev pub invariant-lists : goal.invariant-lists
-invariant-lists t l = ListsBehind l.mode l.from l.initial.lists.items l.fn.later.items l.lists.items l.later.items l.place

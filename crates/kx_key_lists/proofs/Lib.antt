@@ -1,0 +1,5 @@
+pub mod Widening
+pub mod Replaced
+mod LaterLists
+mod Settling
+mod Values

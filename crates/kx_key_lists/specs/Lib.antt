@@ -1,0 +1,4 @@
+pub mod Groups
+pub mod Lists
+pub mod Places
+pub mod Records
