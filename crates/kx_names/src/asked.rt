@@ -4,7 +4,7 @@ use std::fmt;
 use std::fmt::{Formatter, Write};
 
 /// The names as they are written, as far as they are.
-#[derive(Clone, Copy, PartialEq, Eq)]
+#[derive(Clone, Copy)]
 pub struct Written<'a> {
     pub rules: Option<&'a str>,
     pub model: Option<&'a str>,
@@ -14,7 +14,7 @@ pub struct Written<'a> {
 }
 
 /// The names of a keymap, and the folders that rules files name by a letter.
-#[derive(Clone, Copy, PartialEq, Eq)]
+#[derive(Clone, Copy)]
 pub struct Asked<'a> {
     pub rules: &'a str,
     pub model: &'a str,

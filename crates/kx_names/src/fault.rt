@@ -3,7 +3,7 @@ use std::alloc::AllocError;
 use thiserror::Error;
 
 /// Why a rules file gives no source for names. Each prints as the line that a user sees.
-#[derive(Clone, Copy, Debug, Error, PartialEq, Eq)]
+#[derive(Clone, Copy, Debug, Error)]
 pub enum RulesFault {
     /// The model, a layout or a variant has too many bytes.
     #[error("R2 LongName")]

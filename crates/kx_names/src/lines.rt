@@ -9,7 +9,7 @@ use std::rt::Files;
 const WIDEST: usize = 32;
 
 /// The names that are asked for: those of a kind or all, whose name or description has a word.
-#[derive(Clone, Copy, PartialEq, Eq)]
+#[derive(Clone, Copy)]
 pub struct Wanted<'a> {
     pub kind: Option<Kind>,
     pub word: Option<&'a str>,

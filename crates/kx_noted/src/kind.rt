@@ -4,7 +4,7 @@ use std::fmt::{Formatter, Write};
 
 /// A kind of what is passed over. The first five are those that a compiler counts in its notes; the others are likely slips,
 /// which change nothing of what is compiled.
-#[derive(Clone, Copy, PartialEq, Eq)]
+#[derive(Clone, Copy)]
 pub enum WarningKind {
     /// Names of keysyms that no table has.
     Keysyms,

@@ -31,7 +31,7 @@ pub(crate) struct TypeWords<'t> {
 }
 
 /// What a mask of an entry is to its type.
-#[derive(Clone, Copy, PartialEq, Eq)]
+#[derive(Clone, Copy)]
 pub(crate) enum EntryMask<'t> {
     /// Bits for the places of its modifiers among those of the type.
     Of(u32),

@@ -141,7 +141,7 @@ fn compile_of<'a>(reading: Reading<'a>, matches: &ArgMatches<'a>) -> Result<Task
     let source = source_of(reading, matches)?;
     let image = required(matches, "OUT");
     let includes = includes_of(reading, matches)?;
-    let is_read = source == Source::File(image)
+    let is_read = source.is_at(image)
         || names == Some(image)
         || includes.files.iter().any(|file| file.path == image);
     check_out(reading, image, is_read && image != INPUT)?;
@@ -201,7 +201,7 @@ fn keymap_of<'a>(reading: Reading<'a>, matches: &ArgMatches<'a>) -> Result<Keyma
         Some(asked) => Source::Names(asked),
         None => Source::File(required(matches, "KEYMAP")),
     };
-    if reading.command == "replay" && source == Source::File(INPUT) {
+    if reading.command == "replay" && source.is_at(INPUT) {
         return Err(refused(
             reading,
             "standard input has the events, so the keymap can't be read from there",

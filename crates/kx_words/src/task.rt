@@ -23,7 +23,7 @@ pub struct Includes<'a> {
 }
 
 /// Where a source is taken from.
-#[derive(Clone, Copy, PartialEq, Eq)]
+#[derive(Clone, Copy)]
 pub enum Source<'a> {
     /// The file at a path, or standard input for [`INPUT`].
     File(&'a str),
@@ -46,6 +46,14 @@ impl<'a> Source<'a> {
         match self {
             Source::File(INPUT) | Source::Names(_) => None,
             Source::File(path) => Some(path),
+        }
+    }
+
+    /// Whether it is taken from this path.
+    pub(crate) fn is_at(self, path: &str) -> bool {
+        match self {
+            Source::File(own) => own == path,
+            Source::Names(_) => false,
         }
     }
 }
