@@ -2,7 +2,7 @@
 use crate::actions::action_named;
 use crate::quotes::quoted;
 use crate::site::{Owner, Site, argument_at, call_in_field, call_in_list, site_at};
-use crate::wanted::wanted_value;
+use crate::wanted::{is_among, wanted_value};
 use kx_key_fields::{is_attribute_word, is_key_word, is_list_word, usual_words};
 use kx_lex::Span;
 use kx_parse::{Call, Field, Kind, Predicate, Statement};
@@ -114,14 +114,6 @@ fn fields_of(owner: Owner) -> (&'static str, Known) {
     }
 }
 
-fn is_among(known: &'static str, word: &[u8]) -> bool {
-    known.split(", ").any(|name| {
-        let name = name.as_bytes();
-        let name = name.strip_suffix(b"[..]").unwrap_or(name);
-        name.eq_ignore_ascii_case(word)
-    })
-}
-
 /// Whether what has fields has one of a word, with an index or without.
 fn has_field(owner: Owner, word: &[u8]) -> bool {
     match fields_of(owner) {
@@ -135,10 +127,7 @@ fn write_argument(out: &mut String, action: &[u8], word: &[u8]) -> Result<(), Al
     let Some((name, known)) = action_named(action) else {
         return Ok(());
     };
-    let is_known = known
-        .split(", ")
-        .any(|argument| argument.as_bytes().eq_ignore_ascii_case(word));
-    if is_known {
+    if is_among(known, word) {
         return write_index(out, word, true);
     }
     let word = quoted(word);

@@ -16,47 +16,40 @@ const VIRTUAL_MASK: &str = "a mask of virtual modifiers";
 
 const VIRTUAL: &str = "the name of one virtual modifier";
 
-/// The words of fields and arguments, and what each wants.
-static VALUES: [(&str, &str); 33] = [
-    ("modifiers", MASK),
-    ("mods", MASK),
-    ("preserve", MASK),
+/// The words of fields and arguments that want the same, and what that is.
+static VALUES: [(&str, &str); 17] = [
+    ("modifiers, mods, preserve", MASK),
     ("map", LEVEL),
-    ("level_name", TEXT),
-    ("levelname", TEXT),
-    ("name", TEXT),
-    ("type", TEXT),
+    ("level_name, levelname, name, type", TEXT),
     ("symbols", "a list of keysyms, as [a, A]"),
     ("actions", "a list of actions, as [NoAction()]"),
-    ("vmods", VIRTUAL_MASK),
-    ("virtualMods", VIRTUAL_MASK),
-    ("virtualModifiers", VIRTUAL_MASK),
-    ("groupsWrap", TRUTH),
-    ("wrapGroups", TRUTH),
-    ("groupsClamp", TRUTH),
-    ("clampGroups", TRUTH),
-    ("groupsRedirect", GROUP),
-    ("redirectGroups", GROUP),
+    ("vmods, virtualMods, virtualModifiers", VIRTUAL_MASK),
+    ("groupsWrap, wrapGroups, groupsClamp, clampGroups", TRUTH),
+    ("clearLocks, latchToLock", TRUTH),
+    ("groupsRedirect, redirectGroups", GROUP),
     ("action", "an action, as SetMods(modifiers=Shift)"),
-    ("virtualModifier", VIRTUAL),
-    ("virtualMod", VIRTUAL),
-    ("useModMapMods", "level1 or any"),
-    ("useModMap", "level1 or any"),
-    ("whichModState", STATES),
-    ("whichGroupState", STATES),
+    ("virtualModifier, virtualMod", VIRTUAL),
+    ("useModMapMods, useModMap", "level1 or any"),
+    ("whichModState, whichGroupState", STATES),
     ("groups", "groups, as Group1+Group2"),
-    ("clearLocks", TRUTH),
-    ("latchToLock", TRUTH),
     ("affect", "lock, unlock, both or neither"),
     ("group", "a group, as 2 or +1"),
-    ("minimum", "a number"),
-    ("maximum", "a number"),
+    ("minimum, maximum", "a number"),
 ];
+
+/// Whether a word is one of these.
+pub(crate) fn is_among(known: &'static str, word: &[u8]) -> bool {
+    known.split(", ").any(|name| {
+        let name = name.as_bytes();
+        let name = name.strip_suffix(b"[..]").unwrap_or(name);
+        name.eq_ignore_ascii_case(word)
+    })
+}
 
 /// What a field or an argument of a word wants.
 pub(crate) fn wanted_value(word: &[u8]) -> Option<&'static str> {
-    for (name, wanted) in &VALUES {
-        if name.as_bytes().eq_ignore_ascii_case(word) {
+    for (words, wanted) in &VALUES {
+        if is_among(words, word) {
             return Some(wanted);
         }
     }
