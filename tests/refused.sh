@@ -1,9 +1,9 @@
 #!/bin/sh
-# Refuses each growth of memory in turn: of five calls on a desktop's keymap, each of which CALLS makes twice, and of the
+# Refuses each growth of memory in turn: of five calls on a desktop's keymap, each of which CASES makes twice, and of the
 # tasks of PROGRAM over that keymap. A growth that is refused gives want of memory, no byte of an answer, and no file, or the
 # call or task does without it (as for room asked for ahead) and ends whole; and the same call with memory answers as ever. A
 # file that is read is never OUT.
-#   tests/refused.sh CALLS PROGRAM
+#   tests/refused.sh CASES PROGRAM
 # Each growth at which it is otherwise is a line, and the last line counts the growths.
 set -u
 tests=$(cd "$(dirname "$0")" && pwd)
@@ -160,7 +160,7 @@ keeps() {
     echo "xkc $*: $((number - 1)) growths, and $file stays"
 }
 
-keymap=$tests/../crates/refused_calls/stdin
+keymap=$tests/../crates/cases/stdin
 input=$keymap
 for name in compile with_lines start replay session; do call "$name"; done
 

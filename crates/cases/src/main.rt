@@ -1,9 +1,11 @@
 //! Runs cases over whole sources, over the parts of compiling, and over rules. Of a source: how it is refused, its image, what is
 //! noted, its printed text, and what a session over it answers to events. Of the parts: tokens, trees, names, includes, and the
-//! records that statements give. Of rules: the components that they name.
+//! records that statements give. Of rules: the components that they name. Each word of the program is a file of cases, or a call
+//! that is made twice on the keymap of standard input.
 #![tactic(auto)]
 
 mod actions;
+mod calls;
 mod codes;
 mod indicators;
 mod interpretations;
@@ -22,8 +24,11 @@ mod symbols;
 mod texts;
 mod values;
 
-use cases_kit::{Case, Subject, Trouble, run_files};
+use crate::calls::Call;
+use cases_kit::{Case, Subject, Trouble, run_file};
 use std::alloc::Global;
+use std::env;
+use std::io::Read;
 
 /// Cases of all words: over whole keymaps, over the parts of compiling, and over rules.
 struct Words;
@@ -47,5 +52,18 @@ impl Subject for Words {
 }
 
 fn main(rt: HostRuntime) -> Result<(), Trouble> {
-    run_files(&rt, &Words)
+    let words: Vec<String> = env::args(&rt)?.collect(rt.alloc())?;
+    let mut keymap = Vec::new(rt.alloc());
+    for word in words.iter().skip(1) {
+        let word = word.as_str();
+        let Some(call) = Call::of(word) else {
+            run_file(&rt, &Words, word)?;
+            continue;
+        };
+        if keymap.is_empty() {
+            rt.reader().read_to_end(&mut keymap)?;
+        }
+        calls::make_twice(&rt, keymap.as_slice(), call, word)?;
+    }
+    Ok(())
 }

@@ -8,5 +8,5 @@ mod running;
 mod trouble;
 
 pub use case::Case;
-pub use running::{Subject, run_files};
+pub use running::{Subject, run_file};
 pub use trouble::Trouble;

@@ -3,8 +3,8 @@ use crate::case::Case;
 use crate::entries::{Entry, entries_in};
 use crate::trouble::Trouble;
 use std::alloc::{AllocError, Global};
-use std::rt::{Env, Files as FileSystem};
-use std::{env, fs};
+use std::fs;
+use std::rt::Files as FileSystem;
 
 /// What cases are about.
 pub trait Subject {
@@ -74,14 +74,17 @@ fn compare<S: Subject>(
     Ok(is_other)
 }
 
-/// Runs the cases of a file, and prints what differs and how many lines were compared.
-fn run_file<S: Subject>(
-    rt: &(impl Print + AllocGlobal),
+/// Runs the cases of the file at a path, and prints what differs and how many lines were compared.
+///
+/// # Errors
+/// Where the file can't be read, a line is none of these cases, or no memory is left.
+pub fn run_file<S: Subject>(
+    rt: &(impl FileSystem + Print + AllocGlobal),
     subject: &S,
     path: &str,
-    text: &str,
 ) -> Result<(), Trouble> {
-    let entries = entries_in(rt.alloc(), text)?;
+    let text = fs::read_to_string(rt, path)?;
+    let entries = entries_in(rt.alloc(), text.as_str())?;
     let mut case = Case::new(rt.alloc())?;
     let mut tally = Tally {
         compared: 0,
@@ -98,18 +101,5 @@ fn run_file<S: Subject>(
     }
     let Tally { compared, other } = tally;
     println!(rt; "{path}: {compared} lines, {other} of them otherwise")?;
-    Ok(())
-}
-
-/// Runs the cases of each file that the words of the program name, and prints what differs and how many lines were compared.
-pub fn run_files<S: Subject>(
-    rt: &(impl Env + FileSystem + Print + AllocGlobal),
-    subject: &S,
-) -> Result<(), Trouble> {
-    let words: Vec<String> = env::args(rt)?.collect(rt.alloc())?;
-    for path in words.iter().skip(1) {
-        let text = fs::read_to_string(rt, path.as_str())?;
-        run_file(rt, subject, path.as_str(), text.as_str())?;
-    }
     Ok(())
 }

@@ -1,16 +1,11 @@
-//! Makes calls twice each on a keymap that it reads from standard input, and prints how each ended. `tests/refused.sh` runs
-//! it with the word of one call, and refuses its growths one by one; without a word it makes all.
-#![tactic(auto)]
-
+//! Calls that are made twice each on a keymap, so that `tests/refused.sh` can refuse their growths one by one.
+use cases_kit::Trouble;
 use ks_core::{MemFeed, MemOut, NameTable};
 use kx_image::View;
 use kx_run::{Direction, Player};
 use kx_tool::{Files, compile, replay, session};
 use std::alloc::Global;
-use std::io::Read;
-use std::{env, io};
-
-const CALLS: [&str; 5] = ["compile", "with_lines", "start", "replay", "session"];
+use std::io;
 
 const LINES: &[u8] = b"down 50
 down 38
@@ -22,18 +17,42 @@ const NAMES: &[u8] = b"one 0x1001
 two 0x1002
 ";
 
-/// What a call is made on: an image, or what a session reads. Nothing where there is no memory for it.
-fn made(alloc: Global, keymap: &[u8], call: &str) -> Option<Vec<u8>> {
-    match call {
-        "start" | "replay" => {
-            let files = Files::new(alloc);
-            match compile(alloc, keymap, &files, &NameTable::builtin()) {
-                Ok((image, _notes)) => Some(image),
-                Err(_) => None,
-            }
+/// A call of the library.
+#[derive(Clone, Copy)]
+pub(crate) enum Call {
+    Compile,
+    WithLines,
+    Start,
+    Replay,
+    Session,
+}
+
+impl Call {
+    /// The call of a word.
+    pub(crate) fn of(word: &str) -> Option<Call> {
+        match word {
+            "compile" => Some(Call::Compile),
+            "with_lines" => Some(Call::WithLines),
+            "start" => Some(Call::Start),
+            "replay" => Some(Call::Replay),
+            "session" => Some(Call::Session),
+            _ => None,
         }
-        "session" => [keymap, b"%%\n".as_slice(), LINES].concat(alloc).ok(),
-        _ => Some(Vec::new(alloc)),
+    }
+
+    /// What the call is made on: an image, or what a session reads. Nothing where there is no memory for it.
+    fn made(self, alloc: Global, keymap: &[u8]) -> Option<Vec<u8>> {
+        match self {
+            Call::Start | Call::Replay => {
+                let files = Files::new(alloc);
+                match compile(alloc, keymap, &files, &NameTable::builtin()) {
+                    Ok((image, _notes)) => Some(image),
+                    Err(_) => None,
+                }
+            }
+            Call::Session => [keymap, b"%%\n".as_slice(), LINES].concat(alloc).ok(),
+            Call::Compile | Call::WithLines => Some(Vec::new(alloc)),
+        }
     }
 }
 
@@ -105,31 +124,23 @@ fn session_once(rt: &(impl Print + AllocGlobal), text: &[u8]) -> io::Result<()> 
 }
 
 /// Makes a call twice, after a line with its word, which says that all before it is done.
-fn make_twice(rt: &(impl Print + AllocGlobal), keymap: &[u8], call: &str) -> io::Result<()> {
-    let Some(made) = made(rt.alloc(), keymap, call) else {
-        return println!(rt; "before");
+pub(crate) fn make_twice(
+    rt: &(impl Print + AllocGlobal),
+    keymap: &[u8],
+    call: Call,
+    word: &str,
+) -> Result<(), Trouble> {
+    let Some(made) = call.made(rt.alloc(), keymap) else {
+        return Ok(println!(rt; "before")?);
     };
-    println!(rt; "{call}")?;
+    println!(rt; "{word}")?;
     for _turn in 0..2 {
         match call {
-            "compile" => compile_once(rt, keymap)?,
-            "with_lines" => names_once(rt)?,
-            "start" => start_once(rt, made.as_slice())?,
-            "replay" => replay_once(rt, made.as_slice())?,
-            _ => session_once(rt, made.as_slice())?,
-        }
-    }
-    Ok(())
-}
-
-fn main(rt: HostRuntime) -> io::Result<()> {
-    let words: Vec<String> = env::args(&rt)?.collect(rt.alloc())?;
-    let wanted = words.get(1).map_or("", |word| word.as_str());
-    let mut keymap = Vec::new(rt.alloc());
-    rt.reader().read_to_end(&mut keymap)?;
-    for call in CALLS {
-        if wanted.is_empty() || call == wanted {
-            make_twice(&rt, keymap.as_slice(), call)?;
+            Call::Compile => compile_once(rt, keymap)?,
+            Call::WithLines => names_once(rt)?,
+            Call::Start => start_once(rt, made.as_slice())?,
+            Call::Replay => replay_once(rt, made.as_slice())?,
+            Call::Session => session_once(rt, made.as_slice())?,
         }
     }
     Ok(())
