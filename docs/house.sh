@@ -26,7 +26,7 @@ text
 tokens kx_lex
 tree kx_parse
 includes kx_include
-sections kx_merge kx_codes kx_virtual_mods kx_actions kx_types kx_key_fields
+sections kx_merge kx_codes kx_virtual_mods kx_actions kx_types kx_key_lists kx_key_fields
 sections kx_symbols kx_modmaps kx_compat kx_group_names kx_indicators
 resolved kx_builder kx_resolve kx_source
 tables kx_tables
@@ -39,11 +39,11 @@ calls kx_tool kx_headline
 print kx_print
 clients kx_clients kx_client_text
 round-trip roundtrip_text roundtrip_tree roundtrip_meaning kx_roundtrip
-names kx_rules rules_tree kx_names
+names kx_rule_lines kx_rules rules_tree kx_names
 program kx_reach kx_files kx_explain kx_noted kx_show kx_failure kx_words kx_keymaps kx_program xkc
-C kx_slots kx_handles kx_told kx_sources xkc_c
+C kx_slots kx_handles kx_told kx_sources kx_calls xkc_c
 example compositor
-tests cases_kit cases library_tests refused_calls
+tests cases_kit cases library_tests
 END
 }
 

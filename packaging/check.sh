@@ -97,7 +97,7 @@ tries_release() {
     printf '#!/bin/sh\necho xkc %s\n' "$(sed -n 's/^## //p' CHANGELOG.md | head -n 1)" > crates/xkc/out/xkc
     chmod +x c/build.sh "$work/path/objdump" crates/xkc/out/xkc
     # The record of ./check, whose parts are stand-ins too, and then records by hand.
-    mkdir -p tests crates/xkc_c/out crates/refused_calls/out
+    mkdir -p tests crates/xkc_c/out crates/cases/out
     cp "$top/check" .
     printf '#!/bin/sh\n[ "$1" = version ] && echo kit logic || echo "2 passed, 0 failed"\n' > "$work/path/rt"
     for part in tests/program.sh tests/refused.sh tests/library.sh packaging/check.sh; do

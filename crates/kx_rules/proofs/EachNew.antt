@@ -3,7 +3,7 @@ use Rattle.std.proofs.Common.{◌≡◌, ℕ, ◌+◌, ◌<◌, Option, Some, No
 use Rattle.std.specs.List.{list_any}
 use Rattle.std.proofs.lemmas.List.{drop_more}
 use Rattle.kx_rules.specs.Mappings.{each_new}
-use Rattle.kx_rules.specs.Pieces.{Piece}
+use Rattle.kx_rule_lines.specs.Pieces.{Piece}
 
 here : (words : List Piece) (i : ℕ) (word : Piece) → i < length words → word ≡ get_or words i word → drop i words ≡ word ∷ drop (i + 1) words
 here words i word inside is = drop_more words i word inside ∙ ap (λ w. w ∷ drop (i + 1) words) (sym is)

@@ -1,6 +1,6 @@
 -- What an include gives.
 use Rattle.std.proofs.Common.{◌≡◌, ℕ, zero, suc, ◌+◌, true, List, Option, None, Some, refl, sym, ap, ◌∙◌, add-one, if◌then◌else◌}
-use Rattle.kx_rules.specs.Lines.{Inclusion}
+use Rattle.kx_rule_lines.specs.Lines.{Inclusion}
 use Rattle.kx_rules.specs.Names.{Names}
 use Rattle.kx_rules.specs.Rules.{Reading, State, Texts, after, anew, included, is_room, lines_of, opening, run, text_of}
 use Rattle.kx_rules.specs.Steps.{IsEntered, IsEnteredAs, reading}

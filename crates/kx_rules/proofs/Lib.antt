@@ -1,7 +1,5 @@
-pub mod Cutting
 pub mod EachNew
 pub mod Expanding
-pub mod InWords
 pub mod Including
 pub mod Items
 pub mod Keyed
@@ -9,8 +7,6 @@ pub mod Lists
 pub mod Marking
 pub mod PassedRules
 pub mod Running
-pub mod Scanning
 pub mod Telling
 pub mod Using
-pub mod Words
 pub mod Writing

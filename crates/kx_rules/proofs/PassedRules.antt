@@ -2,16 +2,16 @@
 use Rattle.std.proofs.Common.{◌≡◌, ◌≢◌, ℕ, zero, suc, ◌+◌, ◌-◌, ◌<◌, ◌≤◌, nat_le, get_or, IfSome, ◌==◌, ◌&&◌, ◌||◌, not, Bool, cond, true, false, List, [], ◌∷◌, ◌++◌, length, take, drop, Option, None, Some, refl, sym, ap, ◌∙◌, subst, append_assoc, append-nil, arith, le-leb, leb-true, leb-false, ne_eqb}
 use Rattle.std.proofs.lemmas.Bool.{eqb-false}
 use Rattle.std.specs.List.{prefix_len}
-use Rattle.kx_rules.specs.Bytes.{begins_plain}
-use Rattle.kx_rules.specs.Lines.{Blank, Line, Right, Rule, begins_include, closes, cut_at, is_bang, is_include, is_value, is_word, line_of, lines, right_behind, right_of, ruled, sides, told, uncut, values_len, words_len}
+use Rattle.kx_rule_lines.specs.Bytes.{begins_plain}
+use Rattle.kx_rule_lines.specs.Lines.{Blank, Line, Right, Rule, begins_include, closes, cut_at, is_bang, is_include, is_value, is_word, line_of, lines, right_behind, right_of, ruled, sides, told, uncut, values_len, words_len}
 use Rattle.kx_rules.specs.Names.{Names}
-use Rattle.kx_rules.specs.Pieces.{Piece, gap_len, is_blank, is_word_byte, kind_at, piece, piece_len, pieces, text_at, word_len}
+use Rattle.kx_rule_lines.specs.Pieces.{Piece, gap_len, is_blank, is_word_byte, kind_at, piece, piece_len, pieces, text_at, word_len}
 use Rattle.kx_rules.specs.Rules.{State, after, go_on, has_rules, run, with_rule}
 use Rattle.kx_rules.specs.Steps.{BeginsWith, IsBehind}
-use Rattle.kx_rules.specs.declared.scan.Kind.{Kind}
-use Rattle.kx_rules.specs.declared.scan.Kind.TheVariants.{NewLine, Bang, Equals, Star, Include, Group, Word, Bad}
+use Rattle.kx_rule_lines.specs.declared.scan.Kind.{Kind}
+use Rattle.kx_rule_lines.specs.declared.scan.Kind.TheVariants.{NewLine, Bang, Equals, Star, Include, Group, Word, Bad}
 use Rattle.kx_rules.specs.declared.state.Rules.TheVariants.{PassedOver}
-use Rattle.kx_rules.proofs.Scanning.{first_piece, no_gap, skip_gap}
+use Rattle.kx_rule_lines.proofs.Scanning.{first_piece, no_gap, skip_gap}
 
 begins_bang : List Piece → Bool
 begins_bang [] = false

@@ -1,8 +1,8 @@
 -- One line after another.
 use Rattle.std.proofs.Common.{◌≡◌, ℕ, List, ◌∷◌, None, Some, ap}
-use Rattle.kx_rules.specs.Lines.{line_of}
+use Rattle.kx_rule_lines.specs.Lines.{line_of}
 use Rattle.kx_rules.specs.Names.{Names}
-use Rattle.kx_rules.specs.Pieces.{Piece}
+use Rattle.kx_rule_lines.specs.Pieces.{Piece}
 use Rattle.kx_rules.specs.Rules.{Reading, State, Texts, go_on, has_rules, included, run}
 use Rattle.kx_rules.specs.Steps.{reading}
 

@@ -1,12 +1,12 @@
 -- What the first piece of a line says of it.
 use Rattle.std.proofs.Common.{◌≡◌, ℕ, zero, suc, ◌-◌, ◌≤◌, take, Option, None, Some, List, [], ◌∷◌, length, drop, get_or, refl, sym, ap, ◌∙◌, subst, arith}
-use Rattle.kx_rules.specs.Lines.{Line, Inclusion, Heading, Broken, inclusion, listing, sides, told, words_len}
+use Rattle.kx_rule_lines.specs.Lines.{Line, Inclusion, Heading, Broken, inclusion, listing, sides, told, words_len}
 use Rattle.kx_rules.specs.Names.{Names}
-use Rattle.kx_rules.specs.Pieces.{Piece}
+use Rattle.kx_rule_lines.specs.Pieces.{Piece}
 use Rattle.kx_rules.specs.Rules.{State, Texts}
 use Rattle.kx_rules.specs.Steps.{IsCutAt, IsTaken, reading}
-use Rattle.kx_rules.specs.declared.scan.Kind.{Kind}
-use Rattle.kx_rules.specs.declared.scan.Kind.TheVariants.{Include, Group, Word}
+use Rattle.kx_rule_lines.specs.declared.scan.Kind.{Kind}
+use Rattle.kx_rule_lines.specs.declared.scan.Kind.TheVariants.{Include, Group, Word}
 use Rattle.kx_rules.specs.declared.state.Taken.{Taken}
 
 pub inclusion_word : (line : List Piece) (p : Piece) (name : List ℕ) → 1 ≤ length line → p ≡ get_or line 0 p → p.kind ≡ Word → name ≡ p.text → inclusion line ≡ Inclusion name

@@ -3,7 +3,7 @@ use Rattle.std.specs.Prelude.{ℕ, zero, suc, ◌+◌, ◌-◌, Bool, ◌==◌, 
 use Rattle.std.specs.Option.{option_map, option_and_then}
 use Rattle.kx_rules.specs.declared.limits.TheConstants.{GREATEST_INDEX}
 use Rattle.kx_rules.specs.Names.{Names}
-use Rattle.kx_rules.specs.Pieces.{begins}
+use Rattle.kx_rule_lines.specs.Pieces.{begins}
 
 -- a digit in brackets, from 1 on, as a place from 0 on
 unfoldable pub index_in : List ℕ → Option ℕ

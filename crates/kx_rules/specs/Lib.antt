@@ -1,11 +1,8 @@
-pub mod Bytes
 pub mod Expansions
-pub mod Lines
 pub mod Mappings
 pub mod Marks
 pub mod Matches
 pub mod Names
-pub mod Pieces
 pub mod Rules
 pub mod Sources
 pub mod Steps

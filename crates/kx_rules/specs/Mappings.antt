@@ -5,7 +5,7 @@ use Rattle.std.specs.Option.{option_map}
 use Rattle.std.specs.Str.{bytes_eq}
 use Rattle.kx_rules.specs.Expansions.{index_in}
 use Rattle.kx_rules.specs.Names.{Names}
-use Rattle.kx_rules.specs.Pieces.{Piece, begins}
+use Rattle.kx_rule_lines.specs.Pieces.{Piece, begins}
 use Rattle.kx_rules.specs.declared.columns.Column.{Column}
 use Rattle.kx_rules.specs.declared.columns.Field.{Field}
 use Rattle.kx_rules.specs.declared.columns.Field.TheVariants.{Model, Layout, Variant, Choice}

@@ -5,11 +5,11 @@ use Rattle.std.specs.List.{list_all, list_any, zip}
 use Rattle.std.specs.Str.{bytes_eq}
 use Rattle.kx_rules.specs.Mappings.{Mapping, layout_place}
 use Rattle.kx_rules.specs.Names.{Names, has}
-use Rattle.kx_rules.specs.Pieces.{Piece}
+use Rattle.kx_rule_lines.specs.Pieces.{Piece}
 use Rattle.kx_rules.specs.declared.columns.Column.{Column}
 use Rattle.kx_rules.specs.declared.columns.Field.TheVariants.{Model, Layout, Variant, Choice}
 use Rattle.kx_rules.specs.declared.limits.TheConstants.{GREATEST_INDEX}
-use Rattle.kx_rules.specs.declared.scan.Kind.TheVariants.{Star, Group}
+use Rattle.kx_rule_lines.specs.declared.scan.Kind.TheVariants.{Star, Group}
 
 -- which of the names a group has; layouts and variants as far as there are indexes
 pub record Members : Type 0 where

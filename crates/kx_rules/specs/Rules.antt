@@ -4,11 +4,11 @@ use Rattle.std.specs.List.{count_by}
 use Rattle.std.specs.Map.{lookup}
 use Rattle.std.specs.Str.{bytes_eq}
 use Rattle.kx_rules.specs.Expansions.{expanded, joined}
-use Rattle.kx_rules.specs.Lines.{Line, Blank, Inclusion, Listing, Heading, Rule, Broken, line_of, lines}
+use Rattle.kx_rule_lines.specs.Lines.{Line, Blank, Inclusion, Listing, Heading, Rule, Broken, line_of, lines}
 use Rattle.kx_rules.specs.Mappings.{Mapping, has_choice, mapping_of}
 use Rattle.kx_rules.specs.Matches.{Groups, applies, members_of, with_group}
 use Rattle.kx_rules.specs.Names.{Names, are_short}
-use Rattle.kx_rules.specs.Pieces.{Piece, pieces}
+use Rattle.kx_rule_lines.specs.Pieces.{Piece, pieces}
 use Rattle.kx_rules.specs.Uses.{IsLeft, uses_of}
 use Rattle.kx_rules.specs.declared.columns.Section.{Section}
 use Rattle.kx_rules.specs.declared.columns.Section.TheVariants.{Keycodes, Types, Compat, Symbols, Geometry}

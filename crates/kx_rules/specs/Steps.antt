@@ -1,11 +1,11 @@
 -- What a line does to a state, as the code takes it: a text that is included is left to the caller.
 use Rattle.std.specs.Prelude.{◌≡◌, ℕ, ◌+◌, Bool, true, false, List, ◌∷◌, drop, Option, None, Some}
 use Rattle.std.specs.List.{prefix_len}
-use Rattle.kx_rules.specs.Lines.{Line}
+use Rattle.kx_rule_lines.specs.Lines.{Line}
 use Rattle.kx_rules.specs.Names.{Names}
-use Rattle.kx_rules.specs.Pieces.{Piece}
+use Rattle.kx_rule_lines.specs.Pieces.{Piece}
 use Rattle.kx_rules.specs.Rules.{Reading, State, Texts, after, anew, included, is_room, lines_of, opening, run, text_of}
-use Rattle.kx_rules.specs.declared.scan.Kind.{Kind}
+use Rattle.kx_rule_lines.specs.declared.scan.Kind.{Kind}
 use Rattle.kx_rules.specs.declared.state.Taken.{Taken}
 use Rattle.kx_rules.specs.declared.state.Taken.TheVariants.{Next, Inner, Unexpected}
 

@@ -7,11 +7,11 @@ use Rattle.kx_rules.specs.Expansions.{index_in, is_joint}
 use Rattle.kx_rules.specs.Mappings.{is_field, layout_place}
 use Rattle.kx_rules.specs.Matches.{Groups}
 use Rattle.kx_rules.specs.Names.{Names}
-use Rattle.kx_rules.specs.Pieces.{Piece}
+use Rattle.kx_rule_lines.specs.Pieces.{Piece}
 use Rattle.kx_rules.specs.declared.columns.Column.{Column}
 use Rattle.kx_rules.specs.declared.columns.Field.{Field}
 use Rattle.kx_rules.specs.declared.columns.Field.TheVariants.{Model, Layout, Variant, Choice}
-use Rattle.kx_rules.specs.declared.scan.Kind.TheVariants.{Star, Group}
+use Rattle.kx_rule_lines.specs.declared.scan.Kind.TheVariants.{Star, Group}
 use Rattle.kx_rules.specs.declared.passed.Passed.{Passed}
 use Rattle.kx_rules.specs.declared.uses.Use.{Use}
 use Rattle.kx_rules.specs.declared.uses.Use.TheVariants.{Named, AllOptions, Grouped}

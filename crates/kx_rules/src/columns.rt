@@ -6,7 +6,7 @@ ghost use Rattle.kx_rules.specs.Mappings.{column_counts, column_of, counts, each
 
 use crate::expansion::index_in;
 use crate::names::Names;
-use crate::word::Piece;
+use kx_rule_lines::Piece;
 use std::alloc::{AllocError, Global};
 use std::marker::Model;
 

@@ -7,7 +7,7 @@ ghost use Rattle.kx_rules.specs.Rules.{is_some_empty, with_text, with_texts};
 use crate::columns::Section;
 use crate::expansion::{expanded, join};
 use crate::names::Names;
-use crate::word::Piece;
+use kx_rule_lines::Piece;
 use std::alloc::{AllocError, Global};
 use std::marker::Model;
 

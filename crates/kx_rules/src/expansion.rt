@@ -2,11 +2,11 @@
 ghost use Rattle.std.specs.Prelude.{◌≡◌, ◌≤◌, ◌<◌, length, IfOk, IfSome, OnOk, None, [], Some, ◌++◌, take};
 ghost use Rattle.std.specs.Option.{option_map};
 ghost use Rattle.kx_rules.specs.Expansions.{enclosed, expanded, index_in, indexed, is_joint, is_part, item_at, joined, lettered, named, placeholder};
-ghost use Rattle.kx_rules.specs.Pieces.{begins};
+ghost use Rattle.kx_rule_lines.specs.Pieces.{begins};
 
 use crate::limits::GREATEST_INDEX;
 use crate::names::Names;
-use crate::word::Word;
+use kx_rule_lines::Word;
 use std::alloc::{AllocError, Global};
 
 /// The place that a digit in brackets names, counted from 0.

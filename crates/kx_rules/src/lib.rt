@@ -1,26 +1,22 @@
 //! The components that a rules file names for a model, layouts, variants and options, as libxkbcommon 1.5 reads it.
 #![tactic(auto)]
 
-mod bytes;
 mod columns;
 mod components;
 mod expansion;
 mod fault;
 mod limits;
-mod lines;
 mod marks;
 mod matching;
 mod members;
 mod names;
 mod passed;
 mod reading;
-mod scan;
 mod skipping;
 mod source;
 mod state;
 mod texts;
 mod uses;
-mod word;
 
 pub use components::Components;
 pub use fault::Fault;

@@ -11,7 +11,7 @@ use crate::members::Groups;
 use crate::names::Names;
 use crate::passed::Passed;
 use crate::uses::Use;
-use crate::word::Word;
+use kx_rule_lines::Word;
 use std::alloc::{AllocError, Global};
 
 /// What is marked.

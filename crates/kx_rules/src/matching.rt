@@ -3,13 +3,12 @@ ghost use Rattle.std.specs.Prelude.{◌≡◌};
 ghost use Rattle.std.specs.List.{list_all, zip};
 ghost use Rattle.kx_rules.specs.Matches.{applies, fits, is_named};
 ghost use Rattle.kx_rules.specs.declared.columns.Column.{Column};
-ghost use Rattle.kx_rules.specs.Pieces.{Piece};
+ghost use Rattle.kx_rule_lines.specs.Pieces.{Piece};
 
 use crate::columns::{Column, Field, Mapping};
 use crate::members::Groups;
 use crate::names::Names;
-use crate::scan::Kind;
-use crate::word::Piece;
+use kx_rule_lines::{Kind, Piece};
 
 fn is_named(names: &Names, place: usize, column: Column, word: &[u8]) -> bool
     ensures { result ≡ is_named names.now place column word.now }

@@ -10,8 +10,8 @@ ghost use Rattle.kx_rules.specs.Uses.{options_at};
 use crate::columns::{Column, Field};
 use crate::limits::GREATEST_INDEX;
 use crate::names::Names;
-use crate::word::{Piece, Word};
 use kx_ordered::{Ordered, OwnedName};
+use kx_rule_lines::{Piece, Word};
 use std::alloc::{AllocError, Global};
 use std::marker::Model;
 

@@ -8,8 +8,8 @@ ghost use Rattle.kx_rules.specs.Names.{are_short, has, is_short, is_space, item_
 
 use crate::limits::MOST_NAME_BYTES;
 use crate::marks::is_left;
-use crate::word::Word;
 use kx_ordered::{Ordered, OwnedName};
+use kx_rule_lines::Word;
 use std::alloc::{AllocError, Global};
 use std::marker::Model;
 

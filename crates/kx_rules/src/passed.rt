@@ -7,7 +7,7 @@ use crate::marks::{is_model_left, items_left, options_left};
 use crate::members::Groups;
 use crate::names::Names;
 use crate::uses::{Use, left_uses, push_all_written};
-use crate::word::Piece;
+use kx_rule_lines::Piece;
 use std::alloc::{AllocError, Global};
 use std::marker::Model;
 

@@ -7,13 +7,12 @@ ghost use Rattle.kx_rules.specs.declared.limits.TheConstants.{MOST_DEPTH, MOST_R
 use crate::components::Components;
 use crate::fault::Fault;
 use crate::limits::{MOST_DEPTH, MOST_READ_BYTES};
-use crate::lines::next_line;
 use crate::members::Groups;
 use crate::names::Names;
 use crate::passed::{Passed, Uses};
 use crate::state::{State, Taken};
 use crate::texts::Texts;
-use crate::word::Piece;
+use kx_rule_lines::{Piece, next_line};
 use std::alloc::{AllocError, Global};
 
 /// A place in a text and the number of its line, counted from 1.

@@ -1,16 +1,15 @@
 //! Rules that are passed over whatever they say.
 ghost use Rattle.std.specs.Prelude.{◌≡◌, ◌≤◌, ◌<◌, ℕ, List, IfSome, length};
-ghost use Rattle.kx_rules.specs.Bytes.{begins_plain};
-ghost use Rattle.kx_rules.specs.Lines.{is_value, is_word};
+ghost use Rattle.kx_rule_lines.specs.Bytes.{begins_plain};
+ghost use Rattle.kx_rule_lines.specs.Lines.{is_value, is_word};
 ghost use Rattle.kx_rules.specs.Names.{Names as NamesValue};
-ghost use Rattle.kx_rules.specs.Pieces.{pieces};
+ghost use Rattle.kx_rule_lines.specs.Pieces.{pieces};
 ghost use Rattle.kx_rules.specs.Rules.{State as StateValue, lines_of, run};
 ghost use Rattle.kx_rules.specs.Steps.{BeginsWith, IsBehind};
-ghost use Rattle.kx_rules.specs.declared.scan.Kind.TheVariants.{Equals as EqualsKind, NewLine as NewLineKind};
+ghost use Rattle.kx_rule_lines.specs.declared.scan.Kind.TheVariants.{Equals as EqualsKind, NewLine as NewLineKind};
 ghost use Rattle.kx_rules.specs.declared.state.Rules.TheVariants.{PassedOver};
 
-use crate::bytes::is_word_byte;
-use crate::scan::{blank_len, word_len};
+use kx_rule_lines::{blank_len, is_word_byte, word_len};
 
 /// Whether a byte begins a word wherever a piece begins with it.
 fn begins_plain(byte: u8) -> bool

@@ -1,7 +1,7 @@
 //! What lasts from line to line.
 ghost use Rattle.std.specs.Prelude.{◌≡◌, ◌≤◌, ℕ, List, IfOk, OnOk, length};
 ghost use Rattle.std.specs.Option.{option_map};
-ghost use Rattle.kx_rules.specs.Lines.{Heading, Inclusion, inclusion, line_of, listing, ruled, sides, told, words_len};
+ghost use Rattle.kx_rule_lines.specs.Lines.{Heading, Inclusion, inclusion, line_of, listing, ruled, sides, told, words_len};
 ghost use Rattle.kx_rules.specs.Mappings.{mapping_of};
 ghost use Rattle.kx_rules.specs.Matches.{members_of, with_group};
 ghost use Rattle.kx_rules.specs.Names.{Names as NamesValue};
@@ -12,15 +12,13 @@ ghost use Rattle.kx_rules.specs.declared.limits.TheConstants.{MOST_READ_BYTES};
 use crate::columns::{Mapping, is_faulty, mapping_of};
 use crate::components::Components;
 use crate::limits::MOST_READ_BYTES;
-use crate::lines::{right_of, values_len, words_len};
 use crate::matching::applies;
 use crate::members::Groups;
 use crate::names::Names;
 use crate::passed::{Reason, Uses};
-use crate::scan::Kind;
 use crate::skipping::behind_rules;
 use crate::texts::Texts;
-use crate::word::Piece;
+use kx_rule_lines::{Kind, Piece, right_of, values_len, words_len};
 use std::alloc::{AllocError, Global};
 use std::marker::Model;
 
@@ -376,7 +374,7 @@ impl State {
     }
 
     /// Takes a line, where includes may be nested so deep.
-    #[tactic(auto, unfolding(crate::specs::Rules::after, crate::specs::Lines::line_of))]
+    #[tactic(auto, unfolding(crate::specs::Rules::after, kx_rule_lines::specs::Lines::line_of))]
     pub(crate) fn take<'a>(
         &mut self,
         alloc: Global,

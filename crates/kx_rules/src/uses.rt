@@ -1,7 +1,7 @@
 //! What the rules that apply take of the names that are asked for.
 ghost use Rattle.std.specs.Prelude.{◌≡◌, ◌++◌, IfOk, OnOk, filter_map, flat_map, option_map, option_to_list, zip};
 ghost use Rattle.kx_rules.specs.Mappings.{layout_place};
-ghost use Rattle.kx_rules.specs.Pieces.{Piece as PieceValue};
+ghost use Rattle.kx_rule_lines.specs.Pieces.{Piece as PieceValue};
 ghost use Rattle.kx_rules.specs.Uses.{item_place, name_at, options_of, use_of, without_sign, written};
 ghost use Rattle.kx_rules.specs.declared.columns.Column.{Column as ColumnValue};
 ghost use Rattle.kx_rules.specs.declared.uses.Use.TheVariants.{Named as NamedUse};
@@ -10,9 +10,8 @@ use crate::columns::{Column, Field, layout_place};
 use crate::expansion::{front, index_in, is_joint};
 use crate::members::Groups;
 use crate::names::Names;
-use crate::scan::Kind;
 use crate::uses::Use::{AllOptions, Grouped, Named};
-use crate::word::Piece;
+use kx_rule_lines::{Kind, Piece};
 use std::alloc::{AllocError, Global};
 
 /// What a rule takes that applies.

@@ -2,7 +2,7 @@ use Rattle.std.proofs.Common.{◌≡◌, ◌-◌, true, false, length, take, dro
 use Rattle.std.specs.Str.{bytes_eq}
 use Rattle.std.proofs.lemmas.List.{take_all}
 use Rattle.kx_rules.specs.Mappings.{column_of, indexed_column}
-use Rattle.kx_rules.specs.Pieces.{begins}
+use Rattle.kx_rule_lines.specs.Pieces.{begins}
 use Rattle.kx_rules.specs.declared.columns.Field.TheVariants.{Layout, Variant}
 use Rattle.kx_rules.proofs.columns.column_of.Goals as goal
 

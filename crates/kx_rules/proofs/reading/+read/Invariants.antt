@@ -1,6 +1,6 @@
 use Rattle.std.proofs.Common.{◌≡◌, [], length}
-use Rattle.kx_rules.specs.Lines.{lines}
-use Rattle.kx_rules.specs.Pieces.{pieces}
+use Rattle.kx_rule_lines.specs.Lines.{lines}
+use Rattle.kx_rule_lines.specs.Pieces.{pieces}
 use Rattle.kx_rules.specs.Rules.{included, lines_of, run}
 use Rattle.kx_rules.proofs.reading.+read.Given as goal
 

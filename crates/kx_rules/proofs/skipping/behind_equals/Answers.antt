@@ -1,7 +1,7 @@
 use Rattle.std.proofs.Common.{◌≡◌, get_or, arith}
-use Rattle.kx_rules.specs.Lines.{is_value}
-use Rattle.kx_rules.specs.Pieces.{pieces}
-use Rattle.kx_rules.specs.declared.scan.Kind.TheVariants.{Equals}
+use Rattle.kx_rule_lines.specs.Lines.{is_value}
+use Rattle.kx_rule_lines.specs.Pieces.{pieces}
+use Rattle.kx_rule_lines.specs.declared.scan.Kind.TheVariants.{Equals}
 use Rattle.kx_rules.proofs.PassedRules.{behind_one, behind_sign}
 use Rattle.kx_rules.proofs.skipping.behind_equals.Goals as goal
 

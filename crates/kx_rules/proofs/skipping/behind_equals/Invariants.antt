@@ -1,8 +1,8 @@
 use Rattle.std.proofs.Common.{◌≤◌, List, length}
-use Rattle.kx_rules.specs.Lines.{is_value}
-use Rattle.kx_rules.specs.Pieces.{Piece, pieces}
+use Rattle.kx_rule_lines.specs.Lines.{is_value}
+use Rattle.kx_rule_lines.specs.Pieces.{Piece, pieces}
 use Rattle.kx_rules.specs.Steps.{IsBehind}
-use Rattle.kx_rules.specs.declared.scan.Kind.TheVariants.{Equals}
+use Rattle.kx_rule_lines.specs.declared.scan.Kind.TheVariants.{Equals}
 use Rattle.kx_rules.proofs.skipping.behind_equals.Given as goal
 
 abbrev pub invariant-values : goal.invariant-values

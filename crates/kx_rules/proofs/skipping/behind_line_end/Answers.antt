@@ -1,7 +1,7 @@
 use Rattle.std.proofs.Common.{◌≡◌, get_or, arith}
-use Rattle.kx_rules.specs.Lines.{is_word}
-use Rattle.kx_rules.specs.Pieces.{pieces}
-use Rattle.kx_rules.specs.declared.scan.Kind.TheVariants.{NewLine}
+use Rattle.kx_rule_lines.specs.Lines.{is_word}
+use Rattle.kx_rule_lines.specs.Pieces.{pieces}
+use Rattle.kx_rule_lines.specs.declared.scan.Kind.TheVariants.{NewLine}
 use Rattle.kx_rules.proofs.PassedRules.{behind_one, behind_end}
 use Rattle.kx_rules.proofs.skipping.behind_line_end.Goals as goal
 

@@ -1,9 +1,9 @@
 use Rattle.std.proofs.Common.{◌≡◌}
-use Rattle.kx_rules.specs.Lines.{is_word}
-use Rattle.kx_rules.specs.Pieces.{pieces}
+use Rattle.kx_rule_lines.specs.Lines.{is_word}
+use Rattle.kx_rule_lines.specs.Pieces.{pieces}
 use Rattle.kx_rules.specs.Rules.{lines_of, run}
 use Rattle.kx_rules.specs.Steps.{IsBehind}
-use Rattle.kx_rules.specs.declared.scan.Kind.TheVariants.{NewLine}
+use Rattle.kx_rule_lines.specs.declared.scan.Kind.TheVariants.{NewLine}
 use Rattle.kx_rules.proofs.PassedRules.{behind_rule, some_then}
 use Rattle.kx_rules.proofs.skipping.behind_rule.Goals as goal
 

@@ -1,9 +1,9 @@
 -- What the table of the bytes of words says.
 use Rattle.std.proofs.Common.{◌≡◌, ◌≢◌, ℕ, Bool, true, false, cond, refl, sym, ap, ◌∙◌}
-use Rattle.kx_rules.specs.Bytes.{in_word_of}
-use Rattle.kx_rules.specs.Pieces.{is_word_byte}
-use Rattle.kx_rules.specs.declared.bytes.InWord.{InWord}
-use Rattle.kx_rules.specs.declared.bytes.InWord.TheVariants.{No, Yes}
+use Rattle.kx_rule_lines.specs.Bytes.{in_word_of}
+use Rattle.kx_rule_lines.specs.Pieces.{is_word_byte}
+use Rattle.kx_rule_lines.specs.declared.bytes.InWord.{InWord}
+use Rattle.kx_rule_lines.specs.declared.bytes.InWord.TheVariants.{No, Yes}
 
 pub in_word : (b : ℕ) (w : InWord) → w ≡ in_word_of b → w ≡ Yes → true ≡ is_word_byte b
 unfolding in_word_of

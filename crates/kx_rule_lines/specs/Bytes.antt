@@ -1,8 +1,8 @@
 -- How the code tells bytes of words.
 use Rattle.std.specs.Prelude.{ℕ, Bool, not, ◌==◌, ◌&&◌, ◌||◌, if◌then◌else◌}
-use Rattle.kx_rules.specs.Pieces.{is_word_byte}
-use Rattle.kx_rules.specs.declared.bytes.InWord.{InWord}
-use Rattle.kx_rules.specs.declared.bytes.InWord.TheVariants.{No, Yes}
+use Rattle.kx_rule_lines.specs.Pieces.{is_word_byte}
+use Rattle.kx_rule_lines.specs.declared.bytes.InWord.{InWord}
+use Rattle.kx_rule_lines.specs.declared.bytes.InWord.TheVariants.{No, Yes}
 
 -- which bytes may stand in a word, as a table has it
 unfoldable pub in_word_of : ℕ → InWord

@@ -6,7 +6,7 @@ use std::marker::Model;
 
 /// A word that is lent. Seen as its bytes.
 #[derive(Drop)]
-pub(crate) struct Word<'a> {
+pub struct Word<'a> {
     bytes: &'a [u8],
 }
 
@@ -19,13 +19,15 @@ impl<'a> Model for Word<'a> {
 }
 
 impl<'a> Word<'a> {
-    pub(crate) fn of(bytes: &'a [u8]) -> Word<'a>
+    /// The word of these bytes.
+    pub fn of(bytes: &'a [u8]) -> Word<'a>
         ensures { result ≡ bytes.now }
     {
         Word { bytes }
     }
 
-    pub(crate) fn as_slice(&self) -> &'a [u8]
+    /// The bytes.
+    pub fn as_slice(&self) -> &'a [u8]
         ensures { result.now ≡ self.now }
     {
         self.bytes
@@ -34,14 +36,14 @@ impl<'a> Word<'a> {
 
 /// A piece with its text, as far as it has one, and how many bytes of the whole text are left where it begins.
 #[derive(Drop)]
-pub(crate) struct Piece<'a> {
+pub struct Piece<'a> {
     kind: Kind,
     text: &'a [u8],
     left: usize,
 }
 
 impl<'a> Model for Piece<'a> {
-    ghost use Rattle.kx_rules.specs.Pieces.{Piece};
+    ghost use Rattle.kx_rule_lines.specs.Pieces.{Piece};
 
     ghost Value = { Piece };
 
@@ -49,27 +51,31 @@ impl<'a> Model for Piece<'a> {
 }
 
 impl<'a> Piece<'a> {
-    ghost use Rattle.kx_rules.specs.Pieces.{piece};
+    ghost use Rattle.kx_rule_lines.specs.Pieces.{piece};
 
-    pub(crate) fn of(kind: Kind, text: &'a [u8], left: usize) -> Piece<'a>
+    /// A piece of a kind.
+    pub fn of(kind: Kind, text: &'a [u8], left: usize) -> Piece<'a>
         ensures { result ≡ piece kind text.now left }
     {
         Piece { kind, text, left }
     }
 
-    pub(crate) fn kind(&self) -> Kind
+    /// What the piece is.
+    pub fn kind(&self) -> Kind
         ensures { result ≡ self.now.kind }
     {
         self.kind
     }
 
-    pub(crate) fn text(&self) -> &'a [u8]
+    /// Its text; none of a sign.
+    pub fn text(&self) -> &'a [u8]
         ensures { result.now ≡ self.now.text }
     {
         self.text
     }
 
-    pub(crate) fn left(&self) -> usize
+    /// How many bytes of the whole text are left where it begins.
+    pub fn left(&self) -> usize
         ensures { result ≡ self.now.left }
     {
         self.left

@@ -1,7 +1,7 @@
 //! The pieces of a rules text.
 ghost use Rattle.std.specs.Prelude.{◌≡◌, ◌≤◌, ◌<◌, ◌+◌, length, drop, [], ◌∷◌, MatchOption, IfSome};
-ghost use Rattle.kx_rules.specs.Pieces.{gap_len, is_blank, is_word_byte, kind_at, line_len, piece, piece_len, pieces, text_at, word_len};
-ghost use Rattle.kx_rules.specs.declared.scan.Kind.TheVariants.{Word as WordKind, Include as IncludeKind};
+ghost use Rattle.kx_rule_lines.specs.Pieces.{gap_len, is_blank, is_word_byte, kind_at, line_len, piece, piece_len, pieces, text_at, word_len};
+ghost use Rattle.kx_rule_lines.specs.declared.scan.Kind.TheVariants.{Word as WordKind, Include as IncludeKind};
 ghost use Rattle.std.specs.List.{prefix_len};
 ghost use Rattle.std.specs.Prelude.{nat_le, ◌==◌, ◌||◌};
 
@@ -9,7 +9,7 @@ use crate::bytes::is_word_byte;
 
 /// What a piece is. A `Bad` one begins with a byte that begins no piece.
 #[derive(Clone, Copy, PartialEq, Eq)]
-pub(crate) enum Kind {
+pub enum Kind {
     NewLine,
     Bang,
     Equals,
@@ -26,7 +26,8 @@ fn is_blank(byte: u8) -> bool
     byte == b' ' || byte == b'\t' || byte == b'\r'
 }
 
-pub(crate) fn blank_len(text: &[u8]) -> usize
+/// How many blanks stand at the front.
+pub fn blank_len(text: &[u8]) -> usize
     ensures value { result ≡ prefix_len is_blank text.now }
     ensures within { result ≤ length text.now }
 {
@@ -41,7 +42,7 @@ fn short_word_len(text: &[u8]) -> usize
 }
 
 /// How many bytes of a word stand at the front. Four bytes a turn, since most bytes of a text stand in words.
-pub(crate) fn word_len(text: &[u8]) -> usize
+pub fn word_len(text: &[u8]) -> usize
     ensures value { result ≡ word_len text.now }
     ensures within { result ≤ length text.now }
 {

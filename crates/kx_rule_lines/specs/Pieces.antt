@@ -1,8 +1,8 @@
 -- The pieces of a rules text.
 use Rattle.std.specs.Prelude.{ℕ, zero, suc, ◌+◌, ◌-◌, Bool, not, ◌==◌, ◌&&◌, ◌||◌, nat_le, List, [], ◌∷◌, length, take, drop, codes, if◌then◌else◌}
 use Rattle.std.specs.List.{prefix_len, starts_with}
-use Rattle.kx_rules.specs.declared.scan.Kind.{Kind}
-use Rattle.kx_rules.specs.declared.scan.Kind.TheVariants.{NewLine, Bang, Equals, Star, Include, Group, Word, Bad}
+use Rattle.kx_rule_lines.specs.declared.scan.Kind.{Kind}
+use Rattle.kx_rule_lines.specs.declared.scan.Kind.TheVariants.{NewLine, Bang, Equals, Star, Include, Group, Word, Bad}
 
 -- a piece, with its text if it is a word or a group's name, and how many bytes of the text are left where it begins
 pub record Piece : Type 0 where

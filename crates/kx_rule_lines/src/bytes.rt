@@ -1,8 +1,8 @@
 //! The bytes of words, by a table.
 ghost use Rattle.std.specs.Prelude.{◌≡◌, map};
 ghost use Rattle.std.specs.List.{range_with_len};
-ghost use Rattle.kx_rules.specs.Pieces.{is_word_byte};
-ghost use Rattle.kx_rules.specs.Bytes.{in_word_of};
+ghost use Rattle.kx_rule_lines.specs.Pieces.{is_word_byte};
+ghost use Rattle.kx_rule_lines.specs.Bytes.{in_word_of};
 
 use InWord::{No, Yes};
 
@@ -47,9 +47,10 @@ fn in_word_of(byte: u8) -> InWord
     word_bytes()[usize::from(byte)]
 }
 
+/// Whether a byte may stand in a word.
 #[inline(always)]
 #[tactic(auto, unfolding(crate::specs::Bytes::in_word_of), using(crate::proofs::InWords::in_word, crate::proofs::InWords::out_of_word))]
-pub(crate) fn is_word_byte(byte: u8) -> bool
+pub fn is_word_byte(byte: u8) -> bool
     ensures { result ≡ is_word_byte byte }
 {
     matches!(in_word_of(byte), Yes)

@@ -1,7 +1,7 @@
 -- A text is cut into lines piece by piece.
 use Rattle.std.proofs.Common.{◌≡◌, true, false, List, [], ◌∷◌, ◌++◌, length, refl, ap, ◌∙◌, arith, cond}
-use Rattle.kx_rules.specs.Lines.{closes, lines}
-use Rattle.kx_rules.specs.Pieces.{Piece}
+use Rattle.kx_rule_lines.specs.Lines.{closes, lines}
+use Rattle.kx_rule_lines.specs.Pieces.{Piece}
 
 step : (begun : List Piece) (p : Piece) (ps : List Piece) → lines begun (p ∷ ps) ≡ cond (closes begun p.kind) ((begun ++ p ∷ []) ∷ lines [] ps) (lines (begun ++ p ∷ []) ps)
 unfolding lines

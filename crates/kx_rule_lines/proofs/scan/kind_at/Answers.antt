@@ -1,8 +1,8 @@
 use Rattle.std.proofs.Common.{◌≡◌, ℕ, ◌-◌, ◌≤◌, Bool, true, false, List, [], ◌∷◌, length, take, drop, get_or, cond, nat_le, refl, sym, ap, ◌∙◌, arith}
 use Rattle.std.proofs.lemmas.List.{take_all}
-use Rattle.kx_rules.specs.Pieces.{kind_at, word_len}
-use Rattle.kx_rules.specs.declared.scan.Kind.TheVariants.{NewLine, Group, Bad}
-use Rattle.kx_rules.proofs.scan.kind_at.Goals as goal
+use Rattle.kx_rule_lines.specs.Pieces.{kind_at, word_len}
+use Rattle.kx_rule_lines.specs.declared.scan.Kind.TheVariants.{NewLine, Group, Bad}
+use Rattle.kx_rule_lines.proofs.scan.kind_at.Goals as goal
 
 new_line : (text : List ℕ) → 1 ≤ length text → get_or text 0 0 ≡ 10 → NewLine ≡ kind_at text
 unfolding kind_at

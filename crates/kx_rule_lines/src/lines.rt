@@ -1,8 +1,8 @@
 //! The lines of a rules text.
 ghost use Rattle.std.specs.Prelude.{◌≡◌, ◌≤◌, ◌<◌, ◌∷◌, [], IfOk, IfSome, MatchOption, length, take, drop};
-ghost use Rattle.kx_rules.specs.Lines.{begins_include, closes, cut_at, lines, right_behind, right_of, values_len, words_len};
-ghost use Rattle.kx_rules.specs.Lines.{is_value, is_word};
-ghost use Rattle.kx_rules.specs.Pieces.{pieces};
+ghost use Rattle.kx_rule_lines.specs.Lines.{begins_include, closes, cut_at, lines, right_behind, right_of, values_len, words_len};
+ghost use Rattle.kx_rule_lines.specs.Lines.{is_value, is_word};
+ghost use Rattle.kx_rule_lines.specs.Pieces.{pieces};
 
 use crate::scan::{Kind, next_piece};
 use crate::word::Piece;
@@ -48,8 +48,11 @@ fn closes(line: &[Piece], kind: Kind) -> bool
 
 /// Puts the first line of a text in the place of another, and answers what is left of the text after it; nothing where there
 /// is no line.
+///
+/// # Errors
+/// Where no memory is left.
 #[tactic(auto, using(crate::proofs::Cutting::more_of_line, crate::proofs::Cutting::end_of_line, crate::proofs::Cutting::last_line, crate::proofs::Cutting::no_line))]
-pub(crate) fn next_line<'a>(
+pub fn next_line<'a>(
     line: &mut Vec<Piece<'a>>,
     text: &'a [u8],
 ) -> Result<Option<&'a [u8]>, AllocError>
@@ -81,7 +84,7 @@ pub(crate) fn next_line<'a>(
 }
 
 /// How many words a line begins with.
-pub(crate) fn words_len(line: &[Piece]) -> usize
+pub fn words_len(line: &[Piece]) -> usize
     ensures value { result ≡ words_len line.now }
     ensures within { result ≤ length line.now }
 {
@@ -91,7 +94,7 @@ pub(crate) fn words_len(line: &[Piece]) -> usize
 }
 
 /// How many values a line begins with.
-pub(crate) fn values_len(line: &[Piece]) -> usize
+pub fn values_len(line: &[Piece]) -> usize
     ensures value { result ≡ values_len line.now }
     ensures within { result ≤ length line.now }
 {
@@ -103,9 +106,9 @@ pub(crate) fn values_len(line: &[Piece]) -> usize
 /// The words after a sign =, and how many bytes are left where something unexpected begins, if the line doesn't end after
 /// them.
 #[derive(Drop)]
-pub(crate) struct Right<'l, 'a> {
-    pub(crate) words: &'l [Piece<'a>],
-    pub(crate) cut: Option<usize>,
+pub struct Right<'l, 'a> {
+    pub words: &'l [Piece<'a>],
+    pub cut: Option<usize>,
 }
 
 /// How many bytes are left where something unexpected begins, if a line doesn't end here.
@@ -133,7 +136,7 @@ fn right_behind<'l, 'a>(line: &'l [Piece<'a>]) -> Right<'l, 'a>
 
 /// The right side of a line from its sign = on.
 #[tactic(auto, unfolding(crate::specs::Lines::right_of))]
-pub(crate) fn right_of<'l, 'a>(line: &'l [Piece<'a>]) -> Right<'l, 'a>
+pub fn right_of<'l, 'a>(line: &'l [Piece<'a>]) -> Right<'l, 'a>
     ensures words { result.words.now ≡ (right_of line.entry.now).words }
     ensures cut { result.cut ≡ (right_of line.entry.now).cut }
 {

@@ -1,9 +1,9 @@
 -- The lines of a rules text, and what each says by itself.
 use Rattle.std.specs.Prelude.{ℕ, zero, Bool, true, false, ◌&&◌, List, [], ◌∷◌, ◌++◌, take, drop, Option, None, Some, if◌then◌else◌}
 use Rattle.std.specs.List.{prefix_len}
-use Rattle.kx_rules.specs.Pieces.{Piece}
-use Rattle.kx_rules.specs.declared.scan.Kind.{Kind}
-use Rattle.kx_rules.specs.declared.scan.Kind.TheVariants.{NewLine, Bang, Equals, Star, Include, Group, Word}
+use Rattle.kx_rule_lines.specs.Pieces.{Piece}
+use Rattle.kx_rule_lines.specs.declared.scan.Kind.{Kind}
+use Rattle.kx_rule_lines.specs.declared.scan.Kind.TheVariants.{NewLine, Bang, Equals, Star, Include, Group, Word}
 
 abbrev pub is_bang : Kind → Bool
 is_bang Bang = true

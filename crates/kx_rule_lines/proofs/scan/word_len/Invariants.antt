@@ -1,7 +1,7 @@
 use Rattle.std.proofs.Common.{length}
-use Rattle.kx_rules.specs.Pieces.{is_word_byte}
-use Rattle.kx_rules.proofs.Words.{SoFar}
-use Rattle.kx_rules.proofs.scan.word_len.Given as goal
+use Rattle.kx_rule_lines.specs.Pieces.{is_word_byte}
+use Rattle.kx_rule_lines.proofs.Words.{SoFar}
+use Rattle.kx_rule_lines.proofs.scan.word_len.Given as goal
 
 abbrev pub invariant-fours : goal.invariant-fours
 invariant-fours l = SoFar is_word_byte l.text l.rest l.len

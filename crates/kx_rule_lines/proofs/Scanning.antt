@@ -1,8 +1,8 @@
 -- Pieces from a place on.
 use Rattle.std.proofs.Common.{◌≡◌, ℕ, zero, suc, ◌-◌, ◌≤◌, nat_le, Bool, cond, true, false, ◌==◌, ◌||◌, List, [], ◌∷◌, length, drop, refl, sym, ap, ◌∙◌, arith}
 use Rattle.std.proofs.lemmas.Bool.{eqb-false, le-leb, ne_eqb}
-use Rattle.kx_rules.specs.Pieces.{Piece, gap_len, is_blank, kind_at, piece, piece_len, pieces, text_at}
-use Rattle.kx_rules.specs.declared.scan.Kind.{Kind}
+use Rattle.kx_rule_lines.specs.Pieces.{Piece, gap_len, is_blank, kind_at, piece, piece_len, pieces, text_at}
+use Rattle.kx_rule_lines.specs.declared.scan.Kind.{Kind}
 
 pieces-drop : (bs : List ℕ) (k : ℕ) → pieces bs k ≡ pieces (drop k bs) 0
 unfolding pieces

@@ -1,0 +1,4 @@
+pub mod Cutting
+pub mod InWords
+pub mod Scanning
+pub mod Words
