@@ -24,7 +24,7 @@ words kx_basics kx_ordered ks_core kx_mods kx_text
 = A keymap's way
 text
 tokens kx_lex
-tree kx_parse
+tree kx_tree kx_parse
 includes kx_include
 sections kx_merge kx_codes kx_virtual_mods kx_actions kx_types kx_key_lists kx_key_fields
 sections kx_symbols kx_modmaps kx_compat kx_group_names kx_indicators

@@ -1,6 +1,6 @@
 -- The records for tests.
 use Rattle.std.proofs.Common.{◌≡◌, ℕ, List, [], ◌∷◌, None, refl, subst, sym}
-use Rattle.kx_parse.specs.declared.tree.Mode.{Mode}
+use Rattle.kx_tree.specs.declared.tree.Mode.{Mode}
 use Rattle.kx_merge.specs.Records.{AreOffered, none, more}
 use Rattle.cases.specs.Sheet.{sheet_cell, sheet_form, sheet_offer, sheet_value}
 use Rattle.cases.specs.declared.precedence.Sheet.{Sheet}

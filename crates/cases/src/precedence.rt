@@ -3,7 +3,7 @@
 ghost use Rattle.std.specs.Prelude.{◌≡◌, ℕ, ◌∷◌, [], slice_index, unwrap_or, IfOk, IfErr};
 ghost use Rattle.std.proofs.Common.{◌∙◌, ap, eqb-true, sym};
 ghost use Rattle.kx_lex.specs.declared.fault.Fault.TheVariants.{Memory};
-ghost use Rattle.kx_parse.specs.declared.tree.Mode.{Mode as ModeValue};
+ghost use Rattle.kx_tree.specs.declared.tree.Mode.{Mode as ModeValue};
 ghost use Rattle.kx_merge.specs.Moved.{moved_value};
 ghost use Rattle.kx_merge.specs.Offers.{merged_value};
 ghost use Rattle.kx_merge.specs.Records.{AreOffered};

@@ -2,9 +2,9 @@
 use Rattle.std.proofs.Common.{◌≡◌, ℕ, ◌+◌, ◌<◌, Bool, true, false, List, [], ◌∷◌, length, drop, get_or, fold, Option, None, Some, cond, is_some, refl, sym, ap, ◌∙◌}
 use Rattle.std.specs.Option.{option_and_then, option_or}
 use Rattle.kx_lex.specs.declared.name.Name.{Name}
-use Rattle.kx_parse.specs.declared.tree.Field.{Field}
-use Rattle.kx_parse.specs.declared.tree.Index.{Index}
-use Rattle.kx_parse.specs.declared.tree.Setting.{Setting}
+use Rattle.kx_tree.specs.declared.tree.Field.{Field}
+use Rattle.kx_tree.specs.declared.tree.Index.{Index}
+use Rattle.kx_tree.specs.declared.tree.Setting.{Setting}
 use Rattle.kx_tables.specs.declared.rows.GroupChange.{GroupChange}
 use Rattle.kx_actions.specs.Defaults.{default_for, default_given, defaulted, defaults_after, given_as, is_same, kind_of, next_defaults, next_for, no_defaults, settings_for, taken_up}
 use Rattle.kx_actions.specs.Settings.{given_affect, given_clear_locks, given_group, given_latch_to_lock, given_modifiers, last_settings, no_settings, with_given}

@@ -7,14 +7,14 @@ use Rattle.kx_lex.specs.declared.fault.Fault.{Fault}
 use Rattle.kx_lex.specs.declared.fault.Fault.TheVariants.{BadValue}
 use Rattle.kx_lex.specs.declared.name.Name.{Name}
 use Rattle.kx_lex.specs.declared.token.Span.{Span}
-use Rattle.kx_parse.specs.declared.tree.Argument.{Argument}
-use Rattle.kx_parse.specs.declared.tree.Argument.TheVariants as arguments
-use Rattle.kx_parse.specs.declared.tree.Call.{Call}
-use Rattle.kx_parse.specs.declared.tree.Index.{Index}
-use Rattle.kx_parse.specs.declared.tree.PlacedArgument.{PlacedArgument}
-use Rattle.kx_parse.specs.declared.tree.Setting.{Setting}
-use Rattle.kx_parse.specs.declared.tree.Setting.TheVariants.{Off, On, To}
-use Rattle.kx_parse.specs.declared.tree.Value.TheVariants.{Expression as Expressed}
+use Rattle.kx_tree.specs.declared.tree.Argument.{Argument}
+use Rattle.kx_tree.specs.declared.tree.Argument.TheVariants as arguments
+use Rattle.kx_tree.specs.declared.tree.Call.{Call}
+use Rattle.kx_tree.specs.declared.tree.Index.{Index}
+use Rattle.kx_tree.specs.declared.tree.PlacedArgument.{PlacedArgument}
+use Rattle.kx_tree.specs.declared.tree.Setting.{Setting}
+use Rattle.kx_tree.specs.declared.tree.Setting.TheVariants.{Off, On, To}
+use Rattle.kx_tree.specs.declared.tree.Value.TheVariants.{Expression as Expressed}
 use Rattle.kx_tables.specs.declared.rows.GroupChange.TheVariants.{Relative}
 use Rattle.kx_actions.specs.Defaults.{settings_for}
 use Rattle.kx_actions.specs.Settings.{last_settings}

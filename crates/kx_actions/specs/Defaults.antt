@@ -4,7 +4,7 @@ use Rattle.std.specs.Option.{option_and_then, option_map_or}
 use Rattle.kx_include.specs.IncludeFaults.{at}
 use Rattle.kx_lex.specs.declared.fault.Fault.{Fault}
 use Rattle.kx_lex.specs.declared.fault.Fault.TheVariants.{UnknownField}
-use Rattle.kx_parse.specs.declared.tree.Field.{Field}
+use Rattle.kx_tree.specs.declared.tree.Field.{Field}
 use Rattle.kx_actions.specs.Settings.{last_settings, no_settings, with_given}
 use Rattle.kx_actions.specs.Values.{member_faults, member_given}
 use Rattle.kx_merge.specs.Words.{among}

@@ -2,11 +2,11 @@
 use Rattle.std.specs.Prelude.{ℕ, pos, negsuc, neg_ℤ, ◌-◌, ◌&&◌, nat_le, nat_lt, Bool, Option, None, Some, if◌then◌else◌}
 use Rattle.std.specs.Option.{option_map, option_map_or}
 use Rattle.kx_basics.specs.declared.limits.TheConstants.{MOST_GROUPS}
-use Rattle.kx_parse.specs.declared.tree.Expression.{Expression}
-use Rattle.kx_parse.specs.declared.tree.Sign.{Sign}
-use Rattle.kx_parse.specs.declared.tree.Sign.TheVariants.{Plus, Minus}
-use Rattle.kx_parse.specs.declared.tree.Term.{Term}
-use Rattle.kx_parse.specs.declared.tree.Term.TheVariants.{Number, Signed, Word}
+use Rattle.kx_tree.specs.declared.tree.Expression.{Expression}
+use Rattle.kx_tree.specs.declared.tree.Sign.{Sign}
+use Rattle.kx_tree.specs.declared.tree.Sign.TheVariants.{Plus, Minus}
+use Rattle.kx_tree.specs.declared.tree.Term.{Term}
+use Rattle.kx_tree.specs.declared.tree.Term.TheVariants.{Number, Signed, Word}
 use Rattle.kx_tables.specs.declared.rows.GroupChange.{GroupChange}
 use Rattle.kx_tables.specs.declared.rows.GroupChange.TheVariants.{Absolute, Relative}
 use Rattle.kx_merge.specs.Numbers.{word_number}

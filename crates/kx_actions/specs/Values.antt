@@ -8,11 +8,11 @@ use Rattle.kx_lex.specs.declared.fault.Fault.TheVariants.{BadValue, GroupRange, 
 use Rattle.kx_lex.specs.declared.name.Name.{Name}
 use Rattle.kx_lex.specs.declared.token.Span.{Span}
 use Rattle.kx_virtual_mods.specs.Masks.{mask_faults, mask_set}
-use Rattle.kx_parse.specs.declared.tree.Expression.{Expression}
-use Rattle.kx_parse.specs.declared.tree.Index.{Index}
-use Rattle.kx_parse.specs.declared.tree.Setting.{Setting}
-use Rattle.kx_parse.specs.declared.tree.Setting.TheVariants.{Off, On, To}
-use Rattle.kx_parse.specs.declared.tree.Value.TheVariants.{Expression as Expressed, Call as Called, List as Listed}
+use Rattle.kx_tree.specs.declared.tree.Expression.{Expression}
+use Rattle.kx_tree.specs.declared.tree.Index.{Index}
+use Rattle.kx_tree.specs.declared.tree.Setting.{Setting}
+use Rattle.kx_tree.specs.declared.tree.Setting.TheVariants.{Off, On, To}
+use Rattle.kx_tree.specs.declared.tree.Value.TheVariants.{Expression as Expressed, Call as Called, List as Listed}
 use Rattle.kx_merge.specs.Words.{lone_word, meaning_among, truth_words}
 use Rattle.kx_actions.specs.Groups.{Written, change_of, written}
 use Rattle.kx_actions.specs.Words.{field_of}

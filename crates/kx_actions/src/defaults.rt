@@ -55,7 +55,7 @@ fn read_member(
 
 impl ActionDefaults {
     ghost use Rattle.std.specs.Prelude.{◌≡◌, List, IfOk};
-    ghost use Rattle.kx_parse.specs.declared.tree.Field.{Field as FieldValue};
+    ghost use Rattle.kx_tree.specs.declared.tree.Field.{Field as FieldValue};
     ghost use Rattle.kx_actions.specs.Defaults.{default_faults, defaulted, defaults_after, next_defaults, no_defaults, settings_for, with_settings};
     ghost use Rattle.kx_actions.specs.declared.kinds.ActionKind.{ActionKind as Kind};
     ghost use Rattle.kx_merge.specs.Reports.{Reports};

@@ -15,7 +15,7 @@ use Rattle.kx_include.specs.declared.place.Place.{Place}
 use Rattle.kx_lex.specs.declared.fault.Fault.{Fault}
 use Rattle.kx_lex.specs.declared.fault.Fault.TheVariants.{Memory}
 use Rattle.kx_merge.specs.Bodies.{Moves, Rules, faults, no_moves}
-use Rattle.kx_parse.specs.declared.tree.Stated.{Stated}
+use Rattle.kx_tree.specs.declared.tree.Stated.{Stated}
 use Rattle.kx_symbols.specs.Keys.{field_in}
 use Rattle.kx_symbols.specs.KeyFaults.{symbol_faults}
 use Rattle.kx_clients.specs.InterpretationRepeats.{all_match_faults, next_truth, said_faults, truth_rules}

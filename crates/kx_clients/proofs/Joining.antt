@@ -44,11 +44,11 @@ use Rattle.kx_modmaps.specs.Maps.{map_moves, map_offers, map_offers_of, map_rule
 use Rattle.kx_modmaps.specs.declared.target.Target.{Target}
 use Rattle.kx_modmaps.specs.declared.target.Target.TheVariants.{Key as KeyTarget}
 use Rattle.kx_mods.specs.declared.mods.Mods.{Mods}
-use Rattle.kx_parse.specs.declared.tree.Entry.{Entry as MapEntry}
-use Rattle.kx_parse.specs.declared.tree.Entry.TheVariants.{KeyName, Symbol}
-use Rattle.kx_parse.specs.declared.tree.Kind.TheVariants.{Compat, Keycodes, Symbols, Types}
-use Rattle.kx_parse.specs.declared.tree.KeyField.{KeyField}
-use Rattle.kx_parse.specs.declared.tree.Mode.{Mode}
+use Rattle.kx_tree.specs.declared.tree.Entry.{Entry as MapEntry}
+use Rattle.kx_tree.specs.declared.tree.Entry.TheVariants.{KeyName, Symbol}
+use Rattle.kx_tree.specs.declared.tree.Kind.TheVariants.{Compat, Keycodes, Symbols, Types}
+use Rattle.kx_tree.specs.declared.tree.KeyField.{KeyField}
+use Rattle.kx_tree.specs.declared.tree.Mode.{Mode}
 use Rattle.kx_source.specs.Meaning.{codes_in, codes_of, declared_in, declared_masks_of, interpretations_in, key_given, key_in, mapping_by, modifier_bodies_of, modifiers_of, modmap_in, read_keymap_in, typing_in}
 use Rattle.kx_clients.specs.Made.{told_faults}
 use Rattle.kx_source.specs.Source.{keys_faults, maps_faults}

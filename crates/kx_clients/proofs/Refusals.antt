@@ -9,7 +9,7 @@ use Rattle.kx_include.specs.Library.{Library}
 use Rattle.kx_lex.specs.declared.fault.Fault.{Fault}
 use Rattle.kx_lex.specs.declared.fault.Fault.TheVariants.{Memory}
 use Rattle.kx_virtual_mods.specs.Declarations.{modifier_faults}
-use Rattle.kx_parse.specs.declared.tree.Kind.TheVariants.{Compat, Keycodes, Symbols, Types}
+use Rattle.kx_tree.specs.declared.tree.Kind.TheVariants.{Compat, Keycodes, Symbols, Types}
 use Rattle.kx_source.specs.Meaning.{codes_in, modifier_bodies_of, modifiers_of}
 use Rattle.kx_clients.specs.Made.{told_faults}
 use Rattle.kx_compat.specs.Meaning.{compat_faults}

@@ -9,9 +9,9 @@ use Rattle.kx_merge.specs.Offers.{Offer, plain_offer, value_of}
 use Rattle.kx_merge.specs.Records.{cell_in}
 use Rattle.kx_merge.specs.Single.{single_form, single_moves, single_rules}
 use Rattle.kx_merge.specs.declared.single.Single.{Single}
-use Rattle.kx_parse.specs.declared.tree.Mode.{Mode}
-use Rattle.kx_parse.specs.declared.tree.Statement.{Statement}
-use Rattle.kx_parse.specs.declared.tree.Statement.TheVariants as statements
+use Rattle.kx_tree.specs.declared.tree.Mode.{Mode}
+use Rattle.kx_tree.specs.declared.tree.Statement.{Statement}
+use Rattle.kx_tree.specs.declared.tree.Statement.TheVariants as statements
 use Rattle.kx_clients.specs.declared.indicators.TheConstants.{INDICATORS}
 
 -- a number from 1 to 32, and a name of at most 255 bytes

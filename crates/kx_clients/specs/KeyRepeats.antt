@@ -12,12 +12,12 @@ use Rattle.kx_merge.specs.Faults.{expression_in}
 use Rattle.kx_merge.specs.Last.{last_given}
 use Rattle.kx_merge.specs.Offers.{Offer, offers_to, value_of}
 use Rattle.kx_merge.specs.Words.{meaning_among}
-use Rattle.kx_parse.specs.declared.tree.Field.{Field}
-use Rattle.kx_parse.specs.declared.tree.KeyField.{KeyField}
-use Rattle.kx_parse.specs.declared.tree.KeyField.TheVariants as fields
-use Rattle.kx_parse.specs.declared.tree.Mode.{Mode}
-use Rattle.kx_parse.specs.declared.tree.Setting.{Setting}
-use Rattle.kx_parse.specs.declared.tree.Statement.{Statement}
+use Rattle.kx_tree.specs.declared.tree.Field.{Field}
+use Rattle.kx_tree.specs.declared.tree.KeyField.{KeyField}
+use Rattle.kx_tree.specs.declared.tree.KeyField.TheVariants as fields
+use Rattle.kx_tree.specs.declared.tree.Mode.{Mode}
+use Rattle.kx_tree.specs.declared.tree.Setting.{Setting}
+use Rattle.kx_tree.specs.declared.tree.Statement.{Statement}
 use Rattle.kx_symbols.specs.KeyFaults.{key_in}
 use Rattle.kx_symbols.specs.Keys.{field_in}
 use Rattle.kx_clients.specs.declared.key_repeat.KeyRepeat.{KeyRepeat}

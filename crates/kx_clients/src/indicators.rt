@@ -8,7 +8,7 @@ ghost use Rattle.kx_merge.specs.Moved.{moved_key};
 ghost use Rattle.kx_merge.specs.Records.{AreOffered};
 ghost use Rattle.kx_merge.specs.Reports.{ReportsOrRunsOut};
 ghost use Rattle.kx_merge.specs.Single.{single_form, single_moves};
-ghost use Rattle.kx_parse.specs.declared.tree.Mode.{Mode as ModeValue};
+ghost use Rattle.kx_tree.specs.declared.tree.Mode.{Mode as ModeValue};
 ghost use Rattle.kx_clients.specs.IndicatorNames.{AreIndicatorNames, kept_number, name_at, name_recorded, name_offer, named_indicator, named_offers};
 
 use kx_basics::MOST_NAME_BYTES;

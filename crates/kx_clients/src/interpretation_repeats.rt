@@ -9,7 +9,7 @@ ghost use Rattle.kx_merge.specs.Plain.{plain_form};
 ghost use Rattle.kx_merge.specs.Records.{AreOffered};
 ghost use Rattle.kx_merge.specs.Reports.{ReportsOrRunsOut};
 ghost use Rattle.kx_merge.specs.Words.{meaning_among, truth_words};
-ghost use Rattle.kx_parse.specs.declared.tree.Mode.{Mode as ModeValue};
+ghost use Rattle.kx_tree.specs.declared.tree.Mode.{Mode as ModeValue};
 ghost use Rattle.kx_clients.specs.InterpretationRepeats.{default_truth, field_truth, named_truth, next_truth, said_faults, truth_offers, truth_rules};
 ghost use Rattle.kx_clients.specs.Records.{truth_cell};
 

@@ -8,7 +8,7 @@ ghost use Rattle.kx_merge.specs.Offers.{MergesCells};
 ghost use Rattle.kx_merge.specs.Plain.{plain_form};
 ghost use Rattle.kx_merge.specs.Records.{AreOffered};
 ghost use Rattle.kx_merge.specs.Words.{among, meaning_among};
-ghost use Rattle.kx_parse.specs.declared.tree.Mode.{Mode as ModeValue};
+ghost use Rattle.kx_tree.specs.declared.tree.Mode.{Mode as ModeValue};
 ghost use Rattle.kx_symbols.specs.KeyFaults.{key_in};
 ghost use Rattle.kx_clients.specs.KeyRepeats.{default_repeat, field_repeat, is_repeat_word, key_offers, named_repeat, next_default, own_repeat, repeat_in, repeat_rules, repeat_words};
 ghost use Rattle.kx_clients.specs.Records.{repeat_cell};

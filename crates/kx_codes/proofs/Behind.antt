@@ -6,7 +6,7 @@ use Rattle.std.specs.List.{slice_get}
 use Rattle.std.specs.Result.{IsErrAnd}
 use Rattle.kx_lex.specs.declared.fault.Fault.{Fault}
 use Rattle.kx_lex.specs.declared.fault.Fault.TheVariants.{Memory}
-use Rattle.kx_parse.specs.declared.tree.Mode.{Mode}
+use Rattle.kx_tree.specs.declared.tree.Mode.{Mode}
 use Rattle.kx_include.specs.Expansion.{Body, End, Own, Inc}
 use Rattle.kx_include.specs.Shared.{body_at, bodies_behind, entries_body, links_body, shared_body, shared_sections}
 use Rattle.kx_include.specs.declared.expansion.Entry.{Entry}

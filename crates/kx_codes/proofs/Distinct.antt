@@ -6,10 +6,10 @@ use Rattle.std.specs.Str.{bytes_eq}
 use Rattle.std.proofs.lemmas.Bool.{false≢true, or_from, or_right}
 use Rattle.std.proofs.lemmas.List.Folds.{list_any-append}
 use Rattle.std.proofs.lemmas.Slice.Eq.{bytes_eq-Decides}
-use Rattle.kx_parse.specs.declared.tree.Mode.{Mode}
-use Rattle.kx_parse.specs.declared.tree.Mode.TheVariants.{Augment, Override, Replace}
-use Rattle.kx_parse.specs.declared.tree.Statement.{Statement as Said}
-use Rattle.kx_parse.specs.declared.tree.Statement.TheVariants as said
+use Rattle.kx_tree.specs.declared.tree.Mode.{Mode}
+use Rattle.kx_tree.specs.declared.tree.Mode.TheVariants.{Augment, Override, Replace}
+use Rattle.kx_tree.specs.declared.tree.Statement.{Statement as Said}
+use Rattle.kx_tree.specs.declared.tree.Statement.TheVariants as said
 use Rattle.kx_include.specs.Expansion.{Body, End, Begin, Own, Inc}
 use Rattle.kx_codes.specs.Indexed.{distinct}
 use Rattle.kx_codes.specs.Pairs.{Pair, shares, without, taken, all_taken, said_pairs, pairs_from, code_in, name_in}

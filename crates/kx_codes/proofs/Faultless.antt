@@ -7,8 +7,8 @@ use Rattle.kx_lex.specs.declared.fault.Fault.{Fault}
 use Rattle.kx_lex.specs.declared.fault.Fault.TheVariants.{Memory}
 use Rattle.kx_lex.specs.declared.token.Span.{Span}
 use Rattle.kx_merge.specs.Bodies.{faults, no_moves}
-use Rattle.kx_parse.specs.declared.tree.Statement.{Statement as Said}
-use Rattle.kx_parse.specs.declared.tree.Statement.TheVariants as said
+use Rattle.kx_tree.specs.declared.tree.Statement.{Statement as Said}
+use Rattle.kx_tree.specs.declared.tree.Statement.TheVariants as said
 use Rattle.kx_merge.specs.Reports.{ReportsOrRunsOut}
 use Rattle.kx_merge.proofs.Going.{reported_or_out}
 use Rattle.kx_codes.specs.Aliases.{alias_faults, alias_in, alias_rules}

@@ -11,10 +11,10 @@ use Rattle.kx_codes.specs.Pairs.{Pair, shares, without, taken, all_taken, said_p
 use Rattle.kx_codes.proofs.Distinct.{no_first, no_second, from_distinct, code_of_name, name_of_code}
 use Rattle.kx_codes.specs.Left.{PairOffer, said_offers, offers_of, IsTaken, IsLeft}
 use Rattle.kx_include.specs.Expansion.{Body, End, Begin, Own, Inc}
-use Rattle.kx_parse.specs.declared.tree.Mode.{Mode}
-use Rattle.kx_parse.specs.declared.tree.Mode.TheVariants.{Augment, Override, Replace}
-use Rattle.kx_parse.specs.declared.tree.Statement.{Statement as Said}
-use Rattle.kx_parse.specs.declared.tree.Statement.TheVariants as said
+use Rattle.kx_tree.specs.declared.tree.Mode.{Mode}
+use Rattle.kx_tree.specs.declared.tree.Mode.TheVariants.{Augment, Override, Replace}
+use Rattle.kx_tree.specs.declared.tree.Statement.{Statement as Said}
+use Rattle.kx_tree.specs.declared.tree.Statement.TheVariants as said
 use Rattle.kx_merge.proofs.OnePart.{or-first, or-last}
 
 abbrev Has : List Pair → Pair → Type 0

@@ -9,8 +9,8 @@ use Rattle.std.specs.List.{list_any, position, slice_get}
 use Rattle.std.specs.Map.{keys_of}
 use Rattle.std.specs.Option.{option_and_then, option_map}
 use Rattle.std.specs.Str.{bytes_eq}
-use Rattle.kx_parse.specs.declared.tree.Mode.{Mode}
-use Rattle.kx_parse.specs.declared.tree.Mode.TheVariants.{Augment, Override, Replace}
+use Rattle.kx_tree.specs.declared.tree.Mode.{Mode}
+use Rattle.kx_tree.specs.declared.tree.Mode.TheVariants.{Augment, Override, Replace}
 use Rattle.kx_ordered.proofs.KeyPlaces.{place_is}
 use Rattle.kx_ordered.specs.KeyPlaces.{place_in}
 use Rattle.kx_codes.proofs.Matching.{bool_same, option_same}

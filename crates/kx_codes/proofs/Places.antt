@@ -3,7 +3,7 @@ use Rattle.std.proofs.Common.{◌≡◌, IfSome, ℕ, Bool, true, false, cond, L
 use Rattle.std.proofs.lemmas.Slice.Eq.{bytes_eq-Decides}
 use Rattle.std.specs.Cmp.{unsigned_Decides}
 use Rattle.std.specs.Str.{bytes_eq}
-use Rattle.kx_parse.specs.declared.tree.Mode.TheVariants.{Override}
+use Rattle.kx_tree.specs.declared.tree.Mode.TheVariants.{Override}
 use Rattle.kx_codes.proofs.Distinct.{code_of_name, name_of_code, taken_distinct}
 use Rattle.kx_codes.proofs.Matching.{gone_none, gone_some, look_without_other, unless}
 use Rattle.kx_codes.proofs.Standing.{apart, apart-back, over-codes, over-names, over-step, same_pair}

@@ -12,8 +12,8 @@ use Rattle.std.specs.Str.{bytes_eq}
 use Rattle.std.proofs.lemmas.Bool.{false≢true}
 use Rattle.std.proofs.lemmas.Slice.Eq.{bytes_eq-Decides}
 use Rattle.std.proofs.lemmas.Option.{same_Some}
-use Rattle.kx_parse.specs.declared.tree.Mode.{Mode}
-use Rattle.kx_parse.specs.declared.tree.Mode.TheVariants.{Augment, Override, Replace}
+use Rattle.kx_tree.specs.declared.tree.Mode.{Mode}
+use Rattle.kx_tree.specs.declared.tree.Mode.TheVariants.{Augment, Override, Replace}
 use Rattle.kx_codes.proofs.Distinct.{both_of, no_first, no_second, taken_distinct, all_distinct, code_of_name, name_of_code, pushed}
 use Rattle.kx_codes.proofs.Matching.{Apart, unless, over, any_look, took_over, took_under, all_over, all_under, last_put, stays, option_same}
 use Rattle.kx_codes.specs.Indexed.{Indexed, Stands, distinct}

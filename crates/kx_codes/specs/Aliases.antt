@@ -10,10 +10,10 @@ use Rattle.kx_lex.specs.declared.token.Span.{Span}
 use Rattle.kx_merge.specs.Bodies.{Rules, offers_of, no_moves}
 use Rattle.kx_merge.specs.Offers.{Offer, value_of, plain_offer}
 use Rattle.kx_merge.specs.Single.{single_rules}
-use Rattle.kx_parse.specs.declared.tree.Mode.{Mode}
-use Rattle.kx_parse.specs.declared.tree.Stated.{Stated}
-use Rattle.kx_parse.specs.declared.tree.Statement.{Statement}
-use Rattle.kx_parse.specs.declared.tree.Statement.TheVariants.{Alias}
+use Rattle.kx_tree.specs.declared.tree.Mode.{Mode}
+use Rattle.kx_tree.specs.declared.tree.Stated.{Stated}
+use Rattle.kx_tree.specs.declared.tree.Statement.{Statement}
+use Rattle.kx_tree.specs.declared.tree.Statement.TheVariants.{Alias}
 use Rattle.kx_merge.specs.Faults.{name_faults}
 
 -- an alias has one cell, its target

@@ -2,10 +2,10 @@
 use Rattle.std.specs.Prelude.{◌≡◌, ◌⊎◌, false, List, [], ◌∷◌, ◌++◌, map}
 use Rattle.kx_codes.specs.Pairs.{Pair, pairs_of, shares}
 use Rattle.kx_include.specs.Expansion.{Body, End, Begin, Own, Inc}
-use Rattle.kx_parse.specs.declared.tree.Mode.{Mode}
-use Rattle.kx_parse.specs.declared.tree.Mode.TheVariants.{Augment}
-use Rattle.kx_parse.specs.declared.tree.Statement.{Statement}
-use Rattle.kx_parse.specs.declared.tree.Statement.TheVariants.{Keycode}
+use Rattle.kx_tree.specs.declared.tree.Mode.{Mode}
+use Rattle.kx_tree.specs.declared.tree.Mode.TheVariants.{Augment}
+use Rattle.kx_tree.specs.declared.tree.Statement.{Statement}
+use Rattle.kx_tree.specs.declared.tree.Statement.TheVariants.{Keycode}
 
 pub record PairOffer : Type 0 where
   pub mode : Mode

@@ -7,7 +7,7 @@ ghost use Rattle.kx_basics.specs.KeyNames.{IsKeyName};
 ghost use Rattle.kx_lex.specs.declared.fault.Fault.TheVariants.{Memory};
 ghost use Rattle.kx_merge.specs.Records.{AreOffered};
 ghost use Rattle.kx_merge.specs.Single.{single_form};
-ghost use Rattle.kx_parse.specs.declared.tree.Mode.{Mode as ModeValue};
+ghost use Rattle.kx_tree.specs.declared.tree.Mode.{Mode as ModeValue};
 ghost use Rattle.kx_codes.specs.Aliases.{alias_faults, alias_in, alias_offer, stated_offers};
 ghost use Rattle.kx_merge.specs.Reports.{ReportsOrRunsOut};
 

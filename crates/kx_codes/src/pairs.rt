@@ -7,7 +7,7 @@ ghost use Rattle.kx_codes.specs.Indexed.{Stands};
 ghost use Rattle.kx_codes.specs.Numbers.{number as numbered};
 ghost use Rattle.kx_codes.specs.Pairs.{Pair as PairValue, shares, taken, all_taken, code_in, name_in};
 ghost use Rattle.kx_lex.specs.declared.fault.Fault.TheVariants.{Memory};
-ghost use Rattle.kx_parse.specs.declared.tree.Mode.TheVariants.{Augment, Override};
+ghost use Rattle.kx_tree.specs.declared.tree.Mode.TheVariants.{Augment, Override};
 
 use indexmap::IndexMap;
 use kx_lex::Fault;

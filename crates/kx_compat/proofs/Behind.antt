@@ -3,8 +3,8 @@ use Rattle.std.proofs.Common.{◌≡◌, ℕ, List, [], ◌∷◌, ◌++◌, fol
 use Rattle.std.specs.List.{flat_map}
 use Rattle.kx_actions.specs.Defaults.{next_defaults}
 use Rattle.kx_actions.specs.declared.defaults.ActionDefaults.{ActionDefaults}
-use Rattle.kx_parse.specs.declared.tree.Field.{Field}
-use Rattle.kx_parse.specs.declared.tree.Statement.{Statement}
+use Rattle.kx_tree.specs.declared.tree.Field.{Field}
+use Rattle.kx_tree.specs.declared.tree.Statement.{Statement}
 use Rattle.kx_compat.specs.Giving.{last_values}
 use Rattle.kx_compat.specs.Sections.{DefaultsAreLast, given_actions, given_value, next_default, no_defaults, standing}
 use Rattle.kx_compat.specs.declared.defaults.CompatDefaults.{CompatDefaults}

@@ -3,7 +3,7 @@ use Rattle.std.proofs.Common.{ℕ, List, Option, None, Some, map}
 use Rattle.std.specs.List.{IsDistinct}
 use Rattle.ks_core.specs.Table.{KeysymTable}
 use Rattle.kx_virtual_mods.specs.Once.{OffersOnce}
-use Rattle.kx_parse.specs.declared.tree.Mode.{Mode}
+use Rattle.kx_tree.specs.declared.tree.Mode.{Mode}
 use Rattle.kx_compat.specs.SameMatch.{same_match}
 use Rattle.kx_compat.specs.declared.interpretation_match.InterpretationMatch.{InterpretationMatch}
 use Rattle.kx_compat.specs.Given.{FieldValues}

@@ -10,13 +10,13 @@ use Rattle.kx_lex.specs.declared.fault.Fault.TheVariants.{BadValue, UnknownField
 use Rattle.kx_lex.specs.declared.name.Name.{Name}
 use Rattle.kx_lex.specs.declared.token.Span.{Span}
 use Rattle.kx_virtual_mods.specs.Masks.{real_mask, virtual_number}
-use Rattle.kx_parse.specs.declared.tree.Call.{Call}
-use Rattle.kx_parse.specs.declared.tree.Expression.{Expression}
-use Rattle.kx_parse.specs.declared.tree.Field.{Field}
-use Rattle.kx_parse.specs.declared.tree.Index.{Index}
-use Rattle.kx_parse.specs.declared.tree.Setting.{Setting}
-use Rattle.kx_parse.specs.declared.tree.Setting.TheVariants.{Off, On, To}
-use Rattle.kx_parse.specs.declared.tree.Value.TheVariants.{Expression as Expressed, Call as Called, List as Listed}
+use Rattle.kx_tree.specs.declared.tree.Call.{Call}
+use Rattle.kx_tree.specs.declared.tree.Expression.{Expression}
+use Rattle.kx_tree.specs.declared.tree.Field.{Field}
+use Rattle.kx_tree.specs.declared.tree.Index.{Index}
+use Rattle.kx_tree.specs.declared.tree.Setting.{Setting}
+use Rattle.kx_tree.specs.declared.tree.Setting.TheVariants.{Off, On, To}
+use Rattle.kx_tree.specs.declared.tree.Value.TheVariants.{Expression as Expressed, Call as Called, List as Listed}
 use Rattle.kx_merge.specs.Faults.{expression_in, value_faults}
 use Rattle.kx_merge.specs.Words.{among, lone_word, meaning_among}
 use Rattle.kx_compat.specs.declared.fields.InterpretField.{InterpretField}

@@ -9,15 +9,15 @@ use Rattle.kx_include.specs.IncludeFaults.{at}
 use Rattle.kx_lex.specs.declared.fault.Fault.{Fault}
 use Rattle.kx_lex.specs.declared.fault.Fault.TheVariants.{BadValue, UnknownField}
 use Rattle.kx_virtual_mods.specs.Masks.{mask_set, real_mask_faults}
-use Rattle.kx_parse.specs.declared.tree.Argument.{Argument}
-use Rattle.kx_parse.specs.declared.tree.Argument.TheVariants.{Plain}
-use Rattle.kx_parse.specs.declared.tree.Call.{Call}
-use Rattle.kx_parse.specs.declared.tree.Expression.{Expression}
-use Rattle.kx_parse.specs.declared.tree.PlacedArgument.{PlacedArgument}
-use Rattle.kx_parse.specs.declared.tree.Predicate.{Predicate}
-use Rattle.kx_parse.specs.declared.tree.Predicate.TheVariants as predicates
-use Rattle.kx_parse.specs.declared.tree.Symbol.{Symbol}
-use Rattle.kx_parse.specs.declared.tree.Symbol.TheVariants.{Word, Number}
+use Rattle.kx_tree.specs.declared.tree.Argument.{Argument}
+use Rattle.kx_tree.specs.declared.tree.Argument.TheVariants.{Plain}
+use Rattle.kx_tree.specs.declared.tree.Call.{Call}
+use Rattle.kx_tree.specs.declared.tree.Expression.{Expression}
+use Rattle.kx_tree.specs.declared.tree.PlacedArgument.{PlacedArgument}
+use Rattle.kx_tree.specs.declared.tree.Predicate.{Predicate}
+use Rattle.kx_tree.specs.declared.tree.Predicate.TheVariants as predicates
+use Rattle.kx_tree.specs.declared.tree.Symbol.{Symbol}
+use Rattle.kx_tree.specs.declared.tree.Symbol.TheVariants.{Word, Number}
 use Rattle.kx_symbols.specs.Keysyms.{is_no_symbol, symbol_keysym}
 use Rattle.kx_mods.specs.declared.condition.Condition.{Condition}
 use Rattle.kx_mods.specs.declared.condition.Condition.TheVariants.{Exactly, AllOf, NoneOf, AnyOf, AnyOfOrNone}

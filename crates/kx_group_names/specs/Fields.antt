@@ -7,13 +7,13 @@ use Rattle.kx_lex.specs.declared.fault.Fault.{Fault}
 use Rattle.kx_lex.specs.declared.fault.Fault.TheVariants.{BadValue, TooMany, UnknownField}
 use Rattle.kx_lex.specs.declared.name.Name.{Name}
 use Rattle.kx_lex.specs.declared.token.Span.{Span}
-use Rattle.kx_parse.specs.declared.tree.Expression.{Expression}
-use Rattle.kx_parse.specs.declared.tree.Field.{Field}
-use Rattle.kx_parse.specs.declared.tree.Index.{Index}
-use Rattle.kx_parse.specs.declared.tree.Setting.{Setting}
-use Rattle.kx_parse.specs.declared.tree.Stated.{Stated}
-use Rattle.kx_parse.specs.declared.tree.Statement.{Statement}
-use Rattle.kx_parse.specs.declared.tree.Statement.TheVariants as statements
+use Rattle.kx_tree.specs.declared.tree.Expression.{Expression}
+use Rattle.kx_tree.specs.declared.tree.Field.{Field}
+use Rattle.kx_tree.specs.declared.tree.Index.{Index}
+use Rattle.kx_tree.specs.declared.tree.Setting.{Setting}
+use Rattle.kx_tree.specs.declared.tree.Stated.{Stated}
+use Rattle.kx_tree.specs.declared.tree.Statement.{Statement}
+use Rattle.kx_tree.specs.declared.tree.Statement.TheVariants as statements
 use Rattle.kx_key_fields.specs.Words.{is_group_name}
 use Rattle.kx_merge.specs.Faults.{expression_in, value_faults}
 use Rattle.kx_merge.specs.Numbers.{number_at, number_faults}

@@ -11,9 +11,9 @@ use Rattle.kx_merge.specs.Records.{cell_in}
 use Rattle.kx_merge.specs.Single.{single_form, single_moves, single_rules}
 use Rattle.kx_merge.specs.declared.numbers.Counted.TheVariants.{Group}
 use Rattle.kx_merge.specs.declared.single.Single.{Single}
-use Rattle.kx_parse.specs.declared.tree.Field.{Field}
-use Rattle.kx_parse.specs.declared.tree.Mode.{Mode}
-use Rattle.kx_parse.specs.declared.tree.Stated.{Stated}
+use Rattle.kx_tree.specs.declared.tree.Field.{Field}
+use Rattle.kx_tree.specs.declared.tree.Mode.{Mode}
+use Rattle.kx_tree.specs.declared.tree.Stated.{Stated}
 use Rattle.kx_group_names.specs.Fields.{indexed_group, name_in, set_text, stated_faults}
 
 -- a group, counted from 1, has one cell, its name

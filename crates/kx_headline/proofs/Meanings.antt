@@ -8,7 +8,7 @@ use Rattle.kx_headline.proofs.Texts.{Laws, library-one}
 use Rattle.kx_include.specs.Expansion.{body_of}
 use Rattle.kx_include.specs.Library.{Library}
 use Rattle.kx_include.specs.Source.{Handed}
-use Rattle.kx_parse.specs.declared.tree.Kind.TheVariants.{Symbols}
+use Rattle.kx_tree.specs.declared.tree.Kind.TheVariants.{Symbols}
 use Rattle.kx_source.specs.Meaning.{indicators_in, resolved_in}
 use Rattle.kx_source.specs.Source.{HoldsAll, Means}
 use Rattle.kx_tables.specs.Content.{Content}

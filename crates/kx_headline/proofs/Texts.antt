@@ -4,8 +4,8 @@ use Rattle.kx_lex.specs.Reading.{Stops, bad_byte, open_string, open_key_name, pa
 use Rattle.kx_lex.specs.declared.fault.Fault.{Fault}
 use Rattle.kx_lex.specs.declared.fault.Fault.TheVariants as fault
 use Rattle.kx_lex.specs.declared.token.Token.{Token}
-use Rattle.kx_parse.specs.Sections.{Spells, SpellsFile, StopsWith as TokensStop, FileStopsWith}
-use Rattle.kx_parse.specs.declared.tree.Tree.{Tree}
+use Rattle.kx_tree.specs.Sections.{Spells, SpellsFile, StopsWith as TokensStop, FileStopsWith}
+use Rattle.kx_tree.specs.declared.tree.Tree.{Tree}
 use Rattle.kx_include.specs.Library.{Library, Text}
 use Rattle.kx_include.specs.Source.{Handed, IsRead, HasNoTree}
 use Rattle.kx_include.specs.Texts.{IsTree, IsStop, IsText, AreTexts, none, more, in_file}

@@ -7,8 +7,8 @@ use Rattle.kx_lex.specs.declared.scan.TheConstants.{MOST_TEXT_BYTES}
 use Rattle.kx_parse.specs.Outline.{IsOutline, built_from}
 use Rattle.kx_parse.specs.Outlined.{outlined}
 use Rattle.kx_parse.specs.declared.outline.Outline.{Outline}
-use Rattle.kx_parse.specs.declared.tree.Kind.{Kind}
-use Rattle.kx_parse.specs.declared.tree.Section.{Section}
+use Rattle.kx_tree.specs.declared.tree.Kind.{Kind}
+use Rattle.kx_tree.specs.declared.tree.Section.{Section}
 use Rattle.kx_parse.proofs.OutlinedTexts.{outline-outlined, outlined-outline}
 use Rattle.kx_include.specs.FileText.{FileText, IsFileText, outline_sections}
 use Rattle.kx_include.specs.Held.{IsSketch, held_sections}

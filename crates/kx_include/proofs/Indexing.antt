@@ -11,9 +11,9 @@ use Rattle.std.specs.Ordering.{is_eq}
 use Rattle.kx_ordered.specs.Names.{name_cmp}
 use Rattle.kx_ordered.proofs.ByNames.{put_look, look_tie}
 use Rattle.kx_lex.specs.declared.name.Name.{Name}
-use Rattle.kx_parse.specs.declared.tree.Kind.{Kind}
-use Rattle.kx_parse.specs.declared.tree.Kind.TheVariants.{Keycodes, Types, Compat, Symbols, Geometry}
-use Rattle.kx_parse.specs.declared.tree.Section.{Section}
+use Rattle.kx_tree.specs.declared.tree.Kind.{Kind}
+use Rattle.kx_tree.specs.declared.tree.Kind.TheVariants.{Keycodes, Types, Compat, Symbols, Geometry}
+use Rattle.kx_tree.specs.declared.tree.Section.{Section}
 use Rattle.kx_include.specs.Library.{has_name, is_default_flag, is_of}
 use Rattle.kx_include.specs.MapIndex.{IsIndex, MapIndex, found, named_in, number_in, or_here, with_flagged, with_map}
 use Rattle.kx_include.specs.declared.kind_maps.KindMaps.{KindMaps}

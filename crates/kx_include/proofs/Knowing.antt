@@ -3,7 +3,7 @@ use Rattle.std.proofs.Common.{◌≡◌, ◌⊎◌, ℕ, ◌+◌, zero, suc, Boo
 use Rattle.std.proofs.lemmas.Bool.{eqb-true}
 use Rattle.std.proofs.lemmas.List.{length-append, append_assoc, append-nil}
 use Rattle.std.specs.List.{slice_get}
-use Rattle.kx_parse.specs.declared.tree.Kind.{Kind}
+use Rattle.kx_tree.specs.declared.tree.Kind.{Kind}
 use Rattle.kx_include.specs.Expansion.{Body, End}
 use Rattle.kx_include.specs.IncludeFaults.{Findings, in_map}
 use Rattle.kx_include.specs.Library.{Library}

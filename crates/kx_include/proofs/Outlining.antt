@@ -5,10 +5,10 @@ use Rattle.std.specs.List.{list_all, list_any, position, position_from, slice_ge
 use Rattle.std.specs.Option.{option_and_then, option_map, option_map_or, option_or}
 use Rattle.std.specs.Prelude.{filter}
 use Rattle.kx_parse.specs.Outline.{is_include, outline_of}
-use Rattle.kx_parse.specs.declared.tree.Item.{Item}
-use Rattle.kx_parse.specs.declared.tree.Item.TheVariants.{Include, Statement}
-use Rattle.kx_parse.specs.declared.tree.Kind.{Kind}
-use Rattle.kx_parse.specs.declared.tree.Section.{Section}
+use Rattle.kx_tree.specs.declared.tree.Item.{Item}
+use Rattle.kx_tree.specs.declared.tree.Item.TheVariants.{Include, Statement}
+use Rattle.kx_tree.specs.declared.tree.Kind.{Kind}
+use Rattle.kx_tree.specs.declared.tree.Section.{Section}
 use Rattle.kx_include.specs.Held.{AreHeld, Flags, Holds, IsClosed, all, closed_item, closed_part, closed_text, flags_of, held_more, held_none, held_section, held_sections, is_wanted, some}
 use Rattle.kx_include.specs.IncludeFaults.{fault_in}
 use Rattle.kx_parse.specs.IncludeText.{Part, parts_of}

@@ -4,9 +4,9 @@ use Rattle.std.specs.Prelude.{if◌then◌else◌, unwrap_or}
 use Rattle.kx_lex.specs.declared.token.Span.{Span}
 use Rattle.kx_parse.specs.Outline.{IsOutline, built_from, outline_of}
 use Rattle.kx_parse.specs.declared.outline.Outline.{Outline}
-use Rattle.kx_parse.specs.declared.tree.Kind.{Kind}
-use Rattle.kx_parse.specs.declared.tree.Section.{Section}
-use Rattle.kx_parse.specs.declared.tree.Tree.{Tree}
+use Rattle.kx_tree.specs.declared.tree.Kind.{Kind}
+use Rattle.kx_tree.specs.declared.tree.Section.{Section}
+use Rattle.kx_tree.specs.declared.tree.Tree.{Tree}
 use Rattle.kx_include.specs.FileText.{FileText}
 use Rattle.kx_include.specs.Held.{AreSketches, Holds, IsSketch, all, held_section, held_sections, sketch_more, sketch_none, some}
 use Rattle.kx_include.specs.Kept.{built_over}

@@ -2,7 +2,7 @@
 use Rattle.std.proofs.Common.{◌≡◌, ◌⊎◌, ◌≤◌, ◌∙◌, [], length, Result, Ok, Err, IfOk, IfErr, OnOk, inl, inr, subst}
 use Rattle.kx_lex.specs.declared.fault.Fault.{Fault}
 use Rattle.kx_lex.specs.declared.fault.Fault.TheVariants.{Memory}
-use Rattle.kx_parse.specs.declared.tree.Kind.TheVariants.{Compat, Geometry, Keycodes, Symbols, Types}
+use Rattle.kx_tree.specs.declared.tree.Kind.TheVariants.{Compat, Geometry, Keycodes, Symbols, Types}
 use Rattle.kx_include.specs.Bodies.{AreBodies}
 use Rattle.kx_include.specs.Held.{StandsFor}
 use Rattle.kx_include.specs.IncludeFaults.{Findings, HasFaultFrom, HasIncludeFault, IsWhole}

@@ -1,7 +1,7 @@
 -- Texts of files, read one after another.
 use Rattle.std.proofs.Common.{◌≡◌, ℕ, ◌+◌, ◌<◌, zero, suc, List, [], ◌∷◌, ◌++◌, length, take, Some, Ok, refl, ap, subst, arith}
 use Rattle.std.specs.List.{slice_get}
-use Rattle.kx_parse.specs.declared.tree.Tree.{Tree}
+use Rattle.kx_tree.specs.declared.tree.Tree.{Tree}
 use Rattle.kx_include.specs.Library.{Text}
 use Rattle.kx_include.specs.Texts.{IsText, AreTexts, none, more}
 

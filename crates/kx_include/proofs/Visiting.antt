@@ -8,10 +8,10 @@ use Rattle.kx_lex.specs.declared.fault.At.{At}
 use Rattle.kx_lex.specs.declared.fault.Fault.{Fault}
 use Rattle.kx_lex.specs.declared.name.Name.{Name}
 use Rattle.kx_lex.specs.declared.token.Span.{Span}
-use Rattle.kx_parse.specs.declared.tree.Item.{Item}
-use Rattle.kx_parse.specs.declared.tree.Item.TheVariants.{Include, Statement}
-use Rattle.kx_parse.specs.declared.tree.Kind.{Kind}
-use Rattle.kx_parse.specs.declared.tree.Mode.{Mode}
+use Rattle.kx_tree.specs.declared.tree.Item.{Item}
+use Rattle.kx_tree.specs.declared.tree.Item.TheVariants.{Include, Statement}
+use Rattle.kx_tree.specs.declared.tree.Kind.{Kind}
+use Rattle.kx_tree.specs.declared.tree.Mode.{Mode}
 use Rattle.kx_include.specs.Chosen.{found_body, in_place, unless}
 use Rattle.kx_include.specs.Expansion.{Body, Begin, Inc, items_body, map_body}
 use Rattle.kx_include.specs.IncludeFaults.{Findings, at, fault_in, in_depth, in_file, in_include, in_item, in_map, in_part, only, HasFaultFrom}

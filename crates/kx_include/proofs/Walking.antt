@@ -2,7 +2,7 @@
 use Rattle.std.proofs.Common.{◌≡◌, ℕ, ◌≤◌, List, [], ◌∷◌, ◌++◌, length, sym, subst, arith, inl, inr}
 use Rattle.std.proofs.lemmas.List.{append_assoc, append-nil}
 use Rattle.kx_lex.specs.declared.fault.Fault.{Fault}
-use Rattle.kx_parse.specs.declared.tree.Kind.{Kind}
+use Rattle.kx_tree.specs.declared.tree.Kind.{Kind}
 use Rattle.kx_include.specs.Expansion.{Body}
 use Rattle.kx_include.specs.IncludeFaults.{Findings, all_of, HasFaultFrom}
 use Rattle.kx_include.specs.Library.{Library}

@@ -4,10 +4,10 @@ use Rattle.std.proofs.lemmas.Bool.{ltb-true, ltb-false}
 use Rattle.std.specs.List.{list_all, slice_get}
 use Rattle.std.specs.Option.{option_and_then, option_map, option_map_or}
 use Rattle.std.specs.Prelude.{nat_lt}
-use Rattle.kx_parse.specs.declared.tree.Item.{Item}
-use Rattle.kx_parse.specs.declared.tree.Item.TheVariants.{Include, Statement}
-use Rattle.kx_parse.specs.declared.tree.Kind.{Kind}
-use Rattle.kx_parse.specs.declared.tree.Section.{Section}
+use Rattle.kx_tree.specs.declared.tree.Item.{Item}
+use Rattle.kx_tree.specs.declared.tree.Item.TheVariants.{Include, Statement}
+use Rattle.kx_tree.specs.declared.tree.Kind.{Kind}
+use Rattle.kx_tree.specs.declared.tree.Section.{Section}
 use Rattle.kx_include.specs.Held.{Flags, IsAll, IsClosed, IsClosedAt, IsClosedIn, closed_item, closed_part, flags_of, is_wanted}
 use Rattle.kx_parse.specs.IncludeText.{Part, parts_of}
 use Rattle.kx_include.specs.Library.{Library, Text, file_of, map_of, place_in, sections_in, sections_of}

@@ -1,7 +1,7 @@
 -- The expanded bodies of a source.
 use Rattle.std.specs.Prelude.{◌≡◌}
-use Rattle.kx_parse.specs.declared.tree.Kind.{Kind}
-use Rattle.kx_parse.specs.declared.tree.Kind.TheVariants.{Keycodes, Types, Compat, Symbols, Geometry}
+use Rattle.kx_tree.specs.declared.tree.Kind.{Kind}
+use Rattle.kx_tree.specs.declared.tree.Kind.TheVariants.{Keycodes, Types, Compat, Symbols, Geometry}
 use Rattle.kx_include.specs.Expansion.{body_of}
 use Rattle.kx_include.specs.Library.{Library}
 use Rattle.kx_include.specs.Shared.{expanded_body}

@@ -1,12 +1,12 @@
 -- The expanded body of a section kind: its items in order, with the body of what it names in the place of each include.
 use Rattle.std.specs.Prelude.{ℕ, ◌+◌, suc, zero, List, [], ◌∷◌, cond, Option, None}
 use Rattle.std.specs.Option.{option_map_or}
-use Rattle.kx_parse.specs.declared.tree.Item.{Item}
-use Rattle.kx_parse.specs.declared.tree.Item.TheVariants.{Include, Statement}
-use Rattle.kx_parse.specs.declared.tree.Kind.{Kind}
-use Rattle.kx_parse.specs.declared.tree.Mode.{Mode}
-use Rattle.kx_parse.specs.declared.tree.Section.{Section}
-use Rattle.kx_parse.specs.declared.tree.Stated.{Stated}
+use Rattle.kx_tree.specs.declared.tree.Item.{Item}
+use Rattle.kx_tree.specs.declared.tree.Item.TheVariants.{Include, Statement}
+use Rattle.kx_tree.specs.declared.tree.Kind.{Kind}
+use Rattle.kx_tree.specs.declared.tree.Mode.{Mode}
+use Rattle.kx_tree.specs.declared.tree.Section.{Section}
+use Rattle.kx_tree.specs.declared.tree.Stated.{Stated}
 use Rattle.kx_parse.specs.IncludeText.{Part, parts_of}
 use Rattle.kx_include.specs.Library.{Library, items_in, sections_in, place_of, is_of}
 use Rattle.kx_include.specs.declared.expanding.TheConstants.{MOST_DEPTH}

@@ -3,7 +3,7 @@ use Rattle.std.specs.Prelude.{◌≡◌, ℕ, List, [], Option, Some}
 use Rattle.std.specs.Option.{ForSome, option_map_or}
 use Rattle.kx_parse.specs.Outlined.{outlined}
 use Rattle.kx_parse.specs.declared.outline.Outline.{Outline}
-use Rattle.kx_parse.specs.declared.tree.Section.{Section}
+use Rattle.kx_tree.specs.declared.tree.Section.{Section}
 use Rattle.kx_include.specs.MapIndex.{IsIndex, MapIndex}
 use Rattle.kx_include.specs.Texts.{IsShort}
 

@@ -4,11 +4,11 @@ use Rattle.std.specs.List.{list_all}
 use Rattle.std.specs.Option.{option_map_or}
 use Rattle.kx_parse.specs.Outline.{IsOutline, outline_of}
 use Rattle.kx_parse.specs.declared.outline.Outline.{Outline}
-use Rattle.kx_parse.specs.declared.tree.Item.{Item}
-use Rattle.kx_parse.specs.declared.tree.Item.TheVariants.{Include, Statement}
-use Rattle.kx_parse.specs.declared.tree.Kind.{Kind}
-use Rattle.kx_parse.specs.declared.tree.Section.{Section}
-use Rattle.kx_parse.specs.declared.tree.Tree.{Tree}
+use Rattle.kx_tree.specs.declared.tree.Item.{Item}
+use Rattle.kx_tree.specs.declared.tree.Item.TheVariants.{Include, Statement}
+use Rattle.kx_tree.specs.declared.tree.Kind.{Kind}
+use Rattle.kx_tree.specs.declared.tree.Section.{Section}
+use Rattle.kx_tree.specs.declared.tree.Tree.{Tree}
 use Rattle.kx_include.specs.Expansion.{body_of}
 use Rattle.kx_include.specs.FileText.{FileText}
 use Rattle.kx_include.specs.IncludeFaults.{findings}

@@ -5,10 +5,10 @@ use Rattle.kx_lex.specs.declared.fault.At.{At}
 use Rattle.kx_lex.specs.declared.fault.Fault.{Fault}
 use Rattle.kx_lex.specs.declared.fault.Fault.TheVariants as fault
 use Rattle.kx_lex.specs.declared.token.Span.{Span}
-use Rattle.kx_parse.specs.declared.tree.Item.{Item}
-use Rattle.kx_parse.specs.declared.tree.Item.TheVariants.{Include, Statement}
-use Rattle.kx_parse.specs.declared.tree.Kind.{Kind}
-use Rattle.kx_parse.specs.declared.tree.Section.{Section}
+use Rattle.kx_tree.specs.declared.tree.Item.{Item}
+use Rattle.kx_tree.specs.declared.tree.Item.TheVariants.{Include, Statement}
+use Rattle.kx_tree.specs.declared.tree.Kind.{Kind}
+use Rattle.kx_tree.specs.declared.tree.Section.{Section}
 use Rattle.kx_parse.specs.IncludeText.{Part, parts_of}
 use Rattle.kx_include.specs.Library.{Library, Text, items_in, sections_in, file_of, place_in}
 use Rattle.kx_include.specs.declared.expanding.TheConstants.{MOST_DEPTH, MOST_PARTS}

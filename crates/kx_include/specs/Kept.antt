@@ -1,7 +1,7 @@
 -- The text that is kept in a library as a tree of its own, or as the outline of a file with the sections that were built.
 use Rattle.std.specs.Prelude.{◌≡◌, ℕ, List, [], ◌∷◌, Option, Some, Ok, unwrap_or}
-use Rattle.kx_parse.specs.declared.tree.Kind.{Kind}
-use Rattle.kx_parse.specs.declared.tree.Section.{Section}
+use Rattle.kx_tree.specs.declared.tree.Kind.{Kind}
+use Rattle.kx_tree.specs.declared.tree.Section.{Section}
 use Rattle.kx_include.specs.FileText.{outline_sections}
 use Rattle.kx_include.specs.Library.{Text, map_of, sections_of}
 use Rattle.kx_include.specs.MapIndex.{found}

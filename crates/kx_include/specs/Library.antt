@@ -4,17 +4,17 @@ use Rattle.std.specs.List.{list_any}
 use Rattle.std.specs.Option.{option_and_then, option_map, option_map_or, option_or}
 use Rattle.std.specs.Str.{bytes_eq}
 use Rattle.kx_lex.specs.declared.fault.Fault.{Fault}
-use Rattle.kx_parse.specs.declared.tree.Flag.{Flag}
-use Rattle.kx_parse.specs.declared.tree.Flag.TheVariants as flags
-use Rattle.kx_parse.specs.declared.tree.Item.{Item}
-use Rattle.kx_parse.specs.declared.tree.Kind.{Kind}
-use Rattle.kx_parse.specs.Sections.{kind_word}
+use Rattle.kx_tree.specs.declared.tree.Flag.{Flag}
+use Rattle.kx_tree.specs.declared.tree.Flag.TheVariants as flags
+use Rattle.kx_tree.specs.declared.tree.Item.{Item}
+use Rattle.kx_tree.specs.declared.tree.Kind.{Kind}
+use Rattle.kx_tree.specs.Sections.{kind_word}
 use Rattle.kx_lex.specs.declared.name.Name.{Name}
-use Rattle.kx_parse.specs.declared.tree.Section.{Section}
-use Rattle.kx_parse.specs.declared.tree.Tree.{Tree}
+use Rattle.kx_tree.specs.declared.tree.Section.{Section}
+use Rattle.kx_tree.specs.declared.tree.Tree.{Tree}
 use Rattle.kx_parse.specs.IncludeText.{Part}
 use Rattle.kx_include.specs.declared.place.Place.{Place}
-use Rattle.kx_parse.specs.contracts.tree.KindPartialEq.TheImpl.{ghosts}
+use Rattle.kx_tree.specs.contracts.tree.KindPartialEq.TheImpl.{ghosts}
 
 -- what a text is: its tree, or the fault for which it has none
 abbrev pub Text : Type 0

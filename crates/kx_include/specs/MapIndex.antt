@@ -4,9 +4,9 @@ use Rattle.std.specs.List.{list_any}
 use Rattle.std.specs.Map.{lookup}
 use Rattle.std.specs.Option.{option_and_then, option_or}
 use Rattle.std.specs.Str.{bytes_eq}
-use Rattle.kx_parse.specs.declared.tree.Kind.{Kind}
-use Rattle.kx_parse.specs.declared.tree.Kind.TheVariants.{Keycodes, Types, Compat, Symbols, Geometry}
-use Rattle.kx_parse.specs.declared.tree.Section.{Section}
+use Rattle.kx_tree.specs.declared.tree.Kind.{Kind}
+use Rattle.kx_tree.specs.declared.tree.Kind.TheVariants.{Keycodes, Types, Compat, Symbols, Geometry}
+use Rattle.kx_tree.specs.declared.tree.Section.{Section}
 use Rattle.kx_include.specs.Library.{is_of, is_default_flag, map_of}
 use Rattle.kx_include.specs.declared.kind_maps.KindMaps.{KindMaps}
 

@@ -2,8 +2,8 @@
 use Rattle.std.specs.Prelude.{◌≡◌, ◌⊎◌, ℕ, ◌+◌, ◌≤◌, suc, length, List, [], ◌∷◌, ◌++◌, Option, Some, slice_get}
 use Rattle.kx_lex.specs.declared.fault.Fault.{Fault}
 use Rattle.kx_lex.specs.declared.fault.Fault.TheVariants.{Memory}
-use Rattle.kx_parse.specs.declared.tree.Item.{Item}
-use Rattle.kx_parse.specs.declared.tree.Kind.{Kind}
+use Rattle.kx_tree.specs.declared.tree.Item.{Item}
+use Rattle.kx_tree.specs.declared.tree.Kind.{Kind}
 use Rattle.kx_include.specs.Chosen.{found_body, text_body}
 use Rattle.kx_include.specs.Expansion.{Body, End, Inc, items_body, map_body, parts_body}
 use Rattle.kx_include.specs.IncludeFaults.{Findings, HasFaultFrom, in_map}

@@ -6,8 +6,8 @@ use Rattle.kx_lex.specs.Reading.{IsReading, StopsWith as LexingStopsWith, whole_
 use Rattle.kx_lex.specs.declared.fault.Fault.{Fault}
 use Rattle.kx_lex.specs.declared.fault.Fault.TheVariants.{TooLong, TooMany}
 use Rattle.kx_lex.specs.declared.token.Token.{Token}
-use Rattle.kx_parse.specs.Sections.{Spells, StopsWith}
-use Rattle.kx_parse.specs.declared.tree.Tree.{Tree}
+use Rattle.kx_tree.specs.Sections.{Spells, StopsWith}
+use Rattle.kx_tree.specs.declared.tree.Tree.{Tree}
 use Rattle.kx_lex.specs.declared.scan.TheConstants.{MOST_TEXT_BYTES}
 use Rattle.kx_include.specs.declared.sources.TheConstants.{MOST_FILES}
 

@@ -5,8 +5,8 @@ use Rattle.kx_lex.specs.declared.fault.At.{At}
 use Rattle.kx_lex.specs.declared.fault.Fault.{Fault}
 use Rattle.kx_lex.specs.declared.fault.Fault.TheVariants as fault
 use Rattle.kx_lex.specs.declared.token.Token.{Token}
-use Rattle.kx_parse.specs.Sections.{SpellsFile, FileStopsWith}
-use Rattle.kx_parse.specs.declared.tree.Tree.{Tree}
+use Rattle.kx_tree.specs.Sections.{SpellsFile, FileStopsWith}
+use Rattle.kx_tree.specs.declared.tree.Tree.{Tree}
 use Rattle.kx_include.specs.Library.{Library, Text}
 use Rattle.kx_lex.specs.declared.scan.TheConstants.{MOST_TEXT_BYTES}
 

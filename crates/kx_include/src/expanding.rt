@@ -10,7 +10,7 @@ ghost use Rattle.kx_include.specs.Library.{Library as LibraryValue, items_in, pl
 ghost use Rattle.kx_include.specs.Limits.{most_depth, most_parts};
 ghost use Rattle.kx_include.specs.Sharing.{AddsSection, AreEntriesOf, AreKnown, AreLinksOf, Blames, Expands, IsFound, IsKnownMap, IsLinkOf, IsMapOf, IsNumberOf, IsTextOf};
 ghost use Rattle.kx_lex.specs.declared.fault.Fault.TheVariants.{Memory};
-ghost use Rattle.kx_parse.specs.declared.tree.Kind.{Kind};
+ghost use Rattle.kx_tree.specs.declared.tree.Kind.{Kind};
 
 use crate::expansion::{Bodies, Entry, Expansion, Link, Map};
 use crate::place::Place;

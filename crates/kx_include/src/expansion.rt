@@ -1,6 +1,6 @@
 //! The expanded body of a section kind as a value, in which each map stands once, however often it is included.
 ghost use Rattle.std.specs.Prelude.{◌≡◌, []};
-ghost use Rattle.kx_parse.specs.declared.tree.Kind.{Kind};
+ghost use Rattle.kx_tree.specs.declared.tree.Kind.{Kind};
 
 use crate::place::Place;
 use kx_parse::{Mode, Stated};

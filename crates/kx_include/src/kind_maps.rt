@@ -1,6 +1,6 @@
 //! A section for each kind.
 ghost use Rattle.std.specs.Prelude.{◌≡◌, None};
-ghost use Rattle.kx_parse.specs.declared.tree.Kind.{Kind};
+ghost use Rattle.kx_tree.specs.declared.tree.Kind.{Kind};
 ghost use Rattle.kx_include.specs.MapIndex.{number_in, with_map};
 
 use kx_parse::Kind;

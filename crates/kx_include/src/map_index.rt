@@ -4,8 +4,8 @@ ghost use Rattle.std.specs.List.{list_any};
 ghost use Rattle.std.specs.Option.{option_map};
 ghost use Rattle.kx_include.specs.Library.{has_name, is_default_flag, is_of};
 ghost use Rattle.kx_include.specs.MapIndex.{IsIndex, found, number_in, or_here, with_flagged};
-ghost use Rattle.kx_parse.specs.declared.tree.Kind.{Kind};
-ghost use Rattle.kx_parse.specs.declared.tree.Section.{Section};
+ghost use Rattle.kx_tree.specs.declared.tree.Kind.{Kind};
+ghost use Rattle.kx_tree.specs.declared.tree.Section.{Section};
 
 use crate::kind_maps::KindMaps;
 use kx_ordered::{NameKey, OwnedName};

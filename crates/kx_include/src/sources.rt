@@ -6,7 +6,7 @@ ghost use Rattle.kx_include.specs.IncludeFaults.{at};
 ghost use Rattle.kx_include.specs.Library.{file_of, number_of, sections_in, items_in, place_in, place_of};
 ghost use Rattle.kx_include.specs.Held.{AreOutlined, IsClosed, IsHeldLibrary, file_by};
 ghost use Rattle.kx_include.specs.Source.{Handed};
-ghost use Rattle.kx_parse.specs.declared.tree.Tree.{Tree as TreeValue};
+ghost use Rattle.kx_tree.specs.declared.tree.Tree.{Tree as TreeValue};
 
 use crate::file_text::FileText;
 use crate::files::Files;

@@ -1,6 +1,6 @@
 -- Defaults after statements are what the last gives.
 use Rattle.std.proofs.Common.{◌≡◌, ℕ, List, [], ◌∷◌, fold, refl, sym, ◌∙◌}
-use Rattle.kx_parse.specs.declared.tree.Statement.{Statement}
+use Rattle.kx_tree.specs.declared.tree.Statement.{Statement}
 use Rattle.kx_indicators.specs.Blocks.{DefaultsAreLast, default_in, given_value, next_default}
 use Rattle.kx_indicators.specs.Given.{IndicatorMapValues}
 use Rattle.kx_indicators.specs.Giving.{last_values, no_values}

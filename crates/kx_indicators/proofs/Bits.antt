@@ -3,8 +3,8 @@ use Rattle.std.proofs.Common.{ℕ, ◌-◌, ◌<◌, ◌≤◌, ◌^◌, arith}
 use Rattle.std.specs.Int.RustNames.{bit_and}
 use Rattle.std.proofs.lemmas.Nat.{and_le_l, or_lt}
 use Rattle.kx_virtual_mods.specs.Masks.{joined}
-use Rattle.kx_parse.specs.declared.tree.Sign.{Sign}
-use Rattle.kx_parse.specs.declared.tree.Sign.TheVariants.{Plus, Minus}
+use Rattle.kx_tree.specs.declared.tree.Sign.{Sign}
+use Rattle.kx_tree.specs.declared.tree.Sign.TheVariants.{Plus, Minus}
 
 fewer : (a b most : ℕ) → b ≤ a → a < most → b < most
 fewer a b most p q = omega (arith, p, q)

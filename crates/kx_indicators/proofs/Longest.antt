@@ -15,8 +15,8 @@ use Rattle.kx_lex.specs.declared.token.Span.{Span}
 use Rattle.kx_virtual_mods.specs.Counted.{Said, names_behind, names_of, statements_of, with_names}
 use Rattle.kx_merge.specs.Bodies.{faults, faults_of, no_moves}
 use Rattle.kx_merge.specs.Offers.{with_name}
-use Rattle.kx_parse.specs.declared.tree.Field.{Field}
-use Rattle.kx_parse.specs.declared.tree.Statement.{Statement}
+use Rattle.kx_tree.specs.declared.tree.Field.{Field}
+use Rattle.kx_tree.specs.declared.tree.Statement.{Statement}
 use Rattle.kx_indicators.specs.Blocks.{indicator_in, indicator_map_names, next_default, own_faults, said_faults, written_name}
 use Rattle.kx_indicators.specs.Bounds.{NamesAreValid}
 use Rattle.kx_indicators.specs.declared.limits.TheConstants.{MOST_INDICATORS}

@@ -5,8 +5,8 @@ use Rattle.kx_lex.specs.declared.name.Name.{Name}
 use Rattle.kx_merge.specs.Plain.{plain_form}
 use Rattle.kx_merge.specs.Records.{AreOffered}
 use Rattle.kx_merge.specs.declared.plain.Plain.{Plain}
-use Rattle.kx_parse.specs.declared.tree.Field.{Field}
-use Rattle.kx_parse.specs.declared.tree.Mode.{Mode}
+use Rattle.kx_tree.specs.declared.tree.Field.{Field}
+use Rattle.kx_tree.specs.declared.tree.Mode.{Mode}
 use Rattle.kx_indicators.specs.Given.{IndicatorMapValues}
 use Rattle.kx_indicators.specs.Giving.{values_cell}
 use Rattle.kx_indicators.specs.Meaning.{IndicatorMapOffer, said_offers}

@@ -1,7 +1,7 @@
 //! What the statements of a compat section say of indicators.
 ghost use Rattle.std.specs.Prelude.{◌≡◌, ◌++◌, [], IfOk, Some};
 ghost use Rattle.std.specs.List.{flat_map};
-ghost use Rattle.kx_parse.specs.declared.tree.Mode.{Mode as ModeValue};
+ghost use Rattle.kx_tree.specs.declared.tree.Mode.{Mode as ModeValue};
 ghost use Rattle.kx_merge.specs.Records.{AreOffered};
 ghost use Rattle.kx_indicators.specs.Blocks.{default_faults, default_in, given_value, indicator_in, next_default, own_faults, own_value, said_faults, values_of};
 ghost use Rattle.kx_indicators.specs.Giving.{values_cell, with_value};

@@ -1,8 +1,8 @@
 -- The cells of settings: what is given to them one after another, and joined.
 use Rattle.std.proofs.Common.{◌≡◌, ℕ, ◌+◌, ◌==◌, ◌<◌, Bool, true, false, cond, List, [], ◌∷◌, length, drop, get_or, fold, Option, None, Some, refl, sym, ap, ◌∙◌}
 use Rattle.std.specs.Option.{option_and_then, option_map, option_or}
-use Rattle.kx_parse.specs.declared.tree.Field.{Field}
-use Rattle.kx_parse.specs.declared.tree.KeyField.{KeyField}
+use Rattle.kx_tree.specs.declared.tree.Field.{Field}
+use Rattle.kx_tree.specs.declared.tree.KeyField.{KeyField}
 use Rattle.kx_key_fields.specs.KeyFields.{cell_default, cell_given, default_given, defaults_after, effective, key_given, next_defaults}
 use Rattle.kx_merge.specs.Last.{last_given}
 use Rattle.kx_key_fields.specs.Attributes.{Settings, given_to, no_settings, attribute_in, type_at, with_given}

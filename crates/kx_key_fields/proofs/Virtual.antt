@@ -2,7 +2,7 @@
 use Rattle.std.proofs.Common.{◌≡◌, ℕ, ◌+◌, ◌<◌, List, [], ◌∷◌, length, drop, get_or, fold, None, Some, refl, sym, ap, ◌∙◌}
 use Rattle.std.specs.Option.{option_map}
 use Rattle.kx_virtual_mods.specs.Masks.{joined}
-use Rattle.kx_parse.specs.declared.tree.Operation.{Operation}
+use Rattle.kx_tree.specs.declared.tree.Operation.{Operation}
 use Rattle.kx_key_fields.specs.VirtualMasks.{term_virtual, with_term}
 use Rattle.kx_merge.proofs.Going.{drop_next}
 

@@ -6,9 +6,9 @@ use Rattle.kx_include.specs.IncludeFaults.{at}
 use Rattle.kx_lex.specs.declared.fault.Fault.{Fault}
 use Rattle.kx_lex.specs.declared.fault.Fault.TheVariants.{UnknownField}
 use Rattle.kx_lex.specs.declared.name.Name.{Name}
-use Rattle.kx_parse.specs.declared.tree.Field.{Field}
-use Rattle.kx_parse.specs.declared.tree.KeyField.{KeyField}
-use Rattle.kx_parse.specs.declared.tree.KeyField.TheVariants as keys
+use Rattle.kx_tree.specs.declared.tree.Field.{Field}
+use Rattle.kx_tree.specs.declared.tree.KeyField.{KeyField}
+use Rattle.kx_tree.specs.declared.tree.KeyField.TheVariants as keys
 use Rattle.kx_merge.specs.Last.{last_given}
 use Rattle.kx_key_fields.specs.AttributeFields.{named_faults, named_given}
 use Rattle.kx_key_fields.specs.Attributes.{Settings, given_to, no_settings, attribute_in, with_given}

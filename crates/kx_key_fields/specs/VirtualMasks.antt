@@ -8,10 +8,10 @@ use Rattle.kx_lex.specs.declared.fault.Fault.TheVariants.{BadValue, UnknownModif
 use Rattle.kx_lex.specs.declared.name.Name.{Name}
 use Rattle.kx_virtual_mods.specs.Masks.{joined, real_mask, virtual_number}
 use Rattle.kx_virtual_mods.specs.Sets.{virtual_set}
-use Rattle.kx_parse.specs.declared.tree.Expression.{Expression}
-use Rattle.kx_parse.specs.declared.tree.Operation.{Operation}
-use Rattle.kx_parse.specs.declared.tree.Term.{Term}
-use Rattle.kx_parse.specs.declared.tree.Term.TheVariants.{Word}
+use Rattle.kx_tree.specs.declared.tree.Expression.{Expression}
+use Rattle.kx_tree.specs.declared.tree.Operation.{Operation}
+use Rattle.kx_tree.specs.declared.tree.Term.{Term}
+use Rattle.kx_tree.specs.declared.tree.Term.TheVariants.{Word}
 use Rattle.kx_merge.specs.Terms.{bad_term, terms_faults}
 
 -- `names` are the virtual modifiers by number

@@ -3,7 +3,7 @@ use Rattle.std.specs.Prelude.{◌≡◌, ℕ, Any, Bool, not, true, is_some, ◌
 use Rattle.std.specs.Borrow.{Bor}
 use Rattle.std.specs.List.{list_all, list_any}
 use Rattle.std.specs.Str.{str_eq_ignore_ascii_case}
-use Rattle.kx_parse.specs.declared.tree.FieldPlace.{FieldPlace}
+use Rattle.kx_tree.specs.declared.tree.FieldPlace.{FieldPlace}
 use Rattle.kx_merge.specs.Words.{among}
 use Rattle.kx_key_fields.specs.declared.words.RangeField.TheVariants as ranges
 use Rattle.kx_key_fields.specs.declared.words.AttributeField.{AttributeField}

@@ -48,7 +48,7 @@ impl Model for KeyDefaults {
 
 impl KeyDefaults {
     ghost use Rattle.std.specs.Prelude.{◌≡◌, List, IfOk};
-    ghost use Rattle.kx_parse.specs.declared.tree.Field.{Field as FieldValue};
+    ghost use Rattle.kx_tree.specs.declared.tree.Field.{Field as FieldValue};
     ghost use Rattle.kx_key_fields.specs.KeyFields.{cell_default, default_faults, defaults_after, next_defaults};
     ghost use Rattle.kx_key_fields.specs.Attributes.{no_settings, attribute_in};
     ghost use Rattle.kx_merge.specs.Last.{last_given};

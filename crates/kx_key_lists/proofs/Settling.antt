@@ -1,7 +1,7 @@
 -- The lists of a key that begin at the first group, and those that were merged.
 use Rattle.std.proofs.Common.{◌≡◌, ℕ, ◌-◌, false, cond, max, nat_lt, None, sym, ap, ◌∙◌, arith}
 use Rattle.std.proofs.lemmas.Bool.{le-ltb}
-use Rattle.kx_parse.specs.declared.tree.Mode.{Mode}
+use Rattle.kx_tree.specs.declared.tree.Mode.{Mode}
 use Rattle.kx_key_lists.specs.Lists.{level_in, width_in}
 use Rattle.kx_key_lists.specs.Records.{KeyLists, value_in, width_in_key}
 use Rattle.kx_merge.specs.Offers.{merged_value}

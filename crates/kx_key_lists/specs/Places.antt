@@ -4,8 +4,8 @@ use Rattle.std.specs.Option.{option_and_then, option_map_or}
 use Rattle.kx_basics.specs.declared.limits.TheConstants.{MOST_GROUPS}
 use Rattle.kx_lex.specs.declared.fault.Fault.{Fault}
 use Rattle.kx_lex.specs.declared.fault.Fault.TheVariants.{BadValue, GroupRange}
-use Rattle.kx_parse.specs.declared.tree.Index.{Index}
-use Rattle.kx_parse.specs.declared.tree.List.{List as Listed}
+use Rattle.kx_tree.specs.declared.tree.Index.{Index}
+use Rattle.kx_tree.specs.declared.tree.List.{List as Listed}
 use Rattle.kx_include.specs.IncludeFaults.{at}
 use Rattle.kx_merge.specs.Numbers.{number_faults}
 use Rattle.kx_merge.specs.declared.numbers.Counted.TheVariants.{Group}

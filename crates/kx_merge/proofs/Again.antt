@@ -5,8 +5,8 @@ use Rattle.std.specs.Cmp.{IsEquivalence}
 use Rattle.std.specs.List.{list_any}
 use Rattle.std.specs.Option.{option_or}
 use Rattle.std.proofs.lemmas.List.{append-nil, append_assoc}
-use Rattle.kx_parse.specs.declared.tree.Mode.{Mode}
-use Rattle.kx_parse.specs.declared.tree.Mode.TheVariants.{Augment, Override, Replace}
+use Rattle.kx_tree.specs.declared.tree.Mode.{Mode}
+use Rattle.kx_tree.specs.declared.tree.Mode.TheVariants.{Augment, Override, Replace}
 use Rattle.kx_merge.specs.Offers.{Offer, merged_value, merged_width, is_about, value_of, width_of, with_name, names_behind, names_of}
 use Rattle.kx_merge.specs.Bodies.{gathered}
 use Rattle.kx_merge.specs.Records.{Form, Shows}

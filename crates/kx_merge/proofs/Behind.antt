@@ -16,7 +16,7 @@ use Rattle.kx_include.specs.declared.expansion.Entry.TheVariants.{Own, Include}
 use Rattle.kx_include.specs.declared.expansion.Link.{Link}
 use Rattle.kx_include.specs.declared.expansion.Map.{Map}
 use Rattle.kx_include.specs.declared.place.Place.{Place}
-use Rattle.kx_parse.specs.declared.tree.Mode.TheVariants.{Augment}
+use Rattle.kx_tree.specs.declared.tree.Mode.TheVariants.{Augment}
 use Rattle.kx_merge.specs.Bodies.{Rules, Moves, moved, gathered, offers, faults, offers_of, faults_of}
 use Rattle.kx_merge.specs.Gatherings.{Adds, IsGathered, AreGathered, none, more, entry_offers, entry_faults, entry_next}
 use Rattle.kx_merge.specs.Offers.{Offer}

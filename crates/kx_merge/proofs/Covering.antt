@@ -6,8 +6,8 @@ use Rattle.std.specs.List.{list_any}
 use Rattle.std.specs.Map.{keys_of}
 use Rattle.std.specs.Option.{option_or, option_map_or}
 use Rattle.std.proofs.lemmas.List.{append-nil, append_assoc}
-use Rattle.kx_parse.specs.declared.tree.Mode.{Mode}
-use Rattle.kx_parse.specs.declared.tree.Mode.TheVariants.{Augment, Override, Replace}
+use Rattle.kx_tree.specs.declared.tree.Mode.{Mode}
+use Rattle.kx_tree.specs.declared.tree.Mode.TheVariants.{Augment, Override, Replace}
 use Rattle.kx_merge.specs.Bodies.{Moves, gather, gathered, moved, moved_to}
 use Rattle.kx_merge.specs.Renewals.{AreGentle, AreGentleTo, AreWeak, Picks, TakesBack, none, more, no_offer, an_offer}
 use Rattle.kx_merge.specs.Offers.{Offer, is_about, is_replace, is_strong, merged_value, merged_width, value_of, width_of, names_behind, names_of}

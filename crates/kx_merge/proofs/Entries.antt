@@ -9,7 +9,7 @@ use Rattle.kx_include.specs.Shared.{entries_body, links_body}
 use Rattle.kx_include.specs.declared.expansion.Entry.{Entry}
 use Rattle.kx_include.specs.declared.expansion.Link.{Link}
 use Rattle.kx_include.specs.declared.place.Place.{Place}
-use Rattle.kx_parse.specs.declared.tree.Mode.{Mode}
+use Rattle.kx_tree.specs.declared.tree.Mode.{Mode}
 use Rattle.kx_merge.specs.Bodies.{Rules, Moves, faults, gathered, offers_of}
 use Rattle.kx_merge.specs.Gatherings.{Adds, AddsBehind, entry_faults, entry_next, entry_offers, included_by}
 use Rattle.kx_merge.specs.Joins.{included_offers}

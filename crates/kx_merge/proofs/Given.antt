@@ -4,7 +4,7 @@ use Rattle.kx_merge.specs.Offers.{plain_offer}
 use Rattle.kx_merge.specs.Records.{AreOffered, none, more}
 use Rattle.kx_merge.specs.Single.{single_form}
 use Rattle.kx_merge.specs.declared.single.Single.{Single}
-use Rattle.kx_parse.specs.declared.tree.Mode.{Mode}
+use Rattle.kx_tree.specs.declared.tree.Mode.{Mode}
 
 module _ {K V : Type 0} (mode : Mode) (items : List (K × Single V)) where
   pub nothing_offered : items ≡ [] → AreOffered {K = K} {C = Unit {0}} {V = V} mode single_form items []

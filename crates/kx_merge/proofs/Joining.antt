@@ -9,7 +9,7 @@ use Rattle.std.proofs.lemmas.List.{append-nil, append_assoc}
 use Rattle.kx_include.specs.Expansion.{Body}
 use Rattle.kx_include.specs.Shared.{body_at, links_body}
 use Rattle.kx_include.specs.declared.expansion.Link.{Link}
-use Rattle.kx_parse.specs.declared.tree.Mode.TheVariants.{Augment}
+use Rattle.kx_tree.specs.declared.tree.Mode.TheVariants.{Augment}
 use Rattle.kx_merge.specs.Bodies.{Moves, Rules, gathered, moved, offers_of}
 use Rattle.kx_merge.specs.Renewals.{Picks, TakesUp}
 use Rattle.kx_merge.specs.Offers.{Offer, names_behind, names_of, merged_value, value_of, merged_width, width_of, with_name}

@@ -8,7 +8,7 @@ use Rattle.std.specs.Map.{keys_of}
 use Rattle.std.specs.Option.{option_and_then, option_map_or}
 use Rattle.std.proofs.lemmas.List.{append_assoc}
 use Rattle.indexmap.specs.IndexMap.{get, keys}
-use Rattle.kx_parse.specs.declared.tree.Mode.{Mode}
+use Rattle.kx_tree.specs.declared.tree.Mode.{Mode}
 use Rattle.kx_merge.specs.Bodies.{Moves, moved, moved_to, gather}
 use Rattle.kx_merge.specs.Moved.{moved_one, moved_key, IsOfferedMoved}
 use Rattle.kx_merge.specs.Offers.{Offer, value_of, width_of}

@@ -3,7 +3,7 @@ use Rattle.std.proofs.Common.{◌≡◌, ℕ, List, [], ◌∷◌, Option, None,
 use Rattle.std.specs.Option.{option_map_or}
 use Rattle.kx_merge.specs.Offers.{Offer, offers_to}
 use Rattle.kx_merge.specs.Records.{Form, AreOffered, IsOffered, none, more}
-use Rattle.kx_parse.specs.declared.tree.Mode.{Mode}
+use Rattle.kx_tree.specs.declared.tree.Mode.{Mode}
 
 module _ {K C V R : Type 0} (form : Form R C V) (mode : Mode) where
   abbrev Offered : List (K × R) → List (Offer K C V) → Type 0

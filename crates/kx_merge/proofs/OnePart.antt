@@ -5,7 +5,7 @@ use Rattle.std.specs.Cmp.{IsEquivalence}
 use Rattle.std.specs.List.{flat_map, list_any}
 use Rattle.std.specs.Option.{option_or}
 use Rattle.std.proofs.lemmas.List.{append-nil, append_assoc}
-use Rattle.kx_parse.specs.declared.tree.Mode.{Mode}
+use Rattle.kx_tree.specs.declared.tree.Mode.{Mode}
 use Rattle.kx_merge.specs.Moved.{moved_one}
 use Rattle.kx_merge.specs.Bodies.{Moves, moved, gather, gathered}
 use Rattle.kx_merge.specs.Offers.{Offer, is_replace, is_hidden, is_strong, seen, last_strong, first_weak, value_of, greatest, width_of, with_name, names_behind, names_of}

@@ -14,8 +14,8 @@ use Rattle.kx_include.specs.declared.expansion.Entry.{Entry}
 use Rattle.kx_include.specs.declared.expansion.Entry.TheVariants.{Own, Include}
 use Rattle.kx_include.specs.declared.expansion.Link.{Link}
 use Rattle.kx_include.specs.declared.place.Place.{Place}
-use Rattle.kx_parse.specs.declared.tree.Mode.{Mode}
-use Rattle.kx_parse.specs.declared.tree.Mode.TheVariants.{Augment, Override, Replace}
+use Rattle.kx_tree.specs.declared.tree.Mode.{Mode}
+use Rattle.kx_tree.specs.declared.tree.Mode.TheVariants.{Augment, Override, Replace}
 use Rattle.kx_merge.specs.Bodies.{Rules, Moves, gathered, offers, faults, offers_of}
 use Rattle.kx_merge.specs.Gatherings.{AddsBehind, StandsBetween, StoodAt, included_at, included_by, entry_offers, entry_faults, entry_next}
 use Rattle.kx_merge.specs.Joins.{included_faults, included_offers}

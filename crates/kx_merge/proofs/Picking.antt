@@ -6,7 +6,7 @@ use Rattle.std.proofs.lemmas.List.{append_assoc, map-append}
 use Rattle.std.proofs.lemmas.Option.{same_Some}
 use Rattle.std.specs.Cmp.{IsEquivalence}
 use Rattle.std.specs.List.{list_any}
-use Rattle.kx_parse.specs.declared.tree.Mode.{Mode}
+use Rattle.kx_tree.specs.declared.tree.Mode.{Mode}
 use Rattle.kx_merge.specs.Bodies.{Moves, gather, moved}
 use Rattle.kx_merge.specs.Renewals.{Picks, held}
 use Rattle.kx_merge.specs.Moved.{IsOfferedMoved, moved_key, moved_value, moved_width}

@@ -5,8 +5,8 @@ use Rattle.std.proofs.lemmas.Bool.{false≢true}
 use Rattle.std.specs.Cmp.{IsEquivalence}
 use Rattle.std.specs.List.{list_any}
 use Rattle.std.proofs.lemmas.List.{append_assoc}
-use Rattle.kx_parse.specs.declared.tree.Mode.{Mode}
-use Rattle.kx_parse.specs.declared.tree.Mode.TheVariants.{Augment, Override, Replace}
+use Rattle.kx_tree.specs.declared.tree.Mode.{Mode}
+use Rattle.kx_tree.specs.declared.tree.Mode.TheVariants.{Augment, Override, Replace}
 use Rattle.kx_merge.specs.Bodies.{gather, gathered}
 use Rattle.kx_merge.specs.Offers.{Offer, is_about, is_strong, merged_value, merged_width, value_of, width_of, names_behind, names_of}
 use Rattle.kx_merge.proofs.Again.{Named, no_name, a_name, all-named, behind, behind-away, named-again, still-named, take, merged-again, value-behind, widen, width-again, width-behind}

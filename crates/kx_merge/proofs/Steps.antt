@@ -4,8 +4,8 @@ use Rattle.std.specs.Cmp.{IsEquivalence}
 use Rattle.std.specs.List.{list_any}
 use Rattle.std.specs.Map.{keys_of, lookup}
 use Rattle.indexmap.specs.IndexMap.{insert_entry}
-use Rattle.kx_parse.specs.declared.tree.Mode.{Mode}
-use Rattle.kx_parse.specs.declared.tree.Mode.TheVariants.{Augment, Override, Replace}
+use Rattle.kx_tree.specs.declared.tree.Mode.{Mode}
+use Rattle.kx_tree.specs.declared.tree.Mode.TheVariants.{Augment, Override, Replace}
 use Rattle.kx_merge.specs.Offers.{Offer, merged_value, merged_width, is_about, value_of, width_of, with_name, names_of}
 use Rattle.kx_merge.specs.Records.{Form, IsOffered, Shows, cell_in, width_in}
 use Rattle.kx_merge.proofs.Precedence.{value-other, value-more, width-other, width-more, names-more}

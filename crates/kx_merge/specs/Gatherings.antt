@@ -10,8 +10,8 @@ use Rattle.kx_include.specs.declared.expansion.Entry.{Entry}
 use Rattle.kx_include.specs.declared.expansion.Entry.TheVariants.{Own, Include}
 use Rattle.kx_include.specs.declared.expansion.Link.{Link}
 use Rattle.kx_include.specs.declared.place.Place.{Place}
-use Rattle.kx_parse.specs.declared.tree.Mode.{Mode}
-use Rattle.kx_parse.specs.declared.tree.Mode.TheVariants.{Augment}
+use Rattle.kx_tree.specs.declared.tree.Mode.{Mode}
+use Rattle.kx_tree.specs.declared.tree.Mode.TheVariants.{Augment}
 use Rattle.kx_merge.specs.declared.gathering.Merged.{Merged}
 use Rattle.kx_merge.specs.declared.placed.Placed.{Placed}
 use Rattle.kx_merge.specs.Bodies.{Rules, Moves, gathered, offers_of, faults_of}

@@ -1,7 +1,7 @@
 -- What a record of a map gives where the map is moved to a group, or isn't moved.
 use Rattle.std.specs.Prelude.{◌≡◌, ℕ, List, [], ◌∷◌, Option, None, Some}
 use Rattle.std.specs.Option.{option_and_then, option_map_or}
-use Rattle.kx_parse.specs.declared.tree.Mode.{Mode}
+use Rattle.kx_tree.specs.declared.tree.Mode.{Mode}
 use Rattle.kx_merge.specs.Bodies.{Moves, moved_to}
 use Rattle.kx_merge.specs.Offers.{Offer}
 use Rattle.kx_merge.specs.Records.{Form}

@@ -9,9 +9,9 @@ use Rattle.kx_parse.specs.IncludeText.{is_number}
 use Rattle.kx_lex.specs.declared.fault.At.{At}
 use Rattle.kx_lex.specs.declared.fault.Fault.{Fault}
 use Rattle.kx_lex.specs.declared.fault.Fault.TheVariants.{BadValue, GroupRange, LevelRange}
-use Rattle.kx_parse.specs.declared.tree.Expression.{Expression}
-use Rattle.kx_parse.specs.declared.tree.Term.{Term}
-use Rattle.kx_parse.specs.declared.tree.Term.TheVariants.{Number, Word}
+use Rattle.kx_tree.specs.declared.tree.Expression.{Expression}
+use Rattle.kx_tree.specs.declared.tree.Term.{Term}
+use Rattle.kx_tree.specs.declared.tree.Term.TheVariants.{Number, Word}
 use Rattle.kx_merge.specs.Words.{single}
 use Rattle.kx_merge.specs.declared.numbers.Counted.{Counted}
 use Rattle.kx_merge.specs.declared.numbers.Counted.TheVariants.{Group, Level}

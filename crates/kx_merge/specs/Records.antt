@@ -1,7 +1,7 @@
 -- Records, and what they show of offers.
 use Rattle.std.specs.Prelude.{◌≡◌, ℕ, Bool, List, [], ◌∷◌, Option, None, Some}
 use Rattle.indexmap.specs.IndexMap.{IndexMap, get, keys}
-use Rattle.kx_parse.specs.declared.tree.Mode.{Mode}
+use Rattle.kx_tree.specs.declared.tree.Mode.{Mode}
 use Rattle.kx_merge.specs.Offers.{Offer, value_of, width_of, names_of}
 
 -- a family of records: what their cells hold, and how wide their groups are

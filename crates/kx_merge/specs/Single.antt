@@ -6,7 +6,7 @@ use Rattle.kx_merge.specs.Bodies.{Moves, Rules}
 use Rattle.kx_merge.specs.Offers.{Offer}
 use Rattle.kx_merge.specs.Records.{Form}
 use Rattle.kx_merge.specs.declared.single.Single.{Single}
-use Rattle.kx_parse.specs.declared.tree.Stated.{Stated}
+use Rattle.kx_tree.specs.declared.tree.Stated.{Stated}
 
 module _ {K V : Type 0} where
   abbrev pub single_rules : (Place → Stated → List (Offer K (Unit {0}) V)) → (Place → Stated → List Fault) → Rules K (Unit {0}) V (Unit {0})

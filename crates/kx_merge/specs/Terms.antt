@@ -5,9 +5,9 @@ use Rattle.kx_lex.specs.declared.fault.Fault.{Fault}
 use Rattle.kx_lex.specs.declared.fault.Fault.TheVariants.{BadValue}
 use Rattle.kx_lex.specs.declared.token.Span.{Span}
 use Rattle.kx_include.specs.IncludeFaults.{at}
-use Rattle.kx_parse.specs.declared.tree.Expression.{Expression}
-use Rattle.kx_parse.specs.declared.tree.Term.{Term}
-use Rattle.kx_parse.specs.declared.tree.Term.TheVariants.{Number, Signed, Word, Text, KeyName}
+use Rattle.kx_tree.specs.declared.tree.Expression.{Expression}
+use Rattle.kx_tree.specs.declared.tree.Term.{Term}
+use Rattle.kx_tree.specs.declared.tree.Term.TheVariants.{Number, Signed, Word, Text, KeyName}
 
 abbrev pub term_span : Term → Span
 term_span (Number number) = number.span

@@ -3,7 +3,7 @@ ghost use Rattle.std.specs.Prelude.{◌≡◌, ◌+◌, ◌<◌, ◌^◌, [], Li
 ghost use Rattle.kx_include.specs.Expansion.{Body, End};
 ghost use Rattle.kx_include.specs.Shared.{bodies_behind, expanded_body, shared_body};
 ghost use Rattle.kx_lex.specs.declared.fault.Fault.TheVariants.{Memory};
-ghost use Rattle.kx_parse.specs.declared.tree.Mode.TheVariants.{Augment};
+ghost use Rattle.kx_tree.specs.declared.tree.Mode.TheVariants.{Augment};
 ghost use Rattle.kx_merge.specs.Bodies.{gathered, faults_of, offers_of};
 ghost use Rattle.kx_merge.specs.Gatherings.{AreGathered, IsGathered, included_by};
 ghost use Rattle.kx_merge.specs.Joins.{GivesAgain, Joins, JoinsBehind, MergesBody, TakesUpBody, include_of, linked, map_of, parts};

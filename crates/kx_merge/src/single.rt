@@ -7,8 +7,8 @@ ghost use Rattle.kx_merge.specs.Moved.{moved_key};
 ghost use Rattle.kx_merge.specs.Offers.{Offer, plain_offer, merged_value};
 ghost use Rattle.kx_merge.specs.Records.{AreOffered};
 ghost use Rattle.kx_merge.specs.Single.{single_form, single_moves, single_rules};
-ghost use Rattle.kx_parse.specs.declared.tree.Mode.{Mode as ModeValue};
-ghost use Rattle.kx_parse.specs.declared.tree.Stated.{Stated as StatedValue};
+ghost use Rattle.kx_tree.specs.declared.tree.Mode.{Mode as ModeValue};
+ghost use Rattle.kx_tree.specs.declared.tree.Stated.{Stated as StatedValue};
 ghost use Rattle.kx_merge.specs.Reports.{ReportsOrRunsOut};
 
 use crate::fields::Fields;

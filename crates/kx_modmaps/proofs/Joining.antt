@@ -5,8 +5,8 @@ use Rattle.kx_virtual_mods.specs.Sets.{has}
 use Rattle.kx_merge.specs.Offers.{merged_value}
 use Rattle.kx_mods.specs.Mods.{mask}
 use Rattle.kx_mods.specs.declared.mods.Mods.{Mods}
-use Rattle.kx_parse.specs.declared.tree.Mode.{Mode}
-use Rattle.kx_parse.specs.declared.tree.Mode.TheVariants.{Augment, Override}
+use Rattle.kx_tree.specs.declared.tree.Mode.{Mode}
+use Rattle.kx_tree.specs.declared.tree.Mode.TheVariants.{Augment, Override}
 use Rattle.kx_modmaps.specs.Maps.{assigned_cell, present}
 use Rattle.kx_modmaps.specs.declared.record.Assigned.{Assigned}
 use Rattle.kx_modmaps.specs.declared.record.Cell.{Cell}

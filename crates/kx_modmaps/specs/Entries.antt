@@ -13,11 +13,11 @@ use Rattle.kx_lex.specs.declared.name.Name.{Name}
 use Rattle.kx_lex.specs.declared.token.Span.{Span}
 use Rattle.kx_virtual_mods.specs.Masks.{real_mask, virtual_number}
 use Rattle.kx_merge.specs.Offers.{with_name}
-use Rattle.kx_parse.specs.declared.tree.Entry.{Entry}
-use Rattle.kx_parse.specs.declared.tree.Entry.TheVariants.{KeyName, Symbol}
-use Rattle.kx_parse.specs.declared.tree.Stated.{Stated}
-use Rattle.kx_parse.specs.declared.tree.Statement.{Statement}
-use Rattle.kx_parse.specs.declared.tree.Statement.TheVariants.{ModifierMap}
+use Rattle.kx_tree.specs.declared.tree.Entry.{Entry}
+use Rattle.kx_tree.specs.declared.tree.Entry.TheVariants.{KeyName, Symbol}
+use Rattle.kx_tree.specs.declared.tree.Stated.{Stated}
+use Rattle.kx_tree.specs.declared.tree.Statement.{Statement}
+use Rattle.kx_tree.specs.declared.tree.Statement.TheVariants.{ModifierMap}
 use Rattle.kx_symbols.specs.KeyFaults.{symbol_faults}
 use Rattle.kx_symbols.specs.Keysyms.{symbol_keysym}
 use Rattle.kx_modmaps.specs.declared.target.Target.{Target}

@@ -15,8 +15,8 @@ use Rattle.kx_merge.specs.Plain.{plain_form}
 use Rattle.kx_merge.specs.Records.{AreOffered}
 use Rattle.kx_merge.specs.declared.plain.Plain.{Plain}
 use Rattle.kx_mods.specs.Mods.{mask}
-use Rattle.kx_parse.specs.declared.tree.Entry.{Entry}
-use Rattle.kx_parse.specs.declared.tree.Mode.{Mode}
+use Rattle.kx_tree.specs.declared.tree.Entry.{Entry}
+use Rattle.kx_tree.specs.declared.tree.Mode.{Mode}
 use Rattle.kx_modmaps.specs.Entries.{map_in, same_target, stated_faults, targets_of, word_mask}
 use Rattle.kx_modmaps.specs.declared.maps.KeysymEntry.{KeysymEntry}
 use Rattle.kx_modmaps.specs.declared.record.Assigned.{Assigned}

@@ -5,7 +5,7 @@ use Rattle.std.specs.Result.{IfOk}
 use Rattle.kx_lex.specs.declared.fault.Fault.{Fault}
 use Rattle.kx_lex.specs.declared.token.Span.{Span}
 use Rattle.kx_parse.specs.Outline.{HasNoSectionAt, IsNumbered, IsSectionAt, StandElsewhere, built_from}
-use Rattle.kx_parse.specs.declared.tree.Section.{Section}
+use Rattle.kx_tree.specs.declared.tree.Section.{Section}
 
 abbrev pub trees : List (Section × Span) → List Section
 trees ss = map (λ s. s.0) ss

@@ -1,7 +1,7 @@
 -- A text of parts is cut where its first join stands.
 use Rattle.std.proofs.Common.{◌≡◌, ℕ, ◌+◌, suc, Bool, true, false, not, cond, List, [], ◌∷◌, Option, None, Some, is_some, refl, sym, ap, ◌∙◌, take, drop, length, arith}
 use Rattle.std.specs.List.{prefix_len}
-use Rattle.kx_parse.specs.declared.tree.Mode.{Mode}
+use Rattle.kx_tree.specs.declared.tree.Mode.{Mode}
 use Rattle.kx_parse.specs.IncludeText.{join_of, joined, split, split_by}
 use Rattle.kx_parse.specs.Splits.{is_inner}
 

@@ -11,7 +11,7 @@ use Rattle.kx_lex.proofs.Laws.{done-same}
 use Rattle.kx_lex.proofs.Lawful.{Lawful}
 use Rattle.kx_lex.proofs.Nearby.{Nearby, SameFront, none, only, both, nothing-near}
 use Rattle.kx_lex.proofs.Reasons.{behind_self, behind_more, behind_first}
-use Rattle.kx_parse.specs.Geometry.{Balanced, nothing, other, nested, IsClosing, closing_read, geometry_read, geometry}
+use Rattle.kx_tree.specs.Geometry.{Balanced, nothing, other, nested, IsClosing, closing_read, geometry_read, geometry}
 
 -- nothing closes it
 abbrev GeometryBlames : List ℕ → List Token → Fault → Type 0

@@ -13,12 +13,12 @@ use Rattle.kx_lex.proofs.Laws.{same-uses}
 use Rattle.kx_lex.proofs.Lawful.{Lawful, Admits, ◌>>=◌, give-lawful, either-lawful, optional-lawful, many-lawful, known-lawful, spanned-lawful, fronted-lawful, at_end-lawful, at_least}
 use Rattle.kx_lex.proofs.Others.{other-keyword, word-before, keyword-word}
 use Rattle.kx_lex.proofs.TokenLaws.{mark-lawful, keyword-lawful, keyword-front, text_name-lawful, text_name-front}
-use Rattle.kx_parse.specs.Sections.{mode_of, join_of, begins_include, begins_moded, join, mode, include, moded, modal, own, item, kind_of, flag_of, kind, flag, flags, optional_text, held_items, plain_section, geometry_body, geometry_section, flagged, section, held_sections, source, file}
-use Rattle.kx_parse.specs.declared.tree.Statement.{Statement}
-use Rattle.kx_parse.specs.declared.tree.Mode.{Mode}
-use Rattle.kx_parse.specs.declared.tree.Mode.TheVariants.{Override}
-use Rattle.kx_parse.specs.declared.tree.Flag.{Flag}
-use Rattle.kx_parse.specs.declared.tree.Section.{Section}
+use Rattle.kx_tree.specs.Sections.{mode_of, join_of, begins_include, begins_moded, join, mode, include, moded, modal, own, item, kind_of, flag_of, kind, flag, flags, optional_text, held_items, plain_section, geometry_body, geometry_section, flagged, section, held_sections, source, file}
+use Rattle.kx_tree.specs.declared.tree.Statement.{Statement}
+use Rattle.kx_tree.specs.declared.tree.Mode.{Mode}
+use Rattle.kx_tree.specs.declared.tree.Mode.TheVariants.{Override}
+use Rattle.kx_tree.specs.declared.tree.Flag.{Flag}
+use Rattle.kx_tree.specs.declared.tree.Section.{Section}
 use Rattle.kx_parse.proofs.LawfulGeometry.{geometry-lawful}
 use Rattle.kx_parse.proofs.LawfulStatements.{starts, starts-before, statement-lawful, statement-least, statement-starts}
 

@@ -9,12 +9,12 @@ use Rattle.kx_lex.specs.Tokens.{keyword, open_brace, close_brace, open_bracket, 
 use Rattle.kx_lex.proofs.Lawful.{Lawful, Admits, ◌>>=◌, give-lawful, either-lawful, optional-lawful, many-lawful, spanned-lawful}
 use Rattle.kx_lex.proofs.Others.{word-before, key_name-before, mark-before, keyword-word}
 use Rattle.kx_lex.proofs.TokenLaws.{mark-lawful, mark-front, keyword-lawful, keyword-front, keyword-behind, word-lawful, word-front, key_name-lawful, key_name-front, text_name-lawful, text_name-front, number-lawful, number-front}
-use Rattle.kx_parse.specs.Values.{symbol}
-use Rattle.kx_parse.specs.Statements.{setting, off_field, on_field, bare_field, field, block_field, block, key_field, declared_mask, declaration, predicate, entry, begins, keycode, alias, indicator_name, virtual_indicator, virtual_modifiers, key_type, wanted_modifiers, optional_modifiers, interpretation, indicator, group, key, mapped_entries, modifier_map, field_statement, keycodes_statement, types_statement, symbols_statement, statement}
-use Rattle.kx_parse.specs.declared.tree.FieldPlace.{FieldPlace}
-use Rattle.kx_parse.specs.declared.tree.Setting.{Setting}
-use Rattle.kx_parse.specs.declared.tree.Statement.{Statement}
-use Rattle.kx_parse.proofs.LawfulValues.{sequence-lawful, listed-lawful, symbol-lawful, expression-lawful, place-lawful, place-front, value-lawful, call-lawful, call-begins, list-lawful, list-front, or_true}
+use Rattle.kx_tree.specs.Values.{symbol}
+use Rattle.kx_tree.specs.Statements.{setting, off_field, on_field, bare_field, field, block_field, block, key_field, declared_mask, declaration, predicate, entry, begins, keycode, alias, indicator_name, virtual_indicator, virtual_modifiers, key_type, wanted_modifiers, optional_modifiers, interpretation, indicator, group, key, mapped_entries, modifier_map, field_statement, keycodes_statement, types_statement, symbols_statement, statement}
+use Rattle.kx_tree.specs.declared.tree.FieldPlace.{FieldPlace}
+use Rattle.kx_tree.specs.declared.tree.Setting.{Setting}
+use Rattle.kx_tree.specs.declared.tree.Statement.{Statement}
+use Rattle.kx_tree.proofs.LawfulValues.{sequence-lawful, listed-lawful, symbol-lawful, expression-lawful, place-lawful, place-front, value-lawful, call-lawful, call-begins, list-lawful, list-front, or_true}
 
 unfoldable pub setting-lawful : (text : List ℕ) → Lawful text (setting text)
 unfolding setting

@@ -1,11 +1,8 @@
-mod LawfulValues
 mod LawfulStatements
 mod LawfulGeometry
 mod LawfulSections
 mod Trees
 mod Refusals
-mod PassedForms
-mod PassedValues
 mod PassedStatements
 mod PassedOutline
 mod PassedSections

@@ -14,9 +14,9 @@ use Rattle.kx_lex.specs.declared.token.TokenKind.{TokenKind}
 use Rattle.kx_lex.proofs.Lawful.{Admits, Lawful, many-lawful, spanned-lawful}
 use Rattle.kx_parse.specs.Outline.{IsOutline, outline_from, outline_of, placed_sections}
 use Rattle.kx_parse.specs.Outlined.{outline_read, outlined, tokens_at, tokens_from, tokens_of}
-use Rattle.kx_parse.specs.Sections.{section}
+use Rattle.kx_tree.specs.Sections.{section}
 use Rattle.kx_parse.specs.declared.outline.Outline.{Outline}
-use Rattle.kx_parse.specs.declared.tree.Section.{Section}
+use Rattle.kx_tree.specs.declared.tree.Section.{Section}
 use Rattle.kx_parse.proofs.LawfulSections.{section-lawful, section-least, section-some}
 use Rattle.kx_parse.proofs.PassedSections.{file-placed}
 

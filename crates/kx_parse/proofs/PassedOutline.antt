@@ -15,20 +15,20 @@ use Rattle.kx_lex.specs.declared.token.TokenKind.{TokenKind}
 use Rattle.kx_lex.specs.declared.token.TokenKind.TheVariants.{Decimal, KeyName, Mark, Number, Text, Word}
 use Rattle.kx_lex.proofs.PassedOver.{Ends-more, Lexes-more, Lexes-self, no_key_name, no_mark, no_text, no_word}
 use Rattle.kx_lex.proofs.TokenLaws.{mark-front}
-use Rattle.kx_parse.specs.Forms.{after}
+use Rattle.kx_tree.specs.Forms.{after}
 use Rattle.kx_parse.specs.Outline.{BeginsNoInclude, BeginsNoModed, IsJoinWord, IsModeWord, IsNoFlag, include_at, is_include, items_ended}
-use Rattle.kx_parse.specs.Passing.{terminated}
-use Rattle.kx_parse.specs.Sections.{begins_include, begins_moded, flag, flags, include, item, join, join_of, modal, mode, mode_of, moded, own}
-use Rattle.kx_parse.specs.Statements.{statement}
-use Rattle.kx_parse.specs.declared.tree.Flag.{Flag}
-use Rattle.kx_parse.specs.declared.tree.Item.{Item}
-use Rattle.kx_parse.specs.declared.tree.Item.TheVariants as items
-use Rattle.kx_parse.specs.declared.tree.Mode.{Mode}
-use Rattle.kx_parse.specs.declared.tree.Mode.TheVariants.{Override}
-use Rattle.kx_parse.specs.declared.tree.Statement.{Statement}
+use Rattle.kx_tree.specs.Passing.{terminated}
+use Rattle.kx_tree.specs.Sections.{begins_include, begins_moded, flag, flags, include, item, join, join_of, modal, mode, mode_of, moded, own}
+use Rattle.kx_tree.specs.Statements.{statement}
+use Rattle.kx_tree.specs.declared.tree.Flag.{Flag}
+use Rattle.kx_tree.specs.declared.tree.Item.{Item}
+use Rattle.kx_tree.specs.declared.tree.Item.TheVariants as items
+use Rattle.kx_tree.specs.declared.tree.Mode.{Mode}
+use Rattle.kx_tree.specs.declared.tree.Mode.TheVariants.{Override}
+use Rattle.kx_tree.specs.declared.tree.Statement.{Statement}
 use Rattle.kx_parse.proofs.LawfulSections.{flag-front, include-begins, item-before, join-none, modal-begins, mode-none}
 use Rattle.kx_parse.proofs.LawfulStatements.{starts, statement-starts}
-use Rattle.kx_parse.proofs.PassedForms.{closing, not_both}
+use Rattle.kx_tree.proofs.PassedForms.{closing, not_both}
 
 -- flags
 pub flags-none : (bs : List ℕ) → IsNoFlag bs → PassesTo flags [] bs bs

@@ -22,21 +22,21 @@ use Rattle.kx_lex.specs.declared.token.TokenKind.TheVariants.{Mark, Word}
 use Rattle.kx_lex.proofs.PassedOver.{Ends-drop, Ends-more, Lexes-more, Lexes-self, Skips-self, no_mark, no_text, no_word, nothing-read, single-piece, start-here, token-begins, true-false}
 use Rattle.kx_lex.proofs.Reasons.{behind_more}
 use Rattle.kx_lex.proofs.TokenLaws.{mark-front, text_name-front}
-use Rattle.kx_parse.specs.Forms.{ended as ended_by}
-use Rattle.kx_parse.specs.Geometry.{geometry, geometry_read}
+use Rattle.kx_tree.specs.Forms.{ended as ended_by}
+use Rattle.kx_tree.specs.Geometry.{geometry, geometry_read}
 use Rattle.kx_parse.specs.Outline.{EndSections, IsKindWord, IsNoFlag, IsOutline, IsSourceOutline, PassesDeep, held_by, is_include, items_ended, outline_from, outline_of, placed_sections, placed_source, sections_before, source_end, source_front}
-use Rattle.kx_parse.specs.Sections.{Spells, SpellsFile, flag, flag_of, flagged, file, flags, geometry_body, geometry_section, held_items, held_sections, kind, kind_of, optional_text, plain_section, section, source}
+use Rattle.kx_tree.specs.Sections.{Spells, SpellsFile, flag, flag_of, flagged, file, flags, geometry_body, geometry_section, held_items, held_sections, kind, kind_of, optional_text, plain_section, section, source}
 use Rattle.kx_parse.specs.declared.outline.Outline.{Outline}
-use Rattle.kx_parse.specs.declared.tree.Flag.{Flag}
-use Rattle.kx_parse.specs.declared.tree.Item.{Item}
-use Rattle.kx_parse.specs.declared.tree.Kind.{Kind}
-use Rattle.kx_parse.specs.declared.tree.Kind.TheVariants.{Keycodes, Types, Compat, Symbols, Geometry}
-use Rattle.kx_parse.specs.declared.tree.Section.{Section}
+use Rattle.kx_tree.specs.declared.tree.Flag.{Flag}
+use Rattle.kx_tree.specs.declared.tree.Item.{Item}
+use Rattle.kx_tree.specs.declared.tree.Kind.{Kind}
+use Rattle.kx_tree.specs.declared.tree.Kind.TheVariants.{Keycodes, Types, Compat, Symbols, Geometry}
+use Rattle.kx_tree.specs.declared.tree.Section.{Section}
 use Rattle.kx_parse.proofs.LawfulGeometry.{geometry-takes}
 use Rattle.kx_parse.proofs.LawfulSections.{flag-none, flagged-lawful, flags-lawful, section-before, section-some, section-uses}
-use Rattle.kx_parse.proofs.PassedForms.{closing}
+use Rattle.kx_tree.proofs.PassedForms.{closing}
 use Rattle.kx_parse.proofs.PassedOutline.{as-known}
-use Rattle.kx_parse.proofs.PassedValues.{other_mark}
+use Rattle.kx_tree.proofs.PassedValues.{other_mark}
 
 -- a token of geometry, by what it is
 deep-token : (text : List ℕ) (depth : ℕ) (t : Token) (ms : List Token) → is_mark 123 t ≡ false → is_mark 125 t ≡ false → geometry_read text depth (t ∷ ms) ≡ geometry_read text depth ms

@@ -16,23 +16,23 @@ use Rattle.kx_lex.specs.declared.token.TokenKind.TheVariants.{Mark, Word}
 use Rattle.kx_lex.proofs.Others.{other-keyword}
 use Rattle.kx_lex.proofs.PassedOver.{Ends-more, Lexes-more, Lexes-self, any_keyword, no_mark, no_word}
 use Rattle.kx_lex.proofs.TokenLaws.{key_name-front, mark-front, number-front, text_name-front, word-behind, word-front}
-use Rattle.kx_parse.specs.Forms.{ended, listed, sequence}
-use Rattle.kx_parse.specs.Passing.{GoesOn, alias_behind, block_fields, call_behind, field_behind, group_behind, indicator_name_behind, interpretation_behind, key_behind, modifier_map_behind, named_block, operations, place_behind, terminated, virtual_modifiers_behind}
-use Rattle.kx_parse.specs.Statements.{alias, bare_field, begins, block, block_field, declaration, declared_mask, entry, field, field_statement, group, indicator, indicator_name, interpretation, key, key_field, key_type, keycode, keycodes_statement, mapped_entries, modifier_map, optional_modifiers, predicate, setting, statement, symbols_statement, types_statement, virtual_indicator, virtual_modifiers, wanted_modifiers}
-use Rattle.kx_parse.specs.Values.{expression, index, list, member, place, symbol, value}
-use Rattle.kx_parse.specs.declared.tree.Declaration.{Declaration}
-use Rattle.kx_parse.specs.declared.tree.Field.{Field}
-use Rattle.kx_parse.specs.declared.tree.FieldPlace.{FieldPlace}
-use Rattle.kx_parse.specs.declared.tree.Index.{Index}
-use Rattle.kx_parse.specs.declared.tree.Setting.{Setting}
-use Rattle.kx_parse.specs.declared.tree.Setting.TheVariants as settings
-use Rattle.kx_parse.specs.declared.tree.Statement.{Statement}
-use Rattle.kx_parse.specs.declared.tree.Statement.TheVariants as statements
-use Rattle.kx_parse.specs.declared.tree.Symbol.{Symbol}
+use Rattle.kx_tree.specs.Forms.{ended, listed, sequence}
+use Rattle.kx_tree.specs.Passing.{GoesOn, alias_behind, block_fields, call_behind, field_behind, group_behind, indicator_name_behind, interpretation_behind, key_behind, modifier_map_behind, named_block, operations, place_behind, terminated, virtual_modifiers_behind}
+use Rattle.kx_tree.specs.Statements.{alias, bare_field, begins, block, block_field, declaration, declared_mask, entry, field, field_statement, group, indicator, indicator_name, interpretation, key, key_field, key_type, keycode, keycodes_statement, mapped_entries, modifier_map, optional_modifiers, predicate, setting, statement, symbols_statement, types_statement, virtual_indicator, virtual_modifiers, wanted_modifiers}
+use Rattle.kx_tree.specs.Values.{expression, index, list, member, place, symbol, value}
+use Rattle.kx_tree.specs.declared.tree.Declaration.{Declaration}
+use Rattle.kx_tree.specs.declared.tree.Field.{Field}
+use Rattle.kx_tree.specs.declared.tree.FieldPlace.{FieldPlace}
+use Rattle.kx_tree.specs.declared.tree.Index.{Index}
+use Rattle.kx_tree.specs.declared.tree.Setting.{Setting}
+use Rattle.kx_tree.specs.declared.tree.Setting.TheVariants as settings
+use Rattle.kx_tree.specs.declared.tree.Statement.{Statement}
+use Rattle.kx_tree.specs.declared.tree.Statement.TheVariants as statements
+use Rattle.kx_tree.specs.declared.tree.Symbol.{Symbol}
 use Rattle.kx_parse.proofs.LawfulStatements.{alias-begins, block_field-before, group-begins, indicator-begins, indicator_name-begins, interpretation-begins, key-begins, key_type-begins, keycode-front, modifier_map-begins, virtual_indicator-begins, virtual_modifiers-begins}
-use Rattle.kx_parse.proofs.LawfulValues.{call-begins, list-front, place-front}
-use Rattle.kx_parse.proofs.PassedForms.{after-passes, assigned-passes, both-passes, ended-passes, headed-passes, made-passes, made2-passes, made3-passes, more-ended, none-ended, not_both, placed-passes, two}
-use Rattle.kx_parse.proofs.PassedValues.{call-passes, expression-passes, mark-no_word, mark_kind-no_key_name, mark_kind-no_number, mark_kind-no_text, mark_kind-no_word, number-no_key_name, other_mark, place-passes, place-spelled, term-word, text-no_number, word-no_call, word-no_key_name, word-no_mark, word_none-no_keyword}
+use Rattle.kx_tree.proofs.LawfulValues.{call-begins, list-front, place-front}
+use Rattle.kx_tree.proofs.PassedForms.{after-passes, assigned-passes, both-passes, ended-passes, headed-passes, made-passes, made2-passes, made3-passes, more-ended, none-ended, not_both, placed-passes, two}
+use Rattle.kx_tree.proofs.PassedValues.{call-passes, expression-passes, mark-no_word, mark_kind-no_key_name, mark_kind-no_number, mark_kind-no_text, mark_kind-no_word, number-no_key_name, other_mark, place-passes, place-spelled, term-word, text-no_number, word-no_call, word-no_key_name, word-no_mark, word_none-no_keyword}
 
 pub setting-to : {bs mid rest : List ℕ} → Passes (λ text. mark text equals) bs mid → Passes value mid rest → Passes setting bs rest
 unfolding setting

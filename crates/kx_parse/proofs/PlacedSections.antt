@@ -12,8 +12,8 @@ use Rattle.kx_lex.specs.declared.token.Token.{Token}
 use Rattle.kx_lex.proofs.Laws.{done-same}
 use Rattle.kx_lex.proofs.PlacedTokens.{IsFrom, SameFront-two, from-behind, from-token, last_stop, spanned-stop, until-last}
 use Rattle.kx_parse.specs.Outline.{HasNoSectionAt, IsSectionAt, placed_sections}
-use Rattle.kx_parse.specs.Sections.{section}
-use Rattle.kx_parse.specs.declared.tree.Section.{Section}
+use Rattle.kx_tree.specs.Sections.{section}
+use Rattle.kx_tree.specs.declared.tree.Section.{Section}
 use Rattle.kx_parse.proofs.LawfulSections.{section-lawful, section-uses}
 
 -- the tokens of a place, however the text goes on there

@@ -12,12 +12,12 @@ use Rattle.kx_lex.specs.Parsing.{done}
 use Rattle.kx_lex.specs.Stops.{syntax_at, StopsWithin}
 use Rattle.kx_lex.specs.Production.{Production, at_end, many, one}
 use Rattle.kx_lex.specs.Tokens.{mark, keyword, text_name, open_brace, close_brace, semicolon}
-use Rattle.kx_parse.specs.Geometry.{geometry}
-use Rattle.kx_parse.specs.Sections.{flags, flag, optional_text, geometry_body, geometry_section, flagged, section, held_sections, source, file, StopsWith, FileStopsWith, Spells, SpellsFile}
+use Rattle.kx_tree.specs.Geometry.{geometry}
+use Rattle.kx_tree.specs.Sections.{flags, flag, optional_text, geometry_body, geometry_section, flagged, section, held_sections, source, file, StopsWith, FileStopsWith, Spells, SpellsFile}
 use Rattle.kx_parse.specs.Refusals.{stand, InPlainSection, InSourceSection, source_head}
-use Rattle.kx_parse.specs.declared.tree.Flag.{Flag}
-use Rattle.kx_parse.specs.declared.tree.Section.{Section}
-use Rattle.kx_parse.specs.declared.tree.Tree.{Tree}
+use Rattle.kx_tree.specs.declared.tree.Flag.{Flag}
+use Rattle.kx_tree.specs.declared.tree.Section.{Section}
+use Rattle.kx_tree.specs.declared.tree.Tree.{Tree}
 use Rattle.kx_parse.proofs.LawfulSections.{plain_section-lawful, source-lawful, file-lawful}
 use Rattle.kx_parse.proofs.Trees.{Spells-read, SpellsFile-read}
 

@@ -3,8 +3,8 @@ use Rattle.std.proofs.Common.{ℕ, List, [], ◌≡◌, sym, ◌∙◌, subst}
 use Rattle.kx_lex.specs.declared.token.Token.{Token}
 use Rattle.kx_lex.specs.Parsing.{done}
 use Rattle.kx_lex.proofs.Laws.{done-same}
-use Rattle.kx_parse.specs.Sections.{source, file, Spells, SpellsFile}
-use Rattle.kx_parse.specs.declared.tree.Tree.{Tree}
+use Rattle.kx_tree.specs.Sections.{source, file, Spells, SpellsFile}
+use Rattle.kx_tree.specs.declared.tree.Tree.{Tree}
 use Rattle.kx_parse.proofs.LawfulSections.{source-lawful, file-lawful}
 
 source-rest : (text : List ℕ) (ts : List Token) (tree : Tree) (rest : List Token) → (source text).spells ts tree rest → rest ≡ []

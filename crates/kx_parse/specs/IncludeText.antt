@@ -6,8 +6,8 @@ use Rattle.std.specs.List.{list_all, list_any, prefix_len}
 use Rattle.std.specs.Option.{option_and_then, option_map}
 use Rattle.std.specs.Str.Parse.{digits_value}
 use Rattle.kx_basics.specs.declared.limits.TheConstants.{MOST_GROUPS}
-use Rattle.kx_parse.specs.declared.tree.Mode.{Mode}
-use Rattle.kx_parse.specs.declared.tree.Mode.TheVariants.{Augment, Override}
+use Rattle.kx_tree.specs.declared.tree.Mode.{Mode}
+use Rattle.kx_tree.specs.declared.tree.Mode.TheVariants.{Augment, Override}
 
 -- one part: how it joins what stands before it, the file, the map, and the group that the map's first group becomes
 pub record Part : Type 0 where

@@ -12,16 +12,16 @@ use Rattle.kx_lex.specs.Passing.{Ends, Lexes, ReadsEnd}
 use Rattle.kx_lex.specs.Production.{Production, ◌>>=◌, at_end, give, many, spanned}
 use Rattle.kx_lex.specs.Reading.{IsReading, token_of}
 use Rattle.kx_lex.specs.Tokens.{close_brace, keyword, mark, open_brace, semicolon}
-use Rattle.kx_parse.specs.Forms.{after, ended}
-use Rattle.kx_parse.specs.Geometry.{geometry_read}
-use Rattle.kx_parse.specs.Sections.{Spells, SpellsFile, begins_include, begins_moded, flag_of, flags, geometry_body, held_items, item, join_of, kind_of, mode_of, optional_text, section}
+use Rattle.kx_tree.specs.Forms.{after, ended}
+use Rattle.kx_tree.specs.Geometry.{geometry_read}
+use Rattle.kx_tree.specs.Sections.{Spells, SpellsFile, begins_include, begins_moded, flag_of, flags, geometry_body, held_items, item, join_of, kind_of, mode_of, optional_text, section}
 use Rattle.kx_parse.specs.declared.outline.Outline.{Outline}
-use Rattle.kx_parse.specs.declared.tree.Item.{Item}
-use Rattle.kx_parse.specs.declared.tree.Item.TheVariants as items
-use Rattle.kx_parse.specs.declared.tree.Kind.{Kind}
-use Rattle.kx_parse.specs.declared.tree.Kind.TheVariants.{Geometry}
-use Rattle.kx_parse.specs.declared.tree.Mode.{Mode}
-use Rattle.kx_parse.specs.declared.tree.Section.{Section}
+use Rattle.kx_tree.specs.declared.tree.Item.{Item}
+use Rattle.kx_tree.specs.declared.tree.Item.TheVariants as items
+use Rattle.kx_tree.specs.declared.tree.Kind.{Kind}
+use Rattle.kx_tree.specs.declared.tree.Kind.TheVariants.{Geometry}
+use Rattle.kx_tree.specs.declared.tree.Mode.{Mode}
+use Rattle.kx_tree.specs.declared.tree.Section.{Section}
 
 abbrev pub is_include : Item → Bool
 is_include (items.Include mode text span) = true

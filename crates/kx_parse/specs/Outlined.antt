@@ -10,7 +10,7 @@ use Rattle.kx_lex.specs.declared.token.Span.{Span}
 use Rattle.kx_lex.specs.declared.token.Token.{Token}
 use Rattle.kx_parse.specs.Outline.{outline_from, placed_sections}
 use Rattle.kx_parse.specs.declared.outline.Outline.{Outline}
-use Rattle.kx_parse.specs.declared.tree.Section.{Section}
+use Rattle.kx_tree.specs.declared.tree.Section.{Section}
 
 -- the tokens of bytes from an offset on that begin with a piece, and how those after the piece are read
 abbrev pub tokens_at : (ℕ → List ℕ → Option (List Token)) → ℕ → List ℕ → Piece → Option (List Token)

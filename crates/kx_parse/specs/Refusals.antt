@@ -8,9 +8,9 @@ use Rattle.kx_lex.specs.Stops.{StopsWithin}
 use Rattle.kx_lex.specs.Production.{Production, ◌>>=◌, give}
 use Rattle.kx_lex.specs.Kinds.{is_keyword, front}
 use Rattle.kx_lex.specs.Tokens.{mark, keyword, open_brace}
-use Rattle.kx_parse.specs.Sections.{flags, optional_text, section}
-use Rattle.kx_parse.specs.declared.tree.Flag.{Flag}
-use Rattle.kx_parse.specs.declared.tree.Section.{Section}
+use Rattle.kx_tree.specs.Sections.{flags, optional_text, section}
+use Rattle.kx_tree.specs.declared.tree.Flag.{Flag}
+use Rattle.kx_tree.specs.declared.tree.Section.{Section}
 
 -- sections that stand one after another
 abbrev pub stand : (text : List ℕ) → List Section → List Token → List Token → Type 0

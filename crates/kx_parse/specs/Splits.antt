@@ -1,7 +1,7 @@
 -- A text of parts, cut at its first join.
 use Rattle.std.specs.Prelude.{ℕ, Bool, not, List, [], Option, None, Some, is_some}
 use Rattle.std.specs.Borrow.{Bor}
-use Rattle.kx_parse.specs.declared.tree.Mode.{Mode}
+use Rattle.kx_tree.specs.declared.tree.Mode.{Mode}
 use Rattle.kx_parse.specs.IncludeText.{join_of, joined, split}
 
 -- no join

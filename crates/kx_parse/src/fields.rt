@@ -1,25 +1,23 @@
 //! Reading fields and blocks.
 ghost use Rattle.std.specs.Prelude.{◌≡◌, true};
 ghost use Rattle.kx_lex.specs.Gives.{Gives};
-ghost use Rattle.kx_parse.specs.Statements.{setting, bare_field, field, block_field, block, key_field, declared_mask, declaration, predicate, entry};
+ghost use Rattle.kx_tree.specs.Statements.{setting, bare_field, field, block_field, block, key_field, declared_mask, declaration, predicate, entry};
 ghost use Rattle.kx_lex.specs.Kinds.{before_mark};
 ghost use Rattle.kx_lex.specs.Tokens.{close_brace};
 
-use crate::tree::{
-    Declaration, Entry, Expression, Field, FieldPlace, KeyField, Predicate, Setting,
-};
-use crate::values::{
-    begins_call, read_call, read_expression, read_list, read_place, read_symbol, read_value,
-};
 use kx_lex::repeated::{Repeated, is_before_mark, read_many};
 use kx_lex::tokens::{
     Parsed, front_is_key_name, front_is_mark, read_key_name, read_mark, read_word, span_between,
 };
 use kx_lex::{Boxed, Fault, Row, Token};
+use kx_tree::values::{
+    begins_call, read_call, read_expression, read_list, read_place, read_symbol, read_value,
+};
+use kx_tree::{Declaration, Entry, Expression, Field, FieldPlace, KeyField, Predicate, Setting};
 use std::alloc::Global;
 
 #[inline(always)]
-#[tactic(auto, unfolding(crate::specs::Statements::setting))]
+#[tactic(auto, unfolding(kx_tree::specs::Statements::setting))]
 fn read_setting<'a>(alloc: Global, text: &[u8], tokens: &'a [Token]) -> Parsed<'a, Setting>
     ensures { Gives result ((setting text.now).read tokens.now) }
 {
@@ -50,7 +48,7 @@ fn read_bare_field<'a>(
 }
 
 /// Takes a field without its `;`.
-#[tactic(auto, unfolding(crate::specs::Statements::field))]
+#[tactic(auto, unfolding(kx_tree::specs::Statements::field))]
 pub fn read_field<'a>(alloc: Global, text: &[u8], tokens: &'a [Token]) -> Parsed<'a, Field>
     ensures { Gives result ((field text.now).read tokens.now) }
 {
@@ -67,7 +65,7 @@ pub fn read_field<'a>(alloc: Global, text: &[u8], tokens: &'a [Token]) -> Parsed
 }
 
 #[inline(always)]
-#[tactic(auto, unfolding(crate::specs::Statements::block_field))]
+#[tactic(auto, unfolding(kx_tree::specs::Statements::block_field))]
 fn read_block_field<'a>(alloc: Global, text: &[u8], tokens: &'a [Token]) -> Parsed<'a, Field>
     ensures { Gives result ((block_field text.now).read tokens.now) }
 {
@@ -96,7 +94,7 @@ impl Repeated for BlockFields {
 }
 
 /// Takes the fields between braces, each with its `;`.
-#[tactic(auto, unfolding(crate::specs::Statements::block))]
+#[tactic(auto, unfolding(kx_tree::specs::Statements::block))]
 pub fn read_block<'a>(alloc: Global, text: &[u8], tokens: &'a [Token]) -> Parsed<'a, Row<Field>>
     ensures { Gives result ((block text.now).read tokens.now) }
 {
@@ -107,7 +105,7 @@ pub fn read_block<'a>(alloc: Global, text: &[u8], tokens: &'a [Token]) -> Parsed
 }
 
 #[inline(always)]
-#[tactic(auto, unfolding(crate::specs::Statements::key_field))]
+#[tactic(auto, unfolding(kx_tree::specs::Statements::key_field))]
 fn read_key_field<'a>(alloc: Global, text: &[u8], tokens: &'a [Token]) -> Parsed<'a, KeyField>
     ensures { Gives result ((key_field text.now).read tokens.now) }
 {
@@ -154,7 +152,7 @@ fn read_declared_mask<'a>(
     Ok((Some(mask), rest))
 }
 
-#[tactic(auto, unfolding(crate::specs::Statements::declaration))]
+#[tactic(auto, unfolding(kx_tree::specs::Statements::declaration))]
 fn read_declaration<'a>(alloc: Global, text: &[u8], tokens: &'a [Token]) -> Parsed<'a, Declaration>
     ensures { Gives result ((declaration text.now).read tokens.now) }
 {
@@ -183,7 +181,7 @@ impl Repeated for Declarations {
 }
 
 /// Takes the predicate of an interpretation: a call or a mask.
-#[tactic(auto, unfolding(crate::specs::Statements::predicate))]
+#[tactic(auto, unfolding(kx_tree::specs::Statements::predicate))]
 pub fn read_predicate<'a>(alloc: Global, text: &[u8], tokens: &'a [Token]) -> Parsed<'a, Predicate>
     ensures { Gives result ((predicate text.now).read tokens.now) }
 {
@@ -195,7 +193,7 @@ pub fn read_predicate<'a>(alloc: Global, text: &[u8], tokens: &'a [Token]) -> Pa
     Ok((Predicate::Mask(mask), rest))
 }
 
-#[tactic(auto, unfolding(crate::specs::Statements::entry))]
+#[tactic(auto, unfolding(kx_tree::specs::Statements::entry))]
 fn read_entry<'a>(alloc: Global, text: &[u8], tokens: &'a [Token]) -> Parsed<'a, Entry>
     ensures { Gives result ((entry text.now).read tokens.now) }
 {

@@ -6,19 +6,19 @@ ghost use Rattle.kx_lex.specs.Production.{spanned};
 ghost use Rattle.kx_lex.specs.Tokens.{close_brace, text_name};
 ghost use Rattle.kx_lex.specs.declared.scan.TheConstants.{MOST_TEXT_BYTES};
 ghost use Rattle.kx_lex.specs.declared.token.TokenKind.TheVariants.{Word};
-ghost use Rattle.kx_parse.specs.Forms.{ended};
-ghost use Rattle.kx_parse.specs.Geometry.{geometry};
+ghost use Rattle.kx_tree.specs.Forms.{ended};
+ghost use Rattle.kx_tree.specs.Geometry.{geometry};
 ghost use Rattle.kx_parse.specs.Outline.{BeginsNoInclude, BeginsNoModed, EndSections, HasNoSectionAt, IsNumbered, IsSectionAt, IsSourceOutline, StandElsewhere, built_from, outline_from, sections_before, source_end, source_front, IsJoinWord, IsKindWord, IsModeWord, IsNoFlag, IsOutline, PassesDeep, held_by, include_at, is_include, items_ended, outline_of};
-ghost use Rattle.kx_parse.specs.Sections.{flag, flagged, flags, item, optional_text, section};
+ghost use Rattle.kx_tree.specs.Sections.{flag, flagged, flags, item, optional_text, section};
 
 use crate::passing_statements::{pass_statement, pass_statement_behind};
 use crate::sections::{flag_of, join_of, kind_of, mode_of, read_section};
-use crate::tree::{Flag, Item, Kind, Mode, Section};
 use kx_lex::passing::{
     first_in, front_is, front_is_word, pass_keyword, pass_mark, pass_name, pass_token, span_at,
 };
 use kx_lex::tokens::is_keyword;
 use kx_lex::{Fault, Keyword, MOST_TEXT_BYTES, Name, Row, Span, Token, TokenKind, lex_front};
+use kx_tree::{Flag, Item, Kind, Mode, Section};
 use std::alloc::{AllocError, Global};
 
 /// The sections of a text without their statements, and where each stands, from its first token to its `;`.

@@ -6,8 +6,8 @@ ghost use Rattle.kx_parse.specs.Splits.{is_inner, cut_at};
 ghost use Rattle.std.specs.Char.{is_ascii_digit};
 ghost use Rattle.std.specs.List.{list_all, prefix_len};
 
-use crate::tree::Mode;
 use kx_basics::{MOST_GROUPS, decimal_value};
+use kx_tree::Mode;
 use std::alloc::{AllocError, Global};
 use std::marker::Model;
 

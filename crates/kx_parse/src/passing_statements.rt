@@ -4,19 +4,19 @@ ghost use Rattle.kx_lex.specs.Kinds.{before_mark};
 ghost use Rattle.kx_lex.specs.Passing.{IsAtToken, Passes};
 ghost use Rattle.kx_lex.specs.Production.{many};
 ghost use Rattle.kx_lex.specs.Tokens.{close_brace};
-ghost use Rattle.kx_parse.specs.Passing.{GoesOn, alias_behind, block_fields, field_behind, group_behind, indicator_name_behind, interpretation_behind, key_behind, modifier_map_behind, named_block, terminated, virtual_modifiers_behind};
-ghost use Rattle.kx_parse.specs.Statements.{block, declaration, declared_mask, entry, field, field_statement, indicator_name, key_field, keycode, optional_modifiers, predicate, setting, statement};
+ghost use Rattle.kx_tree.specs.Passing.{GoesOn, alias_behind, block_fields, field_behind, group_behind, indicator_name_behind, interpretation_behind, key_behind, modifier_map_behind, named_block, terminated, virtual_modifiers_behind};
+ghost use Rattle.kx_tree.specs.Statements.{block, declaration, declared_mask, entry, field, field_statement, indicator_name, key_field, keycode, optional_modifiers, predicate, setting, statement};
 
-use crate::passing::{
-    Passed, pass_call_behind, pass_expression, pass_list, pass_listed, pass_operations,
-    pass_place_behind, pass_sequence, pass_symbol, pass_value,
-};
-use crate::tree::{Declaration, Entry, KeyField};
 use kx_lex::Keyword;
 use kx_lex::passing::{
     front_is, front_is_digit, front_is_word, pass_key_name, pass_keyword, pass_mark, pass_number,
     pass_text, pass_word,
 };
+use kx_tree::passing::{
+    Passed, pass_call_behind, pass_expression, pass_list, pass_listed, pass_operations,
+    pass_place_behind, pass_sequence, pass_symbol, pass_value,
+};
+use kx_tree::{Declaration, Entry, KeyField};
 
 #[inline(always)]
 fn pass_setting(bytes: &[u8]) -> Option<&[u8]>

@@ -4,18 +4,17 @@ ghost use Rattle.kx_lex.specs.declared.fault.At.{At as AtValue};
 ghost use Rattle.kx_lex.specs.declared.fault.Fault.{Fault as FaultValue};
 ghost use Rattle.kx_lex.specs.declared.fault.Fault.TheVariants.{Memory, NumberTooBig};
 ghost use Rattle.kx_lex.specs.declared.token.Token.{Token as TokenValue};
-ghost use Rattle.kx_parse.specs.declared.tree.Tree.{Tree as TreeValue};
-ghost use Rattle.kx_parse.specs.Geometry.{geometry, geometry_read};
+ghost use Rattle.kx_tree.specs.declared.tree.Tree.{Tree as TreeValue};
+ghost use Rattle.kx_tree.specs.Geometry.{geometry, geometry_read};
 ghost use Rattle.kx_lex.specs.Gives.{Gives};
 ghost use Rattle.kx_lex.specs.Production.{optional, known, many, at_end};
 ghost use Rattle.kx_parse.specs.Refusals.{InSourceSection, InPlainSection};
 ghost use Rattle.kx_lex.specs.Stops.{StopsWithin};
 ghost use Rattle.kx_lex.specs.Kinds.{front, is_text, is_mark, before_mark};
 ghost use Rattle.kx_lex.specs.Tokens.{text_name, close_brace};
-ghost use Rattle.kx_parse.specs.Sections.{mode_of, join_of, begins_include, begins_moded, join, mode, include, moded, modal, own, item, kind_of, flag_of, kind, flag, flags, optional_text, held_items, plain_section, geometry_body, geometry_section, flagged, section, held_sections, source, file, Spells, StopsWith, SpellsFile, FileStopsWith};
+ghost use Rattle.kx_tree.specs.Sections.{mode_of, join_of, begins_include, begins_moded, join, mode, include, moded, modal, own, item, kind_of, flag_of, kind, flag, flags, optional_text, held_items, plain_section, geometry_body, geometry_section, flagged, section, held_sections, source, file, Spells, StopsWith, SpellsFile, FileStopsWith};
 
 use crate::statements::read_statement;
-use crate::tree::{Flag, Item, Kind, Mode, Section, Stated, Statement, Tree};
 use kx_lex::repeated::{Repeated, is_before_mark, read_many, read_many_in_room};
 use kx_lex::tokens::{
     Parsed, behind_front, front_is_key_name, front_is_keyword, front_is_mark, front_is_text,
@@ -23,9 +22,10 @@ use kx_lex::tokens::{
     span_between, syntax,
 };
 use kx_lex::{Fault, Keyword, Name, Row, Span, Token};
+use kx_tree::{Flag, Item, Kind, Mode, Section, Stated, Statement, Tree};
 use std::alloc::Global;
 
-#[tactic(auto, unfolding(crate::specs::Sections::mode_of))]
+#[tactic(auto, unfolding(kx_tree::specs::Sections::mode_of))]
 pub(crate) fn mode_of(token: &Token) -> Option<Mode>
     ensures { result ≡ mode_of token.now }
 {
@@ -42,7 +42,7 @@ pub(crate) fn mode_of(token: &Token) -> Option<Mode>
     }
 }
 
-#[tactic(auto, unfolding(crate::specs::Sections::join_of))]
+#[tactic(auto, unfolding(kx_tree::specs::Sections::join_of))]
 pub(crate) fn join_of(token: &Token) -> Option<Mode>
     ensures { result ≡ join_of token.now }
 {
@@ -75,7 +75,7 @@ fn begins_moded(tokens: &[Token]) -> bool
     }
 }
 
-#[tactic(auto, unfolding(crate::specs::Sections::join))]
+#[tactic(auto, unfolding(kx_tree::specs::Sections::join))]
 fn read_join<'a>(text: &[u8], tokens: &'a [Token]) -> Parsed<'a, Mode>
     ensures { Gives result ((join text.now).read tokens.now) }
 {
@@ -88,7 +88,7 @@ fn read_join<'a>(text: &[u8], tokens: &'a [Token]) -> Parsed<'a, Mode>
     }
 }
 
-#[tactic(auto, unfolding(crate::specs::Sections::mode))]
+#[tactic(auto, unfolding(kx_tree::specs::Sections::mode))]
 fn read_mode<'a>(text: &[u8], tokens: &'a [Token]) -> Parsed<'a, Mode>
     ensures { Gives result ((mode text.now).read tokens.now) }
 {
@@ -101,7 +101,7 @@ fn read_mode<'a>(text: &[u8], tokens: &'a [Token]) -> Parsed<'a, Mode>
     }
 }
 
-#[tactic(auto, unfolding(crate::specs::Sections::include))]
+#[tactic(auto, unfolding(kx_tree::specs::Sections::include))]
 fn read_include<'a>(alloc: Global, text: &[u8], tokens: &'a [Token]) -> Parsed<'a, Item>
     ensures { Gives result ((include text.now).read tokens.now) }
 {
@@ -118,7 +118,7 @@ fn read_include<'a>(alloc: Global, text: &[u8], tokens: &'a [Token]) -> Parsed<'
     ))
 }
 
-#[tactic(auto, unfolding(crate::specs::Sections::moded))]
+#[tactic(auto, unfolding(kx_tree::specs::Sections::moded))]
 #[inline(always)]
 fn read_moded<'a>(
     alloc: Global,
@@ -134,7 +134,7 @@ fn read_moded<'a>(
     Ok(((mode, statement, first), rest))
 }
 
-#[tactic(auto, unfolding(crate::specs::Sections::modal))]
+#[tactic(auto, unfolding(kx_tree::specs::Sections::modal))]
 fn read_modal<'a>(
     alloc: Global,
     text: &[u8],
@@ -146,7 +146,7 @@ fn read_modal<'a>(
     read_moded(alloc, text, mode, rest)
 }
 
-#[tactic(auto, unfolding(crate::specs::Sections::own))]
+#[tactic(auto, unfolding(kx_tree::specs::Sections::own))]
 fn read_own<'a>(alloc: Global, text: &[u8], tokens: &'a [Token]) -> Parsed<'a, Item>
     ensures { Gives result ((own text.now).read tokens.now) }
 {
@@ -167,7 +167,7 @@ fn read_own<'a>(alloc: Global, text: &[u8], tokens: &'a [Token]) -> Parsed<'a, I
     ))
 }
 
-#[tactic(auto, unfolding(crate::specs::Sections::item))]
+#[tactic(auto, unfolding(kx_tree::specs::Sections::item))]
 fn read_item<'a>(alloc: Global, text: &[u8], tokens: &'a [Token]) -> Parsed<'a, Item>
     ensures { Gives result ((item text.now).read tokens.now) }
 {
@@ -195,7 +195,7 @@ impl Repeated for Items {
     }
 }
 
-#[tactic(auto, unfolding(crate::specs::Sections::kind_of))]
+#[tactic(auto, unfolding(kx_tree::specs::Sections::kind_of))]
 pub(crate) fn kind_of(token: &Token) -> Option<Kind>
     ensures { result ≡ kind_of token.now }
 {
@@ -218,7 +218,7 @@ pub(crate) fn kind_of(token: &Token) -> Option<Kind>
     }
 }
 
-#[tactic(auto, unfolding(crate::specs::Sections::flag_of))]
+#[tactic(auto, unfolding(kx_tree::specs::Sections::flag_of))]
 pub(crate) fn flag_of(token: &Token) -> Option<Flag>
     ensures { result ≡ flag_of token.now }
 {
@@ -243,7 +243,7 @@ pub(crate) fn flag_of(token: &Token) -> Option<Flag>
     }
 }
 
-#[tactic(auto, unfolding(crate::specs::Sections::kind))]
+#[tactic(auto, unfolding(kx_tree::specs::Sections::kind))]
 fn read_kind<'a>(text: &[u8], tokens: &'a [Token]) -> Parsed<'a, Kind>
     ensures { Gives result ((kind text.now).read tokens.now) }
 {
@@ -256,7 +256,7 @@ fn read_kind<'a>(text: &[u8], tokens: &'a [Token]) -> Parsed<'a, Kind>
     }
 }
 
-#[tactic(auto, unfolding(crate::specs::Sections::flag))]
+#[tactic(auto, unfolding(kx_tree::specs::Sections::flag))]
 fn read_flag<'a>(text: &[u8], tokens: &'a [Token]) -> Parsed<'a, Flag>
     ensures { Gives result ((flag text.now).read tokens.now) }
 {
@@ -290,14 +290,14 @@ impl Repeated for Flags {
     }
 }
 
-#[tactic(auto, unfolding(crate::specs::Sections::flags))]
+#[tactic(auto, unfolding(kx_tree::specs::Sections::flags))]
 fn read_flags<'a>(alloc: Global, text: &[u8], tokens: &'a [Token]) -> Parsed<'a, Row<Flag>>
     ensures { Gives result ((flags text.now).read tokens.now) }
 {
     read_many::<Flags>(alloc, text, tokens)
 }
 
-#[tactic(auto, unfolding(crate::specs::Sections::optional_text))]
+#[tactic(auto, unfolding(kx_tree::specs::Sections::optional_text))]
 fn read_optional_text<'a>(
     alloc: Global,
     text: &[u8],
@@ -319,7 +319,7 @@ const USUAL_ITEM_TOKENS: usize = 8;
 /// block by itself, and each of many small sections would keep a page.
 const MOST_ROOM: usize = 800;
 
-#[tactic(auto, unfolding(crate::specs::Sections::held_items))]
+#[tactic(auto, unfolding(kx_tree::specs::Sections::held_items))]
 fn read_held_items<'a>(alloc: Global, text: &[u8], tokens: &'a [Token]) -> Parsed<'a, Row<Item>>
     ensures { Gives result ((held_items text.now).read tokens.now) }
 {
@@ -330,7 +330,7 @@ fn read_held_items<'a>(alloc: Global, text: &[u8], tokens: &'a [Token]) -> Parse
     Ok((items.fitted(), rest))
 }
 
-#[tactic(auto, unfolding(crate::specs::Sections::plain_section))]
+#[tactic(auto, unfolding(kx_tree::specs::Sections::plain_section))]
 fn read_plain_section<'a>(
     alloc: Global,
     text: &[u8],
@@ -354,7 +354,7 @@ fn read_plain_section<'a>(
 }
 
 /// Passes over geometry, up to the brace that closes it; braces are counted.
-#[tactic(auto, unfolding(crate::specs::Geometry::geometry))]
+#[tactic(auto, unfolding(kx_tree::specs::Geometry::geometry))]
 fn read_geometry<'a>(text: &[u8], tokens: &'a [Token]) -> Parsed<'a, ()>
     ensures { Gives result ((geometry text.now).read tokens.now) }
 {
@@ -372,7 +372,7 @@ fn read_geometry<'a>(text: &[u8], tokens: &'a [Token]) -> Parsed<'a, ()>
     Err(syntax(text, &[]))
 }
 
-#[tactic(auto, unfolding(crate::specs::Sections::geometry_body))]
+#[tactic(auto, unfolding(kx_tree::specs::Sections::geometry_body))]
 fn read_geometry_body<'a>(text: &[u8], tokens: &'a [Token]) -> Parsed<'a, ()>
     ensures { Gives result ((geometry_body text.now).read tokens.now) }
 {
@@ -382,7 +382,7 @@ fn read_geometry_body<'a>(text: &[u8], tokens: &'a [Token]) -> Parsed<'a, ()>
     Ok(((), rest))
 }
 
-#[tactic(auto, unfolding(crate::specs::Sections::geometry_section))]
+#[tactic(auto, unfolding(kx_tree::specs::Sections::geometry_section))]
 fn read_geometry_section<'a>(
     alloc: Global,
     text: &[u8],
@@ -405,7 +405,7 @@ fn read_geometry_section<'a>(
     ))
 }
 
-#[tactic(auto, unfolding(crate::specs::Sections::flagged))]
+#[tactic(auto, unfolding(kx_tree::specs::Sections::flagged))]
 fn read_flagged<'a>(
     alloc: Global,
     text: &[u8],
@@ -420,7 +420,7 @@ fn read_flagged<'a>(
     read_plain_section(alloc, text, flags, tokens)
 }
 
-#[tactic(auto, unfolding(crate::specs::Sections::section))]
+#[tactic(auto, unfolding(kx_tree::specs::Sections::section))]
 pub(crate) fn read_section<'a>(
     alloc: Global,
     text: &[u8],
@@ -470,7 +470,7 @@ impl Repeated for FileSections {
     }
 }
 
-#[tactic(auto, unfolding(crate::specs::Sections::held_sections))]
+#[tactic(auto, unfolding(kx_tree::specs::Sections::held_sections))]
 fn read_held_sections<'a>(
     alloc: Global,
     text: &[u8],
@@ -494,7 +494,7 @@ fn read_end<'a>(text: &[u8], tokens: &'a [Token]) -> Parsed<'a, ()>
     }
 }
 
-#[tactic(auto, unfolding(crate::specs::Sections::source))]
+#[tactic(auto, unfolding(kx_tree::specs::Sections::source))]
 fn read_source<'a>(alloc: Global, text: &[u8], tokens: &'a [Token]) -> Parsed<'a, Tree>
     ensures { Gives result ((source text.now).read tokens.now) }
 {
@@ -507,7 +507,7 @@ fn read_source<'a>(alloc: Global, text: &[u8], tokens: &'a [Token]) -> Parsed<'a
     Ok((Tree { sections }, rest))
 }
 
-#[tactic(auto, unfolding(crate::specs::Sections::file))]
+#[tactic(auto, unfolding(kx_tree::specs::Sections::file))]
 fn read_file<'a>(alloc: Global, text: &[u8], tokens: &'a [Token]) -> Parsed<'a, Tree>
     ensures { Gives result ((file text.now).read tokens.now) }
 {

@@ -2,11 +2,9 @@
 ghost use Rattle.std.specs.Prelude.{◌≡◌, ◌&&◌, ◌||◌, codes};
 ghost use Rattle.kx_lex.specs.Gives.{Gives};
 ghost use Rattle.kx_lex.specs.Kinds.{front, is_mark, is_word, is_number, is_text, is_key_name, is_keyword};
-ghost use Rattle.kx_parse.specs.Statements.{keycode, alias, indicator_name, virtual_indicator, virtual_modifiers, key_type, optional_modifiers, interpretation, indicator, group, key, mapped_entries, modifier_map, field_statement, symbols_statement, types_statement, keycodes_statement, statement};
+ghost use Rattle.kx_tree.specs.Statements.{keycode, alias, indicator_name, virtual_indicator, virtual_modifiers, key_type, optional_modifiers, interpretation, indicator, group, key, mapped_entries, modifier_map, field_statement, symbols_statement, types_statement, keycodes_statement, statement};
 
 use crate::fields::{Declarations, Entries, KeyFields, read_block, read_field, read_predicate};
-use crate::tree::{Entry, Predicate, Statement};
-use crate::values::{read_expression, read_symbol};
 use kx_lex::repeated::{read_sequence, read_small_list};
 use kx_lex::tokens::{
     Parsed, behind_front, front_is_key_name, front_is_keyword, front_is_mark, front_is_number,
@@ -14,9 +12,11 @@ use kx_lex::tokens::{
     read_number, read_text, read_word,
 };
 use kx_lex::{Boxed, Fault, Keyword, Row, Token};
+use kx_tree::values::{read_expression, read_symbol};
+use kx_tree::{Entry, Predicate, Statement};
 use std::alloc::Global;
 
-#[tactic(auto, unfolding(crate::specs::Statements::keycode))]
+#[tactic(auto, unfolding(kx_tree::specs::Statements::keycode))]
 fn read_keycode<'a>(alloc: Global, text: &[u8], tokens: &'a [Token]) -> Parsed<'a, Statement>
     ensures { Gives result ((keycode text.now).read tokens.now) }
 {
@@ -26,7 +26,7 @@ fn read_keycode<'a>(alloc: Global, text: &[u8], tokens: &'a [Token]) -> Parsed<'
     Ok((Statement::Keycode { name, code }, rest))
 }
 
-#[tactic(auto, unfolding(crate::specs::Statements::alias))]
+#[tactic(auto, unfolding(kx_tree::specs::Statements::alias))]
 fn read_alias<'a>(alloc: Global, text: &[u8], tokens: &'a [Token]) -> Parsed<'a, Statement>
     ensures { Gives result ((alias text.now).read tokens.now) }
 {
@@ -37,7 +37,7 @@ fn read_alias<'a>(alloc: Global, text: &[u8], tokens: &'a [Token]) -> Parsed<'a,
     Ok((Statement::Alias { name, target }, rest))
 }
 
-#[tactic(auto, unfolding(crate::specs::Statements::indicator_name))]
+#[tactic(auto, unfolding(kx_tree::specs::Statements::indicator_name))]
 fn read_indicator_name<'a>(alloc: Global, text: &[u8], tokens: &'a [Token]) -> Parsed<'a, Statement>
     ensures { Gives result ((indicator_name text.now).read tokens.now) }
 {
@@ -48,7 +48,7 @@ fn read_indicator_name<'a>(alloc: Global, text: &[u8], tokens: &'a [Token]) -> P
     Ok((Statement::IndicatorName { number, name }, rest))
 }
 
-#[tactic(auto, unfolding(crate::specs::Statements::virtual_indicator))]
+#[tactic(auto, unfolding(kx_tree::specs::Statements::virtual_indicator))]
 fn read_virtual_indicator<'a>(
     alloc: Global,
     text: &[u8],
@@ -60,7 +60,7 @@ fn read_virtual_indicator<'a>(
     read_indicator_name(alloc, text, rest)
 }
 
-#[tactic(auto, unfolding(crate::specs::Statements::virtual_modifiers))]
+#[tactic(auto, unfolding(kx_tree::specs::Statements::virtual_modifiers))]
 fn read_virtual_modifiers<'a>(
     alloc: Global,
     text: &[u8],
@@ -73,7 +73,7 @@ fn read_virtual_modifiers<'a>(
     Ok((Statement::VirtualModifiers(declarations), rest))
 }
 
-#[tactic(auto, unfolding(crate::specs::Statements::key_type))]
+#[tactic(auto, unfolding(kx_tree::specs::Statements::key_type))]
 fn read_key_type<'a>(alloc: Global, text: &[u8], tokens: &'a [Token]) -> Parsed<'a, Statement>
     ensures { Gives result ((key_type text.now).read tokens.now) }
 {
@@ -83,7 +83,7 @@ fn read_key_type<'a>(alloc: Global, text: &[u8], tokens: &'a [Token]) -> Parsed<
     Ok((Statement::KeyType { name, fields }, rest))
 }
 
-#[tactic(auto, unfolding(crate::specs::Statements::wanted_modifiers))]
+#[tactic(auto, unfolding(kx_tree::specs::Statements::wanted_modifiers))]
 fn read_wanted_modifiers<'a>(
     alloc: Global,
     text: &[u8],
@@ -99,7 +99,7 @@ fn read_wanted_modifiers<'a>(
     Ok((Some(Boxed::of(alloc, predicate)?), rest))
 }
 
-#[tactic(auto, unfolding(crate::specs::Statements::interpretation))]
+#[tactic(auto, unfolding(kx_tree::specs::Statements::interpretation))]
 fn read_interpretation<'a>(alloc: Global, text: &[u8], tokens: &'a [Token]) -> Parsed<'a, Statement>
     ensures { Gives result ((interpretation text.now).read tokens.now) }
 {
@@ -117,7 +117,7 @@ fn read_interpretation<'a>(alloc: Global, text: &[u8], tokens: &'a [Token]) -> P
     ))
 }
 
-#[tactic(auto, unfolding(crate::specs::Statements::indicator))]
+#[tactic(auto, unfolding(kx_tree::specs::Statements::indicator))]
 fn read_indicator<'a>(alloc: Global, text: &[u8], tokens: &'a [Token]) -> Parsed<'a, Statement>
     ensures { Gives result ((indicator text.now).read tokens.now) }
 {
@@ -127,7 +127,7 @@ fn read_indicator<'a>(alloc: Global, text: &[u8], tokens: &'a [Token]) -> Parsed
     Ok((Statement::Indicator { name, fields }, rest))
 }
 
-#[tactic(auto, unfolding(crate::specs::Statements::group))]
+#[tactic(auto, unfolding(kx_tree::specs::Statements::group))]
 fn read_group<'a>(alloc: Global, text: &[u8], tokens: &'a [Token]) -> Parsed<'a, Statement>
     ensures { Gives result ((group text.now).read tokens.now) }
 {
@@ -139,7 +139,7 @@ fn read_group<'a>(alloc: Global, text: &[u8], tokens: &'a [Token]) -> Parsed<'a,
     Ok((Statement::Group { number, mask }, rest))
 }
 
-#[tactic(auto, unfolding(crate::specs::Statements::key))]
+#[tactic(auto, unfolding(kx_tree::specs::Statements::key))]
 fn read_key<'a>(alloc: Global, text: &[u8], tokens: &'a [Token]) -> Parsed<'a, Statement>
     ensures { Gives result ((key text.now).read tokens.now) }
 {
@@ -151,7 +151,7 @@ fn read_key<'a>(alloc: Global, text: &[u8], tokens: &'a [Token]) -> Parsed<'a, S
     Ok((Statement::Key { name, fields }, rest))
 }
 
-#[tactic(auto, unfolding(crate::specs::Statements::mapped_entries))]
+#[tactic(auto, unfolding(kx_tree::specs::Statements::mapped_entries))]
 fn read_mapped_entries<'a>(
     alloc: Global,
     text: &[u8],
@@ -162,7 +162,7 @@ fn read_mapped_entries<'a>(
     read_sequence::<Entries>(alloc, text, tokens)
 }
 
-#[tactic(auto, unfolding(crate::specs::Statements::modifier_map))]
+#[tactic(auto, unfolding(kx_tree::specs::Statements::modifier_map))]
 fn read_modifier_map<'a>(alloc: Global, text: &[u8], tokens: &'a [Token]) -> Parsed<'a, Statement>
     ensures { Gives result ((modifier_map text.now).read tokens.now) }
 {
@@ -174,7 +174,7 @@ fn read_modifier_map<'a>(alloc: Global, text: &[u8], tokens: &'a [Token]) -> Par
     Ok((Statement::ModifierMap { modifier, entries }, rest))
 }
 
-#[tactic(auto, unfolding(crate::specs::Statements::field_statement))]
+#[tactic(auto, unfolding(kx_tree::specs::Statements::field_statement))]
 fn read_field_statement<'a>(
     alloc: Global,
     text: &[u8],
@@ -194,7 +194,7 @@ fn begins(keyword: Keyword, tokens: &[Token], is_right_behind: bool) -> bool
     is_right_behind && front_is_keyword(keyword, tokens)
 }
 
-#[tactic(auto, unfolding(crate::specs::Statements::symbols_statement))]
+#[tactic(auto, unfolding(kx_tree::specs::Statements::symbols_statement))]
 fn read_symbols_statement<'a>(
     alloc: Global,
     text: &[u8],
@@ -221,7 +221,7 @@ fn front_is_symbol(tokens: &[Token]) -> bool
     }
 }
 
-#[tactic(auto, unfolding(crate::specs::Statements::types_statement))]
+#[tactic(auto, unfolding(kx_tree::specs::Statements::types_statement))]
 fn read_types_statement<'a>(
     alloc: Global,
     text: &[u8],
@@ -250,7 +250,7 @@ fn read_types_statement<'a>(
 }
 
 /// Takes a statement without its mode and its `;`.
-#[tactic(auto, unfolding(crate::specs::Statements::statement, crate::specs::Statements::keycodes_statement))]
+#[tactic(auto, unfolding(kx_tree::specs::Statements::statement, kx_tree::specs::Statements::keycodes_statement))]
 pub fn read_statement<'a>(alloc: Global, text: &[u8], tokens: &'a [Token]) -> Parsed<'a, Statement>
     ensures { Gives result ((statement text.now).read tokens.now) }
 {

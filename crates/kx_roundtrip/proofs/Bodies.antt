@@ -3,8 +3,8 @@ use Rattle.std.proofs.Common.{◌≡◌, List, [], ◌∷◌, ◌++◌, ap, ◌�
 use Rattle.kx_include.specs.Expansion.{Begin, Body, End, body_of}
 use Rattle.kx_include.specs.IncludeFaults.{IsWhole}
 use Rattle.kx_virtual_mods.specs.Declarations.{virtual_names}
-use Rattle.kx_parse.specs.declared.tree.Stated.{Stated}
-use Rattle.kx_parse.specs.declared.tree.Kind.TheVariants.{Compat, Keycodes, Symbols, Types}
+use Rattle.kx_tree.specs.declared.tree.Stated.{Stated}
+use Rattle.kx_tree.specs.declared.tree.Kind.TheVariants.{Compat, Keycodes, Symbols, Types}
 use Rattle.kx_tables.specs.Content.{Content}
 use Rattle.kx_tables.specs.Sound.{Sound}
 use Rattle.kx_builder.specs.IndicatorMaps.{ResolvedIndicator}

@@ -12,7 +12,7 @@ use Rattle.kx_compat.specs.Meaning.{compat_faults}
 use Rattle.kx_indicators.specs.Meaning.{indicator_maps_faults}
 use Rattle.kx_lex.specs.declared.fault.Fault.{Fault}
 use Rattle.kx_virtual_mods.specs.Declarations.{modifier_faults}
-use Rattle.kx_parse.specs.declared.tree.Stated.{Stated}
+use Rattle.kx_tree.specs.declared.tree.Stated.{Stated}
 use Rattle.kx_source.specs.Meaning.{codes_of}
 use Rattle.kx_source.specs.Source.{keys_faults, maps_faults, names_faults, statement_faults}
 use Rattle.kx_tables.specs.Content.{Content}

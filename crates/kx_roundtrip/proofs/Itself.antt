@@ -5,8 +5,8 @@ use Rattle.ks_core.specs.Table.{KeysymTable}
 use Rattle.kx_lex.specs.Reading.{IsReading, StopsWith}
 use Rattle.kx_lex.specs.declared.fault.Fault.{Fault}
 use Rattle.kx_lex.specs.declared.token.Token.{Token}
-use Rattle.kx_parse.specs.Sections.{Spells, StopsWith as TokensStop}
-use Rattle.kx_parse.specs.declared.tree.Tree.{Tree}
+use Rattle.kx_tree.specs.Sections.{Spells, StopsWith as TokensStop}
+use Rattle.kx_tree.specs.declared.tree.Tree.{Tree}
 use Rattle.kx_print.specs.Printed.{printed}
 use Rattle.kx_source.specs.Source.{HasFault, HasFaultIn, HoldsAll, Means}
 use Rattle.kx_tables.specs.Content.{Content}

@@ -26,7 +26,7 @@ use Rattle.kx_modmaps.specs.Entries.{same_target}
 use Rattle.kx_modmaps.specs.Maps.{keysyms_given, map_offers_of}
 use Rattle.kx_modmaps.specs.declared.record.Cell.TheVariants.{Present}
 use Rattle.kx_modmaps.specs.declared.target.Target.TheVariants.{Key as KeyTarget}
-use Rattle.kx_parse.specs.declared.tree.Stated.{Stated}
+use Rattle.kx_tree.specs.declared.tree.Stated.{Stated}
 use Rattle.kx_resolve.specs.Lit.{indicator_lit, indicators_of}
 use Rattle.kx_source.specs.Meaning.{codes_of, declared_in, indicators_by, indicators_in, interpretations_in, key_given, key_in, keyed_in, indicator_maps_from, mapping_by, modmap_in, read_keymap_in, real_in, resolved_in, typing_in}
 use Rattle.kx_source.specs.Source.{HoldsAll}

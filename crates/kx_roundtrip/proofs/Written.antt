@@ -4,8 +4,8 @@ use Rattle.kx_include.specs.Source.{IsRead}
 use Rattle.kx_include.specs.Library.{Library}
 use Rattle.kx_lex.specs.Reading.{IsReading}
 use Rattle.kx_lex.specs.declared.token.Token.{Token}
-use Rattle.kx_parse.specs.Sections.{Spells}
-use Rattle.kx_parse.specs.declared.tree.Tree.{Tree}
+use Rattle.kx_tree.specs.Sections.{Spells}
+use Rattle.kx_tree.specs.declared.tree.Tree.{Tree}
 use Rattle.kx_print.specs.Printed.{printed}
 use Rattle.kx_lex.specs.Reading.{mark_len}
 use Rattle.kx_tables.specs.Content.{Content}

@@ -18,7 +18,7 @@ use Rattle.kx_lex.specs.declared.fault.Fault.TheVariants.{Memory}
 use Rattle.kx_virtual_mods.specs.Declarations.{AreModNames, ModNames, modifier_bodies}
 use Rattle.kx_virtual_mods.specs.Sets.{real_of}
 use Rattle.kx_virtual_mods.specs.Standing.{stands_for}
-use Rattle.kx_parse.specs.declared.tree.Kind.TheVariants.{Keycodes}
+use Rattle.kx_tree.specs.declared.tree.Kind.TheVariants.{Keycodes}
 use Rattle.kx_resolve.specs.Keys.{keyed_of}
 use Rattle.kx_resolve.specs.Lit.{indicators_of}
 use Rattle.kx_resolve.specs.Shown.{keymap_meant}

@@ -35,11 +35,11 @@ use Rattle.kx_modmaps.specs.Maps.{map_moves, map_offers, map_offers_of, map_rule
 use Rattle.kx_modmaps.specs.declared.target.Target.{Target}
 use Rattle.kx_modmaps.specs.declared.target.Target.TheVariants.{Key as KeyTarget}
 use Rattle.kx_mods.specs.declared.mods.Mods.{Mods}
-use Rattle.kx_parse.specs.declared.tree.Entry.{Entry as MapEntry}
-use Rattle.kx_parse.specs.declared.tree.Entry.TheVariants.{KeyName, Symbol}
-use Rattle.kx_parse.specs.declared.tree.Kind.TheVariants.{Compat, Keycodes, Symbols}
-use Rattle.kx_parse.specs.declared.tree.KeyField.{KeyField}
-use Rattle.kx_parse.specs.declared.tree.Mode.{Mode}
+use Rattle.kx_tree.specs.declared.tree.Entry.{Entry as MapEntry}
+use Rattle.kx_tree.specs.declared.tree.Entry.TheVariants.{KeyName, Symbol}
+use Rattle.kx_tree.specs.declared.tree.Kind.TheVariants.{Compat, Keycodes, Symbols}
+use Rattle.kx_tree.specs.declared.tree.KeyField.{KeyField}
+use Rattle.kx_tree.specs.declared.tree.Mode.{Mode}
 use Rattle.kx_resolve.specs.Keys.{keyed_of, resolved_of}
 use Rattle.kx_resolve.specs.Lit.{indicator_lit, indicators_of}
 use Rattle.kx_resolve.specs.Shown.{keymap_meant}

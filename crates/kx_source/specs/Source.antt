@@ -17,7 +17,7 @@ use Rattle.kx_virtual_mods.specs.Declarations.{modifier_faults}
 use Rattle.kx_merge.specs.Bodies.{faults_of, no_moves}
 use Rattle.kx_modmaps.specs.Entries.{same_target}
 use Rattle.kx_modmaps.specs.Maps.{map_rules}
-use Rattle.kx_parse.specs.declared.tree.Kind.TheVariants.{Compat, Keycodes, Symbols, Types}
+use Rattle.kx_tree.specs.declared.tree.Kind.TheVariants.{Compat, Keycodes, Symbols, Types}
 use Rattle.kx_source.specs.Meaning.{codes_in, indicators_in, keymap_in, modifier_bodies_of, modifiers_of, resolved_in}
 use Rattle.kx_symbols.specs.Keys.{key_moves, key_rules}
 use Rattle.kx_tables.specs.Content.{Content}

@@ -5,8 +5,8 @@ use Rattle.kx_key_lists.specs.Records.{moved_in, value_in}
 use Rattle.kx_merge.specs.ByGroup.{group_before}
 use Rattle.kx_merge.specs.Moved.{moved_value}
 use Rattle.kx_merge.specs.Offers.{merged_value}
-use Rattle.kx_parse.specs.declared.tree.Mode.{Mode}
-use Rattle.kx_parse.specs.declared.tree.Mode.TheVariants.{Augment, Override, Replace}
+use Rattle.kx_tree.specs.declared.tree.Mode.{Mode}
+use Rattle.kx_tree.specs.declared.tree.Mode.TheVariants.{Augment, Override, Replace}
 use Rattle.kx_key_fields.specs.Attributes.{attribute_before, attribute_in, attribute_moves}
 use Rattle.kx_key_fields.specs.declared.cells.AttributeCell.{AttributeCell}
 use Rattle.kx_symbols.specs.Keys.{KeyContent, cell_in, key_moves}

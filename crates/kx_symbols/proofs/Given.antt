@@ -7,10 +7,10 @@ use Rattle.kx_key_lists.specs.Records.{value_in, width_in_key as list_width}
 use Rattle.kx_key_fields.specs.KeyFields.{effective}
 use Rattle.kx_key_fields.specs.Attributes.{Settings, attribute_in}
 use Rattle.kx_key_fields.specs.declared.cells.AttributeCell.{AttributeCell}
-use Rattle.kx_parse.specs.declared.tree.KeyField.{KeyField}
+use Rattle.kx_tree.specs.declared.tree.KeyField.{KeyField}
 use Rattle.kx_symbols.specs.Known.{Known}
 use Rattle.kx_symbols.specs.Lists.{StatementLists, lists_of}
-use Rattle.kx_parse.specs.declared.tree.Mode.{Mode}
+use Rattle.kx_tree.specs.declared.tree.Mode.{Mode}
 use Rattle.kx_merge.specs.Records.{IsOffered}
 use Rattle.kx_symbols.specs.Keys.{KeyContent, cell_in, content_of, given_cell, given_width, key_form, key_offer, width_in_key}
 use Rattle.kx_symbols.specs.declared.cells.Cell.{Cell}

@@ -7,13 +7,13 @@ use Rattle.kx_lex.specs.declared.name.Name.{Name}
 use Rattle.kx_lex.specs.declared.token.Span.{Span}
 use Rattle.kx_include.specs.IncludeFaults.{at}
 use Rattle.kx_merge.specs.Records.{AreOffered}
-use Rattle.kx_parse.specs.declared.tree.Declaration.{Declaration}
-use Rattle.kx_parse.specs.declared.tree.Entry.{Entry as MapEntry}
-use Rattle.kx_parse.specs.declared.tree.Field.{Field}
-use Rattle.kx_parse.specs.declared.tree.KeyField.{KeyField}
-use Rattle.kx_parse.specs.declared.tree.Mode.{Mode}
-use Rattle.kx_parse.specs.declared.tree.Statement.{Statement as Said}
-use Rattle.kx_parse.specs.declared.tree.Statement.TheVariants as said
+use Rattle.kx_tree.specs.declared.tree.Declaration.{Declaration}
+use Rattle.kx_tree.specs.declared.tree.Entry.{Entry as MapEntry}
+use Rattle.kx_tree.specs.declared.tree.Field.{Field}
+use Rattle.kx_tree.specs.declared.tree.KeyField.{KeyField}
+use Rattle.kx_tree.specs.declared.tree.Mode.{Mode}
+use Rattle.kx_tree.specs.declared.tree.Statement.{Statement as Said}
+use Rattle.kx_tree.specs.declared.tree.Statement.TheVariants as said
 use Rattle.kx_symbols.specs.KeyFaults.{field_faults, fields_faults, other_faults}
 use Rattle.kx_symbols.specs.Keys.{KeyContent, key_form, key_offer, offered}
 use Rattle.kx_symbols.specs.Lists.{StatementLists, field_lists, no_lists}

@@ -4,12 +4,12 @@ use Rattle.std.specs.List.{flat_map}
 use Rattle.kx_actions.specs.Arguments.{action_of}
 use Rattle.kx_actions.specs.declared.action.KeyAction.{KeyAction}
 use Rattle.kx_actions.specs.declared.action.KeyAction.TheVariants.{NoAction}
-use Rattle.kx_parse.specs.declared.tree.Call.{Call}
-use Rattle.kx_parse.specs.declared.tree.Element.{Element}
-use Rattle.kx_parse.specs.declared.tree.Element.TheVariants as elements
-use Rattle.kx_parse.specs.declared.tree.List.{List as Listed}
-use Rattle.kx_parse.specs.declared.tree.BracePart.{BracePart}
-use Rattle.kx_parse.specs.declared.tree.BracePart.TheVariants as parts
+use Rattle.kx_tree.specs.declared.tree.Call.{Call}
+use Rattle.kx_tree.specs.declared.tree.Element.{Element}
+use Rattle.kx_tree.specs.declared.tree.Element.TheVariants as elements
+use Rattle.kx_tree.specs.declared.tree.List.{List as Listed}
+use Rattle.kx_tree.specs.declared.tree.BracePart.{BracePart}
+use Rattle.kx_tree.specs.declared.tree.BracePart.TheVariants as parts
 use Rattle.kx_symbols.specs.Known.{Known}
 
 -- no action defines nothing

@@ -12,25 +12,25 @@ use Rattle.kx_lex.specs.declared.fault.Fault.TheVariants.{BadValue, TooMany, Unk
 use Rattle.kx_lex.specs.declared.name.Name.{Name}
 use Rattle.kx_lex.specs.declared.token.Span.{Span}
 use Rattle.kx_key_lists.specs.Places.{place_faults}
-use Rattle.kx_parse.specs.declared.tree.Braces.{Braces}
-use Rattle.kx_parse.specs.declared.tree.Element.{Element}
-use Rattle.kx_parse.specs.declared.tree.Element.TheVariants as elements
-use Rattle.kx_parse.specs.declared.tree.Field.{Field}
-use Rattle.kx_parse.specs.declared.tree.Index.{Index}
-use Rattle.kx_parse.specs.declared.tree.KeyField.{KeyField}
-use Rattle.kx_parse.specs.declared.tree.KeyField.TheVariants as fields
-use Rattle.kx_parse.specs.declared.tree.List.{List as Listed}
-use Rattle.kx_parse.specs.declared.tree.BracePart.{BracePart}
-use Rattle.kx_parse.specs.declared.tree.BracePart.TheVariants as parts
-use Rattle.kx_parse.specs.declared.tree.Setting.{Setting}
-use Rattle.kx_parse.specs.declared.tree.Setting.TheVariants.{Off, On, To}
-use Rattle.kx_parse.specs.declared.tree.Stated.{Stated}
-use Rattle.kx_parse.specs.declared.tree.Statement.{Statement}
-use Rattle.kx_parse.specs.declared.tree.Statement.TheVariants as statements
-use Rattle.kx_parse.specs.declared.tree.Symbol.{Symbol}
-use Rattle.kx_parse.specs.declared.tree.Symbol.TheVariants.{Word, Number}
-use Rattle.kx_parse.specs.declared.tree.Value.TheVariants as values
-use Rattle.kx_parse.specs.Sections.{word_span}
+use Rattle.kx_tree.specs.declared.tree.Braces.{Braces}
+use Rattle.kx_tree.specs.declared.tree.Element.{Element}
+use Rattle.kx_tree.specs.declared.tree.Element.TheVariants as elements
+use Rattle.kx_tree.specs.declared.tree.Field.{Field}
+use Rattle.kx_tree.specs.declared.tree.Index.{Index}
+use Rattle.kx_tree.specs.declared.tree.KeyField.{KeyField}
+use Rattle.kx_tree.specs.declared.tree.KeyField.TheVariants as fields
+use Rattle.kx_tree.specs.declared.tree.List.{List as Listed}
+use Rattle.kx_tree.specs.declared.tree.BracePart.{BracePart}
+use Rattle.kx_tree.specs.declared.tree.BracePart.TheVariants as parts
+use Rattle.kx_tree.specs.declared.tree.Setting.{Setting}
+use Rattle.kx_tree.specs.declared.tree.Setting.TheVariants.{Off, On, To}
+use Rattle.kx_tree.specs.declared.tree.Stated.{Stated}
+use Rattle.kx_tree.specs.declared.tree.Statement.{Statement}
+use Rattle.kx_tree.specs.declared.tree.Statement.TheVariants as statements
+use Rattle.kx_tree.specs.declared.tree.Symbol.{Symbol}
+use Rattle.kx_tree.specs.declared.tree.Symbol.TheVariants.{Word, Number}
+use Rattle.kx_tree.specs.declared.tree.Value.TheVariants as values
+use Rattle.kx_tree.specs.Sections.{word_span}
 use Rattle.kx_merge.specs.Faults.{name_faults}
 use Rattle.kx_include.specs.IncludeFaults.{at}
 use Rattle.kx_key_fields.specs.KeyFields.{default_faults as key_default_faults, setting_faults}

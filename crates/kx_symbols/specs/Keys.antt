@@ -14,11 +14,11 @@ use Rattle.kx_merge.specs.ByGroup.{group_before}
 use Rattle.kx_merge.specs.Bodies.{Rules, Moves, offers_of}
 use Rattle.kx_merge.specs.Offers.{Offer, value_of, width_of}
 use Rattle.kx_merge.specs.Records.{Form}
-use Rattle.kx_parse.specs.declared.tree.Field.{Field}
-use Rattle.kx_parse.specs.declared.tree.KeyField.{KeyField}
-use Rattle.kx_parse.specs.declared.tree.Mode.{Mode}
-use Rattle.kx_parse.specs.declared.tree.Statement.{Statement}
-use Rattle.kx_parse.specs.declared.tree.Statement.TheVariants as statements
+use Rattle.kx_tree.specs.declared.tree.Field.{Field}
+use Rattle.kx_tree.specs.declared.tree.KeyField.{KeyField}
+use Rattle.kx_tree.specs.declared.tree.Mode.{Mode}
+use Rattle.kx_tree.specs.declared.tree.Statement.{Statement}
+use Rattle.kx_tree.specs.declared.tree.Statement.TheVariants as statements
 use Rattle.kx_key_fields.specs.KeyFields.{effective, next_defaults as next_key_defaults}
 use Rattle.kx_key_fields.specs.Attributes.{Settings, attribute_before, attribute_in}
 use Rattle.kx_symbols.specs.declared.cells.Cell.{Cell}

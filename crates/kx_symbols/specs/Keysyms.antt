@@ -5,13 +5,13 @@ use Rattle.std.specs.Option.{option_and_then, option_to_list}
 use Rattle.std.specs.Str.{is_utf8, str_eq_ignore_ascii_case}
 use Rattle.ks_core.specs.Table.{KeysymTable}
 use Rattle.ks_core.specs.Names.{keysym_named}
-use Rattle.kx_parse.specs.declared.tree.Element.{Element}
-use Rattle.kx_parse.specs.declared.tree.Element.TheVariants as elements
-use Rattle.kx_parse.specs.declared.tree.List.{List as Listed}
-use Rattle.kx_parse.specs.declared.tree.BracePart.{BracePart}
-use Rattle.kx_parse.specs.declared.tree.BracePart.TheVariants as parts
-use Rattle.kx_parse.specs.declared.tree.Symbol.{Symbol}
-use Rattle.kx_parse.specs.declared.tree.Symbol.TheVariants.{Word, Number}
+use Rattle.kx_tree.specs.declared.tree.Element.{Element}
+use Rattle.kx_tree.specs.declared.tree.Element.TheVariants as elements
+use Rattle.kx_tree.specs.declared.tree.List.{List as Listed}
+use Rattle.kx_tree.specs.declared.tree.BracePart.{BracePart}
+use Rattle.kx_tree.specs.declared.tree.BracePart.TheVariants as parts
+use Rattle.kx_tree.specs.declared.tree.Symbol.{Symbol}
+use Rattle.kx_tree.specs.declared.tree.Symbol.TheVariants.{Word, Number}
 
 -- what a level gives: its keysyms, or nothing
 abbrev pub Level : Type 0

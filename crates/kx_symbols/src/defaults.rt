@@ -2,7 +2,7 @@
 ghost use Rattle.std.specs.Prelude.{◌≡◌, IfOk};
 ghost use Rattle.std.specs.Option.{option_map_or};
 ghost use Rattle.kx_key_fields.specs.Attributes.{no_settings};
-ghost use Rattle.kx_parse.specs.Sections.{word_span};
+ghost use Rattle.kx_tree.specs.Sections.{word_span};
 ghost use Rattle.kx_symbols.specs.Known.{no_defaults};
 ghost use Rattle.kx_symbols.specs.Keys.{after_field, field_in, said_next};
 ghost use Rattle.kx_symbols.specs.KeyFaults.{default_faults, other_faults, section_field_faults};

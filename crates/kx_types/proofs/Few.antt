@@ -13,8 +13,8 @@ use Rattle.kx_include.specs.Expansion.{Body, End, Begin, Own, Inc}
 use Rattle.kx_virtual_mods.specs.Counted.{Said, Text, names_behind as names_behind_saids, names_with, statements_of, with_names}
 use Rattle.kx_merge.specs.Bodies.{gather, gathered, moved, no_moves, offers}
 use Rattle.kx_merge.specs.Offers.{names_behind, names_of, with_name}
-use Rattle.kx_parse.specs.declared.tree.Field.{Field}
-use Rattle.kx_parse.specs.declared.tree.Mode.{Mode}
+use Rattle.kx_tree.specs.declared.tree.Field.{Field}
+use Rattle.kx_tree.specs.declared.tree.Mode.{Mode}
 use Rattle.kx_lex.specs.declared.name.Name.{Name}
 use Rattle.kx_types.specs.KeyTypes.{Definition}
 use Rattle.kx_types.specs.TypeFaults.{type_in}

@@ -5,8 +5,8 @@ use Rattle.kx_lex.specs.declared.name.Name.{Name}
 use Rattle.kx_merge.specs.Records.{AreOffered}
 use Rattle.kx_merge.specs.Single.{single_form}
 use Rattle.kx_merge.specs.declared.single.Single.{Single}
-use Rattle.kx_parse.specs.declared.tree.Field.{Field}
-use Rattle.kx_parse.specs.declared.tree.Mode.{Mode}
+use Rattle.kx_tree.specs.declared.tree.Field.{Field}
+use Rattle.kx_tree.specs.declared.tree.Mode.{Mode}
 use Rattle.kx_types.specs.KeyTypes.{Definition, definition_of}
 use Rattle.kx_types.specs.TypeFields.{sayings_of}
 use Rattle.kx_types.specs.Types.{TypeOffer, said_offers, type_offer}

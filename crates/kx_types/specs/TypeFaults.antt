@@ -6,11 +6,11 @@ use Rattle.kx_include.specs.IncludeFaults.{at}
 use Rattle.kx_lex.specs.declared.fault.Fault.{Fault}
 use Rattle.kx_lex.specs.declared.fault.Fault.TheVariants.{UnknownField}
 use Rattle.kx_lex.specs.declared.name.Name.{Name}
-use Rattle.kx_parse.specs.Sections.{word_span}
-use Rattle.kx_parse.specs.declared.tree.Field.{Field}
-use Rattle.kx_parse.specs.declared.tree.Stated.{Stated}
-use Rattle.kx_parse.specs.declared.tree.Statement.{Statement}
-use Rattle.kx_parse.specs.declared.tree.Statement.TheVariants.{KeyType, VirtualModifiers}
+use Rattle.kx_tree.specs.Sections.{word_span}
+use Rattle.kx_tree.specs.declared.tree.Field.{Field}
+use Rattle.kx_tree.specs.declared.tree.Stated.{Stated}
+use Rattle.kx_tree.specs.declared.tree.Statement.{Statement}
+use Rattle.kx_tree.specs.declared.tree.Statement.TheVariants.{KeyType, VirtualModifiers}
 use Rattle.kx_types.specs.TypeFields.{field_faults}
 use Rattle.kx_merge.specs.Faults.{name_faults}
 

@@ -10,9 +10,9 @@ use Rattle.kx_virtual_mods.specs.Counted.{count_faults, statements_of}
 use Rattle.kx_merge.specs.Bodies.{Rules, faults_of, offers_of, no_moves}
 use Rattle.kx_merge.specs.Offers.{Offer, names_of, value_of, plain_offer}
 use Rattle.kx_merge.specs.Single.{single_rules}
-use Rattle.kx_parse.specs.declared.tree.Field.{Field}
-use Rattle.kx_parse.specs.declared.tree.Mode.{Mode}
-use Rattle.kx_parse.specs.declared.tree.Statement.{Statement}
+use Rattle.kx_tree.specs.declared.tree.Field.{Field}
+use Rattle.kx_tree.specs.declared.tree.Mode.{Mode}
+use Rattle.kx_tree.specs.declared.tree.Statement.{Statement}
 use Rattle.kx_types.specs.KeyTypes.{Definition, definition_of}
 use Rattle.kx_types.specs.TypeFaults.{stated_faults, type_in}
 use Rattle.kx_types.specs.TypeFields.{sayings_of}

@@ -7,7 +7,7 @@ ghost use Rattle.std.proofs.Common.{◌∙◌, ap, sym};
 ghost use Rattle.kx_include.specs.Shared.{expanded_body};
 ghost use Rattle.kx_merge.specs.Records.{AreOffered};
 ghost use Rattle.kx_merge.specs.Single.{single_form};
-ghost use Rattle.kx_parse.specs.declared.tree.Mode.{Mode as ModeValue};
+ghost use Rattle.kx_tree.specs.declared.tree.Mode.{Mode as ModeValue};
 ghost use Rattle.kx_types.specs.KeyTypes.{definition_of};
 ghost use Rattle.kx_types.specs.TypeFaults.{declares_modifiers, stated_faults, type_in};
 ghost use Rattle.kx_types.specs.TypeFields.{field_faults, sayings_of};

@@ -10,7 +10,7 @@ use Rattle.kx_lex.specs.declared.fault.Fault.{Fault}
 use Rattle.kx_lex.specs.declared.fault.Fault.TheVariants.{Memory, TooMany}
 use Rattle.kx_include.specs.IncludeFaults.{at}
 use Rattle.kx_include.specs.Shared.{body_at}
-use Rattle.kx_parse.specs.declared.tree.Statement.{Statement}
+use Rattle.kx_tree.specs.declared.tree.Statement.{Statement}
 use Rattle.kx_virtual_mods.specs.Counted.{Said, Text, crossing, names_behind, names_with, statements_of}
 use Rattle.kx_virtual_mods.specs.Tallies.{Adds, AreDone, HasAll, bodies_of}
 use Rattle.kx_virtual_mods.specs.declared.counted.Tally.{Tally}

@@ -4,7 +4,7 @@ use Rattle.std.specs.List.{AllByRecursion, IsDistinct, list_any}
 use Rattle.std.proofs.lemmas.Bool.Decides.{nat_tests}
 use Rattle.std.proofs.lemmas.Bool.{or_parts}
 use Rattle.kx_merge.specs.Offers.{Offer, with_name}
-use Rattle.kx_parse.specs.declared.tree.Mode.{Mode}
+use Rattle.kx_tree.specs.declared.tree.Mode.{Mode}
 use Rattle.kx_virtual_mods.specs.Declarations.{Given, given_in, declarations_in, mask_offer, mask_rules, numbers_of}
 use Rattle.kx_virtual_mods.specs.Once.{OffersOnce}
 

@@ -9,7 +9,7 @@ use mathlib.Core.Bool.{or-true}
 use Rattle.kx_lex.specs.declared.fault.Fault.TheVariants.{TooMany}
 use Rattle.kx_include.specs.IncludeFaults.{at}
 use Rattle.kx_merge.specs.Offers.{with_name}
-use Rattle.kx_parse.specs.declared.tree.Statement.{Statement}
+use Rattle.kx_tree.specs.declared.tree.Statement.{Statement}
 use Rattle.kx_virtual_mods.specs.Counted.{Said, Text, crossing, names_behind, names_with, with_names}
 use Rattle.kx_virtual_mods.specs.Tallies.{HasAll, HasEach}
 

@@ -9,8 +9,8 @@ use Rattle.kx_include.specs.declared.place.Place.{Place}
 use Rattle.kx_lex.specs.declared.fault.Fault.{Fault}
 use Rattle.kx_lex.specs.declared.fault.Fault.TheVariants.{TooMany}
 use Rattle.kx_merge.specs.Offers.{with_name}
-use Rattle.kx_parse.specs.declared.tree.Stated.{Stated}
-use Rattle.kx_parse.specs.declared.tree.Statement.{Statement}
+use Rattle.kx_tree.specs.declared.tree.Stated.{Stated}
+use Rattle.kx_tree.specs.declared.tree.Statement.{Statement}
 
 -- a name by its bytes
 abbrev pub Text : Type 0

@@ -14,12 +14,12 @@ use Rattle.kx_merge.specs.Offers.{Offer, value_of, with_name, plain_offer}
 use Rattle.kx_merge.specs.Single.{single_rules}
 use Rattle.kx_mods.specs.Mods.{mask}
 use Rattle.kx_mods.specs.declared.mods.Mods.{Mods}
-use Rattle.kx_parse.specs.declared.tree.Declaration.{Declaration}
-use Rattle.kx_parse.specs.declared.tree.Expression.{Expression}
-use Rattle.kx_parse.specs.declared.tree.Mode.{Mode}
-use Rattle.kx_parse.specs.declared.tree.Stated.{Stated}
-use Rattle.kx_parse.specs.declared.tree.Statement.{Statement}
-use Rattle.kx_parse.specs.declared.tree.Statement.TheVariants.{VirtualModifiers}
+use Rattle.kx_tree.specs.declared.tree.Declaration.{Declaration}
+use Rattle.kx_tree.specs.declared.tree.Expression.{Expression}
+use Rattle.kx_tree.specs.declared.tree.Mode.{Mode}
+use Rattle.kx_tree.specs.declared.tree.Stated.{Stated}
+use Rattle.kx_tree.specs.declared.tree.Statement.{Statement}
+use Rattle.kx_tree.specs.declared.tree.Statement.TheVariants.{VirtualModifiers}
 use Rattle.kx_virtual_mods.specs.Counted.{all_statements, count_faults, names_of}
 use Rattle.kx_virtual_mods.specs.Masks.{mask_set, real_mask, real_mask_faults, virtual_number}
 use Rattle.kx_virtual_mods.specs.Sets.{union}

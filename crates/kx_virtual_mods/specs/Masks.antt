@@ -7,12 +7,12 @@ use Rattle.kx_include.specs.IncludeFaults.{at}
 use Rattle.kx_lex.specs.declared.fault.Fault.{Fault}
 use Rattle.kx_lex.specs.declared.fault.Fault.TheVariants.{BadValue, UnknownModifier}
 use Rattle.kx_lex.specs.declared.name.Name.{Name}
-use Rattle.kx_parse.specs.declared.tree.Expression.{Expression}
-use Rattle.kx_parse.specs.declared.tree.Operation.{Operation}
-use Rattle.kx_parse.specs.declared.tree.Sign.{Sign}
-use Rattle.kx_parse.specs.declared.tree.Sign.TheVariants.{Plus, Minus}
-use Rattle.kx_parse.specs.declared.tree.Term.{Term}
-use Rattle.kx_parse.specs.declared.tree.Term.TheVariants.{Number, Word}
+use Rattle.kx_tree.specs.declared.tree.Expression.{Expression}
+use Rattle.kx_tree.specs.declared.tree.Operation.{Operation}
+use Rattle.kx_tree.specs.declared.tree.Sign.{Sign}
+use Rattle.kx_tree.specs.declared.tree.Sign.TheVariants.{Plus, Minus}
+use Rattle.kx_tree.specs.declared.tree.Term.{Term}
+use Rattle.kx_tree.specs.declared.tree.Term.TheVariants.{Number, Word}
 use Rattle.kx_virtual_mods.specs.Sets.{union, without, virtual_set}
 use Rattle.kx_merge.specs.Words.{among}
 use Rattle.kx_merge.specs.Terms.{bad_term, terms_faults}

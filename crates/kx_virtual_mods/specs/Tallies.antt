@@ -11,7 +11,7 @@ use Rattle.kx_include.specs.declared.place.Place.{Place}
 use Rattle.kx_include.specs.Expansion.{Body}
 use Rattle.kx_lex.specs.declared.fault.Fault.{Fault}
 use Rattle.kx_lex.specs.declared.fault.Fault.TheVariants.{Memory}
-use Rattle.kx_parse.specs.declared.tree.Statement.{Statement}
+use Rattle.kx_tree.specs.declared.tree.Statement.{Statement}
 use Rattle.kx_virtual_mods.specs.Counted.{Said, Text, crossing, names_behind, statements_of}
 use Rattle.kx_virtual_mods.specs.declared.counted.Tally.{Tally}
 

@@ -1,7 +1,7 @@
 //! The names that the statements of bodies write.
 ghost use Rattle.std.specs.Prelude.{◌≡◌, ◌≤◌, ◌∷◌, [], ℕ, Contains, IfErr, IfOk, List, OnOk, false, length, slice_get, slice_set, take, true, unwrap_or};
 ghost use Rattle.kx_include.specs.Shared.{body_at, expanded_body};
-ghost use Rattle.kx_parse.specs.declared.tree.Statement.{Statement as StatementValue};
+ghost use Rattle.kx_tree.specs.declared.tree.Statement.{Statement as StatementValue};
 ghost use Rattle.kx_lex.specs.declared.fault.Fault.TheVariants.{Memory};
 ghost use Rattle.kx_virtual_mods.specs.Counted.{crossing, names_behind, statements_of, with_names};
 ghost use Rattle.kx_virtual_mods.specs.Tallies.{Adds, AreDone, bodies_of, entry_statements, links_statements, map_statements};

@@ -7,7 +7,7 @@ ghost use Rattle.kx_lex.specs.declared.fault.Fault.TheVariants.{Memory};
 ghost use Rattle.kx_merge.specs.Offers.{with_name};
 ghost use Rattle.kx_merge.specs.Records.{AreOffered};
 ghost use Rattle.kx_merge.specs.Single.{single_form};
-ghost use Rattle.kx_parse.specs.declared.tree.Mode.{Mode as ModeValue};
+ghost use Rattle.kx_tree.specs.declared.tree.Mode.{Mode as ModeValue};
 ghost use Rattle.kx_virtual_mods.specs.Declarations.{declaration_faults, declarations_in, declared_faults, given_by, given_in, last_mask, mask_offer, mask_offers, name_faults, named_by, named_in, numbers_of, stated_faults, stated_offers};
 ghost use Rattle.kx_virtual_mods.specs.Counted.{with_names};
 ghost use Rattle.kx_virtual_mods.specs.Masks.{mask_set, virtual_number};

@@ -15,9 +15,9 @@ use Rattle.kx_lex.specs.declared.fault.Fault.TheVariants.{UnknownModifier}
 use Rattle.kx_lex.specs.declared.name.Name.{Name}
 use Rattle.kx_virtual_mods.specs.Masks.{real_mask, word_set, virtual_number, term_set, joined, operated, mask_set, term_faults, word_faults, mask_faults}
 use Rattle.kx_virtual_mods.specs.Sets.{virtual_set}
-use Rattle.kx_parse.specs.declared.tree.Expression.{Expression}
-use Rattle.kx_parse.specs.declared.tree.Operation.{Operation}
-use Rattle.kx_parse.specs.declared.tree.Term.{Term}
+use Rattle.kx_tree.specs.declared.tree.Expression.{Expression}
+use Rattle.kx_tree.specs.declared.tree.Operation.{Operation}
+use Rattle.kx_tree.specs.declared.tree.Term.{Term}
 use Rattle.kx_mods.specs.Mods.{mod_names}
 use Rattle.kx_merge.specs.Words.{single, term_word}
 use Rattle.roundtrip_text.specs.Spelled.{set_words}

@@ -11,14 +11,14 @@ use Rattle.kx_builder.specs.Resolved.{ResolvedCell}
 use Rattle.kx_lex.specs.declared.fault.Fault.{Fault}
 use Rattle.kx_lex.specs.declared.token.Span.{Span}
 use Rattle.kx_mods.specs.Mods.{mask}
-use Rattle.kx_parse.specs.declared.tree.Argument.{Argument}
-use Rattle.kx_parse.specs.declared.tree.Argument.TheVariants as arguments
-use Rattle.kx_parse.specs.declared.tree.Call.{Call}
-use Rattle.kx_parse.specs.declared.tree.Element.{Element}
-use Rattle.kx_parse.specs.declared.tree.Expression.{Expression}
-use Rattle.kx_parse.specs.declared.tree.Operation.{Operation}
-use Rattle.kx_parse.specs.declared.tree.PlacedArgument.{PlacedArgument}
-use Rattle.kx_parse.specs.declared.tree.Sign.TheVariants.{Plus, Minus}
+use Rattle.kx_tree.specs.declared.tree.Argument.{Argument}
+use Rattle.kx_tree.specs.declared.tree.Argument.TheVariants as arguments
+use Rattle.kx_tree.specs.declared.tree.Call.{Call}
+use Rattle.kx_tree.specs.declared.tree.Element.{Element}
+use Rattle.kx_tree.specs.declared.tree.Expression.{Expression}
+use Rattle.kx_tree.specs.declared.tree.Operation.{Operation}
+use Rattle.kx_tree.specs.declared.tree.PlacedArgument.{PlacedArgument}
+use Rattle.kx_tree.specs.declared.tree.Sign.TheVariants.{Plus, Minus}
 use Rattle.kx_symbols.specs.Actions.{defined, element_action}
 use Rattle.kx_symbols.specs.KeyFaults.{action_element_faults}
 use Rattle.kx_symbols.specs.Known.{Known, no_defaults as nothing_given}

@@ -2,7 +2,7 @@
 use Rattle.std.proofs.Common.{◌≡◌, ℕ, List, [], ◌∷◌, Ok, refl, ap, ◌∙◌}
 use Rattle.kx_include.specs.Library.{Library, Text}
 use Rattle.kx_include.specs.Texts.{IsLibrary, AreTexts, none}
-use Rattle.kx_parse.specs.declared.tree.Section.{Section}
+use Rattle.kx_tree.specs.declared.tree.Section.{Section}
 use Rattle.roundtrip_meaning.specs.Bodies.{alone}
 
 no_texts : (n : ℕ) (texts : List Text) → AreTexts n [] texts → texts ≡ []

@@ -12,7 +12,7 @@ use Rattle.kx_codes.specs.Codes.{Codes, code_of, paired}
 use Rattle.kx_codes.specs.Pairs.{Pair, shares, pairs_of, code_in}
 use Rattle.kx_include.specs.Expansion.{Body, Begin, End}
 use Rattle.kx_include.specs.declared.place.Place.{Place}
-use Rattle.kx_parse.specs.declared.tree.Stated.{Stated}
+use Rattle.kx_tree.specs.declared.tree.Stated.{Stated}
 use Rattle.roundtrip_text.specs.Source.{EachOf, AreApart, AreRising, PrintedKey, KeyFits}
 use Rattle.roundtrip_tree.specs.Shows.{AreShown, IsStated, IsKeycode, none, more}
 use Rattle.roundtrip_meaning.specs.Bodies.{own_body, IsPair, Fresh}

@@ -14,9 +14,9 @@ use Rattle.kx_lex.specs.declared.fault.Fault.{Fault}
 use Rattle.kx_lex.specs.declared.fault.Fault.TheVariants.{TooMany, GroupRange}
 use Rattle.kx_merge.specs.Bodies.{offers, offers_of, faults, faults_of}
 use Rattle.kx_merge.specs.Offers.{Offer, value_of, is_about}
-use Rattle.kx_parse.specs.declared.tree.Stated.{Stated}
-use Rattle.kx_parse.specs.declared.tree.Mode.TheVariants.{Override}
-use Rattle.kx_parse.specs.declared.tree.Statement.TheVariants as said
+use Rattle.kx_tree.specs.declared.tree.Stated.{Stated}
+use Rattle.kx_tree.specs.declared.tree.Mode.TheVariants.{Override}
+use Rattle.kx_tree.specs.declared.tree.Statement.TheVariants as said
 use Rattle.kx_merge.specs.Numbers.{is_within}
 use Rattle.kx_merge.specs.declared.numbers.Counted.TheVariants.{Group}
 use Rattle.roundtrip_meaning.specs.Bodies.{own_body}

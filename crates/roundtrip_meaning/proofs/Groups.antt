@@ -3,17 +3,17 @@ use Rattle.std.proofs.Common.{◌≡◌, ℕ, ◌+◌, false, is_some, codes, Li
 use Rattle.std.specs.Option.{option_map_or}
 use Rattle.kx_actions.specs.declared.action.KeyAction.{KeyAction}
 use Rattle.kx_key_lists.specs.Places.{given_list, group_for}
-use Rattle.kx_parse.specs.declared.tree.KeyField.{KeyField}
-use Rattle.kx_parse.specs.declared.tree.KeyField.TheVariants as fields
-use Rattle.kx_parse.specs.declared.tree.List.{List as Listed}
-use Rattle.kx_parse.specs.declared.tree.Setting.{Setting}
-use Rattle.kx_parse.specs.declared.tree.Setting.TheVariants.{To}
-use Rattle.kx_parse.specs.declared.tree.Value.TheVariants as values
+use Rattle.kx_tree.specs.declared.tree.KeyField.{KeyField}
+use Rattle.kx_tree.specs.declared.tree.KeyField.TheVariants as fields
+use Rattle.kx_tree.specs.declared.tree.List.{List as Listed}
+use Rattle.kx_tree.specs.declared.tree.Setting.{Setting}
+use Rattle.kx_tree.specs.declared.tree.Setting.TheVariants.{To}
+use Rattle.kx_tree.specs.declared.tree.Value.TheVariants as values
 use Rattle.kx_symbols.specs.Actions.{actions_of}
 use Rattle.kx_symbols.specs.Keysyms.{Level, levels_of}
 use Rattle.kx_symbols.specs.Known.{Known}
 use Rattle.kx_symbols.specs.Lists.{StatementLists, field_kind, field_lists, set_lists, lists_of, no_lists}
-use Rattle.kx_parse.specs.declared.tree.FieldPlace.{FieldPlace}
+use Rattle.kx_tree.specs.declared.tree.FieldPlace.{FieldPlace}
 use Rattle.roundtrip_tree.specs.Shows.{name_at}
 use Rattle.roundtrip_meaning.specs.Groups.{IsOther, IsListFor, GroupLists, AreGroups, end, other, lists}
 use Rattle.roundtrip_meaning.proofs.Pushed.{list_pushed, length-push}

@@ -32,13 +32,13 @@ use Rattle.kx_merge.specs.Bodies.{offers_of, no_moves}
 use Rattle.kx_merge.specs.Offers.{plain_offer, value_of}
 use Rattle.kx_mods.specs.Mods.{mask}
 use Rattle.kx_mods.specs.declared.mods.Mods.{Mods}
-use Rattle.kx_parse.specs.declared.tree.Expression.{Expression}
-use Rattle.kx_parse.specs.declared.tree.Field.{Field}
-use Rattle.kx_parse.specs.declared.tree.Stated.{Stated}
-use Rattle.kx_parse.specs.declared.tree.Mode.TheVariants.{Override}
-use Rattle.kx_parse.specs.declared.tree.Operation.{Operation}
-use Rattle.kx_parse.specs.declared.tree.Sign.TheVariants.{Plus}
-use Rattle.kx_parse.specs.declared.tree.Term.TheVariants as terms
+use Rattle.kx_tree.specs.declared.tree.Expression.{Expression}
+use Rattle.kx_tree.specs.declared.tree.Field.{Field}
+use Rattle.kx_tree.specs.declared.tree.Stated.{Stated}
+use Rattle.kx_tree.specs.declared.tree.Mode.TheVariants.{Override}
+use Rattle.kx_tree.specs.declared.tree.Operation.{Operation}
+use Rattle.kx_tree.specs.declared.tree.Sign.TheVariants.{Plus}
+use Rattle.kx_tree.specs.declared.tree.Term.TheVariants as terms
 use Rattle.kx_print.specs.Masks.{state_names}
 use Rattle.kx_print.specs.Phrases.{hexadecimal}
 use Rattle.kx_tables.specs.States.{state_bits}

@@ -10,7 +10,7 @@ use Rattle.kx_include.specs.Expansion.{Body, Begin, End}
 use Rattle.kx_include.specs.declared.place.Place.{Place}
 use Rattle.kx_merge.specs.Bodies.{no_moves}
 use Rattle.kx_merge.specs.Offers.{names_of}
-use Rattle.kx_parse.specs.declared.tree.Stated.{Stated}
+use Rattle.kx_tree.specs.declared.tree.Stated.{Stated}
 use Rattle.kx_symbols.specs.Keys.{field_in}
 use Rattle.roundtrip_meaning.specs.Bodies.{own_body}
 use Rattle.roundtrip_meaning.proofs.Offered.{offers_shown, faults_shown}

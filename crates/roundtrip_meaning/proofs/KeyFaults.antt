@@ -15,15 +15,15 @@ use Rattle.kx_lex.specs.declared.fault.Fault.TheVariants.{BadValue, TooMany}
 use Rattle.kx_lex.specs.declared.token.Span.{Span}
 use Rattle.kx_key_lists.specs.Lists.{Lists, has_list}
 use Rattle.kx_key_lists.specs.Places.{place_faults, second_faults}
-use Rattle.kx_parse.specs.declared.tree.BracePart.{BracePart}
-use Rattle.kx_parse.specs.declared.tree.Element.{Element}
-use Rattle.kx_parse.specs.declared.tree.Index.{Index}
-use Rattle.kx_parse.specs.declared.tree.Stated.{Stated}
-use Rattle.kx_parse.specs.declared.tree.KeyField.{KeyField}
-use Rattle.kx_parse.specs.declared.tree.List.{List as Listed}
-use Rattle.kx_parse.specs.declared.tree.Setting.TheVariants.{To}
-use Rattle.kx_parse.specs.declared.tree.Symbol.{Symbol}
-use Rattle.kx_parse.specs.declared.tree.Value.TheVariants as values
+use Rattle.kx_tree.specs.declared.tree.BracePart.{BracePart}
+use Rattle.kx_tree.specs.declared.tree.Element.{Element}
+use Rattle.kx_tree.specs.declared.tree.Index.{Index}
+use Rattle.kx_tree.specs.declared.tree.Stated.{Stated}
+use Rattle.kx_tree.specs.declared.tree.KeyField.{KeyField}
+use Rattle.kx_tree.specs.declared.tree.List.{List as Listed}
+use Rattle.kx_tree.specs.declared.tree.Setting.TheVariants.{To}
+use Rattle.kx_tree.specs.declared.tree.Symbol.{Symbol}
+use Rattle.kx_tree.specs.declared.tree.Value.TheVariants as values
 use Rattle.kx_print.specs.Printed.{keysym_text}
 use Rattle.kx_key_fields.specs.KeyFields.{key_field_faults, setting_faults}
 use Rattle.kx_symbols.specs.Actions.{actions_of}

@@ -4,13 +4,13 @@ use Rattle.ks_core.specs.Table.{KeysymTable}
 use Rattle.ks_core.specs.Lines.{is_sound}
 use Rattle.std.specs.List.{list_all}
 use Rattle.kx_builder.specs.Resolved.{ResolvedCell}
-use Rattle.kx_parse.specs.declared.tree.FieldPlace.{FieldPlace}
-use Rattle.kx_parse.specs.declared.tree.KeyField.{KeyField}
-use Rattle.kx_parse.specs.declared.tree.List.{List as Listed}
-use Rattle.kx_parse.specs.declared.tree.Setting.TheVariants.{To}
-use Rattle.kx_parse.specs.declared.tree.Term.TheVariants as terms
-use Rattle.kx_parse.specs.declared.tree.Value.{Value}
-use Rattle.kx_parse.specs.declared.tree.Value.TheVariants as values
+use Rattle.kx_tree.specs.declared.tree.FieldPlace.{FieldPlace}
+use Rattle.kx_tree.specs.declared.tree.KeyField.{KeyField}
+use Rattle.kx_tree.specs.declared.tree.List.{List as Listed}
+use Rattle.kx_tree.specs.declared.tree.Setting.TheVariants.{To}
+use Rattle.kx_tree.specs.declared.tree.Term.TheVariants as terms
+use Rattle.kx_tree.specs.declared.tree.Value.{Value}
+use Rattle.kx_tree.specs.declared.tree.Value.TheVariants as values
 use Rattle.kx_symbols.specs.Actions.{defined}
 use Rattle.kx_symbols.specs.Keysyms.{given}
 use Rattle.kx_symbols.specs.Known.{Known}

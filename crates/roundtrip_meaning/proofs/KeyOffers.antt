@@ -3,7 +3,7 @@ use Rattle.std.proofs.Common.{◌≡◌, ℕ, ◌+◌, ◌<◌, max, nat_eq, Boo
 use Rattle.std.proofs.lemmas.Bool.{ne_eqb, eq-eqb}
 use Rattle.std.specs.List.{list_any}
 use Rattle.kx_merge.specs.Offers.{Offer, is_about, is_hidden, seen, value_of, width_of, greatest}
-use Rattle.kx_parse.specs.declared.tree.Mode.TheVariants.{Override}
+use Rattle.kx_tree.specs.declared.tree.Mode.TheVariants.{Override}
 use Rattle.roundtrip_meaning.proofs.Single.{AllOverride, value_here, value_past, not_hidden, not_seen}
 use Rattle.roundtrip_text.specs.Source.{EachOf, AreRising}
 use Rattle.roundtrip_tree.specs.Shows.{AreShown, none, more}

@@ -16,7 +16,7 @@ use Rattle.kx_modmaps.specs.declared.record.Cell.TheVariants.{Present}
 use Rattle.kx_modmaps.specs.declared.target.Target.{Target}
 use Rattle.kx_modmaps.specs.declared.target.Target.TheVariants.{Key as KeyTarget}
 use Rattle.kx_mods.specs.Mods.{mask}
-use Rattle.kx_parse.specs.declared.tree.Stated.{Stated}
+use Rattle.kx_tree.specs.declared.tree.Stated.{Stated}
 use Rattle.kx_symbols.specs.Keys.{key_rules, key_moves}
 use Rattle.kx_symbols.specs.declared.cells.Cell.{Cell}
 use Rattle.kx_symbols.specs.declared.cells.CellValue.{CellValue}

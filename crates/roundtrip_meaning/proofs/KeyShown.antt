@@ -6,15 +6,15 @@ use Rattle.kx_include.specs.IncludeFaults.{at}
 use Rattle.kx_lex.specs.declared.fault.Fault.{Fault}
 use Rattle.kx_lex.specs.declared.fault.Fault.TheVariants.{GroupRange}
 use Rattle.kx_lex.specs.declared.token.Span.{Span}
-use Rattle.kx_parse.specs.declared.tree.Expression.{Expression}
-use Rattle.kx_parse.specs.declared.tree.FieldPlace.{FieldPlace}
-use Rattle.kx_parse.specs.declared.tree.KeyField.{KeyField}
-use Rattle.kx_parse.specs.declared.tree.KeyField.TheVariants as fields
-use Rattle.kx_parse.specs.declared.tree.Setting.{Setting}
-use Rattle.kx_parse.specs.declared.tree.Setting.TheVariants.{On, To}
-use Rattle.kx_parse.specs.declared.tree.Term.TheVariants as terms
-use Rattle.kx_parse.specs.declared.tree.Value.{Value}
-use Rattle.kx_parse.specs.declared.tree.Value.TheVariants as values
+use Rattle.kx_tree.specs.declared.tree.Expression.{Expression}
+use Rattle.kx_tree.specs.declared.tree.FieldPlace.{FieldPlace}
+use Rattle.kx_tree.specs.declared.tree.KeyField.{KeyField}
+use Rattle.kx_tree.specs.declared.tree.KeyField.TheVariants as fields
+use Rattle.kx_tree.specs.declared.tree.Setting.{Setting}
+use Rattle.kx_tree.specs.declared.tree.Setting.TheVariants.{On, To}
+use Rattle.kx_tree.specs.declared.tree.Term.TheVariants as terms
+use Rattle.kx_tree.specs.declared.tree.Value.{Value}
+use Rattle.kx_tree.specs.declared.tree.Value.TheVariants as values
 use Rattle.kx_key_lists.specs.Groups.{group_at}
 use Rattle.kx_merge.specs.Numbers.{number_faults}
 use Rattle.kx_merge.specs.declared.numbers.Counted.TheVariants.{Group}

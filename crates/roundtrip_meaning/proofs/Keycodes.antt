@@ -10,7 +10,7 @@ use Rattle.kx_include.specs.declared.place.Place.{Place}
 use Rattle.kx_lex.specs.declared.fault.Fault.{Fault}
 use Rattle.kx_lex.specs.declared.fault.Fault.TheVariants.{TooMany, CodeRange}
 use Rattle.kx_include.specs.IncludeFaults.{at}
-use Rattle.kx_parse.specs.declared.tree.Stated.{Stated}
+use Rattle.kx_tree.specs.declared.tree.Stated.{Stated}
 use Rattle.roundtrip_tree.specs.Shows.{AreShown, none, more}
 use Rattle.roundtrip_meaning.specs.Bodies.{own_body, IsPair, Fresh}
 

@@ -14,8 +14,8 @@ use Rattle.kx_include.specs.declared.place.Place.{Place}
 use Rattle.kx_key_lists.specs.Lists.{level_in, width_in}
 use Rattle.kx_merge.specs.Bodies.{offers_of, faults_of}
 use Rattle.kx_merge.specs.Offers.{Offer, value_of, width_of}
-use Rattle.kx_parse.specs.declared.tree.Stated.{Stated}
-use Rattle.kx_parse.specs.declared.tree.KeyField.{KeyField}
+use Rattle.kx_tree.specs.declared.tree.Stated.{Stated}
+use Rattle.kx_tree.specs.declared.tree.KeyField.{KeyField}
 use Rattle.kx_key_fields.specs.declared.cells.AttributeCell.TheVariants as settings
 use Rattle.kx_key_fields.specs.declared.cells.AttributeValue.{AttributeValue}
 use Rattle.kx_symbols.specs.Actions.{defined}

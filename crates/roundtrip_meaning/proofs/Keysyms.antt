@@ -20,9 +20,9 @@ use Rattle.ks_core.proofs.NamedLemmas.{name_of_number-named, keysym_named-built_
 use Rattle.ks_core.proofs.TextLemmas.{ascii_is_utf8}
 use Rattle.kx_basics.specs.Keysyms.{IsKeysym}
 use Rattle.kx_basics.specs.declared.limits.TheConstants.{GREATEST_KEYSYM, LEAST_KEYSYM}
-use Rattle.kx_parse.specs.declared.tree.BracePart.{BracePart}
-use Rattle.kx_parse.specs.declared.tree.Element.{Element}
-use Rattle.kx_parse.specs.declared.tree.Symbol.{Symbol}
+use Rattle.kx_tree.specs.declared.tree.BracePart.{BracePart}
+use Rattle.kx_tree.specs.declared.tree.Element.{Element}
+use Rattle.kx_tree.specs.declared.tree.Symbol.{Symbol}
 use Rattle.kx_print.specs.Printed.{keysym_text}
 use Rattle.kx_symbols.specs.Keysyms.{Level, is_no_symbol, is_void_symbol, word_keysym, symbol_keysym, part_keysyms, given, element_level}
 use Rattle.roundtrip_text.specs.Source.{EachOf, CellFits}

@@ -23,10 +23,10 @@ use Rattle.kx_modmaps.specs.declared.record.Cell.TheVariants.{Present}
 use Rattle.kx_modmaps.specs.declared.target.Target.{Target}
 use Rattle.kx_modmaps.specs.declared.target.Target.TheVariants.{Key}
 use Rattle.kx_mods.specs.Mods.{mask, mod_names}
-use Rattle.kx_parse.specs.declared.tree.Entry.TheVariants as entries
-use Rattle.kx_parse.specs.declared.tree.Stated.{Stated}
-use Rattle.kx_parse.specs.declared.tree.Mode.TheVariants.{Override}
-use Rattle.kx_parse.specs.declared.tree.Statement.TheVariants as statements
+use Rattle.kx_tree.specs.declared.tree.Entry.TheVariants as entries
+use Rattle.kx_tree.specs.declared.tree.Stated.{Stated}
+use Rattle.kx_tree.specs.declared.tree.Mode.TheVariants.{Override}
+use Rattle.kx_tree.specs.declared.tree.Statement.TheVariants as statements
 use Rattle.kx_print.specs.Masks.{chosen}
 use Rattle.roundtrip_meaning.specs.Bodies.{own_body}
 use Rattle.roundtrip_meaning.proofs.Silent.{IsSilent, own_append3, silent_offers, silent_faults}

@@ -14,8 +14,8 @@ use Rattle.kx_virtual_mods.specs.Declarations.{declarations_in, named_by, named_
 use Rattle.kx_virtual_mods.specs.declared.limits.TheConstants.{MOST_VIRTUAL_MODIFIERS}
 use Rattle.kx_merge.specs.Bodies.{faults_of, faults, no_moves}
 use Rattle.kx_merge.specs.Offers.{with_name}
-use Rattle.kx_parse.specs.declared.tree.Declaration.{Declaration}
-use Rattle.kx_parse.specs.declared.tree.Stated.{Stated}
+use Rattle.kx_tree.specs.declared.tree.Declaration.{Declaration}
+use Rattle.kx_tree.specs.declared.tree.Stated.{Stated}
 use Rattle.roundtrip_meaning.specs.Bodies.{own_body}
 use Rattle.roundtrip_text.specs.Source.{EachOf}
 use Rattle.roundtrip_tree.specs.Indicators.{IsIndicator}

@@ -3,7 +3,7 @@ use Rattle.std.proofs.Common.{◌≡◌, ℕ, zero, suc, ◌+◌, ◌-◌, false
 use Rattle.std.specs.Option.{option_and_then, option_map_or}
 use Rattle.kx_key_lists.specs.Lists.{Lists, has_list, level_in, width_in}
 use Rattle.kx_key_lists.specs.Places.{given_list, group_for}
-use Rattle.kx_parse.specs.declared.tree.Index.{Index}
+use Rattle.kx_tree.specs.declared.tree.Index.{Index}
 use Rattle.kx_key_lists.specs.Groups.{group_at}
 use Rattle.kx_merge.specs.ByGroup.{at_group, with_group}
 

@@ -5,7 +5,7 @@ use Rattle.kx_include.specs.declared.place.Place.{Place}
 use Rattle.kx_lex.specs.declared.fault.Fault.{Fault}
 use Rattle.kx_merge.specs.Bodies.{Rules, Moves, offers, faults}
 use Rattle.kx_merge.specs.Offers.{Offer}
-use Rattle.kx_parse.specs.declared.tree.Stated.{Stated}
+use Rattle.kx_tree.specs.declared.tree.Stated.{Stated}
 use Rattle.roundtrip_meaning.specs.Bodies.{own_body}
 use Rattle.roundtrip_text.specs.Source.{EachOf}
 

@@ -3,7 +3,7 @@ use Rattle.std.proofs.Common.{◌≡◌, Bool, true, false, not, cond, ◌&&◌,
 use Rattle.std.specs.List.{list_any}
 use Rattle.std.specs.Option.{option_or}
 use Rattle.kx_merge.specs.Offers.{Offer, is_about, is_hidden, is_replace, is_strong, seen, last_strong, first_weak, value_of}
-use Rattle.kx_parse.specs.declared.tree.Mode.TheVariants.{Override}
+use Rattle.kx_tree.specs.declared.tree.Mode.TheVariants.{Override}
 
 or_none : {V : Type 0} (v : Option V) → option_or v None ≡ v
 or_none None = refl

@@ -8,10 +8,10 @@ use Rattle.kx_include.specs.Texts.{IsLibrary}
 use Rattle.kx_include.specs.declared.expanding.TheConstants.{MOST_DEPTH}
 use Rattle.kx_include.specs.declared.place.Place.{Place}
 use Rattle.kx_lex.specs.declared.fault.At.{At}
-use Rattle.kx_parse.specs.declared.tree.Stated.{Stated}
-use Rattle.kx_parse.specs.declared.tree.Item.TheVariants as items
-use Rattle.kx_parse.specs.declared.tree.Kind.TheVariants.{Compat, Keycodes, Symbols, Types}
-use Rattle.kx_parse.specs.declared.tree.Tree.{Tree}
+use Rattle.kx_tree.specs.declared.tree.Stated.{Stated}
+use Rattle.kx_tree.specs.declared.tree.Item.TheVariants as items
+use Rattle.kx_tree.specs.declared.tree.Kind.TheVariants.{Compat, Keycodes, Symbols, Types}
+use Rattle.kx_tree.specs.declared.tree.Tree.{Tree}
 use Rattle.roundtrip_meaning.specs.Bodies.{own_body, place_of}
 use Rattle.roundtrip_meaning.specs.Sources.{indicators_body, library_of, symbols_place}
 use Rattle.roundtrip_meaning.proofs.Alone.{library_is}

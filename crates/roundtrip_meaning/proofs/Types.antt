@@ -19,12 +19,12 @@ use Rattle.kx_merge.specs.Bodies.{no_moves}
 use Rattle.kx_merge.specs.Offers.{value_of}
 use Rattle.kx_mods.specs.Mods.{mask}
 use Rattle.kx_mods.specs.declared.mods.Mods.{Mods}
-use Rattle.kx_parse.specs.declared.tree.Expression.{Expression}
-use Rattle.kx_parse.specs.declared.tree.Field.{Field}
-use Rattle.kx_parse.specs.declared.tree.FieldPlace.{FieldPlace}
-use Rattle.kx_parse.specs.declared.tree.Stated.{Stated}
-use Rattle.kx_parse.specs.declared.tree.Mode.TheVariants.{Override}
-use Rattle.kx_parse.specs.declared.tree.Setting.{Setting}
+use Rattle.kx_tree.specs.declared.tree.Expression.{Expression}
+use Rattle.kx_tree.specs.declared.tree.Field.{Field}
+use Rattle.kx_tree.specs.declared.tree.FieldPlace.{FieldPlace}
+use Rattle.kx_tree.specs.declared.tree.Stated.{Stated}
+use Rattle.kx_tree.specs.declared.tree.Mode.TheVariants.{Override}
+use Rattle.kx_tree.specs.declared.tree.Setting.{Setting}
 use Rattle.kx_tables.specs.declared.rows.EntryRow.{EntryRow}
 use Rattle.kx_types.specs.KeyTypes.{definition_of}
 use Rattle.kx_types.specs.TypeFaults.{stated_faults, type_in}

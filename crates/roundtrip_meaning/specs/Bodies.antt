@@ -5,8 +5,8 @@ use Rattle.kx_codes.specs.Pairs.{Pair, shares}
 use Rattle.kx_include.specs.Expansion.{Body, Own}
 use Rattle.kx_include.specs.declared.place.Place.{Place}
 use Rattle.kx_include.specs.Library.{Library}
-use Rattle.kx_parse.specs.declared.tree.Stated.{Stated}
-use Rattle.kx_parse.specs.declared.tree.Section.{Section}
+use Rattle.kx_tree.specs.declared.tree.Stated.{Stated}
+use Rattle.kx_tree.specs.declared.tree.Section.{Section}
 use Rattle.roundtrip_tree.specs.Shows.{IsStated, IsKeycode}
 
 -- a section's statements, and the rest after them

@@ -2,14 +2,14 @@
 use Rattle.std.specs.Prelude.{ℕ, List, [], ◌∷◌, ◌≡◌, Option, None, Some, is_some, false, codes, ◌+◌}
 use Rattle.kx_actions.specs.declared.action.KeyAction.{KeyAction}
 use Rattle.kx_lex.specs.declared.token.Span.{Span}
-use Rattle.kx_parse.specs.declared.tree.Field.{Field}
+use Rattle.kx_tree.specs.declared.tree.Field.{Field}
 use Rattle.roundtrip_tree.specs.Shows.{name_at}
-use Rattle.kx_parse.specs.declared.tree.Index.{Index}
-use Rattle.kx_parse.specs.declared.tree.KeyField.{KeyField}
-use Rattle.kx_parse.specs.declared.tree.KeyField.TheVariants as fields
-use Rattle.kx_parse.specs.declared.tree.List.{List as Listed}
-use Rattle.kx_parse.specs.declared.tree.Setting.TheVariants.{To}
-use Rattle.kx_parse.specs.declared.tree.Value.TheVariants as values
+use Rattle.kx_tree.specs.declared.tree.Index.{Index}
+use Rattle.kx_tree.specs.declared.tree.KeyField.{KeyField}
+use Rattle.kx_tree.specs.declared.tree.KeyField.TheVariants as fields
+use Rattle.kx_tree.specs.declared.tree.List.{List as Listed}
+use Rattle.kx_tree.specs.declared.tree.Setting.TheVariants.{To}
+use Rattle.kx_tree.specs.declared.tree.Value.TheVariants as values
 use Rattle.kx_key_lists.specs.Groups.{group_at}
 use Rattle.kx_symbols.specs.Actions.{actions_of}
 use Rattle.kx_symbols.specs.Keysyms.{Level, levels_of}

@@ -3,7 +3,7 @@ use Rattle.std.specs.Prelude.{List, [], ◌≡◌}
 use Rattle.kx_include.specs.Expansion.{Body, Begin, End}
 use Rattle.kx_include.specs.declared.place.Place.{Place}
 use Rattle.kx_virtual_mods.specs.Declarations.{declarations_in}
-use Rattle.kx_parse.specs.declared.tree.Stated.{Stated}
+use Rattle.kx_tree.specs.declared.tree.Stated.{Stated}
 use Rattle.roundtrip_meaning.specs.Bodies.{own_body}
 use Rattle.roundtrip_text.specs.Source.{EachOf}
 

@@ -3,7 +3,7 @@ use Rattle.std.specs.Prelude.{List, [], ◌∷◌}
 use Rattle.kx_include.specs.Expansion.{Begin, Body, End}
 use Rattle.kx_include.specs.Library.{Library}
 use Rattle.kx_include.specs.declared.place.Place.{Place}
-use Rattle.kx_parse.specs.declared.tree.Stated.{Stated}
+use Rattle.kx_tree.specs.declared.tree.Stated.{Stated}
 use Rattle.roundtrip_meaning.specs.Bodies.{alone, own_body, place_of}
 use Rattle.roundtrip_tree.specs.Sources.{sections_of}
 

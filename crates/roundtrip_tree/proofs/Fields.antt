@@ -7,16 +7,16 @@ use Rattle.kx_lex.specs.declared.keyword.Keyword.{Keyword}
 use Rattle.kx_lex.specs.declared.token.Span.{Span}
 use Rattle.kx_lex.specs.declared.token.Token.{Token}
 use Rattle.kx_lex.specs.declared.token.TokenKind.TheVariants.{Mark, Number, Word}
-use Rattle.kx_parse.specs.Statements.{field, setting}
-use Rattle.kx_parse.specs.Values.{place, member, index, value}
-use Rattle.kx_parse.specs.declared.tree.Field.{Field}
-use Rattle.kx_parse.specs.declared.tree.FieldPlace.{FieldPlace}
-use Rattle.kx_parse.specs.declared.tree.Index.{Index}
-use Rattle.kx_parse.specs.declared.tree.Setting.{Setting}
-use Rattle.kx_parse.specs.declared.tree.Setting.TheVariants as settings
-use Rattle.kx_parse.specs.declared.tree.Expression.{Expression}
-use Rattle.kx_parse.specs.declared.tree.Term.TheVariants as terms
-use Rattle.kx_parse.specs.declared.tree.Value.{Value}
+use Rattle.kx_tree.specs.Statements.{field, setting}
+use Rattle.kx_tree.specs.Values.{place, member, index, value}
+use Rattle.kx_tree.specs.declared.tree.Field.{Field}
+use Rattle.kx_tree.specs.declared.tree.FieldPlace.{FieldPlace}
+use Rattle.kx_tree.specs.declared.tree.Index.{Index}
+use Rattle.kx_tree.specs.declared.tree.Setting.{Setting}
+use Rattle.kx_tree.specs.declared.tree.Setting.TheVariants as settings
+use Rattle.kx_tree.specs.declared.tree.Expression.{Expression}
+use Rattle.kx_tree.specs.declared.tree.Term.TheVariants as terms
+use Rattle.kx_tree.specs.declared.tree.Value.{Value}
 use Rattle.roundtrip_text.specs.Slices.{Slice, slice, Begins, none, more}
 use Rattle.roundtrip_tree.specs.Shows.{ReadsAs, name_at, number_at}
 use Rattle.roundtrip_tree.proofs.Rows.{Stops, stop, optional_none, optional_some}

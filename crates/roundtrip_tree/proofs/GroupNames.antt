@@ -7,14 +7,14 @@ use Rattle.kx_lex.specs.Production.{span_between}
 use Rattle.kx_lex.specs.declared.token.Span.{Span}
 use Rattle.kx_lex.specs.declared.token.Token.{Token}
 use Rattle.kx_lex.specs.declared.token.TokenKind.TheVariants.{Mark, Word}
-use Rattle.kx_parse.specs.Sections.{item, join_of, mode_of}
-use Rattle.kx_parse.specs.Statements.{statement, keycodes_statement, types_statement, symbols_statement, field_statement}
-use Rattle.kx_parse.specs.declared.tree.Expression.{Expression}
-use Rattle.kx_parse.specs.declared.tree.FieldPlace.{FieldPlace}
-use Rattle.kx_parse.specs.declared.tree.Item.TheVariants as items
-use Rattle.kx_parse.specs.declared.tree.Setting.TheVariants as settings
-use Rattle.kx_parse.specs.declared.tree.Statement.TheVariants as statements
-use Rattle.kx_parse.specs.declared.tree.Value.TheVariants as values
+use Rattle.kx_tree.specs.Sections.{item, join_of, mode_of}
+use Rattle.kx_tree.specs.Statements.{statement, keycodes_statement, types_statement, symbols_statement, field_statement}
+use Rattle.kx_tree.specs.declared.tree.Expression.{Expression}
+use Rattle.kx_tree.specs.declared.tree.FieldPlace.{FieldPlace}
+use Rattle.kx_tree.specs.declared.tree.Item.TheVariants as items
+use Rattle.kx_tree.specs.declared.tree.Setting.TheVariants as settings
+use Rattle.kx_tree.specs.declared.tree.Statement.TheVariants as statements
+use Rattle.kx_tree.specs.declared.tree.Value.TheVariants as values
 use Rattle.roundtrip_text.specs.Slices.{Begins, more}
 use Rattle.roundtrip_text.specs.Source.{NamedGroup, NameFits}
 use Rattle.roundtrip_text.specs.GroupNames.{name_statement_slices}

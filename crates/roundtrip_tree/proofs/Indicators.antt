@@ -10,10 +10,10 @@ use Rattle.kx_lex.specs.declared.keyword.Keyword.TheVariants as keywords
 use Rattle.kx_lex.specs.declared.token.Span.{Span}
 use Rattle.kx_lex.specs.declared.token.Token.{Token}
 use Rattle.kx_lex.specs.declared.token.TokenKind.TheVariants.{Word, Text, Mark, Number}
-use Rattle.kx_parse.specs.Sections.{item, join_of, mode_of}
-use Rattle.kx_parse.specs.Statements.{statement, keycodes_statement, types_statement, indicator}
-use Rattle.kx_parse.specs.declared.tree.Item.TheVariants as items
-use Rattle.kx_parse.specs.declared.tree.Statement.TheVariants as statements
+use Rattle.kx_tree.specs.Sections.{item, join_of, mode_of}
+use Rattle.kx_tree.specs.Statements.{statement, keycodes_statement, types_statement, indicator}
+use Rattle.kx_tree.specs.declared.tree.Item.TheVariants as items
+use Rattle.kx_tree.specs.declared.tree.Statement.TheVariants as statements
 use Rattle.kx_print.specs.Masks.{state_names}
 use Rattle.kx_print.specs.Phrases.{hexadecimal}
 use Rattle.kx_tables.specs.States.{state_bits}

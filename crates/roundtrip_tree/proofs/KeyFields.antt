@@ -7,14 +7,14 @@ use Rattle.kx_lex.specs.Production.{give}
 use Rattle.kx_lex.specs.Tokens.{equals, point, open_bracket, close_brace}
 use Rattle.kx_lex.specs.declared.token.Token.{Token}
 use Rattle.kx_lex.specs.declared.token.TokenKind.TheVariants.{Mark}
-use Rattle.kx_parse.specs.Statements.{field, key_field, setting}
-use Rattle.kx_parse.specs.Values.{place, member, index, value}
-use Rattle.kx_parse.specs.declared.tree.Field.{Field}
-use Rattle.kx_parse.specs.declared.tree.FieldPlace.{FieldPlace}
-use Rattle.kx_parse.specs.declared.tree.KeyField.TheVariants as fields
-use Rattle.kx_parse.specs.declared.tree.Setting.{Setting}
-use Rattle.kx_parse.specs.declared.tree.Setting.TheVariants as settings
-use Rattle.kx_parse.specs.declared.tree.Value.{Value}
+use Rattle.kx_tree.specs.Statements.{field, key_field, setting}
+use Rattle.kx_tree.specs.Values.{place, member, index, value}
+use Rattle.kx_tree.specs.declared.tree.Field.{Field}
+use Rattle.kx_tree.specs.declared.tree.FieldPlace.{FieldPlace}
+use Rattle.kx_tree.specs.declared.tree.KeyField.TheVariants as fields
+use Rattle.kx_tree.specs.declared.tree.Setting.{Setting}
+use Rattle.kx_tree.specs.declared.tree.Setting.TheVariants as settings
+use Rattle.kx_tree.specs.declared.tree.Value.{Value}
 use Rattle.roundtrip_text.specs.Slices.{Slice, Begins, none, more}
 use Rattle.roundtrip_text.proofs.Texts.{decimal_value}
 use Rattle.roundtrip_text.specs.Source.{EachOf, are_bytes}

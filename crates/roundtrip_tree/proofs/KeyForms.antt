@@ -1,6 +1,6 @@
 -- The forms of printed keys and modifier maps, whatever they say.
 use Rattle.std.proofs.Common.{List, [], ◌∷◌}
-use Rattle.kx_parse.specs.declared.tree.Stated.{Stated}
+use Rattle.kx_tree.specs.declared.tree.Stated.{Stated}
 use Rattle.roundtrip_text.specs.Source.{EachOf, PrintedKey}
 use Rattle.roundtrip_text.specs.ModifierMaps.{MapLine}
 use Rattle.roundtrip_tree.specs.Keys.{IsKey}

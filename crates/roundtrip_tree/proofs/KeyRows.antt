@@ -5,7 +5,7 @@ use Rattle.kx_lex.specs.Kinds.{front, is_mark, before_mark}
 use Rattle.kx_lex.specs.Production.{Production}
 use Rattle.kx_lex.specs.Tokens.{comma}
 use Rattle.kx_lex.specs.declared.token.Token.{Token}
-use Rattle.kx_parse.specs.Forms.{listed}
+use Rattle.kx_tree.specs.Forms.{listed}
 use Rattle.roundtrip_text.specs.Slices.{Slice, Begins, none as no_slices}
 use Rattle.roundtrip_text.specs.Source.{EachOf}
 use Rattle.roundtrip_text.specs.KeyPhrases.{behind_comma, listed_slices}

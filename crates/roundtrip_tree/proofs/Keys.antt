@@ -14,9 +14,9 @@ use Rattle.kx_lex.specs.declared.token.Token.{Token}
 use Rattle.kx_lex.specs.declared.token.TokenKind.TheVariants.{Mark, Word, KeyName}
 use Rattle.kx_mods.specs.Mods.{mask, mod_names}
 use Rattle.kx_mods.specs.declared.mods.Mods.{Mods}
-use Rattle.kx_parse.specs.Sections.{item, join_of, mode_of}
-use Rattle.kx_parse.specs.Statements.{statement, key, key_field, keycodes_statement, types_statement, symbols_statement}
-use Rattle.kx_parse.specs.declared.tree.Statement.TheVariants as statements
+use Rattle.kx_tree.specs.Sections.{item, join_of, mode_of}
+use Rattle.kx_tree.specs.Statements.{statement, key, key_field, keycodes_statement, types_statement, symbols_statement}
+use Rattle.kx_tree.specs.declared.tree.Statement.TheVariants as statements
 use Rattle.kx_print.specs.Masks.{chosen}
 use Rattle.kx_print.specs.Printed.{keysym_text}
 use Rattle.kx_tables.specs.Sound.{ActionHolds, GroupChangeHolds, RangeHolds}

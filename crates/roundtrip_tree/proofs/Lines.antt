@@ -8,17 +8,17 @@ use Rattle.kx_lex.specs.Tokens.{open_bracket, close_bracket, open_brace, close_b
 use Rattle.kx_lex.specs.declared.token.Span.{Span}
 use Rattle.kx_lex.specs.declared.token.Token.{Token}
 use Rattle.kx_lex.specs.declared.token.TokenKind.TheVariants.{Mark, Word}
-use Rattle.kx_parse.specs.Statements.{field, setting, block, block_field}
-use Rattle.kx_parse.specs.Values.{place, member, index, value, expression, begins_call}
-use Rattle.kx_parse.specs.declared.tree.Expression.{Expression}
-use Rattle.kx_parse.specs.declared.tree.Field.{Field}
-use Rattle.kx_parse.specs.declared.tree.FieldPlace.{FieldPlace}
-use Rattle.kx_parse.specs.declared.tree.Index.{Index}
-use Rattle.kx_parse.specs.declared.tree.Operation.{Operation}
-use Rattle.kx_parse.specs.declared.tree.Setting.{Setting}
-use Rattle.kx_parse.specs.declared.tree.Setting.TheVariants as settings
-use Rattle.kx_parse.specs.declared.tree.Value.{Value}
-use Rattle.kx_parse.specs.declared.tree.Value.TheVariants as values
+use Rattle.kx_tree.specs.Statements.{field, setting, block, block_field}
+use Rattle.kx_tree.specs.Values.{place, member, index, value, expression, begins_call}
+use Rattle.kx_tree.specs.declared.tree.Expression.{Expression}
+use Rattle.kx_tree.specs.declared.tree.Field.{Field}
+use Rattle.kx_tree.specs.declared.tree.FieldPlace.{FieldPlace}
+use Rattle.kx_tree.specs.declared.tree.Index.{Index}
+use Rattle.kx_tree.specs.declared.tree.Operation.{Operation}
+use Rattle.kx_tree.specs.declared.tree.Setting.{Setting}
+use Rattle.kx_tree.specs.declared.tree.Setting.TheVariants as settings
+use Rattle.kx_tree.specs.declared.tree.Value.{Value}
+use Rattle.kx_tree.specs.declared.tree.Value.TheVariants as values
 use Rattle.roundtrip_text.specs.Slices.{Slice, IsAt, Begins, none, more}
 use Rattle.roundtrip_text.proofs.Phrases.{name_value}
 use Rattle.roundtrip_tree.specs.Shows.{IsSpelled, ReadsAs, AreShown}

@@ -6,10 +6,10 @@ use Rattle.kx_lex.specs.Tokens.{close_brace, open_brace}
 use Rattle.kx_lex.specs.declared.keyword.Keyword.TheVariants as keywords
 use Rattle.kx_lex.specs.declared.token.Token.{Token}
 use Rattle.kx_lex.specs.declared.token.TokenKind.TheVariants.{Mark, Word, KeyName}
-use Rattle.kx_parse.specs.Sections.{item, join_of, mode_of}
-use Rattle.kx_parse.specs.Statements.{statement, modifier_map, mapped_entries, entry, keycodes_statement, types_statement, symbols_statement}
-use Rattle.kx_parse.specs.declared.tree.Entry.TheVariants as entries
-use Rattle.kx_parse.specs.declared.tree.Statement.TheVariants as statements
+use Rattle.kx_tree.specs.Sections.{item, join_of, mode_of}
+use Rattle.kx_tree.specs.Statements.{statement, modifier_map, mapped_entries, entry, keycodes_statement, types_statement, symbols_statement}
+use Rattle.kx_tree.specs.declared.tree.Entry.TheVariants as entries
+use Rattle.kx_tree.specs.declared.tree.Statement.TheVariants as statements
 use Rattle.roundtrip_text.specs.Slices.{Begins, none, more}
 use Rattle.roundtrip_text.specs.ModifierMaps.{MapLine, map_line_slices}
 use Rattle.roundtrip_text.proofs.ModifierMaps.{MapLineFits}

@@ -8,7 +8,7 @@ use Rattle.kx_lex.specs.Tokens.{mark, comma}
 use Rattle.kx_lex.specs.declared.token.Span.{Span}
 use Rattle.kx_lex.specs.declared.token.Token.{Token}
 use Rattle.kx_lex.specs.declared.token.TokenKind.TheVariants.{Mark}
-use Rattle.kx_parse.specs.Forms.{after, sequence}
+use Rattle.kx_tree.specs.Forms.{after, sequence}
 use Rattle.roundtrip_text.specs.Slices.{Slice, slice, Begins, none, more}
 use Rattle.roundtrip_tree.specs.Shows.{IsSpelled, ReadsAs, AreShown}
 use Rattle.roundtrip_tree.specs.Shows.{none as shows_none, more as shows_more}

@@ -11,11 +11,11 @@ use Rattle.kx_lex.specs.declared.keyword.Keyword.TheVariants as keywords
 use Rattle.kx_lex.specs.declared.token.Span.{Span}
 use Rattle.kx_lex.specs.declared.token.Token.{Token}
 use Rattle.kx_lex.specs.declared.token.TokenKind.TheVariants.{Mark, Word}
-use Rattle.kx_parse.specs.Sections.{item, section, flags, flag, flagged, plain_section, geometry_section, kind, kind_of, flag_of, optional_text, held_items}
-use Rattle.kx_parse.specs.declared.tree.Item.{Item}
-use Rattle.kx_parse.specs.declared.tree.Kind.{Kind}
-use Rattle.kx_parse.specs.declared.tree.Kind.TheVariants as kinds
-use Rattle.kx_parse.specs.declared.tree.Section.{Section}
+use Rattle.kx_tree.specs.Sections.{item, section, flags, flag, flagged, plain_section, geometry_section, kind, kind_of, flag_of, optional_text, held_items}
+use Rattle.kx_tree.specs.declared.tree.Item.{Item}
+use Rattle.kx_tree.specs.declared.tree.Kind.{Kind}
+use Rattle.kx_tree.specs.declared.tree.Kind.TheVariants as kinds
+use Rattle.kx_tree.specs.declared.tree.Section.{Section}
 use Rattle.roundtrip_text.specs.Slices.{Slice, slice, Begins, none, more}
 use Rattle.roundtrip_tree.specs.Shows.{IsSpelled, ReadsAs, AreShown}
 use Rattle.roundtrip_tree.proofs.Rows.{optional_none, parted, many_reads}

@@ -7,10 +7,10 @@ use Rattle.kx_lex.specs.declared.keyword.Keyword.{Keyword}
 use Rattle.kx_lex.specs.declared.keyword.Keyword.TheVariants as keywords
 use Rattle.kx_lex.specs.declared.token.Token.{Token}
 use Rattle.kx_lex.specs.declared.token.TokenKind.TheVariants.{Mark, Word}
-use Rattle.kx_parse.specs.Sections.{item, section, kind_of, flag_of}
-use Rattle.kx_parse.specs.declared.tree.Item.{Item}
-use Rattle.kx_parse.specs.declared.tree.Kind.{Kind}
-use Rattle.kx_parse.specs.declared.tree.Kind.TheVariants as kinds
+use Rattle.kx_tree.specs.Sections.{item, section, kind_of, flag_of}
+use Rattle.kx_tree.specs.declared.tree.Item.{Item}
+use Rattle.kx_tree.specs.declared.tree.Kind.{Kind}
+use Rattle.kx_tree.specs.declared.tree.Kind.TheVariants as kinds
 use Rattle.roundtrip_text.specs.Slices.{Slice, slice, Begins}
 use Rattle.roundtrip_text.specs.Source.{EachOf}
 use Rattle.roundtrip_tree.specs.Shows.{AreShown, ReadsAs, none as shows_none, more as shows_more}

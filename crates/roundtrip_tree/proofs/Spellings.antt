@@ -6,7 +6,7 @@ use Rattle.kx_lex.specs.Tokens.{mark, keyword, comma, equals}
 use Rattle.kx_lex.specs.declared.keyword.Keyword.{Keyword}
 use Rattle.kx_lex.specs.declared.token.Span.{Span}
 use Rattle.kx_lex.specs.declared.token.Token.{Token}
-use Rattle.kx_parse.specs.Forms.{made, placed, both, made2, made3, after, ended, assigned, headed, sequence}
+use Rattle.kx_tree.specs.Forms.{made, placed, both, made2, made3, after, ended, assigned, headed, sequence}
 use Rattle.roundtrip_tree.specs.Shows.{IsSpelled}
 
 pub mark_spelled : (text : List ℕ) (byte : ℕ) (t : Token) (rest : List Token) → is_mark byte t ≡ true → IsSpelled (mark text byte) (t ∷ rest) t rest

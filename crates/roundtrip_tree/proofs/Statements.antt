@@ -7,14 +7,14 @@ use Rattle.kx_lex.specs.Production.{fronted, front_span, span_between}
 use Rattle.kx_lex.specs.declared.token.Span.{Span}
 use Rattle.kx_lex.specs.declared.token.Token.{Token}
 use Rattle.kx_lex.specs.declared.token.TokenKind.TheVariants.{KeyName, Number, Mark}
-use Rattle.kx_parse.specs.Sections.{item, own, moded, begins_include, begins_moded, join_of, mode_of}
-use Rattle.kx_parse.specs.Statements.{statement, keycode, keycodes_statement}
-use Rattle.kx_parse.specs.declared.tree.Item.{Item}
-use Rattle.kx_parse.specs.declared.tree.Item.TheVariants as items
-use Rattle.kx_parse.specs.declared.tree.Mode.TheVariants.{Override}
-use Rattle.kx_parse.specs.declared.tree.Stated.{Stated}
-use Rattle.kx_parse.specs.declared.tree.Statement.{Statement}
-use Rattle.kx_parse.specs.declared.tree.Statement.TheVariants as statements
+use Rattle.kx_tree.specs.Sections.{item, own, moded, begins_include, begins_moded, join_of, mode_of}
+use Rattle.kx_tree.specs.Statements.{statement, keycode, keycodes_statement}
+use Rattle.kx_tree.specs.declared.tree.Item.{Item}
+use Rattle.kx_tree.specs.declared.tree.Item.TheVariants as items
+use Rattle.kx_tree.specs.declared.tree.Mode.TheVariants.{Override}
+use Rattle.kx_tree.specs.declared.tree.Stated.{Stated}
+use Rattle.kx_tree.specs.declared.tree.Statement.{Statement}
+use Rattle.kx_tree.specs.declared.tree.Statement.TheVariants as statements
 use Rattle.roundtrip_text.specs.Slices.{slice, Begins, none, more}
 use Rattle.roundtrip_tree.specs.Shows.{name_at, number_at, IsSpelled, IsItem, IsKeycode, IsStated}
 use Rattle.roundtrip_tree.proofs.Spellings.{mark_spelled, placed_spelled, fronted_spelled, first_spelled, second_spelled, assigned_spelled}
@@ -39,7 +39,7 @@ item_spelled text {s = s} close rest no_include no_mode spelled h =
 
 pub record Reads (text : List ℕ) (Is : Statement → Type 0) (ts rest : List Token) : Type 0 where
   pub item : Item
-  pub spelled : IsSpelled (Rattle.kx_parse.specs.Sections.item text) ts item rest
+  pub spelled : IsSpelled (Rattle.kx_tree.specs.Sections.item text) ts item rest
   pub is : IsItem Is item
 
 pub keycode_reads : (text name : List ℕ) (bytes : List ℕ) (code : ℕ) (ts rest : List Token) → list_all is_key_byte name ≡ true → number_value bytes ≡ code → code < 2 ^ 32

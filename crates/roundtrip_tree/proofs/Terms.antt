@@ -10,16 +10,16 @@ use Rattle.kx_lex.specs.declared.string.EscapeState.TheVariants.{Plain}
 use Rattle.kx_lex.specs.declared.token.Span.{Span}
 use Rattle.kx_lex.specs.declared.token.Token.{Token}
 use Rattle.kx_lex.specs.declared.token.TokenKind.TheVariants.{Mark, Word, Text}
-use Rattle.kx_parse.specs.Forms.{made, listed}
-use Rattle.kx_parse.specs.Values.{term, operation, expression, sign, is_sign, signed, argument, set_argument, begins_set, index, call}
-use Rattle.kx_parse.specs.declared.tree.Argument.TheVariants as arguments
-use Rattle.kx_parse.specs.declared.tree.Call.{Call}
-use Rattle.kx_parse.specs.declared.tree.Expression.{Expression}
-use Rattle.kx_parse.specs.declared.tree.Operation.{Operation}
-use Rattle.kx_parse.specs.declared.tree.PlacedArgument.{PlacedArgument}
-use Rattle.kx_parse.specs.declared.tree.Sign.TheVariants.{Plus}
-use Rattle.kx_parse.specs.declared.tree.Term.{Term}
-use Rattle.kx_parse.specs.declared.tree.Term.TheVariants as terms
+use Rattle.kx_tree.specs.Forms.{made, listed}
+use Rattle.kx_tree.specs.Values.{term, operation, expression, sign, is_sign, signed, argument, set_argument, begins_set, index, call}
+use Rattle.kx_tree.specs.declared.tree.Argument.TheVariants as arguments
+use Rattle.kx_tree.specs.declared.tree.Call.{Call}
+use Rattle.kx_tree.specs.declared.tree.Expression.{Expression}
+use Rattle.kx_tree.specs.declared.tree.Operation.{Operation}
+use Rattle.kx_tree.specs.declared.tree.PlacedArgument.{PlacedArgument}
+use Rattle.kx_tree.specs.declared.tree.Sign.TheVariants.{Plus}
+use Rattle.kx_tree.specs.declared.tree.Term.{Term}
+use Rattle.kx_tree.specs.declared.tree.Term.TheVariants as terms
 use Rattle.kx_lex.specs.declared.name.Name.{Name}
 use Rattle.roundtrip_text.specs.Slices.{Slice, slice, Begins, none, more, IsAt}
 use Rattle.roundtrip_tree.specs.Shows.{IsSpelled, ReadsAs, AreShown, name_at}

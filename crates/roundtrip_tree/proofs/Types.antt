@@ -13,10 +13,10 @@ use Rattle.kx_lex.specs.declared.token.Token.{Token}
 use Rattle.kx_lex.specs.declared.token.TokenKind.TheVariants.{Word, Text, Mark}
 use Rattle.kx_mods.specs.Mods.{mask, mod_names}
 use Rattle.kx_mods.specs.declared.mods.Mods.{Mods}
-use Rattle.kx_parse.specs.Sections.{item, join_of, mode_of}
-use Rattle.kx_parse.specs.Statements.{statement, keycodes_statement, types_statement, key_type}
-use Rattle.kx_parse.specs.declared.tree.Item.TheVariants as items
-use Rattle.kx_parse.specs.declared.tree.Statement.TheVariants as statements
+use Rattle.kx_tree.specs.Sections.{item, join_of, mode_of}
+use Rattle.kx_tree.specs.Statements.{statement, keycodes_statement, types_statement, key_type}
+use Rattle.kx_tree.specs.declared.tree.Item.TheVariants as items
+use Rattle.kx_tree.specs.declared.tree.Statement.TheVariants as statements
 use Rattle.kx_print.specs.Masks.{chosen}
 use Rattle.kx_tables.specs.declared.rows.EntryRow.{EntryRow}
 use Rattle.roundtrip_text.specs.Slices.{IsAt, Begins, none, more}

@@ -6,9 +6,9 @@ use Rattle.kx_lex.specs.Tokens.{comma}
 use Rattle.kx_lex.specs.declared.token.Span.{Span}
 use Rattle.kx_lex.specs.declared.token.Token.{Token}
 use Rattle.kx_lex.specs.declared.token.TokenKind.TheVariants.{Mark, Number}
-use Rattle.kx_parse.specs.Forms.{after, made, listed}
-use Rattle.kx_parse.specs.Values.{term, operation, expression, is_sign}
-use Rattle.kx_parse.specs.declared.tree.Term.TheVariants as terms
+use Rattle.kx_tree.specs.Forms.{after, made, listed}
+use Rattle.kx_tree.specs.Values.{term, operation, expression, is_sign}
+use Rattle.kx_tree.specs.declared.tree.Term.TheVariants as terms
 use Rattle.roundtrip_text.specs.Slices.{Slice, slice, Begins, none, more}
 use Rattle.roundtrip_tree.specs.Shows.{IsSpelled, ReadsAs, AreShown, number_at}
 use Rattle.roundtrip_tree.proofs.Rows.{Stops, stop, is_stop, parted, list_slices, sequence_reads}

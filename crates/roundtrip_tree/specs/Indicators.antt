@@ -2,9 +2,9 @@
 use Rattle.std.specs.Prelude.{List, [], ◌∷◌, ◌≡◌, codes}
 use Rattle.kx_builder.specs.IndicatorMaps.{ResolvedIndicator}
 use Rattle.kx_lex.specs.declared.token.Span.{Span}
-use Rattle.kx_parse.specs.declared.tree.Field.{Field}
-use Rattle.kx_parse.specs.declared.tree.Statement.{Statement}
-use Rattle.kx_parse.specs.declared.tree.Statement.TheVariants as statements
+use Rattle.kx_tree.specs.declared.tree.Field.{Field}
+use Rattle.kx_tree.specs.declared.tree.Statement.{Statement}
+use Rattle.kx_tree.specs.declared.tree.Statement.TheVariants as statements
 use Rattle.kx_print.specs.Masks.{state_names}
 use Rattle.kx_print.specs.Phrases.{hexadecimal}
 use Rattle.kx_tables.specs.States.{state_bits}

@@ -2,32 +2,32 @@
 use Rattle.std.specs.Prelude.{ℕ, Bool, List, [], ◌∷◌, ◌≡◌, codes, None, Some, if◌then◌else◌}
 use Rattle.kx_lex.specs.Kinds.{number_value}
 use Rattle.kx_lex.specs.declared.token.Span.{Span}
-use Rattle.kx_parse.specs.declared.tree.Argument.TheVariants as arguments
-use Rattle.kx_parse.specs.declared.tree.BracePart.{BracePart}
-use Rattle.kx_parse.specs.declared.tree.BracePart.TheVariants as parts
-use Rattle.kx_parse.specs.declared.tree.Braces.{Braces}
-use Rattle.kx_parse.specs.declared.tree.Call.{Call}
-use Rattle.kx_parse.specs.declared.tree.Element.{Element}
-use Rattle.kx_parse.specs.declared.tree.Element.TheVariants as elements
-use Rattle.kx_parse.specs.declared.tree.Expression.{Expression}
-use Rattle.kx_parse.specs.declared.tree.Field.{Field}
-use Rattle.kx_parse.specs.declared.tree.FieldPlace.{FieldPlace}
-use Rattle.kx_parse.specs.declared.tree.KeyField.{KeyField}
-use Rattle.kx_parse.specs.declared.tree.KeyField.TheVariants as fields
-use Rattle.kx_parse.specs.declared.tree.List.{List as Listed}
-use Rattle.kx_parse.specs.declared.tree.Operation.{Operation}
-use Rattle.kx_parse.specs.declared.tree.PlacedArgument.{PlacedArgument}
-use Rattle.kx_parse.specs.declared.tree.Setting.TheVariants as settings
-use Rattle.kx_parse.specs.declared.tree.Sign.{Sign}
-use Rattle.kx_parse.specs.declared.tree.Sign.TheVariants.{Plus, Minus}
-use Rattle.kx_parse.specs.declared.tree.Statement.{Statement}
-use Rattle.kx_parse.specs.declared.tree.Statement.TheVariants as statements
-use Rattle.kx_parse.specs.declared.tree.Symbol.{Symbol}
-use Rattle.kx_parse.specs.declared.tree.Symbol.TheVariants as symbols
-use Rattle.kx_parse.specs.declared.tree.Term.{Term}
-use Rattle.kx_parse.specs.declared.tree.Term.TheVariants as terms
-use Rattle.kx_parse.specs.declared.tree.Value.{Value}
-use Rattle.kx_parse.specs.declared.tree.Value.TheVariants as values
+use Rattle.kx_tree.specs.declared.tree.Argument.TheVariants as arguments
+use Rattle.kx_tree.specs.declared.tree.BracePart.{BracePart}
+use Rattle.kx_tree.specs.declared.tree.BracePart.TheVariants as parts
+use Rattle.kx_tree.specs.declared.tree.Braces.{Braces}
+use Rattle.kx_tree.specs.declared.tree.Call.{Call}
+use Rattle.kx_tree.specs.declared.tree.Element.{Element}
+use Rattle.kx_tree.specs.declared.tree.Element.TheVariants as elements
+use Rattle.kx_tree.specs.declared.tree.Expression.{Expression}
+use Rattle.kx_tree.specs.declared.tree.Field.{Field}
+use Rattle.kx_tree.specs.declared.tree.FieldPlace.{FieldPlace}
+use Rattle.kx_tree.specs.declared.tree.KeyField.{KeyField}
+use Rattle.kx_tree.specs.declared.tree.KeyField.TheVariants as fields
+use Rattle.kx_tree.specs.declared.tree.List.{List as Listed}
+use Rattle.kx_tree.specs.declared.tree.Operation.{Operation}
+use Rattle.kx_tree.specs.declared.tree.PlacedArgument.{PlacedArgument}
+use Rattle.kx_tree.specs.declared.tree.Setting.TheVariants as settings
+use Rattle.kx_tree.specs.declared.tree.Sign.{Sign}
+use Rattle.kx_tree.specs.declared.tree.Sign.TheVariants.{Plus, Minus}
+use Rattle.kx_tree.specs.declared.tree.Statement.{Statement}
+use Rattle.kx_tree.specs.declared.tree.Statement.TheVariants as statements
+use Rattle.kx_tree.specs.declared.tree.Symbol.{Symbol}
+use Rattle.kx_tree.specs.declared.tree.Symbol.TheVariants as symbols
+use Rattle.kx_tree.specs.declared.tree.Term.{Term}
+use Rattle.kx_tree.specs.declared.tree.Term.TheVariants as terms
+use Rattle.kx_tree.specs.declared.tree.Value.{Value}
+use Rattle.kx_tree.specs.declared.tree.Value.TheVariants as values
 use Rattle.roundtrip_text.specs.Source.{PrintedKey}
 use Rattle.roundtrip_text.specs.KeyPhrases.{KeysymPhrase, Worded, Numbered, ArgumentPhrase, Flag, Words, Natural, Signed, CallPhrase, FieldPhrase, TypeOf, SymbolsOf, ActionsOf, Clamped, RedirectedTo, KeyPhrase, field_phrases}
 use Rattle.roundtrip_text.specs.Keys.{key_phrase}

@@ -3,14 +3,14 @@ use Rattle.std.specs.Prelude.{ℕ, ◌<◌, ◌^◌, Bool, true, false, List, []
 use Rattle.kx_lex.specs.Kinds.{number_value}
 use Rattle.kx_lex.specs.declared.token.Span.{Span}
 use Rattle.kx_lex.specs.declared.token.TokenKind.TheVariants.{Number}
-use Rattle.kx_parse.specs.declared.tree.Expression.{Expression}
-use Rattle.kx_parse.specs.declared.tree.Field.{Field}
-use Rattle.kx_parse.specs.declared.tree.Operation.{Operation}
-use Rattle.kx_parse.specs.declared.tree.Setting.TheVariants as settings
-use Rattle.kx_parse.specs.declared.tree.Sign.TheVariants.{Plus}
-use Rattle.kx_parse.specs.declared.tree.Term.{Term}
-use Rattle.kx_parse.specs.declared.tree.Term.TheVariants as tree_terms
-use Rattle.kx_parse.specs.declared.tree.Value.TheVariants as values
+use Rattle.kx_tree.specs.declared.tree.Expression.{Expression}
+use Rattle.kx_tree.specs.declared.tree.Field.{Field}
+use Rattle.kx_tree.specs.declared.tree.Operation.{Operation}
+use Rattle.kx_tree.specs.declared.tree.Setting.TheVariants as settings
+use Rattle.kx_tree.specs.declared.tree.Sign.TheVariants.{Plus}
+use Rattle.kx_tree.specs.declared.tree.Term.{Term}
+use Rattle.kx_tree.specs.declared.tree.Term.TheVariants as tree_terms
+use Rattle.kx_tree.specs.declared.tree.Value.TheVariants as values
 use Rattle.roundtrip_text.specs.Slices.{Slice, slice}
 use Rattle.roundtrip_text.specs.Source.{are_bytes}
 use Rattle.roundtrip_text.specs.Spelled.{terms, text, setting_slices, setting_at_slices}

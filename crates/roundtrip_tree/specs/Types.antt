@@ -5,9 +5,9 @@ use Rattle.kx_builder.specs.Resolved.{ResolvedType}
 use Rattle.kx_lex.specs.declared.token.Span.{Span}
 use Rattle.kx_mods.specs.Mods.{mask, mod_names}
 use Rattle.kx_mods.specs.declared.mods.Mods.{Mods}
-use Rattle.kx_parse.specs.declared.tree.Field.{Field}
-use Rattle.kx_parse.specs.declared.tree.Statement.{Statement}
-use Rattle.kx_parse.specs.declared.tree.Statement.TheVariants as statements
+use Rattle.kx_tree.specs.declared.tree.Field.{Field}
+use Rattle.kx_tree.specs.declared.tree.Statement.{Statement}
+use Rattle.kx_tree.specs.declared.tree.Statement.TheVariants as statements
 use Rattle.kx_tables.specs.declared.rows.EntryRow.{EntryRow}
 use Rattle.roundtrip_text.specs.Spelled.{set_words}
 use Rattle.roundtrip_tree.specs.Shows.{AreShown, name_at}

@@ -1,11 +1,11 @@
 -- A tree that includes components and holds nothing else.
 use Rattle.std.specs.Prelude.{ℕ, List, [], ◌∷◌, ◌≡◌}
 use Rattle.kx_lex.specs.declared.token.Span.{Span}
-use Rattle.kx_parse.specs.declared.tree.Item.{Item}
-use Rattle.kx_parse.specs.declared.tree.Item.TheVariants.{Include}
-use Rattle.kx_parse.specs.declared.tree.Kind.TheVariants.{Compat, Keycodes, Symbols, Types}
-use Rattle.kx_parse.specs.declared.tree.Mode.TheVariants.{Override}
-use Rattle.kx_parse.specs.declared.tree.Tree.{Tree}
+use Rattle.kx_tree.specs.declared.tree.Item.{Item}
+use Rattle.kx_tree.specs.declared.tree.Item.TheVariants.{Include}
+use Rattle.kx_tree.specs.declared.tree.Kind.TheVariants.{Compat, Keycodes, Symbols, Types}
+use Rattle.kx_tree.specs.declared.tree.Mode.TheVariants.{Override}
+use Rattle.kx_tree.specs.declared.tree.Tree.{Tree}
 use Rattle.kx_rules.specs.Rules.{Components}
 use Rattle.roundtrip_tree.specs.Shows.{name_at}
 use Rattle.roundtrip_tree.specs.Sources.{plain}

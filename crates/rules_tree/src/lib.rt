@@ -4,8 +4,8 @@
 ghost use Rattle.std.specs.Prelude.{◌≡◌, true, List};
 ghost use Rattle.kx_lex.specs.Reading.{IsReading};
 ghost use Rattle.kx_lex.specs.declared.token.Token.{Token};
-ghost use Rattle.kx_parse.specs.Sections.{Spells};
-ghost use Rattle.kx_parse.specs.declared.tree.Tree.{Tree};
+ghost use Rattle.kx_tree.specs.Sections.{Spells};
+ghost use Rattle.kx_tree.specs.declared.tree.Tree.{Tree};
 ghost use Rattle.kx_rules.specs.Rules.{Components};
 ghost use Rattle.kx_rules.specs.Sources.{are_writable, source_of};
 ghost use Rattle.rules_tree.specs.Includes.{HasFourIncludes};

@@ -1,5 +1,5 @@
 use Rattle.std.proofs.Common.{◌≡◌, sym, subst, refl}
-use Rattle.kx_parse.specs.Sections.{Spells}
+use Rattle.kx_tree.specs.Sections.{Spells}
 use Rattle.kx_rules.specs.Sources.{source_of}
 use Rattle.roundtrip_text.proofs.Texts.{text_reads}
 use Rattle.rules_tree.specs.Includes.{HasFourIncludes}

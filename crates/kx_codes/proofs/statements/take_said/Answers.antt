@@ -2,7 +2,7 @@ use Rattle.std.proofs.Common.{◌≡◌, ◌∷◌, [], ℕ, Contains, arith, in
 use Rattle.kx_include.specs.IncludeFaults.{at}
 use Rattle.kx_lex.specs.declared.fault.Fault.TheVariants.{Memory, UnknownField}
 use Rattle.kx_lex.specs.declared.token.Span.{Span}
-use Rattle.kx_parse.specs.declared.tree.Statement.{Statement}
+use Rattle.kx_tree.specs.declared.tree.Statement.{Statement}
 use Rattle.kx_codes.specs.CodeFaults.{said_faults}
 use Rattle.kx_codes.specs.Numbers.{StandsIn}
 use Rattle.kx_codes.specs.Pairs.{Pair, said_pairs, taken}

@@ -1,6 +1,6 @@
 use Rattle.std.proofs.Common.{ℕ, List, None, get_or, sym, subst}
 use Rattle.kx_lex.specs.declared.fault.Fault.{Fault}
-use Rattle.kx_parse.specs.declared.tree.Mode.TheVariants.{Augment}
+use Rattle.kx_tree.specs.declared.tree.Mode.TheVariants.{Augment}
 use Rattle.kx_include.specs.Expansion.{Body, End, Inc}
 use Rattle.kx_include.specs.Shared.{body_at, links_body}
 use Rattle.kx_include.specs.declared.expansion.Link.{Link}

@@ -2,7 +2,7 @@ use Rattle.std.proofs.Common.{get_or, ◌≡◌, ◌+◌, ◌∷◌, [], List, d
 use Rattle.std.proofs.lemmas.List.{drop_all}
 use Rattle.kx_include.specs.Shared.{links_body}
 use Rattle.kx_include.specs.declared.expansion.Link.{Link}
-use Rattle.kx_parse.specs.declared.tree.Mode.TheVariants.{Augment}
+use Rattle.kx_tree.specs.declared.tree.Mode.TheVariants.{Augment}
 use Rattle.kx_codes.specs.Pairs.{Pair}
 use Rattle.kx_merge.proofs.Going.{read_again}
 use Rattle.kx_codes.proofs.Behind.{Going, going_on, going_blames, split_link, leaves_all, err_gathered}

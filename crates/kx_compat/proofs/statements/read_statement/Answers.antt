@@ -1,7 +1,7 @@
 use Rattle.std.proofs.Common.{Ok, Option, Some, ap, subst, sym, ◌∷◌, ◌∙◌, Contains}
 use Rattle.std.specs.Option.{option_map, option_map_or}
 use Rattle.kx_lex.specs.declared.fault.Fault.TheVariants.{Memory}
-use Rattle.kx_parse.specs.Sections.{word_span}
+use Rattle.kx_tree.specs.Sections.{word_span}
 use Rattle.kx_compat.specs.Sections.{Interpreted, alone_faults, interpretation_faults, interpretation_in}
 use Rattle.kx_symbols.specs.Keys.{field_in}
 use Rattle.kx_merge.proofs.Going.{blamed, reported_or_out}

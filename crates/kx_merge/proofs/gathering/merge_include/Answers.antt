@@ -3,7 +3,7 @@ use Rattle.std.proofs.lemmas.List.{append-nil}
 use Rattle.indexmap.specs.IndexMap.{get, keys}
 use Rattle.kx_include.specs.Shared.{body_at, links_body}
 use Rattle.kx_include.specs.declared.expansion.Link.{Link}
-use Rattle.kx_parse.specs.declared.tree.Mode.TheVariants.{Augment}
+use Rattle.kx_tree.specs.declared.tree.Mode.TheVariants.{Augment}
 use Rattle.kx_merge.specs.Bodies.{faults_of, gathered, offers_of}
 use Rattle.kx_merge.specs.Gatherings.{Adds}
 use Rattle.kx_merge.specs.Joins.{linked, map_of}

@@ -1,6 +1,6 @@
 use Rattle.std.proofs.Common.{[], refl, rules as lemmas}
 use Rattle.kx_include.specs.Shared.{links_body}
-use Rattle.kx_parse.specs.declared.tree.Mode.TheVariants.{Augment}
+use Rattle.kx_tree.specs.declared.tree.Mode.TheVariants.{Augment}
 use Rattle.kx_merge.specs.Bodies.{gathered, offers_of}
 use Rattle.kx_merge.proofs.Behind.{shows_none}
 use Rattle.kx_merge.proofs.Joining.{picks_gathered}

@@ -2,7 +2,7 @@ use Rattle.std.proofs.Common.{◌+◌, cond, get_or, drop, None, subst, sym}
 use Rattle.indexmap.specs.IndexMap.{get, keys}
 use Rattle.kx_include.specs.Shared.{links_body}
 use Rattle.kx_include.specs.declared.expansion.Link.{Link}
-use Rattle.kx_parse.specs.declared.tree.Mode.TheVariants.{Augment}
+use Rattle.kx_tree.specs.declared.tree.Mode.TheVariants.{Augment}
 use Rattle.kx_merge.specs.Bodies.{faults}
 use Rattle.kx_merge.specs.Offers.{is_replace}
 use Rattle.kx_merge.proofs.Going.{read_again}

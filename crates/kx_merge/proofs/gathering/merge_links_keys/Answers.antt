@@ -3,7 +3,7 @@ use Rattle.std.proofs.lemmas.List.{take_all, take_more}
 use Rattle.indexmap.specs.IndexMap.{get, keys}
 use Rattle.kx_include.specs.Shared.{body_at, links_body}
 use Rattle.kx_include.specs.declared.expansion.Link.{Link}
-use Rattle.kx_parse.specs.declared.tree.Mode.TheVariants.{Augment}
+use Rattle.kx_tree.specs.declared.tree.Mode.TheVariants.{Augment}
 use Rattle.kx_merge.specs.Bodies.{gathered, moved, offers_of}
 use Rattle.kx_merge.specs.Renewals.{TakesUp}
 use Rattle.kx_merge.proofs.Joining.{offers_more, takes_both, takes_nothing}

@@ -3,8 +3,8 @@ use Rattle.indexmap.specs.IndexMap.{get, keys}
 use Rattle.std.specs.HashMap.{HashMap}
 use Rattle.kx_include.specs.Shared.{links_body}
 use Rattle.kx_include.specs.declared.expansion.Link.{Link}
-use Rattle.kx_parse.specs.declared.tree.Mode.{Mode}
-use Rattle.kx_parse.specs.declared.tree.Mode.TheVariants.{Augment}
+use Rattle.kx_tree.specs.declared.tree.Mode.{Mode}
+use Rattle.kx_tree.specs.declared.tree.Mode.TheVariants.{Augment}
 use Rattle.kx_merge.specs.Gatherings.{StandsBetween, StoodAt, entry_faults, entry_next, entry_offers, included_by, placed_faults, placed_offers}
 use Rattle.kx_merge.specs.Joins.{include_of, included_faults, included_offers}
 use Rattle.kx_merge.specs.declared.placed.Placed.{Placed}

@@ -1,6 +1,6 @@
 use Rattle.std.proofs.Common.{map, take}
 use Rattle.kx_mods.specs.Mods.{mask}
-use Rattle.kx_parse.specs.declared.tree.Mode.{Mode}
+use Rattle.kx_tree.specs.declared.tree.Mode.{Mode}
 use Rattle.kx_modmaps.specs.Maps.{AreAssigned, map_offer}
 use Rattle.kx_modmaps.proofs.record.records_for.Given as goal
 

@@ -1,7 +1,7 @@
 use Rattle.std.proofs.Common.{List, ℕ, ◌≤◌, ◌++◌, length}
 use Rattle.kx_lex.specs.Passing.{IsAtToken, PassesTo}
-use Rattle.kx_parse.specs.Sections.{flags}
-use Rattle.kx_parse.specs.declared.tree.Flag.{Flag}
+use Rattle.kx_tree.specs.Sections.{flags}
+use Rattle.kx_tree.specs.declared.tree.Flag.{Flag}
 use Rattle.kx_parse.proofs.outline.pass_flags.Given as goal
 
 abbrev pub invariant-flags : goal.invariant-flags

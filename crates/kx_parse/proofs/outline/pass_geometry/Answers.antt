@@ -1,6 +1,6 @@
 use Rattle.std.proofs.Common.{arith}
 use Rattle.kx_lex.specs.Passing.{front_byte}
-use Rattle.kx_parse.proofs.PassedForms.{some-map}
+use Rattle.kx_tree.proofs.PassedForms.{some-map}
 use Rattle.kx_parse.proofs.PassedSections.{deep-whole, geometry-ended}
 use Rattle.kx_parse.proofs.outline.pass_geometry.Goals as goal
 

@@ -1,6 +1,6 @@
 use Rattle.std.proofs.Common.{◌∙◌, arith}
 use Rattle.kx_lex.proofs.PassedOver.{Ends-more}
-use Rattle.kx_parse.proofs.PassedForms.{some-map}
+use Rattle.kx_tree.proofs.PassedForms.{some-map}
 use Rattle.kx_parse.proofs.PassedOutline.{as-known}
 use Rattle.kx_parse.proofs.PassedSections.{held-geometry, held-geometry-at, held-other, ok-map}
 use Rattle.kx_parse.proofs.outline.pass_held.Goals as goal

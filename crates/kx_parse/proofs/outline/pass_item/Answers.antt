@@ -1,6 +1,6 @@
 use Rattle.std.proofs.Common.{refl}
 use Rattle.kx_lex.proofs.PassedOver.{Ends-more}
-use Rattle.kx_parse.proofs.PassedForms.{some-map}
+use Rattle.kx_tree.proofs.PassedForms.{some-map}
 use Rattle.kx_parse.proofs.PassedOutline.{item-include, item-moded, item-other, item-word}
 use Rattle.kx_parse.proofs.outline.pass_item.Goals as goal
 

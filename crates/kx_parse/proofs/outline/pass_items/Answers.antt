@@ -2,7 +2,7 @@ use Rattle.std.proofs.Common.{◌≡◌, ◌++◌, List, [], append-nil, arith, 
 use Rattle.std.specs.Prelude.{filter}
 use Rattle.kx_lex.proofs.PassedOver.{Ends-more}
 use Rattle.kx_parse.specs.Outline.{is_include}
-use Rattle.kx_parse.specs.declared.tree.Item.{Item}
+use Rattle.kx_tree.specs.declared.tree.Item.{Item}
 use Rattle.kx_parse.proofs.PassedOutline.{as-known, items-more, items-none}
 use Rattle.kx_parse.proofs.outline.pass_items.Goals as goal
 

@@ -2,7 +2,7 @@ use Rattle.std.proofs.Common.{◌≡◌, List, ℕ, ◌≤◌, ◌++◌, length}
 use Rattle.std.specs.Prelude.{filter}
 use Rattle.kx_lex.specs.Passing.{Ends, IsAtToken, PassesAs}
 use Rattle.kx_parse.specs.Outline.{is_include, items_ended}
-use Rattle.kx_parse.specs.declared.tree.Item.{Item}
+use Rattle.kx_tree.specs.declared.tree.Item.{Item}
 use Rattle.kx_parse.proofs.outline.pass_items.Given as goal
 
 abbrev pub invariant-items : goal.invariant-items

@@ -5,8 +5,8 @@ use Rattle.kx_lex.specs.Production.{spanned}
 use Rattle.kx_lex.specs.declared.token.Span.{Span}
 use Rattle.kx_lex.proofs.PassedOver.{Ends-more}
 use Rattle.kx_parse.specs.Outline.{outline_of}
-use Rattle.kx_parse.specs.Sections.{section}
-use Rattle.kx_parse.specs.declared.tree.Section.{Section}
+use Rattle.kx_tree.specs.Sections.{section}
+use Rattle.kx_tree.specs.declared.tree.Section.{Section}
 use Rattle.kx_parse.proofs.PassedSections.{sections-all, sections-more, sections-none}
 use Rattle.kx_parse.proofs.outline.pass_sections.Goals as goal
 

@@ -2,7 +2,7 @@ use Rattle.std.proofs.Common.{List, ℕ, [], length}
 use Rattle.kx_lex.specs.declared.token.Span.{Span}
 use Rattle.kx_lex.specs.Passing.{Ends, IsAtToken, PassesAs}
 use Rattle.kx_parse.specs.Outline.{sections_before}
-use Rattle.kx_parse.specs.declared.tree.Section.{Section}
+use Rattle.kx_tree.specs.declared.tree.Section.{Section}
 use Rattle.kx_parse.proofs.PassedSections.{Follows}
 use Rattle.kx_parse.proofs.outline.pass_sections.Given as goal
 

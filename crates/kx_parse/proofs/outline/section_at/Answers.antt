@@ -2,7 +2,7 @@ use Rattle.std.proofs.Common.{List, ◌≡◌, ◌⊎◌, Err, inl, inr, sym, �
 use Rattle.kx_lex.specs.declared.fault.Fault.TheVariants.{Memory}
 use Rattle.kx_lex.specs.declared.token.Token.{Token}
 use Rattle.kx_parse.specs.Outline.{HasNoSectionAt}
-use Rattle.kx_parse.specs.Sections.{section}
+use Rattle.kx_tree.specs.Sections.{section}
 use Rattle.kx_parse.proofs.PlacedSections.{found-is, none-is}
 use Rattle.kx_parse.proofs.outline.section_at.Goals as goal
 

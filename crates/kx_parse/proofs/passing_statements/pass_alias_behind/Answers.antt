@@ -1,4 +1,4 @@
-use Rattle.kx_parse.proofs.PassedForms.{some-map}
+use Rattle.kx_tree.proofs.PassedForms.{some-map}
 use Rattle.kx_parse.proofs.PassedStatements.{alias-passes}
 use Rattle.kx_parse.proofs.passing_statements.pass_alias_behind.Goals as goal
 

@@ -1,5 +1,5 @@
 use Rattle.std.proofs.Common.{arith}
-use Rattle.kx_parse.proofs.PassedForms.{some-map}
+use Rattle.kx_tree.proofs.PassedForms.{some-map}
 use Rattle.kx_parse.proofs.PassedStatements.{block_fields-more, block_fields-none}
 use Rattle.kx_parse.proofs.passing_statements.pass_block_fields.Goals as goal
 

@@ -1,6 +1,6 @@
 use Rattle.std.proofs.Common.{List, ℕ, ◌≤◌, length}
 use Rattle.kx_lex.specs.Passing.{IsAtToken, Passes}
-use Rattle.kx_parse.specs.Passing.{block_fields}
+use Rattle.kx_tree.specs.Passing.{block_fields}
 use Rattle.kx_parse.proofs.passing_statements.pass_block_fields.Given as goal
 
 abbrev pub invariant-fields : goal.invariant-fields

@@ -1,10 +1,10 @@
 use Rattle.std.proofs.Common.{◌∙◌, sym}
-use Rattle.kx_parse.proofs.PassedForms.{some-map}
-use Rattle.kx_parse.proofs.PassedValues.{optional-none}
+use Rattle.kx_tree.proofs.PassedForms.{some-map}
+use Rattle.kx_tree.proofs.PassedValues.{optional-none}
 use Rattle.kx_parse.proofs.PassedStatements.{declared_mask-some}
 use Rattle.kx_lex.specs.Tokens.{equals, mark}
-use Rattle.kx_parse.specs.Forms.{after}
-use Rattle.kx_parse.specs.Values.{expression}
+use Rattle.kx_tree.specs.Forms.{after}
+use Rattle.kx_tree.specs.Values.{expression}
 use Rattle.kx_parse.proofs.passing_statements.pass_declared_mask.Goals as goal
 
 pub returns-then-front_is-clause-passes : goal.returns-then-front_is-clause-passes

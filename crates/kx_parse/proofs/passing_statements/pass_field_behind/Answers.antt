@@ -1,4 +1,4 @@
-use Rattle.kx_parse.proofs.PassedForms.{both-passes, some-map}
+use Rattle.kx_tree.proofs.PassedForms.{both-passes, some-map}
 use Rattle.kx_parse.proofs.passing_statements.pass_field_behind.Goals as goal
 
 pub returns-clause-passes : goal.returns-clause-passes

@@ -1,4 +1,4 @@
-use Rattle.kx_parse.proofs.PassedForms.{some-map}
+use Rattle.kx_tree.proofs.PassedForms.{some-map}
 use Rattle.kx_parse.proofs.PassedStatements.{field_statement-passes}
 use Rattle.kx_parse.proofs.passing_statements.pass_field_statement.Goals as goal
 

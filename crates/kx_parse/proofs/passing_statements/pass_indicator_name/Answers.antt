@@ -1,7 +1,7 @@
 use Rattle.std.proofs.Common.{◌≡◌, Option, Some, subst}
 use Rattle.kx_lex.specs.declared.keyword.Keyword.{Keyword}
 use Rattle.kx_lex.specs.declared.keyword.Keyword.TheVariants as keywords
-use Rattle.kx_parse.proofs.PassedForms.{some-map}
+use Rattle.kx_tree.proofs.PassedForms.{some-map}
 use Rattle.kx_parse.proofs.PassedStatements.{indicator_name-word, word-as}
 use Rattle.kx_parse.proofs.passing_statements.pass_indicator_name.Goals as goal
 

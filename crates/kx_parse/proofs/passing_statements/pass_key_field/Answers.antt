@@ -1,4 +1,4 @@
-use Rattle.kx_parse.proofs.PassedForms.{some-map}
+use Rattle.kx_tree.proofs.PassedForms.{some-map}
 use Rattle.kx_parse.proofs.PassedStatements.{key_field-field, key_field-list}
 use Rattle.kx_parse.proofs.passing_statements.pass_key_field.Goals as goal
 

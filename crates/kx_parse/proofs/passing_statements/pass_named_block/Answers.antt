@@ -1,4 +1,4 @@
-use Rattle.kx_parse.proofs.PassedForms.{some-map}
+use Rattle.kx_tree.proofs.PassedForms.{some-map}
 use Rattle.kx_parse.proofs.PassedStatements.{named_block-passes}
 use Rattle.kx_parse.proofs.passing_statements.pass_named_block.Goals as goal
 

@@ -1,5 +1,5 @@
 use Rattle.std.proofs.Common.{◌∙◌, sym}
-use Rattle.kx_parse.proofs.PassedForms.{some-map}
+use Rattle.kx_tree.proofs.PassedForms.{some-map}
 use Rattle.kx_parse.proofs.PassedStatements.{predicate-call, predicate-expression, predicate-operations}
 use Rattle.kx_parse.proofs.passing_statements.pass_predicate.Goals as goal
 

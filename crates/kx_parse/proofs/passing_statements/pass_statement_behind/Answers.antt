@@ -1,7 +1,7 @@
 use Rattle.std.proofs.Common.{◌≡◌, Option, Some, subst}
 use Rattle.kx_lex.specs.declared.keyword.Keyword.{Keyword}
 use Rattle.kx_lex.specs.declared.keyword.Keyword.TheVariants as keywords
-use Rattle.kx_parse.proofs.PassedForms.{some-map}
+use Rattle.kx_tree.proofs.PassedForms.{some-map}
 use Rattle.kx_parse.proofs.PassedStatements.{alias-goes, field-goes, goes-as, group-goes, indicator-goes, indicator_name-goes, interpretation-goes, key-goes, key_type-goes, modifier_map-goes, virtual-goes, virtual_modifiers-goes}
 use Rattle.kx_parse.proofs.passing_statements.pass_statement_behind.Goals as goal
 

@@ -1,8 +1,8 @@
 use Rattle.std.proofs.Common.{◌∙◌, sym}
-use Rattle.kx_parse.proofs.PassedForms.{some-map}
-use Rattle.kx_parse.proofs.PassedValues.{optional-none}
+use Rattle.kx_tree.proofs.PassedForms.{some-map}
+use Rattle.kx_tree.proofs.PassedValues.{optional-none}
 use Rattle.kx_parse.proofs.PassedStatements.{wanted-passes}
-use Rattle.kx_parse.specs.Statements.{wanted_modifiers}
+use Rattle.kx_tree.specs.Statements.{wanted_modifiers}
 use Rattle.kx_parse.proofs.passing_statements.pass_wanted_modifiers.Goals as goal
 
 pub returns-then-front_is-clause-passes : goal.returns-then-front_is-clause-passes

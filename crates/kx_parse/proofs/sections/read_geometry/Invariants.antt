@@ -1,5 +1,5 @@
 use Rattle.std.proofs.Common.{◌≡◌, ◌≤◌, drop}
-use Rattle.kx_parse.specs.Geometry.{geometry_read}
+use Rattle.kx_tree.specs.Geometry.{geometry_read}
 use Rattle.kx_parse.proofs.sections.read_geometry.Given as goal
 
 -- the rest, with so many braces open, is read as the whole is

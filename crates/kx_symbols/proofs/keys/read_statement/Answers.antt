@@ -5,8 +5,8 @@ use Rattle.kx_lex.specs.declared.fault.Fault.TheVariants.{Memory}
 use Rattle.kx_symbols.specs.KeyFaults.{content_faults, key_in, other_faults}
 use Rattle.kx_lex.specs.declared.name.Name.{Name}
 use Rattle.kx_merge.specs.Faults.{name_faults}
-use Rattle.kx_parse.specs.Sections.{word_span}
-use Rattle.kx_parse.specs.declared.tree.KeyField.{KeyField}
+use Rattle.kx_tree.specs.Sections.{word_span}
+use Rattle.kx_tree.specs.declared.tree.KeyField.{KeyField}
 use Rattle.kx_symbols.specs.Keys.{known_under}
 use Rattle.kx_merge.proofs.Going.{reported_or_out}
 use Rattle.kx_symbols.proofs.keys.read_statement.Goals as goal

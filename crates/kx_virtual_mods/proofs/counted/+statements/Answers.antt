@@ -3,7 +3,7 @@ use Rattle.std.specs.List.{flat_map, slice_get}
 use Rattle.kx_include.specs.Shared.{body_at}
 use Rattle.kx_include.specs.declared.expansion.Link.{Link}
 use Rattle.kx_lex.specs.declared.fault.Fault.TheVariants.{Memory}
-use Rattle.kx_parse.specs.declared.tree.Mode.TheVariants.{Augment}
+use Rattle.kx_tree.specs.declared.tree.Mode.TheVariants.{Augment}
 use Rattle.kx_virtual_mods.specs.Counted.{crossing, statements_of}
 use Rattle.kx_virtual_mods.specs.declared.counted.Tally.{Tally}
 use Rattle.kx_virtual_mods.specs.Tallies.{Adds, HasAll, bodies_of, entry_statements, links_statements, map_statements}

@@ -1,5 +1,5 @@
 use Rattle.std.proofs.Common.{map, take}
-use Rattle.kx_parse.specs.declared.tree.Mode.{Mode}
+use Rattle.kx_tree.specs.declared.tree.Mode.{Mode}
 use Rattle.kx_virtual_mods.specs.Declarations.{mask_offer}
 use Rattle.kx_virtual_mods.proofs.Offering.{Offered}
 use Rattle.kx_virtual_mods.proofs.declared.records_for.Given as goal

@@ -1,5 +1,5 @@
 use Rattle.std.proofs.Common.{Some, cond, nat_eq, sym, ap, ◌∙◌}
-use Rattle.kx_parse.specs.declared.tree.Mode.TheVariants.{Augment}
+use Rattle.kx_tree.specs.declared.tree.Mode.TheVariants.{Augment}
 use Rattle.kx_codes.specs.Numbers.{number}
 use Rattle.kx_codes.specs.Pairs.{Pair, code_in, name_in}
 use Rattle.kx_codes.proofs.Standing.{inserted, put_new}

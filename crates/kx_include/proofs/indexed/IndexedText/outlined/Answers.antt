@@ -1,5 +1,5 @@
 use Rattle.std.proofs.Common.{Ok, List, ap}
-use Rattle.kx_parse.specs.declared.tree.Section.{Section}
+use Rattle.kx_tree.specs.declared.tree.Section.{Section}
 use Rattle.kx_include.specs.FileText.{outline_sections}
 use Rattle.kx_include.proofs.FileTexts.{unbuilt, unbuilt-found}
 use Rattle.kx_include.proofs.indexed.IndexedText.outlined.Goals as goal

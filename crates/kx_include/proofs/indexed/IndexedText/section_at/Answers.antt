@@ -1,6 +1,6 @@
 use Rattle.std.proofs.Common.{◌∙◌, Option, Some, List, ap, sym}
 use Rattle.std.specs.List.{slice_get}
-use Rattle.kx_parse.specs.declared.tree.Section.{Section}
+use Rattle.kx_tree.specs.declared.tree.Section.{Section}
 use Rattle.kx_include.specs.FileText.{outline_sections}
 use Rattle.kx_include.specs.Kept.{built_over, text_of}
 use Rattle.kx_include.specs.Library.{Text, sections_of}

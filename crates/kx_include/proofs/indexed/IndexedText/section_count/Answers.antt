@@ -1,5 +1,5 @@
 use Rattle.std.proofs.Common.{◌∙◌, Some, List, ap, length, sym}
-use Rattle.kx_parse.specs.declared.tree.Section.{Section}
+use Rattle.kx_tree.specs.declared.tree.Section.{Section}
 use Rattle.kx_include.specs.FileText.{outline_sections}
 use Rattle.kx_include.specs.Kept.{text_of}
 use Rattle.kx_include.specs.Library.{Text, sections_of}

@@ -1,6 +1,6 @@
 use Rattle.std.proofs.Common.{◌≡◌, ◌<◌, true, map, Some, length}
 use Rattle.std.specs.List.{slice_get}
-use Rattle.kx_parse.specs.declared.tree.Section.{Section}
+use Rattle.kx_tree.specs.declared.tree.Section.{Section}
 use Rattle.kx_include.specs.Held.{is_wanted}
 use Rattle.kx_include.specs.Library.{sections_in}
 use Rattle.kx_include.specs.declared.place.Place.{Place}

@@ -1,6 +1,6 @@
 use Rattle.std.proofs.Common.{subst, sym}
 use Rattle.kx_include.specs.Sharing.{AreKnown}
-use Rattle.kx_parse.specs.declared.tree.Kind.TheVariants.{Keycodes, Types, Compat, Symbols, Geometry}
+use Rattle.kx_tree.specs.declared.tree.Kind.TheVariants.{Keycodes, Types, Compat, Symbols, Geometry}
 use Rattle.kx_include.proofs.sources.Library.expand_section.Goals as goal
 
 pub add_section-requires-clause-known : goal.add_section-requires-clause-known

@@ -1,7 +1,7 @@
 use Rattle.std.proofs.Common.{◌∷◌, Contains, subst, sym}
 use Rattle.kx_include.specs.IncludeFaults.{at}
 use Rattle.kx_lex.specs.declared.fault.Fault.TheVariants.{Memory, UnknownField}
-use Rattle.kx_parse.specs.Sections.{word_span}
+use Rattle.kx_tree.specs.Sections.{word_span}
 use Rattle.kx_symbols.specs.KeyFaults.{other_faults}
 use Rattle.kx_symbols.proofs.Statements.{unknown_blamed}
 use Rattle.kx_symbols.proofs.defaults.SectionDefaults.after.Goals as goal

@@ -1,6 +1,0 @@
-use Rattle.kx_parse.proofs.PassedForms.{some-map}
-use Rattle.kx_parse.proofs.PassedValues.{signed-passes}
-use Rattle.kx_parse.proofs.passing.pass_signed.Goals as goal
-
-pub returns-clause-passes : goal.returns-clause-passes
-returns-clause-passes c = some-map c.pass_number.result (λ rest. signed-passes c.in_ok-pass_sign.ensures.passes) c.pass_number.ensures.passes

@@ -1,0 +1,3 @@
+pub mod LawfulValues
+pub mod PassedForms
+pub mod PassedValues
