@@ -28,13 +28,13 @@ tree kx_tree kx_parse
 includes kx_include
 sections kx_merge kx_codes kx_virtual_mods kx_actions kx_types kx_key_lists kx_key_fields
 sections kx_symbols kx_modmaps kx_compat kx_group_names kx_indicators
-resolved kx_builder kx_resolve kx_source
+resolved kx_builder kx_keys kx_resolve kx_source
 tables kx_tables
 image kx_image
 = A key's way, over tables or an image
 keyboard kx_run
 = Both
-calls kx_tool kx_headline
+calls kx_lines kx_tool kx_headline
 = Beside them
 print kx_print
 clients kx_clients kx_client_text

@@ -132,6 +132,7 @@ const NO_ACTION: XkcAction = XkcAction {
 };
 
 impl XkcCounts {
+    /// As C has it.
     pub fn of(counts: Counts) -> XkcCounts
         ensures { result ≡ counts_in_c counts }
     {
@@ -149,6 +150,7 @@ impl XkcCounts {
 }
 
 impl XkcType {
+    /// As C has it.
     pub fn of(row: TypeRow) -> XkcType
         ensures { result ≡ type_in_c row }
     {
@@ -162,6 +164,7 @@ impl XkcType {
 }
 
 impl XkcEntry {
+    /// As C has it.
     pub fn of(row: EntryRow) -> XkcEntry
         ensures { result ≡ entry_in_c row }
     {
@@ -174,6 +177,7 @@ impl XkcEntry {
 }
 
 impl XkcKey {
+    /// As C has it.
     pub fn of(row: KeyRow) -> XkcKey
         ensures { result ≡ key_in_c row }
     {
@@ -194,6 +198,7 @@ impl XkcKey {
 }
 
 impl XkcGroup {
+    /// As C has it.
     pub fn of(row: GroupRow) -> XkcGroup
         ensures { result ≡ group_in_c row }
     {
@@ -223,6 +228,7 @@ impl XkcAction {
         }
     }
 
+    /// As C has it.
     pub fn of(action: Action) -> XkcAction
         ensures { result ≡ action_in_c action }
     {
@@ -273,6 +279,7 @@ impl XkcAction {
 }
 
 impl XkcLevel {
+    /// As C has it.
     pub fn of(row: CellRow) -> XkcLevel
         ensures { result ≡ level_in_c row }
     {
@@ -285,6 +292,7 @@ impl XkcLevel {
 }
 
 impl XkcIndicator {
+    /// As C has it.
     pub fn of(row: IndicatorRow) -> XkcIndicator
         ensures { result ≡ indicator_in_c row }
     {

@@ -7,7 +7,7 @@ use Rattle.std.specs.Str.{bytes_eq}
 use Rattle.kx_merge.specs.Last.{last_given}
 use Rattle.std.specs.Option.{option_and_then, option_map, option_map_or, option_or}
 use Rattle.ks_core.specs.Table.{KeysymTable}
-use Rattle.kx_resolve.specs.Vmodmap.{ReadKeymap, brings, stands}
+use Rattle.kx_keys.specs.Vmodmap.{ReadKeymap, brings, stands}
 use Rattle.kx_resolve.specs.ReadVmodmap.{read_keymap_of}
 use Rattle.kx_compat.specs.Interpretations.{Interpretation}
 use Rattle.kx_clients.specs.IndicatorNames.{AreIndicatorNames}
@@ -31,9 +31,9 @@ use Rattle.kx_include.specs.Expansion.{Body, body_of}
 use Rattle.kx_include.specs.Library.{Library}
 use Rattle.kx_include.specs.Shared.{expanded_body}
 use Rattle.kx_include.specs.declared.expansion.Bodies.{Bodies}
-use Rattle.kx_resolve.specs.Selecting.{RealSet}
+use Rattle.kx_keys.specs.Selecting.{RealSet}
 use Rattle.kx_lex.specs.declared.name.Name.{Name}
-use Rattle.kx_resolve.specs.Mapping.{modmap_of}
+use Rattle.kx_keys.specs.Mapping.{modmap_of}
 use Rattle.kx_virtual_mods.specs.Declarations.{AreModNames, ModNames, declared_mask, modifier_bodies, virtual_names}
 use Rattle.kx_virtual_mods.specs.Sets.{any_below, has, real_of}
 use Rattle.kx_virtual_mods.specs.Standing.{stands_for}
@@ -58,8 +58,8 @@ use Rattle.kx_symbols.specs.Known.{Defaults, Known, no_defaults}
 use Rattle.kx_symbols.specs.declared.cells.Cell.{Cell}
 use Rattle.kx_symbols.specs.declared.cells.CellValue.{CellValue}
 use Rattle.kx_types.specs.Types.{NamedTypes, TypesShow, declared_names, declared_type, names_in, type_named}
-use Rattle.kx_resolve.specs.Given.{KeyGiven, given_by, given_in}
-use Rattle.kx_resolve.specs.Typing.{typing_by}
+use Rattle.kx_keys.specs.Given.{KeyGiven, given_by, given_in}
+use Rattle.kx_keys.specs.Typing.{typing_by}
 
 any_same : (n : ℕ) (f g : ℕ → Bool) → ((k : ℕ) → k < n → f k ≡ g k) → any_below n f ≡ any_below n g
 unfolding any_below

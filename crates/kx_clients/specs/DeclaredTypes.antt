@@ -4,8 +4,8 @@ use Rattle.std.specs.List.{flat_map}
 use Rattle.std.specs.Option.{option_map_or}
 use Rattle.kx_builder.specs.Resolved.{ResolvedType}
 use Rattle.kx_include.specs.Expansion.{Body}
-use Rattle.kx_resolve.specs.Keys.{type_with}
-use Rattle.kx_resolve.specs.Selecting.{RealSet}
+use Rattle.kx_keys.specs.Keys.{type_with}
+use Rattle.kx_keys.specs.Selecting.{RealSet}
 use Rattle.kx_types.specs.KeyTypes.{Definition}
 use Rattle.kx_types.specs.Types.{declared_names, declared_type}
 

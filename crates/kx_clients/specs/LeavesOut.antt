@@ -8,7 +8,7 @@ use Rattle.kx_include.specs.IncludeFaults.{IsWhole}
 use Rattle.kx_include.specs.Library.{Library}
 use Rattle.kx_include.specs.Source.{Handed, IsRead}
 use Rattle.kx_tree.specs.declared.tree.Kind.TheVariants.{Compat, Keycodes, Symbols, Types}
-use Rattle.kx_resolve.specs.Vmodmap.{stands}
+use Rattle.kx_keys.specs.Vmodmap.{stands}
 use Rattle.kx_source.specs.Meaning.{codes_in, interpretations_in, key_in, modifiers_of, modmap_in, read_keymap_in}
 use Rattle.kx_virtual_mods.specs.Sets.{real_of}
 use Rattle.kx_clients.specs.Aliases.{known_aliases}

@@ -9,11 +9,11 @@ use Rattle.kx_include.specs.Expansion.{Body}
 use Rattle.kx_lex.specs.declared.fault.Fault.{Fault}
 use Rattle.kx_modmaps.specs.Maps.{map_offers_of}
 use Rattle.kx_mods.specs.declared.mods.Mods.{Mods}
-use Rattle.kx_resolve.specs.Given.{given_in}
-use Rattle.kx_resolve.specs.Mapping.{modmap_of}
+use Rattle.kx_keys.specs.Given.{given_in}
+use Rattle.kx_keys.specs.Mapping.{modmap_of}
 use Rattle.kx_resolve.specs.ReadVmodmap.{read_keymap_of}
-use Rattle.kx_resolve.specs.Typing.{typing_by}
-use Rattle.kx_resolve.specs.Vmodmap.{stands}
+use Rattle.kx_keys.specs.Typing.{typing_by}
+use Rattle.kx_keys.specs.Vmodmap.{stands}
 use Rattle.kx_source.specs.Made.{mapped_faults}
 use Rattle.kx_source.specs.Meaning.{mapping_by}
 use Rattle.kx_symbols.specs.Keys.{KeyContent, KeysShow, key_at}

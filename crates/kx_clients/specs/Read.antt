@@ -1,7 +1,7 @@
 -- Which keys repeat, as it is read.
 use Rattle.std.specs.Prelude.{ℕ, Bool}
 use Rattle.kx_codes.specs.Codes.{name_of}
-use Rattle.kx_resolve.specs.Given.{given_in}
+use Rattle.kx_keys.specs.Given.{given_in}
 use Rattle.kx_resolve.specs.Modmaps.{modmap_at}
 use Rattle.kx_symbols.specs.Keys.{key_at}
 use Rattle.kx_clients.specs.Records.{repeat_recorded, truth_recorded}

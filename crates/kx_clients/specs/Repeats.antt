@@ -3,9 +3,9 @@ use Rattle.std.specs.Prelude.{ℕ, Bool, true, false, ◌&&◌, List, [], ◌∷
 use Rattle.kx_compat.specs.Interpretations.{Interpretation}
 use Rattle.kx_compat.specs.declared.interpretation_match.InterpretationMatch.{InterpretationMatch}
 use Rattle.kx_mods.specs.declared.mods.Mods.{Mods}
-use Rattle.kx_resolve.specs.Given.{KeyGiven}
-use Rattle.kx_resolve.specs.GroupTypes.{has_action, level_keysyms}
-use Rattle.kx_resolve.specs.Vmodmap.{interpretation_at}
+use Rattle.kx_keys.specs.Given.{KeyGiven}
+use Rattle.kx_keys.specs.GroupTypes.{has_action, level_keysyms}
+use Rattle.kx_keys.specs.Vmodmap.{interpretation_at}
 use Rattle.kx_clients.specs.declared.key_repeat.KeyRepeat.{KeyRepeat}
 use Rattle.kx_clients.specs.declared.key_repeat.KeyRepeat.TheVariants.{Yes, No, Default}
 

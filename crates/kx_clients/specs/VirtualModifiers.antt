@@ -3,7 +3,7 @@ use Rattle.std.specs.Prelude.{◌≡◌, ◌<◌, ℕ, List, length, map, slice_
 use Rattle.std.specs.Option.{option_map_or}
 use Rattle.kx_mods.specs.Mods.{mask}
 use Rattle.kx_mods.specs.declared.mods.Mods.{Mods}
-use Rattle.kx_resolve.specs.Selecting.{RealSet}
+use Rattle.kx_keys.specs.Selecting.{RealSet}
 use Rattle.kx_virtual_mods.specs.Sets.{has}
 use Rattle.kx_clients.specs.declared.virtual_modifier.VirtualModifier.{VirtualModifier}
 

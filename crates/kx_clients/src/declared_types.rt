@@ -1,7 +1,7 @@
 //! The key types that a source declares, with what their entries choose among real modifiers.
 ghost use Rattle.std.specs.Prelude.{◌≡◌, ◌++◌, ◌<◌, IfOk, OnOk, Some, length, map, slice_get};
 ghost use Rattle.std.specs.List.{flat_map};
-ghost use Rattle.kx_resolve.specs.Keys.{type_with};
+ghost use Rattle.kx_keys.specs.Keys.{type_with};
 ghost use Rattle.kx_types.specs.Types.{names_in, type_named};
 ghost use Rattle.kx_virtual_mods.specs.Sets.{real_of};
 ghost use Rattle.kx_virtual_mods.specs.Standing.{stands_for};
@@ -40,7 +40,7 @@ impl Model for DeclaredType {
 
 impl DeclaredType {
     ghost use Rattle.std.specs.Prelude.{◌≡◌, IfOk};
-    ghost use Rattle.kx_resolve.specs.Keys.{type_with};
+    ghost use Rattle.kx_keys.specs.Keys.{type_with};
     ghost use Rattle.kx_virtual_mods.specs.Sets.{real_of};
     ghost use Rattle.kx_virtual_mods.specs.Standing.{stands_for};
 

@@ -42,10 +42,10 @@ impl<'a, 'l> ReadKeys<'a, 'l> {
     ghost use Rattle.std.specs.Prelude.{◌≡◌, ◌<◌, ◌≤◌, ℕ, IfOk, false, get_or, length};
     ghost use Rattle.std.specs.Option.{option_map};
     ghost use Rattle.kx_basics.specs.declared.limits.TheConstants.{CODES};
-    ghost use Rattle.kx_resolve.specs.Given.{given, given_in};
-    ghost use Rattle.kx_resolve.specs.GroupTypes.{has_action, level_keysyms};
+    ghost use Rattle.kx_keys.specs.Given.{given, given_in};
+    ghost use Rattle.kx_keys.specs.GroupTypes.{has_action, level_keysyms};
     ghost use Rattle.kx_resolve.specs.Modmaps.{modmap_at};
-    ghost use Rattle.kx_resolve.specs.Vmodmap.{interpretation_at};
+    ghost use Rattle.kx_keys.specs.Vmodmap.{interpretation_at};
     ghost use Rattle.kx_symbols.specs.Keys.{key_at};
     ghost use Rattle.kx_clients.specs.Read.{read_repeats};
     ghost use Rattle.kx_clients.specs.Records.{truth_recorded};

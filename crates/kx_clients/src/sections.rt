@@ -50,10 +50,10 @@ impl<'a, 'l> Sections<'a, 'l> {
     ghost use Rattle.kx_lex.specs.declared.fault.Fault.TheVariants.{Memory};
     ghost use Rattle.kx_merge.specs.Reports.{ReportsOrRunsOut};
     ghost use Rattle.kx_modmaps.specs.Maps.{map_offers_of};
-    ghost use Rattle.kx_resolve.specs.Given.{given_in};
-    ghost use Rattle.kx_resolve.specs.Mapping.{modmap_of};
+    ghost use Rattle.kx_keys.specs.Given.{given_in};
+    ghost use Rattle.kx_keys.specs.Mapping.{modmap_of};
     ghost use Rattle.kx_resolve.specs.Modmaps.{modmap_at};
-    ghost use Rattle.kx_resolve.specs.Typing.{typing_by, typing_of};
+    ghost use Rattle.kx_keys.specs.Typing.{typing_by, typing_of};
     ghost use Rattle.kx_source.specs.Made.{mapped_faults};
     ghost use Rattle.kx_source.specs.Meaning.{mapping_by};
     ghost use Rattle.kx_symbols.specs.Keys.{KeysShow, key_at};

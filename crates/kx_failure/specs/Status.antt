@@ -1,9 +1,9 @@
 -- What a task that ends early leaves: its failure, and its status.
 use Rattle.std.specs.Prelude.{ℕ}
-use Rattle.kx_tool.specs.declared.fault.SessionFault.{SessionFault}
-use Rattle.kx_tool.specs.declared.fault.SessionFault.TheVariants.{Compile, Replay as Replayed}
-use Rattle.kx_tool.specs.declared.fault.ReplayFault.{ReplayFault}
-use Rattle.kx_tool.specs.declared.fault.ReplayFault.TheVariants.{Image as NoImage, Read, Write}
+use Rattle.kx_lines.specs.declared.fault.SessionFault.{SessionFault}
+use Rattle.kx_lines.specs.declared.fault.SessionFault.TheVariants.{Compile, Replay as Replayed}
+use Rattle.kx_lines.specs.declared.fault.ReplayFault.{ReplayFault}
+use Rattle.kx_lines.specs.declared.fault.ReplayFault.TheVariants.{Image as NoImage, Read, Write}
 use Rattle.kx_failure.specs.declared.file_kind.FileKind.{FileKind}
 use Rattle.kx_failure.specs.declared.failure.Failure.{Failure}
 use Rattle.kx_failure.specs.declared.failure.Failure.TheVariants.{

@@ -11,23 +11,23 @@ use Rattle.kx_builder.proofs.Agreeing.{group_below}
 use Rattle.kx_builder.specs.Agreement.{ShowsSame}
 use Rattle.kx_builder.specs.Valid.{EntryIsValid, TypeIsValid}
 use Rattle.kx_builder.specs.Resolved.{Resolved, ResolvedEntry, ResolvedKey, ResolvedType, consumed_mods, entry_chosen, key_coded, keymap_of_resolved, most_groups, shown_of_cell, shown_of_group, shown_of_key, shown_of_type}
-use Rattle.kx_resolve.specs.Rows.{set_mask}
-use Rattle.kx_resolve.specs.Selecting.{RealSet, consumed, level_selected}
+use Rattle.kx_keys.specs.Rows.{set_mask}
+use Rattle.kx_keys.specs.Selecting.{RealSet, consumed, level_selected}
 use Rattle.kx_virtual_mods.specs.Sets.{has, real_part}
 use Rattle.kx_mods.specs.Mods.{mask}
 use Rattle.kx_resolve.proofs.Bounded.{cell_at, group_at, groups_length, type_at, type_used}
-use Rattle.kx_resolve.proofs.Bits.{has_set, same_masks, set_small}
-use Rattle.kx_resolve.specs.Bounds.{TypeHolds}
-use Rattle.kx_resolve.specs.Given.{KeyGiven}
-use Rattle.kx_resolve.specs.GroupTypes.{content_group, group_count, group_type_name, type_definition}
-use Rattle.kx_resolve.specs.LevelActions.{LevelActions}
-use Rattle.kx_resolve.specs.Keys.{Keyed, cells_of, resolved_group, groups_of, key_if_named, key_of, keys_below, resolved_of, type_of, types_used}
+use Rattle.kx_keys.proofs.Bits.{has_set, same_masks, set_small}
+use Rattle.kx_keys.specs.Bounds.{TypeHolds}
+use Rattle.kx_keys.specs.Given.{KeyGiven}
+use Rattle.kx_keys.specs.GroupTypes.{content_group, group_count, group_type_name, type_definition}
+use Rattle.kx_keys.specs.LevelActions.{LevelActions}
+use Rattle.kx_keys.specs.Keys.{Keyed, cells_of, resolved_group, groups_of, key_if_named, key_of, keys_below, resolved_of, type_of, types_used}
 use Rattle.kx_resolve.specs.Shown.{groups_if, keymap_meant, most_groups_below, name_within, shown_by, shown_for, shown_if, shown_in}
 use Rattle.kx_tables.specs.Keymap.{level_of, nothing_shown}
 use Rattle.kx_tables.specs.Range.{in_range}
 use Rattle.kx_types.specs.KeyTypes.{Definition}
-use Rattle.kx_resolve.specs.Typing.{Typing}
-use Rattle.kx_resolve.proofs.RowsShown.{find_holds}
+use Rattle.kx_keys.specs.Typing.{Typing}
+use Rattle.kx_keys.proofs.RowsShown.{find_holds}
 
 -- ---- A type
 

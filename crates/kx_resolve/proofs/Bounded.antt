@@ -17,16 +17,16 @@ use Rattle.kx_builder.specs.Valid.{Apart, CellIsValid, EntryIsValid, GroupIsVali
 use Rattle.kx_builder.specs.Placed.{all_groups}
 use Rattle.kx_builder.specs.Resolved.{ResolvedGroup, ResolvedKey, ResolvedType}
 use Rattle.kx_builder.specs.Whole.{GroupIsWhole, IsWhole, KeyIsWhole, LevelExists, TypeIsWhole}
-use Rattle.kx_resolve.specs.Selecting.{RealSet}
+use Rattle.kx_keys.specs.Selecting.{RealSet}
 use Rattle.kx_resolve.proofs.Order.{all_there, in_order, stands_at}
-use Rattle.kx_resolve.proofs.Counting.{count_few}
+use Rattle.kx_keys.proofs.Counting.{count_few}
 use Rattle.kx_resolve.proofs.Typed.{types_valid, used_distinct}
-use Rattle.kx_resolve.specs.Bounds.{BoundsBelow, CellsAreValid, GroupsAreValid, KeepsBounds, OneCode, TypeHolds, levels_of_group}
-use Rattle.kx_resolve.specs.Given.{KeyGiven}
-use Rattle.kx_resolve.specs.GroupTypes.{content_group, group_count, group_type_name}
-use Rattle.kx_resolve.specs.LevelActions.{LevelActions}
-use Rattle.kx_resolve.specs.Keys.{Keyed, cell_of, cells_of, resolved_group, groups_of, key_if_named, key_of, keys_below, resolved_of, type_names, type_names_below, type_names_if, type_of, type_place, types_used}
-use Rattle.kx_resolve.specs.Typing.{Typing}
+use Rattle.kx_keys.specs.Bounds.{BoundsBelow, CellsAreValid, GroupsAreValid, KeepsBounds, OneCode, TypeHolds, levels_of_group}
+use Rattle.kx_keys.specs.Given.{KeyGiven}
+use Rattle.kx_keys.specs.GroupTypes.{content_group, group_count, group_type_name}
+use Rattle.kx_keys.specs.LevelActions.{LevelActions}
+use Rattle.kx_keys.specs.Keys.{Keyed, cell_of, cells_of, resolved_group, groups_of, key_if_named, key_of, keys_below, resolved_of, type_names, type_names_below, type_names_if, type_of, type_place, types_used}
+use Rattle.kx_keys.specs.Typing.{Typing}
 
 -- ---- Lists that grow at their end
 

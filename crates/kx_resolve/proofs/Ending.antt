@@ -5,16 +5,16 @@ use Rattle.kx_builder.specs.Valid.{IsValid}
 use Rattle.kx_builder.specs.IndicatorMaps.{ResolvedIndicator, keymap_with}
 use Rattle.kx_builder.specs.Resolved.{Resolved, keymap_of_resolved}
 use Rattle.kx_builder.specs.Whole.{IsWhole}
-use Rattle.kx_resolve.specs.Selecting.{RealSet}
+use Rattle.kx_keys.specs.Selecting.{RealSet}
 use Rattle.kx_resolve.proofs.Agree.{keymaps_agree}
 use Rattle.kx_resolve.proofs.Bounded.{resolved_valid, resolved_whole}
 use Rattle.kx_resolve.proofs.IndicatorMaps.{same_with}
 use Rattle.kx_resolve.proofs.Whole.{each_holds, same_trans}
-use Rattle.kx_resolve.specs.Bounds.{BoundsBelow, OneCode, TypeHolds}
-use Rattle.kx_resolve.specs.Keys.{Keyed, resolved_of, types_used}
+use Rattle.kx_keys.specs.Bounds.{BoundsBelow, OneCode, TypeHolds}
+use Rattle.kx_keys.specs.Keys.{Keyed, resolved_of, types_used}
 use Rattle.kx_resolve.specs.Shown.{keymap_meant}
 use Rattle.kx_tables.specs.Keymap.{Keymap}
-use Rattle.kx_resolve.specs.Typing.{Typing}
+use Rattle.kx_keys.specs.Typing.{Typing}
 
 module _ (real : ℕ → RealSet) (typing : Typing) (keyed : Keyed) (used : List (List ℕ)) (same : used ≡ types_used typing keyed.name keyed.key) (few : length used ≤ 4097) (hold : All (TypeHolds real typing) used) (bounds : BoundsBelow typing keyed 4096) (built : Resolved) (is : built ≡ resolved_of real typing keyed) where
   all_few : length (types_used typing keyed.name keyed.key) ≤ 4097

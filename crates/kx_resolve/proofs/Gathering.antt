@@ -5,10 +5,10 @@ use Rattle.std.proofs.lemmas.Option.{none-some}
 use Rattle.kx_codes.proofs.Ends.{all_gathered}
 use Rattle.kx_codes.specs.Codes.{IsEnd}
 use Rattle.kx_resolve.proofs.Steps.{below_next, used_next}
-use Rattle.kx_resolve.specs.Bounds.{BoundsBelow, KeepsBounds}
-use Rattle.kx_resolve.specs.Keys.{Keyed, key_if_named, keys_below, type_names_below, type_names_if}
-use Rattle.kx_resolve.specs.Typing.{Typing}
-use Rattle.kx_resolve.specs.Given.{KeyGiven}
+use Rattle.kx_keys.specs.Bounds.{BoundsBelow, KeepsBounds}
+use Rattle.kx_keys.specs.Keys.{Keyed, key_if_named, keys_below, type_names_below, type_names_if}
+use Rattle.kx_keys.specs.Typing.{Typing}
+use Rattle.kx_keys.specs.Given.{KeyGiven}
 
 pub used_whole : (typing : Typing) (name : ℕ → Option (List ℕ)) (key : ℕ → KeyGiven) (end : ℕ) → IsEnd end name → type_names_below typing name key 4096 ≡ type_names_below typing name key end
 used_whole typing name key end is = all_gathered (type_names_below typing name key) end name is (λ n none. used_next typing name key n ∙ ap (λ o. type_names_below typing name key n ++ type_names_if typing o (key n)) none ∙ append-nil (type_names_below typing name key n))

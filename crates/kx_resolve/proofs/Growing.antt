@@ -6,7 +6,7 @@ use Rattle.kx_builder.specs.Pushes.{change_last, group_with_cell, key_with_cell,
 use Rattle.kx_builder.proofs.Grown.{change_end, key_then_group}
 use Rattle.kx_builder.specs.Resolved.{Resolved, ResolvedCell, ResolvedGroup, ResolvedKey}
 use Rattle.kx_builder.specs.WithinLimits.{CellIsWithinLimits, GroupIsWithinLimits, IsWithinLimits, KeyIsWithinLimits}
-use Rattle.kx_resolve.specs.Bounds.{last_cells, last_cells_of}
+use Rattle.kx_keys.specs.Bounds.{last_cells, last_cells_of}
 
 -- ---- A change of the last
 

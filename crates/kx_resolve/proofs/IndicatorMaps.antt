@@ -26,7 +26,7 @@ use Rattle.kx_group_names.specs.Names.{AreCut, name_at}
 use Rattle.kx_indicators.specs.Bounds.{AreValid}
 use Rattle.kx_indicators.specs.IndicatorMaps.{IndicatorMap}
 use Rattle.kx_indicators.specs.Meaning.{Indicators}
-use Rattle.kx_resolve.specs.Selecting.{RealSet}
+use Rattle.kx_keys.specs.Selecting.{RealSet}
 use Rattle.kx_resolve.specs.Lit.{indicator_lit, indicators_of}
 use Rattle.kx_tables.specs.Keymap.{Keymap}
 

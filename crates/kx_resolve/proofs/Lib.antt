@@ -1,19 +1,9 @@
-mod Adding
-pub mod Bits
-mod Fining
-mod RowsShown
-pub mod Acting
-mod Back
-pub mod Counting
 mod Masks
 mod Visiting
 mod PlaceOrder
 mod PlaceSteps
 mod Walking
-mod VmodmapShown
 mod Brought
-pub mod Meant
-mod NameBits
 mod Agree
 mod Ending
 mod Bounded

@@ -5,14 +5,14 @@ use Rattle.std.proofs.lemmas.Bool.{eqb-true, or_right}
 use Rattle.std.proofs.lemmas.Bool.Decides.{nat_tests}
 use Rattle.std.specs.List.{list_any}
 use Rattle.std.specs.Option.{option_map_or}
-use Rattle.kx_resolve.proofs.Bits.{mods_is}
-use Rattle.kx_resolve.specs.Rows.{mods_of}
+use Rattle.kx_keys.proofs.Bits.{mods_is}
+use Rattle.kx_keys.specs.Rows.{mods_of}
 use Rattle.kx_virtual_mods.specs.Sets.{has}
 use Rattle.kx_mods.specs.Mods.{mask}
 use Rattle.kx_mods.specs.declared.mods.Mods.{Mods}
 use Rattle.kx_resolve.specs.Finding.{Firsts}
-use Rattle.kx_resolve.specs.Mapping.{Mapping, first_place, is_at, modmap_of}
-use Rattle.kx_resolve.specs.declared.places.LevelPlace.{LevelPlace}
+use Rattle.kx_keys.specs.Mapping.{Mapping, first_place, is_at, modmap_of}
+use Rattle.kx_keys.specs.declared.places.LevelPlace.{LevelPlace}
 use Rattle.kx_virtual_mods.proofs.Bits.{has_union}
 
 pub mods_joined : (mods : Mods) (one other : ℕ) → mask mods < 2 ^ 8 → mask mods ≡ bit_or one other → mods ≡ mods_of (λ real. has one real || has other real)

@@ -1,7 +1,7 @@
 -- What is made of the key of a code, by whether the code has a name and a statement names the key.
 use Rattle.std.proofs.Common.{◌≡◌, ℕ, List, Option, None, Some, ◌∙◌, sym}
 use Rattle.std.proofs.lemmas.Option.{none-some}
-use Rattle.kx_resolve.specs.Given.{KeyGiven, given, given_in}
+use Rattle.kx_keys.specs.Given.{KeyGiven, given, given_in}
 use Rattle.kx_resolve.specs.NamedKeys.{if_named}
 use Rattle.kx_symbols.specs.Keys.{KeyContent}
 

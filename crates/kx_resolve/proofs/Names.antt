@@ -4,18 +4,18 @@ use Rattle.std.proofs.lemmas.Option.{same_Some}
 use Rattle.kx_basics.specs.KeyNames.{IsKeyName}
 use Rattle.kx_builder.specs.Pushes.{with_key}
 use Rattle.kx_builder.specs.Resolved.{Resolved}
-use Rattle.kx_resolve.specs.Bounds.{GroupsAreValid, KeepsBounds}
-use Rattle.kx_resolve.specs.Keys.{key_if_named, key_of}
-use Rattle.kx_resolve.specs.LevelActions.{level_actions_of}
+use Rattle.kx_keys.specs.Bounds.{GroupsAreValid, KeepsBounds}
+use Rattle.kx_keys.specs.Keys.{key_if_named, key_of}
+use Rattle.kx_keys.specs.LevelActions.{level_actions_of}
 use Rattle.kx_compat.specs.Interpretations.{Interpretation}
-use Rattle.kx_resolve.specs.Selecting.{RealSet}
+use Rattle.kx_keys.specs.Selecting.{RealSet}
 use Rattle.kx_mods.specs.Mods.{mask}
 use Rattle.kx_mods.specs.declared.mods.Mods.{Mods}
 use Rattle.kx_symbols.specs.Keys.{KeyContent}
 use Rattle.kx_tables.specs.Sound.{RangeHolds}
-use Rattle.kx_resolve.specs.Given.{given_in}
-use Rattle.kx_resolve.specs.Typing.{Typing}
-use Rattle.kx_resolve.specs.GroupTypes.{group_count}
+use Rattle.kx_keys.specs.Given.{given_in}
+use Rattle.kx_keys.specs.Typing.{Typing}
+use Rattle.kx_keys.specs.GroupTypes.{group_count}
 
 module _ (typing : Typing) (real : ℕ → RealSet) (interpretations : List Interpretation) (modmap : Mods) (fits : mask modmap < 2 ^ 8) where
   abbrev Keeps : List ℕ → Option KeyContent → Type 0

@@ -3,8 +3,8 @@ use Rattle.std.proofs.Common.{◌≡◌, Bool, true, false, List, [], ◌∷◌,
 use Rattle.std.proofs.lemmas.Bool.Decides.{nat_tests}
 use Rattle.std.proofs.lemmas.List.Elements.{All-nil, All-push, All-weaker, Contains-append_left, Contains-push}
 use Rattle.kx_resolve.specs.Finding.{IsFirst, IsFirstOrNone}
-use Rattle.kx_resolve.specs.Mapping.{earlier, first_of, is_before}
-use Rattle.kx_resolve.specs.declared.places.LevelPlace.{LevelPlace}
+use Rattle.kx_keys.specs.Mapping.{earlier, first_of, is_before}
+use Rattle.kx_keys.specs.declared.places.LevelPlace.{LevelPlace}
 
 -- ---- The order is strict, and what isn't before one isn't before an earlier one
 

@@ -1,10 +1,10 @@
 -- What one number more makes of the places of a keysym.
 use Rattle.std.proofs.Common.{ℕ, ◌+◌, ◌≡◌, List, [], ◌++◌, append-nil, Option, None, Some, refl, subst, ap, ◌∙◌}
-use Rattle.kx_resolve.specs.Given.{KeyGiven, given_in}
-use Rattle.kx_resolve.specs.GroupTypes.{group_levels}
-use Rattle.kx_resolve.specs.Mapping.{Mapping, first_of, first_place, group_places, key_places, level_places, place_at, places_below}
-use Rattle.kx_resolve.specs.Typing.{Typing}
-use Rattle.kx_resolve.proofs.Counting.{none_count, one_more}
+use Rattle.kx_keys.specs.Given.{KeyGiven, given_in}
+use Rattle.kx_keys.specs.GroupTypes.{group_levels}
+use Rattle.kx_keys.specs.Mapping.{Mapping, first_of, first_place, group_places, key_places, level_places, place_at, places_below}
+use Rattle.kx_keys.specs.Typing.{Typing}
+use Rattle.kx_keys.proofs.Counting.{none_count, one_more}
 
 module _ (keysym : ℕ) where
   module _ (key : KeyGiven) (code : ℕ) where

@@ -1,13 +1,13 @@
 -- What one number more makes of keys, groups, levels and the types that they use.
 use Rattle.std.proofs.Common.{ℕ, ◌+◌, ◌≡◌, List, [], ◌∷◌, ◌++◌, Option, None, map, refl, subst, ap, ◌∙◌}
-use Rattle.kx_resolve.specs.Selecting.{RealSet}
+use Rattle.kx_keys.specs.Selecting.{RealSet}
 use Rattle.kx_virtual_mods.specs.Counted.{with_names}
-use Rattle.kx_resolve.specs.Given.{KeyGiven, given_in}
-use Rattle.kx_resolve.specs.GroupTypes.{group_count, group_type_name}
-use Rattle.kx_resolve.specs.LevelActions.{LevelActions}
-use Rattle.kx_resolve.specs.Keys.{Keyed, cell_of, cells_of, resolved_group, groups_of, key_if_named, keys_below, resolved_of, type_names, type_names_below, type_names_if, type_of, types_used}
-use Rattle.kx_resolve.specs.Typing.{Typing}
-use Rattle.kx_resolve.proofs.Counting.{none_count, one_more}
+use Rattle.kx_keys.specs.Given.{KeyGiven, given_in}
+use Rattle.kx_keys.specs.GroupTypes.{group_count, group_type_name}
+use Rattle.kx_keys.specs.LevelActions.{LevelActions}
+use Rattle.kx_keys.specs.Keys.{Keyed, cell_of, cells_of, resolved_group, groups_of, key_if_named, keys_below, resolved_of, type_names, type_names_below, type_names_if, type_of, types_used}
+use Rattle.kx_keys.specs.Typing.{Typing}
+use Rattle.kx_keys.proofs.Counting.{none_count, one_more}
 
 -- ---- Levels
 

@@ -11,17 +11,17 @@ use Rattle.std.proofs.lemmas.List.Elements.{All-append, All-cons, All-head, All-
 use Rattle.std.proofs.lemmas.Map.Made.{length-le_from_is_member}
 use mathlib.Core.Bool.{or-true}
 use Rattle.kx_builder.specs.Valid.{TypeIsValid}
-use Rattle.kx_resolve.specs.Selecting.{RealSet}
+use Rattle.kx_keys.specs.Selecting.{RealSet}
 use Rattle.kx_virtual_mods.specs.Counted.{with_names}
 use Rattle.kx_merge.specs.Offers.{with_name}
 use Rattle.kx_resolve.proofs.Order.{all_distinct}
-use Rattle.kx_resolve.specs.Bounds.{TypeHolds}
-use Rattle.kx_resolve.specs.Given.{KeyGiven}
-use Rattle.kx_resolve.specs.GroupTypes.{content_group, group_count, group_type_name, one_level_name, type_name, wanted_type}
-use Rattle.kx_resolve.specs.Keys.{type_names, type_names_below, type_names_if, type_of, types_used}
+use Rattle.kx_keys.specs.Bounds.{TypeHolds}
+use Rattle.kx_keys.specs.Given.{KeyGiven}
+use Rattle.kx_keys.specs.GroupTypes.{content_group, group_count, group_type_name, one_level_name, type_name, wanted_type}
+use Rattle.kx_keys.specs.Keys.{type_names, type_names_below, type_names_if, type_of, types_used}
 use Rattle.kx_types.specs.KeyTypes.{Definition}
 use Rattle.ks_core.specs.Keysym.{FurtherLetters}
-use Rattle.kx_resolve.specs.Typing.{Typing, typing_by}
+use Rattle.kx_keys.specs.Typing.{Typing, typing_by}
 use Rattle.kx_types.specs.Types.{NamedTypes, names_in, type_named}
 
 -- ---- What holds of each name that is used

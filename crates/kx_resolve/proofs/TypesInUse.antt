@@ -11,13 +11,13 @@ use Rattle.kx_basics.specs.declared.limits.TheConstants.{CODES}
 use Rattle.kx_merge.specs.Offers.{with_name}
 use Rattle.kx_resolve.proofs.Order.{extends_one, place_in, place_kept, same_self, with_next}
 use Rattle.kx_resolve.proofs.Steps.{groups_next, groups_none, names_next, names_none, used_next}
-use Rattle.kx_resolve.specs.Bounds.{CellsAreValid, GroupsAreValid}
-use Rattle.kx_resolve.specs.Given.{KeyGiven}
-use Rattle.kx_resolve.specs.GroupTypes.{content_group, group_count, group_type_name}
-use Rattle.kx_resolve.specs.Keys.{groups_of, type_names, type_names_below, type_names_if, type_place}
-use Rattle.kx_resolve.specs.LevelActions.{LevelActions}
+use Rattle.kx_keys.specs.Bounds.{CellsAreValid, GroupsAreValid}
+use Rattle.kx_keys.specs.Given.{KeyGiven}
+use Rattle.kx_keys.specs.GroupTypes.{content_group, group_count, group_type_name}
+use Rattle.kx_keys.specs.Keys.{groups_of, type_names, type_names_below, type_names_if, type_place}
+use Rattle.kx_keys.specs.LevelActions.{LevelActions}
 use Rattle.kx_resolve.specs.TypesInUse.{AreUsed, TypedAreValid, TypeInUse, no_type, typed_group, typed_groups, type_in_use, type_at}
-use Rattle.kx_resolve.specs.Typing.{Typing}
+use Rattle.kx_keys.specs.Typing.{Typing}
 
 -- ---- One type more
 

@@ -6,8 +6,8 @@ use Rattle.std.proofs.lemmas.Bool.Decides.{nat_tests}
 use Rattle.std.proofs.lemmas.List.Folds.{list_any_more}
 use Rattle.std.proofs.lemmas.List.Sums.{fold-append}
 use Rattle.kx_resolve.specs.Finding.{Firsts, Visits}
-use Rattle.kx_resolve.specs.Mapping.{earlier, is_before}
-use Rattle.kx_resolve.specs.declared.places.LevelPlace.{LevelPlace}
+use Rattle.kx_keys.specs.Mapping.{earlier, is_before}
+use Rattle.kx_keys.specs.declared.places.LevelPlace.{LevelPlace}
 
 nothing : (o : Option (Option LevelPlace)) → o ≡ option_map (λ first. first) o
 nothing None = refl

@@ -2,15 +2,15 @@
 use Rattle.std.proofs.Common.{ℕ, ◌+◌, ◌≡◌, ◌++◌, ◌∷◌, Bool, true, false, List, [], None, Some, fold, nat_eq, refl, sym, subst, ap, ◌∙◌, if◌then◌else◌}
 use Rattle.std.specs.Option.{IfSome, option_map}
 use Rattle.std.specs.Set.{is_member}
-use Rattle.kx_resolve.specs.Given.{KeyGiven}
-use Rattle.kx_resolve.specs.GroupTypes.{content_group, group_levels, level_keysyms}
+use Rattle.kx_keys.specs.Given.{KeyGiven}
+use Rattle.kx_keys.specs.GroupTypes.{content_group, group_levels, level_keysyms}
 use Rattle.kx_resolve.proofs.Visiting.{visits_alike, visits_both}
 use Rattle.kx_resolve.proofs.PlaceOrder.{first_is_first}
 use Rattle.kx_resolve.proofs.PlaceSteps.{below_next, first_is, groups_next, levels_next}
 use Rattle.kx_resolve.specs.Finding.{Firsts, IsFirstOrNone, Visits}
-use Rattle.kx_resolve.specs.Mapping.{Mapping, earlier, first_place, group_places, key_places, level_places, place_at, places_below}
-use Rattle.kx_resolve.specs.Typing.{Typing}
-use Rattle.kx_resolve.specs.declared.places.LevelPlace.{LevelPlace}
+use Rattle.kx_keys.specs.Mapping.{Mapping, earlier, first_place, group_places, key_places, level_places, place_at, places_below}
+use Rattle.kx_keys.specs.Typing.{Typing}
+use Rattle.kx_keys.specs.declared.places.LevelPlace.{LevelPlace}
 
 module _ (old now new : Firsts) where
   module _ (key : KeyGiven) (code group : ℕ) where

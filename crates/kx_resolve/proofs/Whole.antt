@@ -5,13 +5,13 @@ use Rattle.std.specs.Str.{bytes_eq}
 use Rattle.std.proofs.lemmas.List.{length-append}
 use Rattle.kx_builder.specs.Agreement.{ShowsSame}
 use Rattle.kx_builder.specs.Resolved.{Resolved}
-use Rattle.kx_resolve.specs.Selecting.{RealSet}
+use Rattle.kx_keys.specs.Selecting.{RealSet}
 use Rattle.kx_resolve.proofs.Steps.{resolved_is}
 use Rattle.kx_resolve.proofs.Typed.{found_holds}
-use Rattle.kx_resolve.specs.Bounds.{BoundsBelow, KeepsBounds, TypeHolds}
-use Rattle.kx_resolve.specs.Keys.{Keyed, key_if_named, keys_below, resolved_of, type_of, types_used}
+use Rattle.kx_keys.specs.Bounds.{BoundsBelow, KeepsBounds, TypeHolds}
+use Rattle.kx_keys.specs.Keys.{Keyed, key_if_named, keys_below, resolved_of, type_of, types_used}
 use Rattle.kx_tables.specs.Keymap.{Keymap}
-use Rattle.kx_resolve.specs.Typing.{Typing}
+use Rattle.kx_keys.specs.Typing.{Typing}
 
 pub same_trans : (a b c : Keymap) → ShowsSame a b → ShowsSame b c → ShowsSame a c
 same_trans a b c one two = record {

@@ -2,8 +2,8 @@
 use Rattle.std.specs.Prelude.{◌≡◌, ℕ, nat_eq, false, All, Contains, List, [], Option, None, Some, fold}
 use Rattle.std.specs.Option.{option_map}
 use Rattle.indexmap.specs.IndexMap.{IndexMap, get}
-use Rattle.kx_resolve.specs.Mapping.{earlier, is_before}
-use Rattle.kx_resolve.specs.declared.places.LevelPlace.{LevelPlace}
+use Rattle.kx_keys.specs.Mapping.{earlier, is_before}
+use Rattle.kx_keys.specs.declared.places.LevelPlace.{LevelPlace}
 
 -- the first places of keysyms, of those that are looked for
 abbrev pub Firsts : Type 0

@@ -4,8 +4,8 @@ use Rattle.std.specs.List.{zip}
 use Rattle.kx_builder.specs.IndicatorMaps.{ResolvedIndicator}
 use Rattle.kx_indicators.specs.IndicatorMaps.{IndicatorMap}
 use Rattle.kx_indicators.specs.Meaning.{Indicators}
-use Rattle.kx_resolve.specs.Rows.{mods_of}
-use Rattle.kx_resolve.specs.Selecting.{RealSet}
+use Rattle.kx_keys.specs.Rows.{mods_of}
+use Rattle.kx_keys.specs.Selecting.{RealSet}
 use Rattle.kx_tables.specs.declared.rows.States.{States}
 
 -- the states whose bits are those of a number

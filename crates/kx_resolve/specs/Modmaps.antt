@@ -3,7 +3,7 @@ use Rattle.std.specs.Prelude.{ℕ, ◌||◌, nat_eq, Bool, List}
 use Rattle.std.specs.Map.{lookup}
 use Rattle.std.specs.Option.{option_map_or}
 use Rattle.indexmap.specs.IndexMap.{IndexMap, get}
-use Rattle.kx_resolve.specs.Rows.{mods_of}
+use Rattle.kx_keys.specs.Rows.{mods_of}
 use Rattle.kx_virtual_mods.specs.Sets.{has}
 use Rattle.kx_modmaps.specs.Maps.{Maps, key_mask}
 use Rattle.kx_mods.specs.Mods.{mask}

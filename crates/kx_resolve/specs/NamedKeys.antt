@@ -3,13 +3,13 @@ use Rattle.std.specs.Prelude.{ℕ, List, Option, None, Some}
 use Rattle.kx_codes.specs.Codes.{name_of}
 use Rattle.kx_modmaps.specs.Maps.{Maps}
 use Rattle.kx_symbols.specs.Keys.{KeyContent, key_at}
-use Rattle.kx_resolve.specs.Given.{KeyGiven, given_in}
-use Rattle.kx_resolve.specs.Mapping.{Mapping, group_places, key_places}
-use Rattle.kx_resolve.specs.GroupTypes.{group_count}
-use Rattle.kx_resolve.specs.Keys.{type_names_below, type_names_if, types_used}
+use Rattle.kx_keys.specs.Given.{KeyGiven, given_in}
+use Rattle.kx_keys.specs.Mapping.{Mapping, group_places, key_places}
+use Rattle.kx_keys.specs.GroupTypes.{group_count}
+use Rattle.kx_keys.specs.Keys.{type_names_below, type_names_if, types_used}
 use Rattle.kx_resolve.specs.ReadMapping.{mapping_of}
-use Rattle.kx_resolve.specs.Typing.{Typing, typing_of}
-use Rattle.kx_resolve.specs.declared.places.LevelPlace.{LevelPlace}
+use Rattle.kx_keys.specs.Typing.{Typing, typing_of}
+use Rattle.kx_keys.specs.declared.places.LevelPlace.{LevelPlace}
 use Rattle.kx_resolve.specs.declared.named_keys.NamedKeys.{NamedKeys}
 
 -- a key whose code has a name

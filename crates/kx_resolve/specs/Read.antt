@@ -4,19 +4,19 @@ use Rattle.kx_builder.specs.IndicatorMaps.{ResolvedIndicator}
 use Rattle.kx_builder.specs.Resolved.{Resolved, ResolvedKey, ResolvedType}
 use Rattle.kx_mods.specs.Mods.{mask}
 use Rattle.kx_mods.specs.declared.mods.Mods.{Mods}
-use Rattle.kx_resolve.specs.Bounds.{BoundsBelow, KeepsBounds, TypeHolds}
-use Rattle.kx_resolve.specs.Given.{KeyGiven, given}
-use Rattle.kx_resolve.specs.Keys.{Keyed, key_if_named, keyed_of, keys_below, resolved_of, type_of}
+use Rattle.kx_keys.specs.Bounds.{BoundsBelow, KeepsBounds, TypeHolds}
+use Rattle.kx_keys.specs.Given.{KeyGiven, given}
+use Rattle.kx_keys.specs.Keys.{Keyed, key_if_named, keyed_of, keys_below, resolved_of, type_of}
 use Rattle.kx_resolve.specs.Lit.{indicators_of}
 use Rattle.kx_resolve.specs.Modmaps.{modmap_at}
 use Rattle.kx_resolve.specs.NamedKeys.{names_at, typing_in}
 use Rattle.kx_resolve.specs.ReadVmodmap.{read_keymap_of}
-use Rattle.kx_resolve.specs.Selecting.{RealSet}
+use Rattle.kx_keys.specs.Selecting.{RealSet}
 use Rattle.kx_resolve.specs.Shown.{keymap_meant}
-use Rattle.kx_resolve.specs.Standing.{real_by}
+use Rattle.kx_keys.specs.Standing.{real_by}
 use Rattle.kx_resolve.specs.TypesInUse.{TypeInUse, type_in_use}
-use Rattle.kx_resolve.specs.Typing.{Typing}
-use Rattle.kx_resolve.specs.Vmodmap.{ReadKeymap, brings, is_in_vmodmap}
+use Rattle.kx_keys.specs.Typing.{Typing}
+use Rattle.kx_keys.specs.Vmodmap.{ReadKeymap, brings, is_in_vmodmap}
 use Rattle.kx_symbols.specs.Keys.{KeyContent}
 use Rattle.kx_tables.specs.Keymap.{Keymap}
 use Rattle.kx_virtual_mods.specs.Sets.{has}

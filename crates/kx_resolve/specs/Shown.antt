@@ -2,17 +2,17 @@
 -- Keyboard Extension, keyboard mapping: key types and groups).
 use Rattle.std.specs.Prelude.{ℕ, zero, suc, pos, ◌-◌, ◌==◌, nat_lt, List, [], max, Option, None, is_some, unwrap_or, if◌then◌else◌}
 use Rattle.std.specs.Option.{option_map_or}
-use Rattle.kx_resolve.specs.Rows.{set_mask}
-use Rattle.kx_resolve.specs.Selecting.{RealSet, consumed, level_selected}
+use Rattle.kx_keys.specs.Rows.{set_mask}
+use Rattle.kx_keys.specs.Selecting.{RealSet, consumed, level_selected}
 use Rattle.kx_virtual_mods.specs.Sets.{has, real_part}
-use Rattle.kx_resolve.specs.Given.{KeyGiven}
-use Rattle.kx_resolve.specs.GroupTypes.{content_group, group_count, group_type_name, type_definition}
+use Rattle.kx_keys.specs.Given.{KeyGiven}
+use Rattle.kx_keys.specs.GroupTypes.{content_group, group_count, group_type_name, type_definition}
 use Rattle.kx_tables.specs.Keymap.{Keymap, Shown, nothing_shown}
 use Rattle.kx_tables.specs.Range.{in_range}
-use Rattle.kx_resolve.specs.LevelActions.{LevelActions}
-use Rattle.kx_resolve.specs.Keys.{Keyed}
+use Rattle.kx_keys.specs.LevelActions.{LevelActions}
+use Rattle.kx_keys.specs.Keys.{Keyed}
 use Rattle.kx_types.specs.KeyTypes.{Definition}
-use Rattle.kx_resolve.specs.Typing.{Typing}
+use Rattle.kx_keys.specs.Typing.{Typing}
 use Rattle.kx_basics.specs.declared.limits.TheConstants.{CODES}
 
 -- `real` is what a set of modifiers stands for, `typing` tells the types of groups

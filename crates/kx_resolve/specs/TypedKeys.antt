@@ -1,9 +1,9 @@
 -- Keys with the types of their groups, made out.
 use Rattle.std.specs.Prelude.{ℕ, List, length}
 use Rattle.kx_builder.specs.Resolved.{ResolvedGroup, ResolvedKey}
-use Rattle.kx_resolve.specs.Bounds.{CellsAreValid}
-use Rattle.kx_resolve.specs.GroupTypes.{content_group}
-use Rattle.kx_resolve.specs.InterpretedKey.{InterpretedKey, actions_of, given_to}
+use Rattle.kx_keys.specs.Bounds.{CellsAreValid}
+use Rattle.kx_keys.specs.GroupTypes.{content_group}
+use Rattle.kx_keys.specs.InterpretedKey.{InterpretedKey, actions_of, given_to}
 use Rattle.kx_resolve.specs.TypesInUse.{TypeInUse, TypedAreValid, typed_group, typed_groups}
 
 module _ (key : InterpretedKey) where

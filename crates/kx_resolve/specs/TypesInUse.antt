@@ -3,12 +3,12 @@ use Rattle.std.specs.Prelude.{◌≡◌, ◌<◌, ◌%◌, ◌^◌, ℕ, zero, s
 use Rattle.std.specs.List.{list_any}
 use Rattle.std.specs.Str.{bytes_eq}
 use Rattle.kx_builder.specs.Resolved.{ResolvedGroup}
-use Rattle.kx_resolve.specs.Bounds.{CellsAreValid}
-use Rattle.kx_resolve.specs.Given.{KeyGiven}
-use Rattle.kx_resolve.specs.GroupTypes.{content_group, type_definition}
-use Rattle.kx_resolve.specs.Keys.{cells_of, type_place}
-use Rattle.kx_resolve.specs.LevelActions.{LevelActions}
-use Rattle.kx_resolve.specs.Typing.{Typing}
+use Rattle.kx_keys.specs.Bounds.{CellsAreValid}
+use Rattle.kx_keys.specs.Given.{KeyGiven}
+use Rattle.kx_keys.specs.GroupTypes.{content_group, type_definition}
+use Rattle.kx_keys.specs.Keys.{cells_of, type_place}
+use Rattle.kx_keys.specs.LevelActions.{LevelActions}
+use Rattle.kx_keys.specs.Typing.{Typing}
 use Rattle.kx_virtual_mods.specs.Counted.{with_names}
 
 pub record TypeInUse : Type 0 where

@@ -1,7 +1,7 @@
 -- What becomes of the types in use by the types of more groups.
 use Rattle.std.specs.Prelude.{ℕ, List, ◌++◌}
 use Rattle.kx_resolve.specs.TypesInUse.{AreUsed}
-use Rattle.kx_resolve.specs.Typing.{Typing}
+use Rattle.kx_keys.specs.Typing.{Typing}
 use Rattle.kx_resolve.specs.declared.types_in_use.UsedTypes.{UsedTypes}
 
 -- those of these names are added

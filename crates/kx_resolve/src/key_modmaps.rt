@@ -7,7 +7,7 @@ ghost use Rattle.kx_lex.specs.declared.fault.Fault.TheVariants.{Memory};
 ghost use Rattle.kx_virtual_mods.specs.Sets.{has};
 ghost use Rattle.kx_modmaps.specs.Maps.{shown_entry};
 ghost use Rattle.kx_mods.specs.Mods.{mask};
-ghost use Rattle.kx_resolve.specs.Mapping.{is_at};
+ghost use Rattle.kx_keys.specs.Mapping.{is_at};
 ghost use Rattle.kx_resolve.specs.Modmaps.{is_mapped};
 
 use crate::finding::{FirstPlaces, first_places};
@@ -47,7 +47,7 @@ impl Model for KeyModmaps {
 impl KeyModmaps {
     ghost use Rattle.std.specs.Prelude.{◌≡◌, ℕ, IfErr, IfOk};
     ghost use Rattle.kx_lex.specs.declared.fault.Fault.TheVariants.{Memory};
-    ghost use Rattle.kx_resolve.specs.Mapping.{modmap_of};
+    ghost use Rattle.kx_keys.specs.Mapping.{modmap_of};
     ghost use Rattle.kx_resolve.specs.Modmaps.{modmap_at};
     ghost use Rattle.kx_resolve.specs.NamedKeys.{mapping_in};
 

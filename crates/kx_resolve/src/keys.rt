@@ -6,8 +6,8 @@ ghost use Rattle.kx_builder.specs.Valid.{CellIsValid};
 ghost use Rattle.kx_lex.specs.declared.fault.Fault.TheVariants.{Memory};
 ghost use Rattle.kx_mods.specs.Mods.{mask};
 ghost use Rattle.kx_resolve.specs.Bare.{with_keys};
-ghost use Rattle.kx_resolve.specs.Bounds.{last_cells};
-ghost use Rattle.kx_resolve.specs.InterpretedKey.{LevelsAreValid, cell_at, cells_at, given_to};
+ghost use Rattle.kx_keys.specs.Bounds.{last_cells};
+ghost use Rattle.kx_keys.specs.InterpretedKey.{LevelsAreValid, cell_at, cells_at, given_to};
 ghost use Rattle.kx_resolve.specs.Modmaps.{modmap_at};
 ghost use Rattle.kx_resolve.specs.NamedKeys.{names_used, typing_in};
 ghost use Rattle.kx_resolve.specs.Read.{AreAhead, KeepBoundsBelow, KeepsBoundsAt, keys_at, keys_read, typing_read};
@@ -15,14 +15,14 @@ ghost use Rattle.kx_resolve.specs.TypedKeys.{GroupIsValid, GroupsAreValid, group
 ghost use Rattle.kx_resolve.specs.TypesInUse.{type_in_use};
 ghost use Rattle.kx_tables.specs.Sound.{RangeHolds};
 
-use crate::given::{keysyms_at, range};
-use crate::group_types::{content_group, group_count};
-use crate::interpreted_key::InterpretedKey;
 use crate::key_modmaps::KeyModmaps;
 use crate::read::Read;
 use crate::tables_builder::TablesBuilder;
 use crate::types_in_use::{TypeInUse, UsedTypes};
 use ks_core::Note;
+use kx_keys::given::{keysyms_at, range};
+use kx_keys::group_types::{content_group, group_count};
+use kx_keys::interpreted_key::InterpretedKey;
 use kx_lex::Fault;
 use kx_mods::Mods;
 use kx_symbols::KeyRecord;

@@ -1,6 +1,6 @@
 //! Keys by code, with what tells their types.
-use crate::typing::Typing;
 use kx_codes::Codes;
+use kx_keys::typing::Typing;
 use kx_symbols::{KeyRecord, Keys};
 
 /// The keys of a keymap, by their codes.

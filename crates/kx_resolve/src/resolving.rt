@@ -5,7 +5,7 @@ ghost use Rattle.kx_builder.specs.IndicatorMaps.{keymap_with, with_indicator_map
 ghost use Rattle.kx_builder.specs.Placed.{content_of_resolved};
 ghost use Rattle.kx_codes.specs.Codes.{name_of};
 ghost use Rattle.kx_lex.specs.declared.fault.Fault.TheVariants.{Memory};
-ghost use Rattle.kx_resolve.specs.Bounds.{OneCode};
+ghost use Rattle.kx_keys.specs.Bounds.{OneCode};
 ghost use Rattle.kx_resolve.specs.Read.{lit_in, meant_in, resolved_in};
 ghost use Rattle.kx_tables.specs.Keymap.{keymap_of};
 ghost use Rattle.kx_tables.specs.RawTables.{content_of};

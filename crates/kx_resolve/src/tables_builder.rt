@@ -53,7 +53,7 @@ impl TablesBuilder {
     ghost use Rattle.kx_builder.specs.WithinLimits.{TypeIsWithinLimits};
     ghost use Rattle.kx_lex.specs.declared.fault.Fault.TheVariants.{Memory};
     ghost use Rattle.kx_resolve.specs.Bare.{bare_group, bare_key, whole_type};
-    ghost use Rattle.kx_resolve.specs.Bounds.{last_cells};
+    ghost use Rattle.kx_keys.specs.Bounds.{last_cells};
     ghost use Rattle.kx_tables.specs.Keymap.{keymap_of};
     ghost use Rattle.kx_tables.specs.RawTables.{content_of};
     ghost use Rattle.kx_tables.specs.Sound.{Sound};

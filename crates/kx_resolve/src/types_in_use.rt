@@ -3,17 +3,17 @@ ghost use Rattle.std.specs.Prelude.{◌≡◌, ◌≤◌, ◌+◌, ◌%◌, ◌^
 ghost use Rattle.kx_basics.specs.declared.limits.TheConstants.{CODES, MOST_LEVELS};
 ghost use Rattle.kx_lex.specs.declared.fault.Fault.TheVariants.{Memory};
 ghost use Rattle.kx_resolve.specs.TypesInUse.{type_in_use};
-ghost use Rattle.kx_resolve.specs.Given.{given};
-ghost use Rattle.kx_resolve.specs.GroupTypes.{group_count, group_type_name};
-ghost use Rattle.kx_resolve.specs.Keys.{type_names};
+ghost use Rattle.kx_keys.specs.Given.{given};
+ghost use Rattle.kx_keys.specs.GroupTypes.{group_count, group_type_name};
+ghost use Rattle.kx_keys.specs.Keys.{type_names};
 ghost use Rattle.kx_resolve.specs.NamedKeys.{names_at, names_used, typing_in, used_in};
 ghost use Rattle.kx_resolve.specs.UsedTypes.{Adds};
-ghost use Rattle.kx_resolve.specs.Typing.{typing_of};
+ghost use Rattle.kx_keys.specs.Typing.{typing_of};
 ghost use Rattle.kx_types.specs.declared.limits.TheConstants.{MOST_TYPES};
 
-use crate::group_types::{GroupType, group_count, group_type_near};
 use crate::named_keys::NamedKeys;
-use crate::typing::Typing;
+use kx_keys::group_types::{GroupType, group_count, group_type_near};
+use kx_keys::typing::Typing;
 use kx_lex::Fault;
 use kx_symbols::KeyRecord;
 use kx_virtual_mods::Names;

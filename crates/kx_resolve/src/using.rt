@@ -3,16 +3,16 @@ ghost use Rattle.std.specs.Prelude.{◌≡◌, ◌≤◌, ◌+◌, ℕ, All, IfE
 ghost use Rattle.kx_basics.specs.declared.limits.TheConstants.{MOST_NAME_BYTES};
 ghost use Rattle.kx_builder.specs.Valid.{TypeIsValid};
 ghost use Rattle.kx_builder.specs.Pushes.{with_type};
-ghost use Rattle.kx_resolve.specs.Rows.{RowsShow, entry_rows, mods_of};
+ghost use Rattle.kx_keys.specs.Rows.{RowsShow, entry_rows, mods_of};
 ghost use Rattle.kx_lex.specs.declared.fault.Fault.TheVariants.{Memory};
-ghost use Rattle.kx_resolve.specs.Keys.{type_with};
+ghost use Rattle.kx_keys.specs.Keys.{type_with};
 ghost use Rattle.kx_resolve.specs.Read.{TypeHoldsIn, type_in};
-ghost use Rattle.kx_resolve.specs.Standing.{real_by};
+ghost use Rattle.kx_keys.specs.Standing.{real_by};
 ghost use Rattle.kx_types.specs.declared.limits.TheConstants.{MOST_TYPES};
 
 use crate::read::Read;
-use crate::rows::TypeRows;
 use crate::tables_builder::TablesBuilder;
+use kx_keys::rows::TypeRows;
 use kx_lex::Fault;
 use kx_mods::Mods;
 use kx_types::KeyType;

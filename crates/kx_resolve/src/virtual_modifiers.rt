@@ -1,20 +1,20 @@
 //! What virtual modifiers stand for.
 ghost use Rattle.std.specs.Prelude.{◌≡◌, ◌<◌, ◌&&◌, ◌||◌, ℕ, IfErr, IfOk, OnOk, slice_get};
 ghost use Rattle.std.specs.Option.{option_map_or};
-ghost use Rattle.kx_resolve.specs.InterpretedKey.{brings_by};
+ghost use Rattle.kx_keys.specs.InterpretedKey.{brings_by};
 ghost use Rattle.kx_resolve.specs.MappedKeys.{BringsMore, is_brought};
 ghost use Rattle.kx_resolve.specs.Read.{brings_at, brings_of, keymap_read};
-ghost use Rattle.kx_resolve.specs.Vmodmap.{stands};
+ghost use Rattle.kx_keys.specs.Vmodmap.{stands};
 ghost use Rattle.kx_lex.specs.declared.fault.Fault.TheVariants.{Memory};
 ghost use Rattle.kx_virtual_mods.specs.Sets.{any_below, has, has_virtual};
 ghost use Rattle.kx_virtual_mods.specs.Standing.{stands_for};
 ghost use Rattle.kx_mods.specs.Mods.{mask};
-ghost use Rattle.kx_resolve.specs.Typing.{typing_of};
+ghost use Rattle.kx_keys.specs.Typing.{typing_of};
 ghost use Rattle.kx_basics.specs.declared.limits.TheConstants.{CODES};
 
-use crate::interpreted_key::InterpretedKey;
 use crate::read::InterpretedKeys;
-use crate::typing::Typing;
+use kx_keys::interpreted_key::InterpretedKey;
+use kx_keys::typing::Typing;
 use kx_lex::Fault;
 use kx_mods::Mods;
 use kx_symbols::KeyRecord;

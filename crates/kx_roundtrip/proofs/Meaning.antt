@@ -3,8 +3,8 @@ use Rattle.std.proofs.Common.{◌≡◌, ℕ, suc, ◌+◌, ◌<◌, ◌≤◌, 
 use Rattle.std.specs.List.{list_all, zip}
 use Rattle.ks_core.specs.Table.{KeysymTable}
 use Rattle.ks_core.specs.Lines.{is_sound}
-use Rattle.kx_resolve.specs.Vmodmap.{stands}
-use Rattle.kx_resolve.specs.LevelActions.{level_actions_of}
+use Rattle.kx_keys.specs.Vmodmap.{stands}
+use Rattle.kx_keys.specs.LevelActions.{level_actions_of}
 use Rattle.kx_builder.specs.IndicatorMaps.{ResolvedIndicator, with_indicator_maps}
 use Rattle.kx_builder.specs.Placed.{content_of_resolved}
 use Rattle.kx_builder.specs.Resolved.{ResolvedCell, ResolvedType}
@@ -17,8 +17,8 @@ use Rattle.kx_include.specs.Expansion.{Begin, End}
 use Rattle.kx_include.specs.declared.place.Place.{Place}
 use Rattle.kx_indicators.specs.IndicatorMaps.{IndicatorMap}
 use Rattle.kx_indicators.specs.Meaning.{indicator_map_of}
-use Rattle.kx_resolve.specs.Selecting.{RealSet}
-use Rattle.kx_resolve.specs.Mapping.{Mapping}
+use Rattle.kx_keys.specs.Selecting.{RealSet}
+use Rattle.kx_keys.specs.Mapping.{Mapping}
 use Rattle.kx_virtual_mods.specs.Sets.{has}
 use Rattle.kx_merge.specs.Offers.{value_of}
 use Rattle.kx_mods.specs.Mods.{mask}

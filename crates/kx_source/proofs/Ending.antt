@@ -19,7 +19,7 @@ use Rattle.kx_virtual_mods.specs.Declarations.{AreModNames, ModNames, modifier_b
 use Rattle.kx_virtual_mods.specs.Sets.{real_of}
 use Rattle.kx_virtual_mods.specs.Standing.{stands_for}
 use Rattle.kx_tree.specs.declared.tree.Kind.TheVariants.{Keycodes}
-use Rattle.kx_resolve.specs.Keys.{keyed_of}
+use Rattle.kx_keys.specs.Keys.{keyed_of}
 use Rattle.kx_resolve.specs.Lit.{indicators_of}
 use Rattle.kx_resolve.specs.Shown.{keymap_meant}
 use Rattle.kx_source.proofs.Joining.{keymap_same, lit_same, resolved_same}
@@ -30,7 +30,7 @@ use Rattle.kx_source.specs.Source.{HasFault, HasFaultIn, HoldsAll, Means, statem
 use Rattle.kx_tables.specs.Content.{Content}
 use Rattle.kx_tables.specs.Keymap.{keymap_of}
 use Rattle.kx_types.specs.Types.{NamedTypes, TypesShow}
-use Rattle.kx_resolve.specs.Typing.{typing_by}
+use Rattle.kx_keys.specs.Typing.{typing_by}
 
 module _ (library : Library) (bodies : Bodies) (are : AreBodies library bodies) (m : ModNames) (shows : AreModNames m (modifier_bodies bodies)) (types : NamedTypes) (types_show : TypesShow types m.names (expanded_body bodies.types)) (c : Codes) (codes_show : CodesShow c (body_of library Keycodes)) (names : KeysymTable) (content : Content) (made : IsMade names m (expanded_body bodies.compat) (expanded_body bodies.symbols) c types content) where
   pub made_holds : HoldsAll names library content

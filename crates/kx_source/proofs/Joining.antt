@@ -6,8 +6,8 @@ use Rattle.std.proofs.Math.Path.{fun_ext}
 use Rattle.std.specs.List.{zip}
 use Rattle.std.specs.Option.{option_and_then, option_map, option_or}
 use Rattle.ks_core.specs.Table.{KeysymTable}
-use Rattle.kx_resolve.specs.Vmodmap.{ReadKeymap, brings, stands}
-use Rattle.kx_resolve.specs.LevelActions.{level_actions_of}
+use Rattle.kx_keys.specs.Vmodmap.{ReadKeymap, brings, stands}
+use Rattle.kx_keys.specs.LevelActions.{level_actions_of}
 use Rattle.kx_resolve.specs.ReadVmodmap.{read_keymap_of}
 use Rattle.kx_builder.specs.IndicatorMaps.{keymap_with, indicator_map_of_indicator}
 use Rattle.kx_compat.specs.Interpretations.{Interpretation}
@@ -21,9 +21,9 @@ use Rattle.kx_include.specs.Shared.{expanded_body}
 use Rattle.kx_include.specs.declared.expansion.Bodies.{Bodies}
 use Rattle.kx_indicators.specs.IndicatorMaps.{IndicatorMap}
 use Rattle.kx_indicators.specs.Meaning.{AreIndicators, Indicators, indicator_names, indicator_map_of, indicator_maps_faults}
-use Rattle.kx_resolve.specs.Selecting.{RealSet}
+use Rattle.kx_keys.specs.Selecting.{RealSet}
 use Rattle.kx_lex.specs.declared.name.Name.{Name}
-use Rattle.kx_resolve.specs.Mapping.{modmap_of}
+use Rattle.kx_keys.specs.Mapping.{modmap_of}
 use Rattle.kx_virtual_mods.specs.Declarations.{AreModNames, ModNames, declared_mask, modifier_bodies, virtual_names}
 use Rattle.kx_virtual_mods.specs.Sets.{any_below, has, has_virtual, real_of, real_part}
 use Rattle.kx_virtual_mods.specs.Standing.{stands_for}
@@ -40,7 +40,7 @@ use Rattle.kx_tree.specs.declared.tree.Entry.TheVariants.{KeyName, Symbol}
 use Rattle.kx_tree.specs.declared.tree.Kind.TheVariants.{Compat, Keycodes, Symbols}
 use Rattle.kx_tree.specs.declared.tree.KeyField.{KeyField}
 use Rattle.kx_tree.specs.declared.tree.Mode.{Mode}
-use Rattle.kx_resolve.specs.Keys.{keyed_of, resolved_of}
+use Rattle.kx_keys.specs.Keys.{keyed_of, resolved_of}
 use Rattle.kx_resolve.specs.Lit.{indicator_lit, indicators_of}
 use Rattle.kx_resolve.specs.Shown.{keymap_meant}
 use Rattle.kx_source.specs.Meaning.{codes_in, codes_of, declared_in, declared_masks_of, indicators_by, indicators_in, interpretations_in, key_given, key_in, keyed_in, keymap_by, keymap_in, indicator_maps_from, lit_by, mapping_by, modifier_bodies_of, modifiers_of, modmap_in, read_keymap_in, real_in, resolved_in, typing_in}
@@ -52,8 +52,8 @@ use Rattle.kx_symbols.specs.Known.{Defaults, Known, no_defaults}
 use Rattle.kx_symbols.specs.declared.cells.Cell.{Cell}
 use Rattle.kx_symbols.specs.declared.cells.CellValue.{CellValue}
 use Rattle.kx_types.specs.Types.{NamedTypes, TypesShow, declared_type, type_named}
-use Rattle.kx_resolve.specs.Given.{KeyGiven, given_by, given_in}
-use Rattle.kx_resolve.specs.Typing.{typing_by}
+use Rattle.kx_keys.specs.Given.{KeyGiven, given_by, given_in}
+use Rattle.kx_keys.specs.Typing.{typing_by}
 
 any_same : (n : ℕ) (f g : ℕ → Bool) → ((k : ℕ) → k < n → f k ≡ g k) → any_below n f ≡ any_below n g
 unfolding any_below

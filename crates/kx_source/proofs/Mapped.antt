@@ -8,8 +8,8 @@ use Rattle.kx_virtual_mods.specs.Sets.{has}
 use Rattle.kx_modmaps.specs.Maps.{AreModifierMaps, Maps, key_mask, map_offers_of, present}
 use Rattle.kx_source.specs.Meaning.{mapping_by}
 use Rattle.kx_symbols.specs.Keys.{KeyContent, key_at}
-use Rattle.kx_resolve.specs.Typing.{Typing}
-use Rattle.kx_resolve.specs.Given.{given_in}
+use Rattle.kx_keys.specs.Typing.{Typing}
+use Rattle.kx_keys.specs.Given.{given_in}
 
 present_some : (m r : ℕ) → is_some (present m r) ≡ has m r
 present_some m r = by (has m r)

@@ -1,7 +1,7 @@
 -- That tables are made of what is read of a source's bodies, step by step.
 use Rattle.std.specs.Prelude.{ℕ, ◌≡◌, ◌<◌, List, ◌++◌}
 use Rattle.ks_core.specs.Table.{KeysymTable}
-use Rattle.kx_resolve.specs.Vmodmap.{stands}
+use Rattle.kx_keys.specs.Vmodmap.{stands}
 use Rattle.kx_resolve.specs.ReadVmodmap.{read_keymap_of}
 use Rattle.kx_builder.specs.Agreement.{ShowsSame}
 use Rattle.kx_builder.specs.IndicatorMaps.{keymap_with, with_indicator_maps}
@@ -12,15 +12,15 @@ use Rattle.kx_compat.specs.Meaning.{interpretations_of, compat_faults}
 use Rattle.kx_group_names.specs.Names.{AreGroupNames}
 use Rattle.kx_include.specs.Expansion.{Body}
 use Rattle.kx_indicators.specs.Meaning.{AreIndicators, Indicators, indicator_maps_faults}
-use Rattle.kx_resolve.specs.Selecting.{RealSet}
-use Rattle.kx_resolve.specs.Mapping.{modmap_of}
+use Rattle.kx_keys.specs.Selecting.{RealSet}
+use Rattle.kx_keys.specs.Mapping.{modmap_of}
 use Rattle.kx_virtual_mods.specs.Declarations.{ModNames}
 use Rattle.kx_virtual_mods.specs.Sets.{real_of}
 use Rattle.kx_virtual_mods.specs.Standing.{stands_for}
 use Rattle.kx_virtual_mods.specs.declared.limits.TheConstants.{MOST_VIRTUAL_MODIFIERS}
 use Rattle.kx_modmaps.specs.Maps.{map_offers_of}
 use Rattle.kx_mods.specs.declared.mods.Mods.{Mods}
-use Rattle.kx_resolve.specs.Keys.{Keyed, keyed_of, resolved_of}
+use Rattle.kx_keys.specs.Keys.{Keyed, keyed_of, resolved_of}
 use Rattle.kx_resolve.specs.Lit.{indicators_of}
 use Rattle.kx_resolve.specs.Shown.{keymap_meant}
 use Rattle.kx_source.specs.Meaning.{mapping_by}
@@ -28,8 +28,8 @@ use Rattle.kx_symbols.specs.Keys.{KeyContent, KeysShow, key_at}
 use Rattle.kx_tables.specs.Content.{Content}
 use Rattle.kx_tables.specs.Keymap.{keymap_of}
 use Rattle.kx_types.specs.Types.{NamedTypes}
-use Rattle.kx_resolve.specs.Given.{given_in}
-use Rattle.kx_resolve.specs.Typing.{Typing, typing_by}
+use Rattle.kx_keys.specs.Given.{given_in}
+use Rattle.kx_keys.specs.Typing.{Typing, typing_by}
 use Rattle.kx_lex.specs.declared.fault.Fault.{Fault}
 use Rattle.kx_source.specs.Source.{keys_faults, maps_faults, names_faults}
 

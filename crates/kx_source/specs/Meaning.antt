@@ -3,8 +3,8 @@ use Rattle.std.specs.Prelude.{ℕ, max, suc, List, [], ◌∷◌, Option, is_som
 use Rattle.std.specs.Option.{option_map_or}
 use Rattle.ks_core.specs.Table.{KeysymTable}
 use Rattle.kx_basics.specs.declared.limits.TheConstants.{CODES}
-use Rattle.kx_resolve.specs.Vmodmap.{ReadKeymap, stands}
-use Rattle.kx_resolve.specs.LevelActions.{level_actions_of}
+use Rattle.kx_keys.specs.Vmodmap.{ReadKeymap, stands}
+use Rattle.kx_keys.specs.LevelActions.{level_actions_of}
 use Rattle.kx_builder.specs.IndicatorMaps.{ResolvedIndicator}
 use Rattle.kx_builder.specs.Resolved.{Resolved}
 use Rattle.kx_compat.specs.Interpretations.{Interpretation}
@@ -16,9 +16,9 @@ use Rattle.kx_include.specs.Expansion.{Body, body_of}
 use Rattle.kx_include.specs.Library.{Library}
 use Rattle.kx_indicators.specs.IndicatorMaps.{IndicatorMap}
 use Rattle.kx_indicators.specs.Meaning.{Indicators, indicator_names, indicator_map_of}
-use Rattle.kx_resolve.specs.Rows.{set_mask}
-use Rattle.kx_resolve.specs.Selecting.{RealSet}
-use Rattle.kx_resolve.specs.Mapping.{Mapping, modmap_of}
+use Rattle.kx_keys.specs.Rows.{set_mask}
+use Rattle.kx_keys.specs.Selecting.{RealSet}
+use Rattle.kx_keys.specs.Mapping.{Mapping, modmap_of}
 use Rattle.kx_virtual_mods.specs.Declarations.{declared_mask, virtual_names}
 use Rattle.kx_virtual_mods.specs.Sets.{has, real_of}
 use Rattle.kx_merge.specs.Bodies.{offers_of}
@@ -31,7 +31,7 @@ use Rattle.kx_modmaps.specs.declared.target.Target.{Target}
 use Rattle.kx_modmaps.specs.declared.target.Target.TheVariants.{Key as KeyTarget}
 use Rattle.kx_mods.specs.declared.mods.Mods.{Mods}
 use Rattle.kx_tree.specs.declared.tree.Kind.TheVariants.{Compat, Keycodes, Symbols, Types}
-use Rattle.kx_resolve.specs.Keys.{Keyed, resolved_of}
+use Rattle.kx_keys.specs.Keys.{Keyed, resolved_of}
 use Rattle.kx_resolve.specs.Lit.{indicators_of}
 use Rattle.kx_resolve.specs.Shown.{most_groups_below, name_within, shown_for}
 use Rattle.kx_symbols.specs.Keys.{key_moves, key_rules}
@@ -40,8 +40,8 @@ use Rattle.kx_symbols.specs.declared.cells.CellValue.{CellValue}
 use Rattle.kx_tables.specs.Keymap.{Keymap, IndicatorMap as LitIndicatorMap, nothing_shown}
 use Rattle.kx_types.specs.KeyTypes.{Definition}
 use Rattle.kx_types.specs.Types.{declared_type}
-use Rattle.kx_resolve.specs.Given.{KeyGiven, given_by}
-use Rattle.kx_resolve.specs.Typing.{Typing}
+use Rattle.kx_keys.specs.Given.{KeyGiven, given_by}
+use Rattle.kx_keys.specs.Typing.{Typing}
 
 -- the bodies that declare virtual modifiers, in the order in which these are numbered
 abbrev pub modifier_bodies_of : Library → List Body

@@ -8,7 +8,7 @@ use Rattle.kx_lex.specs.declared.fault.Fault.{Fault}
 use Rattle.kx_mods.specs.declared.mods.Mods.{Mods}
 use Rattle.kx_resolve.specs.NamedKeys.{typing_in}
 use Rattle.kx_resolve.specs.Read.{keyed_by}
-use Rattle.kx_resolve.specs.Selecting.{RealSet}
+use Rattle.kx_keys.specs.Selecting.{RealSet}
 use Rattle.kx_resolve.specs.declared.read.InterpretedKeys.{InterpretedKeys}
 use Rattle.kx_source.specs.Made.{IsInterpreted, IsLit, IsMade, interpreted_faults, lit_faults, mapped_faults, parts_faults}
 use Rattle.kx_symbols.specs.Keys.{KeyContent}

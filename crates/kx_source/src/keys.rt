@@ -2,14 +2,14 @@
 ghost use Rattle.std.specs.Prelude.{◌≡◌, ℕ, IfOk};
 ghost use Rattle.kx_codes.specs.Codes.{name_of};
 ghost use Rattle.kx_merge.specs.Reports.{ReportsOrRunsOut};
-ghost use Rattle.kx_resolve.specs.Mapping.{modmap_of};
+ghost use Rattle.kx_keys.specs.Mapping.{modmap_of};
 ghost use Rattle.kx_resolve.specs.Modmaps.{modmap_at};
 ghost use Rattle.kx_modmaps.specs.Maps.{map_offers_of};
 ghost use Rattle.kx_source.specs.Meaning.{mapping_by};
 ghost use Rattle.kx_source.specs.Sections.{faults_of_keys, modifiers_named, names_of, symbols_of};
 ghost use Rattle.kx_symbols.specs.Keys.{KeysShow, key_at};
-ghost use Rattle.kx_resolve.specs.Given.{given_in};
-ghost use Rattle.kx_resolve.specs.Typing.{typing_by};
+ghost use Rattle.kx_keys.specs.Given.{given_in};
+ghost use Rattle.kx_keys.specs.Typing.{typing_by};
 
 use crate::sections::Sections;
 use ks_core::Notes;

@@ -4,7 +4,7 @@ ghost use Rattle.ks_core.specs.Table.{KeysymTable, letters_of};
 ghost use Rattle.kx_compat.specs.Meaning.{interpretations_of};
 ghost use Rattle.kx_merge.specs.Reports.{ReportsOrRunsOut};
 ghost use Rattle.kx_resolve.specs.Modmaps.{modmap_at};
-ghost use Rattle.kx_resolve.specs.Standing.{real_by};
+ghost use Rattle.kx_keys.specs.Standing.{real_by};
 ghost use Rattle.kx_source.specs.Sections.{InterpretedBy, LitOf, MadeOf, compat_of, faults_of_interpreted, faults_of_lit, faults_of_parts, modifiers_named, names_of};
 ghost use Rattle.kx_tables.specs.RawTables.{content_of};
 ghost use Rattle.kx_tables.specs.Sound.{Sound};

@@ -7,8 +7,8 @@ use Rattle.kx_tables.specs.Keymap.{keymap_of}
 use Rattle.kx_run.specs.Replies.{answer, world_after}
 use Rattle.kx_run.specs.World.{World, step}
 use Rattle.kx_run.specs.declared.direction.Event.{Event}
-use Rattle.kx_tool.specs.Answer.{answer_line, answers_from}
-use Rattle.kx_tool.specs.EventLines.{event_of, events_in}
+use Rattle.kx_lines.specs.Answer.{answer_line, answers_from}
+use Rattle.kx_lines.specs.EventLines.{event_of, events_in}
 
 pub answers_from-append : (content : Content) (names : KeysymTable) (world : World) (xs ys : List Event) → answers_from content names world (xs ++ ys)
     ≡ answers_from content names world xs ++ answers_from content names (world_after (keymap_of content) world xs) ys

@@ -13,17 +13,17 @@ use Rattle.kx_tables.specs.Keymap.{keymap_of}
 use Rattle.kx_run.specs.Player.{Played}
 use Rattle.kx_run.specs.Replies.{world_after}
 use Rattle.kx_run.specs.World.{World, opening}
-use Rattle.kx_tool.specs.Answer.{answers_from}
-use Rattle.kx_tool.specs.EventLines.{KeepsLine, Kept, events_in, well_formed_lines, is_well_formed}
-use Rattle.kx_tool.specs.Input.{Came, Waiting, budget, coming}
-use Rattle.kx_tool.specs.LineParts.{MovesPart}
+use Rattle.kx_lines.specs.Answer.{answers_from}
+use Rattle.kx_lines.specs.EventLines.{KeepsLine, Kept, events_in, well_formed_lines, is_well_formed}
+use Rattle.kx_lines.specs.Input.{Came, Waiting, budget, coming}
+use Rattle.kx_lines.specs.LineParts.{MovesPart}
 use Rattle.kx_tool.specs.Putting.{FailsAt, PutsOrWaits, StopsAt}
 use Rattle.kx_tool.specs.Replay.{Replays, answers_to, known_lines}
-use Rattle.kx_tool.specs.declared.fault.ReplayFault.{ReplayFault}
-use Rattle.kx_tool.specs.declared.fault.ReplayFault.TheVariants as faults
+use Rattle.kx_lines.specs.declared.fault.ReplayFault.{ReplayFault}
+use Rattle.kx_lines.specs.declared.fault.ReplayFault.TheVariants as faults
 use Rattle.kx_tool.proofs.Answering.{answers_from-append, world_after-append, events_in-append}
-use Rattle.kx_tool.proofs.Lines.{EachFree, EachIs, Free, joined, joined-more, each_free_more, each_is_more, well_formed_lines-all, well_formed_lines-append, well_formed_lines-stop, free_more, free_nothing, free_part, length-joined, lines_of-cut, lines_of-joined, lines_of-whole}
-use Rattle.kx_tool.proofs.Reading.{came_more, came_moved, came_nothing}
+use Rattle.kx_lines.proofs.Lines.{EachFree, EachIs, Free, joined, joined-more, each_free_more, each_is_more, well_formed_lines-all, well_formed_lines-append, well_formed_lines-stop, free_more, free_nothing, free_part, length-joined, lines_of-cut, lines_of-joined, lines_of-whole}
+use Rattle.kx_lines.proofs.Reading.{came_more, came_moved, came_nothing}
 
 -- the answers to lines that are all well formed
 abbrev pub answers_by : Content → KeysymTable → List (List ℕ) → List ℕ

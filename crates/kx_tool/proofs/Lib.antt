@@ -1,12 +1,5 @@
 pub mod Answering
 pub mod Ends
-pub mod EventLemmas
-pub mod Lines
-pub mod Listings
 pub mod PrintedAgain
-pub mod Reading
-pub mod ReadingSources
 pub mod SessionLemmas
-pub mod TailTexts
-pub mod Waits
 pub mod Written

@@ -9,12 +9,12 @@ use Rattle.kx_lex.specs.declared.fault.Fault.{Fault}
 use Rattle.kx_lex.specs.declared.fault.Fault.TheVariants.{Memory}
 use Rattle.kx_tables.specs.Content.{Content}
 use Rattle.kx_tool.proofs.Written.{compiled_by}
-use Rattle.kx_tool.specs.Input.{FailsBehind, FailsToRead, IsOver, IsWithin, Waiting, budget, coming, nothing_read}
+use Rattle.kx_lines.specs.Input.{FailsBehind, FailsToRead, IsOver, IsWithin, Waiting, budget, coming, nothing_read}
 use Rattle.kx_tool.specs.Replay.{Answers, AnswersSession, Replays, known_lines}
-use Rattle.kx_tool.specs.Sources.{ReadsSource}
-use Rattle.kx_tool.specs.declared.fault.ReplayFault.{ReplayFault}
-use Rattle.kx_tool.specs.declared.fault.SessionFault.TheVariants.{Compile, Replay}
-use Rattle.kx_tool.specs.declared.input.TheConstants.{MOST_BYTES}
+use Rattle.kx_lines.specs.Sources.{ReadsSource}
+use Rattle.kx_lines.specs.declared.fault.ReplayFault.{ReplayFault}
+use Rattle.kx_lines.specs.declared.fault.SessionFault.TheVariants.{Compile, Replay}
+use Rattle.kx_lines.specs.declared.input.TheConstants.{MOST_BYTES}
 
 over_all : (left : Option (List ℕ)) (most : ℕ) → IsOver (coming nothing_read left) most → IsOver left most
 over_all None most over = tt

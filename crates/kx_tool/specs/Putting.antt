@@ -1,9 +1,9 @@
 -- What becomes of the text that waits while lines are read.
 use Rattle.std.specs.Prelude.{◌≡◌, ◌⊎◌, ℕ, false, List, Option, Result, Ok, Err}
 use Rattle.ks_core.specs.BufferedOut.{Finishes, Gathered, nothing_gathered}
-use Rattle.kx_tool.specs.EventLines.{KeepsLine, Kept, is_well_formed}
-use Rattle.kx_tool.specs.declared.fault.ReplayFault.{ReplayFault}
-use Rattle.kx_tool.specs.declared.fault.ReplayFault.TheVariants as faults
+use Rattle.kx_lines.specs.EventLines.{KeepsLine, Kept, is_well_formed}
+use Rattle.kx_lines.specs.declared.fault.ReplayFault.{ReplayFault}
+use Rattle.kx_lines.specs.declared.fault.ReplayFault.TheVariants as faults
 
 module _ {D : Type 0} (written : D → Option (List ℕ)) (failures : D → ℕ) where
   -- what waited in the buffer p is put to the device d, which is left as e

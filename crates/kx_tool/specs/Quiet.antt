@@ -4,10 +4,10 @@ use Rattle.ks_core.specs.Table.{KeysymTable}
 use Rattle.kx_include.specs.Source.{Handed}
 use Rattle.kx_lex.specs.declared.fault.Fault.TheVariants.{Memory}
 use Rattle.kx_source.specs.Source.{HasFault}
-use Rattle.kx_tool.specs.declared.fault.ReplayFault.TheVariants.{Write}
-use Rattle.kx_tool.specs.declared.fault.SessionFault.{SessionFault}
-use Rattle.kx_tool.specs.declared.fault.SessionFault.TheVariants.{Compile, Replay}
-use Rattle.kx_tool.specs.declared.input.TheConstants.{MOST_BYTES}
+use Rattle.kx_lines.specs.declared.fault.ReplayFault.TheVariants.{Write}
+use Rattle.kx_lines.specs.declared.fault.SessionFault.{SessionFault}
+use Rattle.kx_lines.specs.declared.fault.SessionFault.TheVariants.{Compile, Replay}
+use Rattle.kx_lines.specs.declared.input.TheConstants.{MOST_BYTES}
 
 -- where the source is refused nothing was written
 abbrev pub KeepsQuiet : {D : Type 0} → D → D → SessionFault → Type 0

@@ -13,14 +13,14 @@ use Rattle.kx_run.specs.World.{opening}
 use Rattle.kx_include.specs.Source.{Handed}
 use Rattle.kx_source.specs.Source.{HasFault, Means}
 use Rattle.kx_lex.specs.declared.fault.Fault.TheVariants.{Memory}
-use Rattle.kx_tool.specs.Answer.{answers_from}
+use Rattle.kx_lines.specs.Answer.{answers_from}
 use Rattle.kx_tool.specs.Compiled.{IsCompiled}
-use Rattle.kx_tool.specs.EventLines.{events_in, well_formed_lines}
-use Rattle.kx_tool.specs.Sources.{lines_in, source_in}
-use Rattle.kx_tool.specs.declared.fault.ReplayFault.{ReplayFault}
-use Rattle.kx_tool.specs.declared.fault.ReplayFault.TheVariants as faults
-use Rattle.kx_tool.specs.declared.fault.SessionFault.{SessionFault}
-use Rattle.kx_tool.specs.declared.fault.SessionFault.TheVariants.{Compile, Replay}
+use Rattle.kx_lines.specs.EventLines.{events_in, well_formed_lines}
+use Rattle.kx_lines.specs.Sources.{lines_in, source_in}
+use Rattle.kx_lines.specs.declared.fault.ReplayFault.{ReplayFault}
+use Rattle.kx_lines.specs.declared.fault.ReplayFault.TheVariants as faults
+use Rattle.kx_lines.specs.declared.fault.SessionFault.{SessionFault}
+use Rattle.kx_lines.specs.declared.fault.SessionFault.TheVariants.{Compile, Replay}
 
 -- the lines of known bytes
 abbrev pub known_lines : Option (List ℕ) → Option (List (List ℕ))

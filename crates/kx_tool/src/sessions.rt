@@ -1,17 +1,17 @@
 //! A source and lines of events, read from one reader.
 ghost use Rattle.std.specs.Prelude.{◌≡◌, ◌+◌, ◌≤◌, IfErr, IfSome, MatchResult, OnOk};
-ghost use Rattle.kx_tool.specs.Input.{FailsToRead, IsWithin};
+ghost use Rattle.kx_lines.specs.Input.{FailsToRead, IsWithin};
 ghost use Rattle.kx_tool.specs.Quiet.{BlamesWriter, KeepsQuiet, RefusesSource};
 ghost use Rattle.kx_tool.specs.Replay.{AnswersSession};
-ghost use Rattle.kx_tool.specs.declared.fault.ReplayFault.TheVariants.{Read};
-ghost use Rattle.kx_tool.specs.declared.input.TheConstants.{MOST_BYTES};
+ghost use Rattle.kx_lines.specs.declared.fault.ReplayFault.TheVariants.{Read};
+ghost use Rattle.kx_lines.specs.declared.input.TheConstants.{MOST_BYTES};
 
-use crate::fault::SessionFault;
-use crate::input::Input;
 use crate::replaying::answer_lines;
-use crate::source::read_source;
 use ks_core::{Feed, NameTable, Out};
 use kx_include::Files;
+use kx_lines::fault::SessionFault;
+use kx_lines::input::Input;
+use kx_lines::source::read_source;
 use kx_source::tables;
 use std::alloc::Global;
 

@@ -20,7 +20,7 @@ use Rattle.kx_tree.specs.declared.tree.Stated.{Stated}
 use Rattle.kx_symbols.specs.Keys.{key_rules, key_moves}
 use Rattle.kx_symbols.specs.declared.cells.Cell.{Cell}
 use Rattle.kx_symbols.specs.declared.cells.CellValue.{CellValue}
-use Rattle.kx_resolve.specs.Given.{given_by}
+use Rattle.kx_keys.specs.Given.{given_by}
 use Rattle.roundtrip_meaning.specs.Bodies.{own_body}
 use Rattle.roundtrip_text.specs.Source.{EachOf, AreRising, PrintedKey, KeyFits}
 use Rattle.roundtrip_text.specs.ModifierMaps.{MapLine, maps_of_key}

@@ -29,7 +29,7 @@ use Rattle.kx_symbols.specs.declared.cells.CellValue.{CellValue}
 use Rattle.kx_symbols.specs.declared.cells.CellValue.TheVariants as values
 use Rattle.kx_tables.specs.declared.rows.Range.{Range}
 use Rattle.kx_tables.specs.declared.rows.Range.TheVariants.{Wrap}
-use Rattle.kx_resolve.specs.Given.{given_by, keysyms_of, action_of, name_of, range_of}
+use Rattle.kx_keys.specs.Given.{given_by, keysyms_of, action_of, name_of, range_of}
 use Rattle.kx_merge.specs.ByGroup.{at_group}
 use Rattle.roundtrip_meaning.specs.Bodies.{own_body}
 use Rattle.roundtrip_text.specs.Source.{EachOf, AreRising, PrintedGroup, PrintedKey, KeyFits}

@@ -9,9 +9,9 @@ use Rattle.kx_basics.specs.declared.limits.TheConstants.{CODES}
 use Rattle.kx_builder.specs.Resolved.{ResolvedCell, ResolvedKey, ResolvedType}
 use Rattle.kx_builder.specs.Seen.{key_seen, seen}
 use Rattle.kx_codes.specs.Pairs.{Pair, name_in}
-use Rattle.kx_resolve.specs.Selecting.{RealSet}
+use Rattle.kx_keys.specs.Selecting.{RealSet}
 use Rattle.kx_virtual_mods.specs.Counted.{with_names}
-use Rattle.kx_resolve.specs.Keys.{Keyed, key_if_named, keys_below, resolved_of, type_names_below, type_names_if, type_of, types_used}
+use Rattle.kx_keys.specs.Keys.{Keyed, key_if_named, keys_below, resolved_of, type_names_below, type_names_if, type_of, types_used}
 use Rattle.kx_tables.specs.Content.{Content, key_name, part}
 use Rattle.kx_tables.specs.Sound.{Sound}
 use Rattle.kx_tables.specs.declared.rows.KeyRow.{KeyRow}
@@ -24,7 +24,7 @@ use Rattle.roundtrip_meaning.proofs.ResolvingTypes.{types_again}
 use Rattle.roundtrip_text.specs.Source.{EachOf, PrintedGroup, PrintedKey, cell_at, group_printed, key_printed, keys_printed, types_printed}
 use Rattle.roundtrip_text.proofs.Joined.{flat_map-map}
 use Rattle.roundtrip_text.proofs.TablesHold.{each_mapped, each_row, key_fits, part_get, types_fit}
-use Rattle.kx_resolve.specs.Typing.{Typing}
+use Rattle.kx_keys.specs.Typing.{Typing}
 use Rattle.roundtrip_text.proofs.TablesLists.{each_at}
 
 -- ---- Lists of things by code

@@ -8,26 +8,26 @@ use Rattle.std.specs.List.{take-map, drop-map}
 use Rattle.std.specs.Option.{option_and_then, option_map, option_map_or, option_or}
 use Rattle.std.specs.Str.{bytes_eq}
 use Rattle.kx_basics.specs.declared.limits.TheConstants.{MOST_GROUPS, MOST_NAME_BYTES}
-use Rattle.kx_resolve.specs.LevelActions.{LevelActions}
+use Rattle.kx_keys.specs.LevelActions.{LevelActions}
 use Rattle.kx_builder.specs.Resolved.{ResolvedCell, ResolvedGroup, ResolvedType}
 use Rattle.kx_builder.specs.Seen.{cell_seen, groups_seen, key_seen, type_seen}
 use Rattle.kx_mods.specs.declared.mods.Mods.{Mods}
-use Rattle.kx_resolve.specs.Keys.{cell_of, cells_of, groups_of, key_of, resolved_group, type_names, type_place}
+use Rattle.kx_keys.specs.Keys.{cell_of, cells_of, groups_of, key_of, resolved_group, type_names, type_place}
 use Rattle.kx_tables.specs.Content.{Content, key_name, levels_of, part, type_name}
 use Rattle.kx_tables.specs.Sound.{Sound}
 use Rattle.kx_tables.specs.declared.rows.GroupRow.{GroupRow}
 use Rattle.kx_tables.specs.declared.rows.KeyRow.{KeyRow}
 use Rattle.kx_tables.specs.declared.rows.TypeRow.{TypeRow}
 use Rattle.kx_types.specs.KeyTypes.{Definition}
-use Rattle.kx_resolve.specs.Given.{KeyGiven}
-use Rattle.kx_resolve.specs.GroupTypes.{automatic, content_group, group_count, group_type_name, groups_within, has_level, level_keysyms, one_level_name, type_definition, type_name as name_of_type, wanted_type}
+use Rattle.kx_keys.specs.Given.{KeyGiven}
+use Rattle.kx_keys.specs.GroupTypes.{automatic, content_group, group_count, group_type_name, groups_within, has_level, level_keysyms, one_level_name, type_definition, type_name as name_of_type, wanted_type}
 use Rattle.roundtrip_meaning.specs.Given.{IsGiven}
 use Rattle.roundtrip_text.specs.Source.{AreApart, EachOf, GroupFits, KeyFits, PrintedGroup, PrintedKey, cell_at, group_printed, key_printed, types_printed}
 use Rattle.roundtrip_text.specs.Tables.{group_seen}
 use Rattle.roundtrip_text.proofs.Tables.{group_cells_length, groups_by_row}
 use Rattle.roundtrip_text.proofs.TablesHold.{part_get, type_of as type_there, types_apart}
 use Rattle.roundtrip_text.proofs.TablesLists.{each_at, position_is, pushed, pushed_are}
-use Rattle.kx_resolve.specs.Typing.{Typing}
+use Rattle.kx_keys.specs.Typing.{Typing}
 use Rattle.roundtrip_meaning.specs.Types.{definition_seen}
 
 -- ---- Groups

@@ -6,14 +6,14 @@ use Rattle.std.specs.List.{list_any}
 use Rattle.std.specs.Option.{option_and_then, option_map_or}
 use Rattle.kx_actions.specs.Becoming.{does_lock, does_unlock}
 use Rattle.kx_actions.specs.declared.action.KeyAction.{KeyAction}
-use Rattle.kx_resolve.specs.Vmodmap.{level_action_at, interpretation_at, only_keysym}
-use Rattle.kx_resolve.specs.LevelActions.{action_meant, level_actions_of}
+use Rattle.kx_keys.specs.Vmodmap.{level_action_at, interpretation_at, only_keysym}
+use Rattle.kx_keys.specs.LevelActions.{action_meant, level_actions_of}
 use Rattle.kx_builder.specs.Resolved.{ResolvedCell}
 use Rattle.kx_compat.specs.Choosing.{chosen}
 use Rattle.kx_compat.specs.Interpretations.{Interpretation}
-use Rattle.kx_resolve.specs.Rows.{mods_of}
-use Rattle.kx_resolve.specs.Selecting.{RealSet}
-use Rattle.kx_resolve.specs.Mapping.{Mapping, first_place, modmap_of}
+use Rattle.kx_keys.specs.Rows.{mods_of}
+use Rattle.kx_keys.specs.Selecting.{RealSet}
+use Rattle.kx_keys.specs.Mapping.{Mapping, first_place, modmap_of}
 use Rattle.kx_virtual_mods.specs.Sets.{any_below, has}
 use Rattle.kx_mods.specs.Mods.{mask}
 use Rattle.kx_mods.specs.declared.mods.Mods.{Mods}
@@ -21,8 +21,8 @@ use Rattle.kx_symbols.specs.Actions.{defined}
 use Rattle.kx_tables.specs.Sound.{ActionHolds}
 use Rattle.kx_tables.specs.declared.rows.Action.{Action}
 use Rattle.kx_tables.specs.declared.rows.Action.TheVariants as rows
-use Rattle.kx_resolve.specs.Given.{KeyGiven}
-use Rattle.kx_resolve.specs.GroupTypes.{group_count, has_action, level_keysyms}
+use Rattle.kx_keys.specs.Given.{KeyGiven}
+use Rattle.kx_keys.specs.GroupTypes.{group_count, has_action, level_keysyms}
 use Rattle.roundtrip_meaning.specs.Given.{IsGiven, affected_of, key_action}
 use Rattle.roundtrip_meaning.proofs.ResolvingKeys.{count_is}
 use Rattle.roundtrip_meaning.proofs.ResolvingMasks.{mods_again, some_below}

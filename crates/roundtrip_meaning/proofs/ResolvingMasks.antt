@@ -7,8 +7,8 @@ use mathlib.Core.Bool.{or-true, or-false}
 use Rattle.std.specs.Int.{bit_at}
 use Rattle.std.specs.Int.RustNames.{bit_or}
 use Rattle.std.specs.List.{range_with_len}
-use Rattle.kx_resolve.specs.Rows.{mask_below, mods_of, set_mask}
-use Rattle.kx_resolve.specs.Selecting.{RealSet, is_live}
+use Rattle.kx_keys.specs.Rows.{mask_below, mods_of, set_mask}
+use Rattle.kx_keys.specs.Selecting.{RealSet, is_live}
 use Rattle.kx_virtual_mods.specs.Sets.{any_below, has, has_virtual, real_of, real_part}
 use Rattle.kx_virtual_mods.specs.declared.limits.TheConstants.{MOST_VIRTUAL_MODIFIERS}
 use Rattle.kx_mods.specs.Mods.{mask}

@@ -4,15 +4,15 @@ use Rattle.std.proofs.lemmas.Bool.{ne_eqb}
 use Rattle.std.proofs.lemmas.List.Folds.{list_any-append}
 use Rattle.std.specs.List.{list_any}
 use Rattle.kx_builder.specs.Resolved.{ResolvedType}
-use Rattle.kx_resolve.specs.Rows.{has_row, row_of, with_entry}
-use Rattle.kx_resolve.specs.Selecting.{RealSet}
+use Rattle.kx_keys.specs.Rows.{has_row, row_of, with_entry}
+use Rattle.kx_keys.specs.Selecting.{RealSet}
 use Rattle.kx_virtual_mods.specs.Sets.{has}
 use Rattle.kx_mods.specs.Mods.{mask}
-use Rattle.kx_resolve.specs.Keys.{type_of, type_with}
+use Rattle.kx_keys.specs.Keys.{type_of, type_with}
 use Rattle.kx_tables.specs.declared.rows.EntryRow.{EntryRow}
 use Rattle.roundtrip_meaning.proofs.ResolvingMasks.{live_again, mask_again, mods_again}
 use Rattle.roundtrip_text.specs.Source.{AreApart, EachOf, EntryFits, TypeFits}
-use Rattle.kx_resolve.specs.Typing.{Typing}
+use Rattle.kx_keys.specs.Typing.{Typing}
 use Rattle.roundtrip_meaning.specs.Types.{definition_seen, entry_seen}
 
 module _ (real : ℕ → RealSet) (real_is : (set r : ℕ) → set < 2 ^ 8 → r < 8 → real set r ≡ has set r) where

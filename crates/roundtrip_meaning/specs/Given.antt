@@ -11,7 +11,7 @@ use Rattle.kx_mods.specs.Mods.{mask}
 use Rattle.kx_symbols.specs.Actions.{defined}
 use Rattle.kx_tables.specs.declared.rows.Action.{Action}
 use Rattle.kx_tables.specs.declared.rows.Action.TheVariants as rows
-use Rattle.kx_resolve.specs.Given.{KeyGiven}
+use Rattle.kx_keys.specs.Given.{KeyGiven}
 use Rattle.roundtrip_text.specs.Source.{PrintedGroup, PrintedKey, cell_at}
 
 -- what is locked and unlocked, as one word says it

@@ -2,13 +2,13 @@
 use Rattle.std.specs.Prelude.{ℕ, ◌≡◌, ◌<◌, ◌^◌, Some, map}
 use Rattle.kx_builder.specs.Resolved.{ResolvedCell, ResolvedType}
 use Rattle.kx_codes.specs.Pairs.{Pair, name_in}
-use Rattle.kx_resolve.specs.Selecting.{RealSet}
+use Rattle.kx_keys.specs.Selecting.{RealSet}
 use Rattle.kx_virtual_mods.specs.Sets.{has}
-use Rattle.kx_resolve.specs.Keys.{Keyed}
+use Rattle.kx_keys.specs.Keys.{Keyed}
 use Rattle.kx_tables.specs.Content.{Content}
 use Rattle.roundtrip_meaning.specs.Given.{IsGiven}
 use Rattle.roundtrip_text.specs.Source.{EachOf, PrintedKey, cell_at, keys_printed, types_printed}
-use Rattle.kx_resolve.specs.Typing.{Typing}
+use Rattle.kx_keys.specs.Typing.{Typing}
 use Rattle.roundtrip_meaning.specs.Types.{definition_seen}
 
 abbrev pub pair_of : PrintedKey → Pair

@@ -1,6 +1,6 @@
 //! What needs no handle.
 ghost use Rattle.std.specs.Prelude.{◌≡◌, ◌+◌, take};
-ghost use Rattle.kx_tool.specs.Locating.{line_feeds, since_line_feed};
+ghost use Rattle.kx_lines.specs.Locating.{line_feeds, since_line_feed};
 
 use kx_calls::text::XkcPosition;
 use kx_tool::locate;

@@ -4,8 +4,8 @@ use Rattle.kx_symbols.specs.Keys.{key_at}
 use Rattle.kx_resolve.proofs.Named.{of_named, of_none}
 use Rattle.kx_resolve.proofs.PlaceSteps.{none_places}
 use Rattle.kx_resolve.proofs.Visiting.{visits_alike, visits_none}
-use Rattle.kx_resolve.specs.Given.{given}
-use Rattle.kx_resolve.specs.Mapping.{key_places}
+use Rattle.kx_keys.specs.Given.{given}
+use Rattle.kx_keys.specs.Mapping.{key_places}
 use Rattle.kx_resolve.specs.NamedKeys.{name_in, places_of_key, places_on, typing_in}
 use Rattle.kx_resolve.proofs.finding.visit_code.Goals as goal
 

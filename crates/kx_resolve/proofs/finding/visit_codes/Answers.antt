@@ -6,7 +6,7 @@ use Rattle.kx_codes.proofs.Ends.{all_gathered}
 use Rattle.kx_resolve.proofs.PlaceSteps.{below_none, unnamed_places}
 use Rattle.kx_resolve.proofs.Walking.{visits_code}
 use Rattle.kx_resolve.specs.Finding.{Visits}
-use Rattle.kx_resolve.specs.Mapping.{places_below}
+use Rattle.kx_keys.specs.Mapping.{places_below}
 use Rattle.kx_resolve.specs.NamedKeys.{mapping_in, name_in}
 use Rattle.kx_resolve.proofs.finding.visit_codes.Goals as goal
 

@@ -2,7 +2,7 @@ use Rattle.std.proofs.Common.{nat_eq}
 use Rattle.indexmap.specs.IndexMap.{get}
 use Rattle.kx_modmaps.specs.Maps.{Maps}
 use Rattle.kx_resolve.specs.Finding.{Visits}
-use Rattle.kx_resolve.specs.Mapping.{places_below}
+use Rattle.kx_keys.specs.Mapping.{places_below}
 use Rattle.kx_resolve.specs.NamedKeys.{mapping_in}
 use Rattle.kx_resolve.proofs.finding.visit_codes.Given as goal
 

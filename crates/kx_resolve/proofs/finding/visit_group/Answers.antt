@@ -1,11 +1,11 @@
 use Rattle.std.proofs.Common.{nat_eq, ap, ◌∙◌}
 use Rattle.indexmap.specs.IndexMap.{get}
-use Rattle.kx_resolve.specs.Given.{given}
-use Rattle.kx_resolve.specs.GroupTypes.{level_keysyms}
+use Rattle.kx_keys.specs.Given.{given}
+use Rattle.kx_keys.specs.GroupTypes.{level_keysyms}
 use Rattle.kx_resolve.proofs.Visiting.{visits_none}
 use Rattle.kx_resolve.proofs.PlaceSteps.{levels_none}
 use Rattle.kx_resolve.proofs.Walking.{visits_level}
-use Rattle.kx_resolve.specs.Mapping.{level_places}
+use Rattle.kx_keys.specs.Mapping.{level_places}
 use Rattle.kx_resolve.proofs.finding.visit_group.Goals as goal
 
 pub levels-init : goal.levels-init

@@ -1,8 +1,8 @@
 use Rattle.std.proofs.Common.{nat_eq}
 use Rattle.indexmap.specs.IndexMap.{get}
-use Rattle.kx_resolve.specs.Given.{given}
+use Rattle.kx_keys.specs.Given.{given}
 use Rattle.kx_resolve.specs.Finding.{Visits}
-use Rattle.kx_resolve.specs.Mapping.{level_places}
+use Rattle.kx_keys.specs.Mapping.{level_places}
 use Rattle.kx_resolve.proofs.finding.visit_group.Given as goal
 
 abbrev pub invariant-levels : goal.invariant-levels

@@ -1,11 +1,11 @@
 use Rattle.std.proofs.Common.{nat_eq}
 use Rattle.indexmap.specs.IndexMap.{get}
-use Rattle.kx_resolve.specs.Given.{given}
+use Rattle.kx_keys.specs.Given.{given}
 use Rattle.kx_resolve.proofs.Visiting.{visits_none}
 use Rattle.kx_resolve.proofs.PlaceSteps.{groups_none}
 use Rattle.kx_resolve.proofs.Walking.{visits_group}
-use Rattle.kx_resolve.specs.Mapping.{group_places}
-use Rattle.kx_resolve.specs.Typing.{typing_of}
+use Rattle.kx_keys.specs.Mapping.{group_places}
+use Rattle.kx_keys.specs.Typing.{typing_of}
 use Rattle.kx_resolve.proofs.finding.visit_key.Goals as goal
 
 pub groups-init : goal.groups-init

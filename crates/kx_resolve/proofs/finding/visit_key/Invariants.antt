@@ -1,9 +1,9 @@
 use Rattle.std.proofs.Common.{nat_eq}
 use Rattle.indexmap.specs.IndexMap.{get}
-use Rattle.kx_resolve.specs.Given.{given}
+use Rattle.kx_keys.specs.Given.{given}
 use Rattle.kx_resolve.specs.Finding.{Visits}
-use Rattle.kx_resolve.specs.Mapping.{group_places}
-use Rattle.kx_resolve.specs.Typing.{typing_of}
+use Rattle.kx_keys.specs.Mapping.{group_places}
+use Rattle.kx_keys.specs.Typing.{typing_of}
 use Rattle.kx_resolve.proofs.finding.visit_key.Given as goal
 
 abbrev pub invariant-groups : goal.invariant-groups

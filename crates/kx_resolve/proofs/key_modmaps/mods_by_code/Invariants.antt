@@ -5,7 +5,7 @@ use Rattle.indexmap.specs.IndexMap.{get}
 use Rattle.kx_virtual_mods.specs.Sets.{has}
 use Rattle.kx_modmaps.specs.Maps.{shown_entry}
 use Rattle.kx_mods.specs.Mods.{mask}
-use Rattle.kx_resolve.specs.Mapping.{is_at}
+use Rattle.kx_keys.specs.Mapping.{is_at}
 use Rattle.kx_resolve.proofs.key_modmaps.mods_by_code.Given as goal
 
 abbrev pub invariant-entries : goal.invariant-entries

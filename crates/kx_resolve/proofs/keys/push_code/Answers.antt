@@ -5,11 +5,11 @@ use Rattle.kx_resolve.proofs.Names.{bounds_of, pushed_of}
 use Rattle.kx_resolve.proofs.Steps.{none_names}
 use Rattle.kx_resolve.proofs.TypesInUse.{groups_ahead, types_after, valid_ahead}
 use Rattle.kx_resolve.specs.Bare.{bare_key}
-use Rattle.kx_resolve.specs.Bounds.{KeepsBounds}
-use Rattle.kx_resolve.specs.Given.{given, given_in}
-use Rattle.kx_resolve.specs.InterpretedKey.{given_to}
-use Rattle.kx_resolve.specs.Keys.{type_names_if}
-use Rattle.kx_resolve.specs.LevelActions.{level_actions_of}
+use Rattle.kx_keys.specs.Bounds.{KeepsBounds}
+use Rattle.kx_keys.specs.Given.{given, given_in}
+use Rattle.kx_keys.specs.InterpretedKey.{given_to}
+use Rattle.kx_keys.specs.Keys.{type_names_if}
+use Rattle.kx_keys.specs.LevelActions.{level_actions_of}
 use Rattle.kx_resolve.specs.Modmaps.{modmap_at}
 use Rattle.kx_resolve.specs.NamedKeys.{if_named, name_in}
 use Rattle.kx_resolve.specs.Read.{real_in, typing_read}

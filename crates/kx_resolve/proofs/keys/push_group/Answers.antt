@@ -4,10 +4,10 @@ use Rattle.kx_builder.specs.Pushes.{last_groups, with_cell, with_group}
 use Rattle.kx_builder.specs.Resolved.{Resolved}
 use Rattle.kx_resolve.proofs.Growing.{group_then_cells, groups_grow, new_cells}
 use Rattle.kx_resolve.specs.Bare.{bare_group}
-use Rattle.kx_resolve.specs.Bounds.{last_cells}
-use Rattle.kx_resolve.specs.Given.{given}
-use Rattle.kx_resolve.specs.GroupTypes.{content_group}
-use Rattle.kx_resolve.specs.InterpretedKey.{LevelsAreValid, cells_at}
+use Rattle.kx_keys.specs.Bounds.{last_cells}
+use Rattle.kx_keys.specs.Given.{given}
+use Rattle.kx_keys.specs.GroupTypes.{content_group}
+use Rattle.kx_keys.specs.InterpretedKey.{LevelsAreValid, cells_at}
 use Rattle.kx_resolve.proofs.keys.push_group.Goals as goal
 
 pub push_levels-requires-clause-some : goal.push_levels-requires-clause-some

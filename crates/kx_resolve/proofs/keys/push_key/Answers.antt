@@ -7,8 +7,8 @@ use Rattle.kx_builder.specs.Resolved.{Resolved, ResolvedKey}
 use Rattle.kx_resolve.proofs.Growing.{bare_groups, change_length, groups_grow, key_then_groups}
 use Rattle.kx_resolve.proofs.TypesInUse.{typed_next, typed_none}
 use Rattle.kx_resolve.specs.Bare.{bare_key}
-use Rattle.kx_resolve.specs.Given.{given}
-use Rattle.kx_resolve.specs.InterpretedKey.{InterpretedKey, actions_of, given_to}
+use Rattle.kx_keys.specs.Given.{given}
+use Rattle.kx_keys.specs.InterpretedKey.{InterpretedKey, actions_of, given_to}
 use Rattle.kx_resolve.specs.TypedKeys.{GroupIsValid, GroupsAreValid, group_typed, groups_typed}
 use Rattle.kx_resolve.specs.TypesInUse.{TypeInUse, no_type}
 use Rattle.kx_tables.specs.Sound.{RangeHolds}

@@ -1,7 +1,7 @@
 use Rattle.std.proofs.Common.{◌≡◌, ◌<◌, fold, length}
 use Rattle.kx_builder.specs.Pushes.{last_groups, with_group, with_key}
 use Rattle.kx_resolve.specs.Bare.{bare_key}
-use Rattle.kx_resolve.specs.InterpretedKey.{given_to}
+use Rattle.kx_keys.specs.InterpretedKey.{given_to}
 use Rattle.kx_resolve.specs.TypedKeys.{GroupsAreValid, groups_typed}
 use Rattle.kx_resolve.proofs.keys.push_key.Given as goal
 

@@ -6,8 +6,8 @@ use Rattle.kx_builder.specs.Pushes.{last_groups, with_cell}
 use Rattle.kx_builder.specs.Resolved.{Resolved}
 use Rattle.kx_resolve.proofs.Growing.{cells_grow, groups_count}
 use Rattle.kx_resolve.proofs.Steps.{cells_next, cells_none}
-use Rattle.kx_resolve.specs.Bounds.{last_cells}
-use Rattle.kx_resolve.specs.InterpretedKey.{InterpretedKey, LevelsAreValid, actions_of, cell_at, cells_at, given_to}
+use Rattle.kx_keys.specs.Bounds.{last_cells}
+use Rattle.kx_keys.specs.InterpretedKey.{InterpretedKey, LevelsAreValid, actions_of, cell_at, cells_at, given_to}
 use Rattle.kx_resolve.proofs.keys.push_levels.Goals as goal
 
 pub levels-init : goal.levels-init

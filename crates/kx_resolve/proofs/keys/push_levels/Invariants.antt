@@ -1,7 +1,7 @@
 use Rattle.std.proofs.Common.{◌≡◌, ◌<◌, fold, length}
 use Rattle.kx_builder.specs.Pushes.{last_groups, with_cell}
-use Rattle.kx_resolve.specs.Bounds.{last_cells}
-use Rattle.kx_resolve.specs.InterpretedKey.{LevelsAreValid, cells_at}
+use Rattle.kx_keys.specs.Bounds.{last_cells}
+use Rattle.kx_keys.specs.InterpretedKey.{LevelsAreValid, cells_at}
 use Rattle.kx_resolve.proofs.keys.push_levels.Given as goal
 
 abbrev pub invariant-levels : goal.invariant-levels

@@ -1,5 +1,5 @@
 use Rattle.std.proofs.Common.{rules, ◌<◌, ◌^◌}
-use Rattle.kx_resolve.proofs.Bits.{mods_is}
+use Rattle.kx_keys.proofs.Bits.{mods_is}
 use Rattle.kx_virtual_mods.specs.Sets.{real_of}
 use Rattle.kx_virtual_mods.specs.Standing.{stands_for}
 use Rattle.kx_mods.specs.Mods.{mask}

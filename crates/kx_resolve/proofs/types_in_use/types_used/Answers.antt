@@ -4,14 +4,14 @@ use Rattle.kx_resolve.proofs.Gathering.{used_whole}
 use Rattle.kx_resolve.proofs.TypesInUse.{none_used, places_whole}
 use Rattle.kx_resolve.proofs.Typed.{used_few}
 use Rattle.kx_resolve.proofs.Steps.{used_is, used_next, used_none}
-use Rattle.kx_resolve.specs.Given.{KeyGiven}
-use Rattle.kx_resolve.specs.Keys.{type_names_below, types_used}
+use Rattle.kx_keys.specs.Given.{KeyGiven}
+use Rattle.kx_keys.specs.Keys.{type_names_below, types_used}
 use Rattle.kx_resolve.specs.TypesInUse.{AreUsed, TypeInUse, type_in_use}
 use Rattle.ks_core.specs.Keysym.{FurtherLetters}
 use Rattle.ks_core.specs.Table.{letters_of}
 use Rattle.kx_types.specs.Types.{NamedTypes}
 use Rattle.kx_resolve.specs.NamedKeys.{key_in, name_in, typing_in}
-use Rattle.kx_resolve.specs.Typing.{typing_by}
+use Rattle.kx_keys.specs.Typing.{typing_by}
 use Rattle.kx_resolve.proofs.types_in_use.types_used.Goals as goal
 
 pub codes-init : goal.codes-init

@@ -3,9 +3,9 @@ use Rattle.std.specs.Result.{OnOk}
 use Rattle.kx_symbols.specs.Keys.{key_at}
 use Rattle.kx_resolve.proofs.Named.{of_named, of_none}
 use Rattle.kx_resolve.proofs.Steps.{none_names}
-use Rattle.kx_resolve.specs.Given.{given}
-use Rattle.kx_resolve.specs.GroupTypes.{group_count}
-use Rattle.kx_resolve.specs.Keys.{type_names, type_names_if}
+use Rattle.kx_keys.specs.Given.{given}
+use Rattle.kx_keys.specs.GroupTypes.{group_count}
+use Rattle.kx_keys.specs.Keys.{type_names, type_names_if}
 use Rattle.kx_resolve.specs.NamedKeys.{name_in, typing_in}
 use Rattle.kx_resolve.specs.TypesInUse.{AreUsed}
 use Rattle.kx_resolve.specs.UsedTypes.{Adds}

@@ -2,9 +2,9 @@ use Rattle.std.proofs.Common.{◌++◌, ◌∷◌, [], ◌%◌, ◌^◌, ap, pos
 use Rattle.std.specs.Str.{bytes_eq}
 use Rattle.kx_merge.specs.Offers.{with_name}
 use Rattle.kx_resolve.proofs.TypesInUse.{one_used}
-use Rattle.kx_resolve.specs.Given.{given}
-use Rattle.kx_resolve.specs.GroupTypes.{group_type_name}
-use Rattle.kx_resolve.specs.Typing.{typing_of}
+use Rattle.kx_keys.specs.Given.{given}
+use Rattle.kx_keys.specs.GroupTypes.{group_type_name}
+use Rattle.kx_keys.specs.Typing.{typing_of}
 use Rattle.kx_resolve.proofs.types_in_use.use_group.Goals as goal
 
 pub returns-clause-used : goal.returns-clause-used

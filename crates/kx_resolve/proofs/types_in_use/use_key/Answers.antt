@@ -1,10 +1,10 @@
 use Rattle.std.proofs.Common.{◌≡◌, ◌++◌, ◌∷◌, [], ap, sym, subst, ◌∙◌, append-nil, append_assoc, arith}
 use Rattle.kx_resolve.proofs.Steps.{names_next, names_none}
-use Rattle.kx_resolve.specs.Given.{given}
-use Rattle.kx_resolve.specs.GroupTypes.{group_count, group_type_name}
-use Rattle.kx_resolve.specs.Keys.{type_names}
+use Rattle.kx_keys.specs.Given.{given}
+use Rattle.kx_keys.specs.GroupTypes.{group_count, group_type_name}
+use Rattle.kx_keys.specs.Keys.{type_names}
 use Rattle.kx_resolve.specs.TypesInUse.{AreUsed}
-use Rattle.kx_resolve.specs.Typing.{typing_of}
+use Rattle.kx_keys.specs.Typing.{typing_of}
 use Rattle.kx_resolve.proofs.types_in_use.use_key.Goals as goal
 
 pub groups-init : goal.groups-init

@@ -1,8 +1,8 @@
 use Rattle.std.proofs.Common.{List, ℕ, ◌++◌}
-use Rattle.kx_resolve.specs.Given.{given}
-use Rattle.kx_resolve.specs.Keys.{type_names}
+use Rattle.kx_keys.specs.Given.{given}
+use Rattle.kx_keys.specs.Keys.{type_names}
 use Rattle.kx_resolve.specs.TypesInUse.{AreUsed}
-use Rattle.kx_resolve.specs.Typing.{typing_of}
+use Rattle.kx_keys.specs.Typing.{typing_of}
 use Rattle.kx_resolve.proofs.types_in_use.use_key.Given as goal
 
 abbrev pub invariant-groups : goal.invariant-groups

@@ -1,8 +1,8 @@
 use Rattle.std.proofs.Common.{◌||◌, ap, false, refl, sym, ◌∙◌}
 use Rattle.kx_symbols.specs.Keys.{key_at}
-use Rattle.kx_resolve.proofs.NameBits.{or_false}
+use Rattle.kx_keys.proofs.NameBits.{or_false}
 use Rattle.kx_resolve.proofs.Named.{of_named, of_none}
-use Rattle.kx_resolve.proofs.VmodmapShown.{none_brings}
+use Rattle.kx_keys.proofs.VmodmapShown.{none_brings}
 use Rattle.kx_resolve.specs.MappedKeys.{is_brought}
 use Rattle.kx_resolve.specs.Modmaps.{modmap_at}
 use Rattle.kx_resolve.specs.NamedKeys.{name_in, typing_in}

@@ -1,12 +1,12 @@
 use Rattle.std.proofs.Common.{◌≡◌, ◌||◌, [], ap, sym, ◌∙◌, arith}
-use Rattle.kx_resolve.proofs.VmodmapShown.{unnamed_brings}
+use Rattle.kx_keys.proofs.VmodmapShown.{unnamed_brings}
 use Rattle.kx_resolve.specs.MappedKeys.{is_brought}
-use Rattle.kx_resolve.specs.Vmodmap.{ReadKeymap, brings}
+use Rattle.kx_keys.specs.Vmodmap.{ReadKeymap, brings}
 use Rattle.kx_resolve.specs.NamedKeys.{name_in}
 use Rattle.kx_resolve.specs.Read.{keymap_read}
 use Rattle.kx_codes.proofs.Ends.{all_gathered}
 use Rattle.kx_virtual_mods.specs.Sets.{any_below}
-use Rattle.kx_resolve.proofs.Acting.{any_next, any_none}
+use Rattle.kx_keys.proofs.Acting.{any_next, any_none}
 use Rattle.kx_resolve.proofs.virtual_modifiers.mapped_keys_of.Goals as goal
 
 pub codes-init : goal.codes-init

@@ -2,7 +2,7 @@ use Rattle.std.proofs.Common.{◌≡◌, ◌||◌, ◌≤◌, ◌+◌, ◌++◌,
 use Rattle.std.proofs.lemmas.List.{take_all, take_more}
 use Rattle.kx_resolve.specs.MappedKeys.{is_brought}
 use Rattle.kx_resolve.proofs.Brought.{brought_none, brought_push}
-use Rattle.kx_resolve.proofs.NameBits.{has_with, or_false}
+use Rattle.kx_keys.proofs.NameBits.{has_with, or_false}
 use Rattle.kx_virtual_mods.specs.Sets.{has}
 use Rattle.kx_mods.specs.Mods.{mask}
 use Rattle.kx_resolve.proofs.virtual_modifiers.standing.Goals as goal

@@ -1,7 +1,7 @@
 use Rattle.std.proofs.Common.{ap, ◌∙◌}
-use Rattle.kx_resolve.specs.Mapping.{modmap_of}
+use Rattle.kx_keys.specs.Mapping.{modmap_of}
 use Rattle.kx_resolve.specs.ReadMapping.{mapping_of}
-use Rattle.kx_resolve.specs.Typing.{typing_by}
+use Rattle.kx_keys.specs.Typing.{typing_by}
 use Rattle.kx_source.proofs.Mapped.{mapping_same}
 use Rattle.kx_source.specs.Sections.{modifiers_named, names_of, symbols_of}
 use Rattle.kx_source.proofs.keys.read_keys.Goals as goal

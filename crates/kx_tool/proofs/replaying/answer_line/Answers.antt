@@ -4,7 +4,7 @@ use Rattle.ks_core.proofs.BufferedOutLemmas.{writes_nothing}
 use Rattle.kx_tables.specs.Keymap.{keymap_of}
 use Rattle.kx_run.specs.Player.{Played}
 use Rattle.kx_run.specs.Replies.{world_after}
-use Rattle.kx_tool.specs.Answer.{answers_from}
+use Rattle.kx_lines.specs.Answer.{answers_from}
 use Rattle.kx_tool.proofs.Answering.{no_event}
 use Rattle.kx_tool.proofs.replaying.answer_line.Goals as goal
 

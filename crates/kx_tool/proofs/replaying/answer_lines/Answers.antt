@@ -1,8 +1,8 @@
 use Rattle.std.proofs.Common.{◌≡◌, ◌+◌, ◌∷◌, [], ap, subst, ◌∙◌, refl, arith}
 use Rattle.std.proofs.lemmas.Bool.{ne_eqb}
-use Rattle.kx_tool.specs.Input.{Came, FailsBehind, budget, coming}
+use Rattle.kx_lines.specs.Input.{Came, FailsBehind, budget, coming}
 use Rattle.kx_tool.proofs.Ends.{answered_byte, answered_line, answered_nothing, answered_part, answered_put, failed_reading, line_comes, line_comes_last, line_ends, number_small, replays_ended, replays_failed, replays_stopped}
-use Rattle.kx_tool.proofs.Reading.{fails_from, within_at_end, within_whatever}
+use Rattle.kx_lines.proofs.Reading.{fails_from, within_at_end, within_whatever}
 use Rattle.kx_tool.proofs.replaying.answer_lines.Goals as goal
 use Rattle.kx_tool.proofs.replaying.answer_lines.Goals.{in-Ok-finish_line, in-Err-finish_line}
 

@@ -1,5 +1,5 @@
 use Rattle.std.proofs.Common.{◌≡◌, ◌+◌}
-use Rattle.kx_tool.specs.Input.{budget, coming}
+use Rattle.kx_lines.specs.Input.{budget, coming}
 use Rattle.kx_tool.proofs.Ends.{AnsweredSoFar}
 use Rattle.kx_tool.proofs.replaying.answer_lines.Given as goal
 

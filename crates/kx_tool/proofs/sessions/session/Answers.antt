@@ -1,9 +1,9 @@
 use Rattle.std.proofs.Common.{◌≡◌, ◌⊎◌, refl, subst}
 use Rattle.kx_source.specs.Source.{HasFault, Means}
 use Rattle.kx_lex.specs.declared.fault.Fault.TheVariants.{Memory}
-use Rattle.kx_tool.specs.Input.{budget, coming}
-use Rattle.kx_tool.specs.Sources.{ReadsSource}
-use Rattle.kx_tool.proofs.Reading.{fails_from, within_from}
+use Rattle.kx_lines.specs.Input.{budget, coming}
+use Rattle.kx_lines.specs.Sources.{ReadsSource}
+use Rattle.kx_lines.proofs.Reading.{fails_from, within_from}
 use Rattle.kx_tool.proofs.SessionLemmas.{fails_all, within_all, session_answered, session_refused, session_silent, session_stopped}
 use Rattle.kx_tool.proofs.sessions.session.Goals as goal
 

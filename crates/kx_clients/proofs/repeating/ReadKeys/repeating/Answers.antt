@@ -3,7 +3,7 @@ use Rattle.kx_basics.specs.declared.limits.TheConstants.{CODES}
 use Rattle.kx_clients.specs.Read.{read_repeats}
 use Rattle.kx_clients.specs.Records.{repeat_recorded, truth_recorded}
 use Rattle.kx_clients.specs.Repeats.{key_repeats}
-use Rattle.kx_resolve.specs.Given.{given_in}
+use Rattle.kx_keys.specs.Given.{given_in}
 use Rattle.kx_resolve.specs.Modmaps.{modmap_at}
 use Rattle.kx_symbols.specs.Keys.{key_at}
 use Rattle.kx_clients.proofs.Lists.{truths_all, truths_more}

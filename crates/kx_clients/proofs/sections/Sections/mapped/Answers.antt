@@ -1,8 +1,8 @@
 use Rattle.std.proofs.Common.{ap, ◌∙◌}
 use Rattle.kx_include.specs.Shared.{expanded_body}
-use Rattle.kx_resolve.specs.Mapping.{modmap_of}
+use Rattle.kx_keys.specs.Mapping.{modmap_of}
 use Rattle.kx_resolve.specs.ReadMapping.{mapping_of}
-use Rattle.kx_resolve.specs.Typing.{typing_by}
+use Rattle.kx_keys.specs.Typing.{typing_by}
 use Rattle.kx_clients.proofs.Mapped.{mapping_same}
 use Rattle.kx_clients.proofs.sections.Sections.mapped.Goals as goal
 

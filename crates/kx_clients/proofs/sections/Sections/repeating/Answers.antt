@@ -5,7 +5,7 @@ use Rattle.kx_compat.specs.Meaning.{compat_faults}
 use Rattle.kx_include.specs.Shared.{expanded_body}
 use Rattle.kx_lex.specs.declared.fault.Fault.{Fault}
 use Rattle.kx_lex.specs.declared.fault.Fault.TheVariants.{Memory}
-use Rattle.kx_resolve.specs.Given.{given_in}
+use Rattle.kx_keys.specs.Given.{given_in}
 use Rattle.kx_resolve.specs.Modmaps.{modmap_at}
 use Rattle.kx_symbols.specs.Keys.{key_at}
 use Rattle.kx_clients.specs.Repeats.{key_repeats}

@@ -1,7 +1,7 @@
 use Rattle.std.proofs.Common.{ap, ◌∙◌}
 use Rattle.kx_resolve.specs.Modmaps.{modmap_at}
 use Rattle.kx_resolve.specs.ReadVmodmap.{read_keymap_of}
-use Rattle.kx_resolve.specs.Vmodmap.{stands}
+use Rattle.kx_keys.specs.Vmodmap.{stands}
 use Rattle.kx_virtual_mods.specs.Standing.{stands_for}
 use Rattle.kx_clients.proofs.sections.Sections.virtual_modifiers.Goals as goal
 

@@ -2,7 +2,7 @@ use Rattle.std.proofs.Common.{◌<◌, length, subst, sym}
 use Rattle.kx_builder.specs.Resolved.{Resolved}
 use Rattle.kx_builder.specs.WithinLimits.{IsWithinLimits}
 use Rattle.kx_resolve.proofs.Growing.{small_with_cell}
-use Rattle.kx_resolve.specs.Bounds.{last_cells}
+use Rattle.kx_keys.specs.Bounds.{last_cells}
 use Rattle.kx_resolve.proofs.tables_builder.TablesBuilder.push_level.Goals as goal
 
 pub invariant_of-self-2 : goal.invariant_of-self-2

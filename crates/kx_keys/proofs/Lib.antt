@@ -1,0 +1,10 @@
+pub mod Adding
+pub mod Bits
+pub mod Fining
+pub mod RowsShown
+pub mod Acting
+pub mod Back
+pub mod Counting
+pub mod VmodmapShown
+pub mod Meant
+pub mod NameBits

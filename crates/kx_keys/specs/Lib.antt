@@ -1,0 +1,13 @@
+pub mod Selecting
+pub mod Rows
+pub mod Going
+pub mod Given
+pub mod Typing
+pub mod Standing
+pub mod GroupTypes
+pub mod Mapping
+pub mod Vmodmap
+pub mod LevelActions
+pub mod Keys
+pub mod Bounds
+pub mod InterpretedKey

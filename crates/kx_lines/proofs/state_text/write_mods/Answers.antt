@@ -1,0 +1,5 @@
+use Rattle.ks_core.proofs.BufferedOutLemmas.{writes_then}
+use Rattle.kx_lines.proofs.state_text.write_mods.Goals as goal
+
+pub returns : goal.returns
+returns g c = writes_then g.O.Out.written g.O.Out.failures _ _ _ _ _ _ _ _ c.write.ensures c.write_mods.ensures

@@ -1,5 +1,0 @@
-use Rattle.ks_core.proofs.BufferedOutLemmas.{writes_then}
-use Rattle.kx_tool.proofs.listing.write_piece.Goals as goal
-
-pub returns : goal.returns
-returns g c = writes_then g.O.Out.written g.O.Out.failures _ _ _ _ _ _ _ _ c.write.ensures c.write-2.ensures
