@@ -20,7 +20,7 @@ use Rattle.kx_tree.specs.declared.tree.Mode.TheVariants.{Override}
 use Rattle.kx_tree.specs.declared.tree.Flag.{Flag}
 use Rattle.kx_tree.specs.declared.tree.Section.{Section}
 use Rattle.kx_parse.proofs.LawfulGeometry.{geometry-lawful}
-use Rattle.kx_parse.proofs.LawfulStatements.{starts, starts-before, statement-lawful, statement-least, statement-starts}
+use Rattle.kx_tree.proofs.LawfulStatements.{starts, starts-before, statement-lawful, statement-least, statement-starts}
 
 not_word : (keyword : Keyword) (t : Token) → is_word t ≡ false → is_keyword keyword t ≡ false
 unfolding is_keyword

@@ -1,9 +1,7 @@
-mod LawfulStatements
 mod LawfulGeometry
 mod LawfulSections
 mod Trees
 mod Refusals
-mod PassedStatements
 mod PassedOutline
 mod PassedSections
 pub mod PlacedSections

@@ -27,7 +27,7 @@ use Rattle.kx_tree.specs.declared.tree.Mode.{Mode}
 use Rattle.kx_tree.specs.declared.tree.Mode.TheVariants.{Override}
 use Rattle.kx_tree.specs.declared.tree.Statement.{Statement}
 use Rattle.kx_parse.proofs.LawfulSections.{flag-front, include-begins, item-before, join-none, modal-begins, mode-none}
-use Rattle.kx_parse.proofs.LawfulStatements.{starts, statement-starts}
+use Rattle.kx_tree.proofs.LawfulStatements.{starts, statement-starts}
 use Rattle.kx_tree.proofs.PassedForms.{closing, not_both}
 
 -- flags

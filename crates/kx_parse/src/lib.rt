@@ -4,7 +4,6 @@
 mod fields;
 mod outline;
 mod part;
-mod passing_statements;
 mod sections;
 mod statements;
 

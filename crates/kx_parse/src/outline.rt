@@ -11,13 +11,13 @@ ghost use Rattle.kx_tree.specs.Geometry.{geometry};
 ghost use Rattle.kx_parse.specs.Outline.{BeginsNoInclude, BeginsNoModed, EndSections, HasNoSectionAt, IsNumbered, IsSectionAt, IsSourceOutline, StandElsewhere, built_from, outline_from, sections_before, source_end, source_front, IsJoinWord, IsKindWord, IsModeWord, IsNoFlag, IsOutline, PassesDeep, held_by, include_at, is_include, items_ended, outline_of};
 ghost use Rattle.kx_tree.specs.Sections.{flag, flagged, flags, item, optional_text, section};
 
-use crate::passing_statements::{pass_statement, pass_statement_behind};
 use crate::sections::{flag_of, join_of, kind_of, mode_of, read_section};
 use kx_lex::passing::{
     first_in, front_is, front_is_word, pass_keyword, pass_mark, pass_name, pass_token, span_at,
 };
 use kx_lex::tokens::is_keyword;
 use kx_lex::{Fault, Keyword, MOST_TEXT_BYTES, Name, Row, Span, Token, TokenKind, lex_front};
+use kx_tree::passing_statements::{pass_statement, pass_statement_behind};
 use kx_tree::{Flag, Item, Kind, Mode, Section};
 use std::alloc::{AllocError, Global};
 

@@ -2,6 +2,7 @@
 #![tactic(auto)]
 
 pub mod passing;
+pub mod passing_statements;
 mod tree;
 pub mod values;
 

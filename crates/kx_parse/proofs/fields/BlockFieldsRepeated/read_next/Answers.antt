@@ -1,5 +1,5 @@
 use Rattle.kx_lex.proofs.Shorter.{Gives-shorter}
-use Rattle.kx_parse.proofs.LawfulStatements.{block_field-lawful, block_field-least}
+use Rattle.kx_tree.proofs.LawfulStatements.{block_field-lawful, block_field-least}
 use Rattle.kx_parse.proofs.fields.BlockFieldsRepeated.read_next.Goals as goal
 
 pub returns-clause-shorter : goal.returns-clause-shorter

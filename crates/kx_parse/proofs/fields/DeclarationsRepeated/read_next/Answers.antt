@@ -1,5 +1,5 @@
 use Rattle.kx_lex.proofs.Shorter.{Gives-shorter}
-use Rattle.kx_parse.proofs.LawfulStatements.{declaration-lawful, declaration-least}
+use Rattle.kx_tree.proofs.LawfulStatements.{declaration-lawful, declaration-least}
 use Rattle.kx_parse.proofs.fields.DeclarationsRepeated.read_next.Goals as goal
 
 pub returns-clause-shorter : goal.returns-clause-shorter

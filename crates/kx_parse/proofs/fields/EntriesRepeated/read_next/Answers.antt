@@ -1,5 +1,5 @@
 use Rattle.kx_lex.proofs.Shorter.{Gives-shorter}
-use Rattle.kx_parse.proofs.LawfulStatements.{entry-lawful, entry-least}
+use Rattle.kx_tree.proofs.LawfulStatements.{entry-lawful, entry-least}
 use Rattle.kx_parse.proofs.fields.EntriesRepeated.read_next.Goals as goal
 
 pub returns-clause-shorter : goal.returns-clause-shorter

@@ -1,5 +1,5 @@
 use Rattle.kx_lex.proofs.Shorter.{Gives-shorter}
-use Rattle.kx_parse.proofs.LawfulStatements.{key_field-lawful, key_field-least}
+use Rattle.kx_tree.proofs.LawfulStatements.{key_field-lawful, key_field-least}
 use Rattle.kx_parse.proofs.fields.KeyFieldsRepeated.read_next.Goals as goal
 
 pub returns-clause-shorter : goal.returns-clause-shorter
