@@ -10,53 +10,49 @@ pub(crate) fn write_too_long(out: &mut String, span: Span) -> Result<(), AllocEr
     write!(out, "a text of {length} bytes, more than 1,048,576")
 }
 
-/// The bytes of the character that begins a text.
-fn first_character(text: &[u8]) -> Option<&[u8]> {
-    for length in 2..5 {
-        let bytes = text.get(..length)?;
-        if str::from_utf8(bytes).is_ok() {
-            return Some(bytes);
+/// The character that begins a text.
+fn first_character(text: &[u8]) -> Option<char> {
+    for length in 1..5 {
+        if let Ok(character) = str::from_utf8(text.get(..length)?) {
+            return character.chars().next();
         }
     }
     None
 }
 
-/// What is written in the place of a straight double quote.
-static QUOTES: [&str; 10] = ["'", "`", "´", "“", "”", "„", "‘", "’", "«", "»"];
+const STRAIGHT_QUOTES: &str = "a text stands between straight double quotes, as \"us\"";
+
+/// Whether a character is written in the place of a straight double quote.
+fn is_quote(character: char) -> bool {
+    matches!(
+        character,
+        '\'' | '`' | '´' | '“' | '”' | '„' | '‘' | '’' | '«' | '»'
+    )
+}
 
 /// Says which character that stands for a mark begins nothing, and which mark does; answers whether it is one.
 fn write_mistaken_mark(out: &mut String, front: &[u8]) -> Result<bool, AllocError> {
-    let first = front.get(..1).unwrap_or(&[]);
-    let character = match first_character(front) {
-        Some(character) if !first.is_ascii() => character,
-        _ => first,
+    let Some(character) = first_character(front) else {
+        return Ok(false);
     };
-    let wanted = match str::from_utf8(character) {
-        Ok(":") => "a value stands behind '='",
-        Ok(text) if QUOTES.contains(&text) => {
-            "a text stands between straight double quotes, as \"us\""
-        }
+    let wanted = match character {
+        ':' => "a value stands behind '='",
+        quote if is_quote(quote) => STRAIGHT_QUOTES,
         _ => return Ok(false),
     };
-    let mark = quoted(character);
-    write!(out, "{mark} begins nothing here: {wanted}")?;
+    write!(out, "'{character}' begins nothing here: {wanted}")?;
     Ok(true)
 }
 
 /// Says which character stands outside quotes, and how its keysym is written.
-fn write_character(out: &mut String, bytes: &[u8]) -> Result<(), AllocError> {
-    let words = quoted(bytes);
+fn write_character(out: &mut String, front: &[u8], character: char) -> Result<(), AllocError> {
+    let words = quoted(front.get(..character.len_utf8()).unwrap_or(front));
     write!(out, "{words} stands outside quotes and comments")?;
-    match str::from_utf8(bytes)
-        .ok()
-        .and_then(|text| text.chars().next())
-    {
-        Some(character) if character.is_alphanumeric() => {
-            let number = u32::from(character);
-            write!(out, "; as a keysym it is U{number:04X}")
-        }
-        _ => Ok(()),
+    if character.is_alphanumeric() {
+        let number = u32::from(character);
+        write!(out, "; as a keysym it is U{number:04X}")?;
     }
+    Ok(())
 }
 
 /// Says which byte begins nothing.
@@ -76,7 +72,7 @@ pub(crate) fn write_bad_byte(out: &mut String, text: &[u8], span: Span) -> Resul
         return write!(out, "{mark} begins nothing that a keymap has");
     }
     match first_character(front) {
-        Some(bytes) if !byte.is_ascii() => write_character(out, bytes),
+        Some(character) if !byte.is_ascii() => write_character(out, front, character),
         _ => write!(
             out,
             "the byte 0x{byte:02x} stands outside quotes and comments"
