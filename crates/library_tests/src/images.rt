@@ -1,7 +1,5 @@
 //! Images that are written, opened, cut and changed.
-mod desktop;
 mod full;
-mod slow;
 
 use ks_core::MemOut;
 use kx_image::{ImageFault, UpgradeFault, View, upgrade, write};
@@ -159,24 +157,4 @@ fn opens_the_empty_image(rt: HostRuntime) {
     let mut out = MemOut::new(&mut room);
     assert!(rt; upgrade(&older[..28], &mut out) == Ok(()));
     assert!(rt; out.written() == empty.as_slice());
-}
-
-#[test]
-fn agrees_with_a_slow_reader(rt: HostRuntime) {
-    for image in [ONE.as_slice(), TWO.as_slice(), KEYS.as_slice()] {
-        let mut bytes = [0; 98];
-        let long = image.len();
-        assert!(rt; long <= 98);
-        for place in 0..long {
-            for byte in 0..=255 {
-                bytes[..long].copy_from_slice(image);
-                bytes[place] = byte;
-                let changed = &bytes[..long];
-                assert!(rt;
-                    slow::agrees(changed, fault_of(changed)),
-                    "byte {place} as {byte}"
-                );
-            }
-        }
-    }
 }

@@ -1,7 +1,7 @@
-//! Includes: their parts, the files that they name, and the bodies that they expand to.
-use kx_include::{Bodies, Entry, Expansion, FileText, Files, Library, Link, Place, include_parts};
+//! Includes: a map that stands once, and files that keep their outlines.
+use kx_include::{Bodies, Expansion, FileText, Files, Library, Place};
 use kx_lex::Fault;
-use kx_parse::{Kind, Mode};
+use kx_parse::Kind;
 use std::alloc::{AllocError, Global};
 use std::process::Abort;
 use std::test::Fail;
@@ -72,123 +72,6 @@ fn a_map_stands_once_however_often_it_is_included(rt: HostRuntime) -> Result<(),
     let bodies = bodies_of(rt.alloc(), &library)?;
     stands_once(&rt, &bodies.symbols);
     Ok(())
-}
-
-/// The mode and the links of the include that a body begins with.
-fn first_include<'b>(body: &'b Expansion) -> Option<(Mode, &'b [Link])> {
-    let section = body.sections.first()?;
-    match section.entries.first()? {
-        Entry::Own(_) => None,
-        Entry::Include { mode, links } => Some((*mode, links.as_slice())),
-    }
-}
-
-/// Asserts that an include augments, by the first map in three groups.
-fn is_in_three_groups(rt: &impl Abort, include: Option<(Mode, &[Link])>) {
-    let (mode, links) = include.expect(rt, "no include");
-    assert!(rt; mode == Mode::Augment);
-    let wanted = [
-        (Mode::Override, None),
-        (Mode::Override, Some(2)),
-        (Mode::Augment, Some(3)),
-    ];
-    assert!(rt; links.len() == wanted.len());
-    for (link, (mode, group)) in links.iter().zip(wanted) {
-        assert!(rt; link.mode == mode);
-        assert!(rt; link.group == group);
-        assert!(rt; link.map == 0);
-    }
-}
-
-#[test]
-fn a_map_in_three_groups_has_three_links(rt: HostRuntime) -> Result<(), Fail> {
-    let us = b"xkb_symbols { };".as_slice();
-    let files = handed(&rt, &[(b"us".as_slice(), us)])?;
-    let text = symbols_of(&rt, b"augment \"us+us:2|us:3\"")?;
-    let library = library_of(rt.alloc(), text.as_slice(), &files)?;
-    let bodies = bodies_of(rt.alloc(), &library)?;
-    is_in_three_groups(&rt, first_include(&bodies.symbols));
-    Ok(())
-}
-
-/// The map that the one part of an include names.
-fn place_named(
-    rt: &(impl Abort + AllocGlobal),
-    library: &Library,
-    kind: Kind,
-    name: &[u8],
-) -> Result<Option<Place>, Fail> {
-    let parts = include_parts(rt.alloc(), name)?.unwrap_or(Vec::new(rt.alloc()));
-    assert!(rt; parts.len() == 1);
-    Ok(library.place_of(rt.alloc(), kind, &parts[0])?)
-}
-
-fn finds_maps(rt: &(impl Abort + AllocGlobal), library: &Library) -> Result<(), Fail> {
-    let rows: [(Kind, &[u8], Option<Place>); 6] = [
-        (
-            Kind::Symbols,
-            b"us",
-            Some(Place {
-                file: 2,
-                section: 1,
-            }),
-        ),
-        (
-            Kind::Types,
-            b"us",
-            Some(Place {
-                file: 1,
-                section: 1,
-            }),
-        ),
-        (Kind::Compat, b"us", None),
-        (
-            Kind::Symbols,
-            b"symbols/us(z)",
-            Some(Place {
-                file: 2,
-                section: 1,
-            }),
-        ),
-        (Kind::Symbols, b"us(x)", None),
-        (Kind::Types, b"nope", None),
-    ];
-    for (kind, name, wanted) in &rows {
-        assert!(rt; place_named(rt, library, *kind, name)? == *wanted);
-    }
-    let first = Place {
-        file: 1,
-        section: 0,
-    };
-    let last = Place {
-        file: 1,
-        section: 3,
-    };
-    let behind = Place {
-        file: 1,
-        section: 4,
-    };
-    assert!(rt; library.section_at(last).is_some());
-    assert!(rt; library.section_at(behind).is_none());
-    assert!(rt; library.items_in(first).len() == 0);
-    Ok(())
-}
-
-#[test]
-fn maps_by_name_and_without(rt: HostRuntime) -> Result<(), Fail> {
-    let us =
-        b"xkb_symbols \"x\" {}; xkb_types {}; default xkb_symbols \"y\" {}; xkb_symbols \"x\" {};";
-    let given = [
-        (b"us".as_slice(), us.as_slice()),
-        (
-            b"symbols/us".as_slice(),
-            b"xkb_types {}; xkb_symbols \"z\" {};".as_slice(),
-        ),
-    ];
-    let files = handed(&rt, &given)?;
-    assert!(rt; files.len() == 2);
-    let library = library_of(rt.alloc(), b"xkb_keymap { };", &files)?;
-    finds_maps(&rt, &library)
 }
 
 fn text_of(alloc: Global, bytes: &[u8]) -> Result<Box<FileText>, AllocError> {

@@ -1,6 +1,5 @@
-//! Tests of single calls of the libraries that need devices or values: failing readers and writers, names of keysyms, tokens,
-//! trees, includes, tables, images, the lines of faults, a keymap of as many keys as there are codes, keyboards and followers,
-//! sessions, and printed texts by chance. What a source gives stands in the files of cases.
+//! Tests of single calls of the libraries that need devices or values: failing readers and writers, names of keysyms, files that
+//! keep their outlines, tables, images, keyboards and followers, and sessions. What a source gives stands in the files of cases.
 #![tactic(auto)]
 
 #[cfg(test)]
@@ -12,8 +11,6 @@ mod checking;
 #[cfg(test)]
 mod devices;
 #[cfg(test)]
-mod faults;
-#[cfg(test)]
 mod headline;
 #[cfg(test)]
 mod images;
@@ -23,12 +20,6 @@ mod including;
 mod keyboards;
 #[cfg(test)]
 mod keysyms;
-#[cfg(test)]
-mod lexing;
-#[cfg(test)]
-mod many;
-#[cfg(test)]
-mod parsing;
 #[cfg(test)]
 mod places;
 #[cfg(test)]

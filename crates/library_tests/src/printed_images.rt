@@ -1,8 +1,4 @@
 //! Images of sources, and their printed texts. Worked ones stand in the files of cases.
-mod chance;
-mod limits;
-mod round_trips;
-
 use ks_core::{Lent, NameTable};
 use kx_image::{View, upgrade};
 use kx_print::print;

@@ -1,5 +1,5 @@
 //! An image that has a record of every kind, in both versions.
-use super::{fault_of, slow};
+use super::fault_of;
 use ks_core::MemOut;
 use kx_image::{ImageFault, View, upgrade};
 use kx_tables::{RecordKind, Rows, Tables};
@@ -69,50 +69,28 @@ fn refuses_what_is_cut_or_too_long(rt: HostRuntime) {
     }
 }
 
-/// Whether `open` and the slow reader agree on each change of one byte from a place on, before another.
-fn agrees_between(image: &[u8], from: usize, until: usize) -> bool {
-    let mut bytes = [0; LENGTH];
-    let end = image.len();
-    if end > LENGTH || until > end {
-        return false;
-    }
-    for place in from..until {
+/// What stands behind the header is judged alike in both versions; the older one's header is 4 bytes shorter.
+#[test]
+fn records_of_the_older_version_are_judged_as_those_of_the_newer(
+    rt: HostRuntime,
+) -> Result<(), Fail> {
+    let one = full_one();
+    let mut room = [0; LENGTH_ONE_UPGRADED];
+    let mut out = MemOut::new(&mut room);
+    assert!(rt; upgrade(&one, &mut out) == Ok(()));
+    for place in 28..LENGTH_ONE {
         for byte in 0..=255 {
-            bytes[..end].copy_from_slice(image);
-            bytes[place] = byte;
-            let changed = &bytes[..end];
-            if !slow::agrees(changed, fault_of(changed)) {
-                return false;
-            }
+            let mut older = one;
+            older[place] = byte;
+            let mut newer = room;
+            newer[place + 4] = byte;
+            assert!(rt;
+                fault_of(&older) == fault_of(&newer),
+                "byte {place} as {byte}"
+            );
         }
     }
-    true
-}
-
-#[test]
-fn changes_of_the_header_and_types_agree_with_a_slow_reader(rt: HostRuntime) {
-    assert!(rt; agrees_between(&FULL, 0, 76));
-}
-
-#[test]
-fn changes_of_keys_and_groups_agree_with_a_slow_reader(rt: HostRuntime) {
-    assert!(rt; agrees_between(&FULL, 76, 148));
-}
-
-#[test]
-fn changes_of_cells_agree_with_a_slow_reader(rt: HostRuntime) {
-    assert!(rt; agrees_between(&FULL, 148, 244));
-}
-
-#[test]
-fn changes_of_keysyms_and_names_agree_with_a_slow_reader(rt: HostRuntime) {
-    assert!(rt; agrees_between(&FULL, 244, LENGTH));
-}
-
-#[test]
-fn changes_of_the_older_version_agree_with_a_slow_reader(rt: HostRuntime) {
-    assert!(rt; agrees_between(&full_one(), 0, 72));
-    assert!(rt; agrees_between(&full_one(), 240, LENGTH_ONE));
+    Ok(())
 }
 
 #[test]

@@ -122,6 +122,7 @@ fn replays_to_writers_that_fail_once(rt: HostRuntime) -> Result<(), Fail> {
         let mut feed = MemFeed::new(LINES);
         let ended = replay(rt.alloc(), &mut feed, &IMAGE, &names, &mut out);
         assert!(rt; ended == Err(ReplayFault::Write));
+        assert!(rt; ReplayFault::Write.to_string(rt.alloc())?.as_str() == "P5 Write");
         assert!(rt; out.device.calls == 1);
     }
     Ok(())
