@@ -43,7 +43,7 @@ names kx_rule_lines kx_rules rules_tree kx_names
 program kx_reach kx_files kx_explain kx_noted kx_show kx_failure kx_words kx_keymaps kx_program xkc
 C kx_slots kx_handles kx_told kx_sources kx_calls xkc_c
 example compositor
-tests cases_kit cases library_tests
+tests cases library_tests
 END
 }
 

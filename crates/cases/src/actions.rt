@@ -1,6 +1,7 @@
 //! Actions as calls.
+use crate::case::Case;
 use crate::sources::{bodies_of, library_of, modifiers_of};
-use cases_kit::{Case, Trouble};
+use crate::trouble::Trouble;
 use kx_actions::{ActionDefaults, KeyAction, read, real_action};
 use kx_include::Place;
 use kx_lex::Fault;

@@ -1,5 +1,5 @@
 //! Calls that are made twice each on a keymap, so that `tests/refused.sh` can refuse their growths one by one.
-use cases_kit::Trouble;
+use crate::trouble::Trouble;
 use ks_core::{MemFeed, MemOut, NameTable};
 use kx_image::View;
 use kx_run::{Direction, Player};

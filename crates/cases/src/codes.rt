@@ -1,6 +1,7 @@
 //! Keycodes.
+use crate::case::Case;
 use crate::sources::{bodies_of, codes_of, library_of, text_of};
-use cases_kit::{Case, Trouble};
+use crate::trouble::Trouble;
 use kx_codes::Codes;
 use std::alloc::Global;
 

@@ -1,6 +1,7 @@
 //! Indicators.
+use crate::case::Case;
 use crate::sources::{bodies_of, library_of, modifiers_of, text_of};
-use cases_kit::{Case, Trouble};
+use crate::trouble::Trouble;
 use kx_indicators::{IndicatorMap, Indicators, indicators};
 use kx_lex::Fault;
 use std::alloc::Global;

@@ -1,6 +1,7 @@
 //! Interpretations, and which one is chosen.
+use crate::case::Case;
 use crate::sources::{bodies_of, library_of, modifiers_of};
-use cases_kit::{Case, Trouble};
+use crate::trouble::Trouble;
 use ks_core::Notes;
 use kx_actions::KeyAction;
 use kx_compat::{Interpretation, Interpretations, WantedKeysym, interpretations};

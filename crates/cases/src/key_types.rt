@@ -1,6 +1,7 @@
 //! Key types, and their rows.
+use crate::case::Case;
 use crate::sources::{bodies_of, library_of, modifiers_of, text_of};
-use cases_kit::{Case, Trouble};
+use crate::trouble::Trouble;
 use kx_lex::Fault;
 use kx_mods::Mods;
 use kx_resolve::TypeRows;

@@ -1,7 +1,8 @@
 //! What statements of symbols say of the key of the code 38.
+use crate::case::Case;
 use crate::settings;
 use crate::sources::{bodies_of, codes_of, library_of, modifiers_of};
-use cases_kit::{Case, Trouble};
+use crate::trouble::Trouble;
 use ks_core::{NameTable, Notes};
 use kx_actions::KeyAction;
 use kx_codes::Codes;

@@ -6,7 +6,9 @@
 
 mod actions;
 mod calls;
+mod case;
 mod codes;
+mod entries;
 mod indicators;
 mod interpretations;
 mod key_types;
@@ -15,41 +17,22 @@ mod modifiers;
 mod names;
 mod notes;
 mod parts;
-mod precedence;
 mod rules;
+mod running;
 mod settings;
 mod shown;
 mod sources;
 mod symbols;
 mod texts;
+mod trouble;
 mod values;
+mod words;
 
 use crate::calls::Call;
-use cases_kit::{Case, Subject, Trouble, run_file};
-use std::alloc::Global;
+use crate::running::run_file;
+use crate::trouble::Trouble;
 use std::env;
 use std::io::Read;
-
-/// Cases of all words: over whole keymaps, over the parts of compiling, and over rules.
-struct Words;
-
-impl Subject for Words {
-    fn shown(
-        &self,
-        alloc: Global,
-        case: &Case,
-        word: &str,
-        wanted: &str,
-    ) -> Result<Option<String>, Trouble> {
-        if let Some(found) = shown::of_keymap(alloc, case, word, wanted)? {
-            return Ok(Some(found));
-        }
-        if let Some(found) = parts::shown(alloc, case, word, wanted)? {
-            return Ok(Some(found));
-        }
-        rules::shown(alloc, case, word, wanted)
-    }
-}
 
 fn main(rt: HostRuntime) -> Result<(), Trouble> {
     let words: Vec<String> = env::args(&rt)?.collect(rt.alloc())?;
@@ -57,7 +40,7 @@ fn main(rt: HostRuntime) -> Result<(), Trouble> {
     for word in words.iter().skip(1) {
         let word = word.as_str();
         let Some(call) = Call::of(word) else {
-            run_file(&rt, &Words, word)?;
+            run_file(&rt, word)?;
             continue;
         };
         if keymap.is_empty() {

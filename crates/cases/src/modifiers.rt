@@ -1,6 +1,7 @@
 //! Virtual modifiers, and sets that masks name.
+use crate::case::Case;
 use crate::sources::{bodies_of, library_of, modifiers_of, text_of, tree_of};
-use cases_kit::{Case, Trouble};
+use crate::trouble::Trouble;
 use kx_lex::Fault;
 use kx_parse::{Expression, Item, Setting, Stated, Statement, Value};
 use kx_virtual_mods::{MOST_VIRTUAL_MODIFIERS, ModNames};

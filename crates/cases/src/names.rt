@@ -1,6 +1,7 @@
 //! Names of keysyms.
+use crate::case::Case;
+use crate::trouble::Trouble;
 use arrayvec::ArrayString;
-use cases_kit::{Case, Trouble};
 use ks_core::Keysym;
 use std::alloc::{AllocError, Global};
 

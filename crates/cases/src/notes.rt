@@ -1,8 +1,9 @@
 //! What is passed over, by the family of statements that notes it.
+use crate::case::Case;
 use crate::interpretations::interpretations_in;
 use crate::keys::keys_in;
 use crate::symbols::maps_in;
-use cases_kit::{Case, Trouble};
+use crate::trouble::Trouble;
 use ks_core::Notes;
 use kx_lex::Fault;
 use std::alloc::Global;

@@ -1,9 +1,10 @@
 //! The words by which cases ask for the parts of compiling.
+use crate::case::Case;
+use crate::trouble::Trouble;
 use crate::{
     actions, codes, indicators, interpretations, key_types, keys, modifiers, names, notes,
-    precedence, settings, symbols, texts, values,
+    settings, symbols, texts, values,
 };
-use cases_kit::{Case, Trouble};
 use std::alloc::Global;
 
 /// What a text is read as.
@@ -66,7 +67,6 @@ fn of_symbols(
         "group-names" => symbols::group_names_shown(alloc, case)?,
         "modifier-maps" => symbols::modifier_maps_shown(alloc, case)?,
         "notes-of" => notes::shown(alloc, case, wanted)?,
-        "merged" => precedence::shown(alloc, case, wanted)?,
         _ => return Ok(None),
     };
     Ok(Some(found))

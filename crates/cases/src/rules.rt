@@ -1,6 +1,7 @@
 //! What rules give, as text. A line wants what a model, layouts, variants and options give: these with slashes between them, an
 //! arrow, and what is given. Files are called by their numbers in includes.
-use cases_kit::{Case, Trouble};
+use crate::case::Case;
+use crate::trouble::Trouble;
 use kx_rules::{
     Answer, Fault, Names, Passed, Reason, SourceFault, Texts, components_of, source_of,
 };

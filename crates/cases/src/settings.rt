@@ -1,6 +1,7 @@
 //! What fields say of a key besides its lists.
+use crate::case::Case;
 use crate::sources::{bodies_of, library_of, modifiers_of, text_of};
-use cases_kit::{Case, Trouble};
+use crate::trouble::Trouble;
 use kx_include::Place;
 use kx_key_fields::{KeyAttributes, KeyDefaults, read_settings};
 use kx_lex::Fault;

@@ -4,7 +4,8 @@ ghost use Rattle.kx_lex.specs.declared.scan.TheConstants.{MOST_TEXT_BYTES};
 ghost use Rattle.kx_print.specs.Printed.{printed};
 ghost use Rattle.kx_types.specs.declared.limits.TheConstants.{MOST_TYPES};
 
-use cases_kit::{Case, Trouble};
+use crate::case::Case;
+use crate::trouble::Trouble;
 use ks_core::{Lent, MemFeed, Notes};
 use kx_image::View;
 use kx_lex::{Fault, MOST_TEXT_BYTES};

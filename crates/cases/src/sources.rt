@@ -1,5 +1,5 @@
 //! A case's source, read. What owns much memory stands in a box: a function that holds it is proved much sooner.
-use cases_kit::Case;
+use crate::case::Case;
 use kx_codes::{Codes, codes};
 use kx_include::{Bodies, Library};
 use kx_lex::{Fault, lex};

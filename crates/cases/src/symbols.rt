@@ -1,6 +1,7 @@
 //! Names of groups, and modifier maps.
+use crate::case::Case;
 use crate::sources::{bodies_of, codes_of, library_of, modifiers_of, text_of};
-use cases_kit::{Case, Trouble};
+use crate::trouble::Trouble;
 use ks_core::{NameTable, Notes};
 use kx_codes::Codes;
 use kx_group_names::{GroupNames, group_names};

@@ -1,6 +1,7 @@
 //! What a text is read as.
+use crate::case::Case;
 use crate::sources::{bodies_of, library_of, tree_of};
-use cases_kit::{Case, Trouble};
+use crate::trouble::Trouble;
 use kx_include::{Part, include_parts};
 use kx_lex::{Fault, Token, TokenKind, lex, text_bytes};
 use kx_parse::{Mode, Tree, parse_file};

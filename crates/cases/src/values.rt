@@ -1,6 +1,7 @@
 //! What values of fields have in common.
+use crate::case::Case;
 use crate::sources::library_of;
-use cases_kit::{Case, Trouble};
+use crate::trouble::Trouble;
 use kx_include::{Library, Place};
 use kx_lex::Fault;
 use kx_merge::{Counted, expression_of, lone_word, unknown_field};

@@ -2,22 +2,9 @@
 use crate::case::Case;
 use crate::entries::{Entry, entries_in};
 use crate::trouble::Trouble;
+use crate::words;
 use std::alloc::{AllocError, Global};
 use std::fs;
-use std::rt::Files as FileSystem;
-
-/// What cases are about.
-pub trait Subject {
-    /// What a case gives where a line with this word tells it; nothing where none does. Of what is wanted stand there the
-    /// words that say what to show.
-    fn shown(
-        &self,
-        alloc: Global,
-        case: &Case,
-        word: &str,
-        wanted: &str,
-    ) -> Result<Option<String>, Trouble>;
-}
 
 /// How many lines were compared, and how many of them differ.
 #[derive(Clone, Copy)]
@@ -40,14 +27,8 @@ fn wanted_of(alloc: Global, entry: &Entry) -> Result<String, AllocError> {
 }
 
 /// What a case gives where a line with this word tells it: of a source with a fault, that fault.
-fn found_in<S: Subject>(
-    alloc: Global,
-    subject: &S,
-    case: &Case,
-    entry: &Entry,
-    wanted: &str,
-) -> Result<String, Trouble> {
-    match subject.shown(alloc, case, entry.word, wanted) {
+fn found_in(alloc: Global, case: &Case, entry: &Entry, wanted: &str) -> Result<String, Trouble> {
+    match words::shown(alloc, case, entry.word, wanted) {
         Ok(Some(found)) => Ok(found),
         Ok(None) => Err(Trouble::Line(entry.line)),
         Err(Trouble::Fault(fault)) => Ok(format!(in alloc; "{fault}")?),
@@ -56,15 +37,9 @@ fn found_in<S: Subject>(
 }
 
 /// Compares what a case gives with what a line wants, and prints where they differ.
-fn compare<S: Subject>(
-    rt: &(impl Print + AllocGlobal),
-    subject: &S,
-    path: &str,
-    case: &Case,
-    entry: &Entry,
-) -> Result<bool, Trouble> {
+fn compare(rt: &HostRuntime, path: &str, case: &Case, entry: &Entry) -> Result<bool, Trouble> {
     let wanted = wanted_of(rt.alloc(), entry)?;
-    let found = found_in(rt.alloc(), subject, case, entry, wanted.as_str())?;
+    let found = found_in(rt.alloc(), case, entry, wanted.as_str())?;
     let is_other = found.as_str().trim_end() != wanted.as_str().trim_end();
     if is_other {
         let line = entry.line;
@@ -78,11 +53,7 @@ fn compare<S: Subject>(
 ///
 /// # Errors
 /// Where the file can't be read, a line is none of these cases, or no memory is left.
-pub fn run_file<S: Subject>(
-    rt: &(impl FileSystem + Print + AllocGlobal),
-    subject: &S,
-    path: &str,
-) -> Result<(), Trouble> {
+pub fn run_file(rt: &HostRuntime, path: &str) -> Result<(), Trouble> {
     let text = fs::read_to_string(rt, path)?;
     let entries = entries_in(rt.alloc(), text.as_str())?;
     let mut case = Case::new(rt.alloc())?;
@@ -92,7 +63,7 @@ pub fn run_file<S: Subject>(
     };
     for entry in entries.as_slice() {
         if !case.take(rt.alloc(), entry.word, entry.text.as_str())? {
-            let is_other = compare(rt, subject, path, &case, entry)?;
+            let is_other = compare(rt, path, &case, entry)?;
             tally = Tally {
                 compared: tally.compared.saturating_add(1),
                 other: tally.other.saturating_add(u32::from(is_other)),
