@@ -100,7 +100,7 @@ tries_release() {
     mkdir -p tests crates/xkc_c/out crates/cases/out
     cp "$top/check" .
     printf '#!/bin/sh\n[ "$1" = version ] && echo kit logic || echo "2 passed, 0 failed"\n' > "$work/path/rt"
-    for part in tests/program.sh tests/refused.sh tests/library.sh packaging/check.sh; do
+    for part in tests/program.sh tests/chance.sh tests/refused.sh tests/library.sh packaging/check.sh; do
         printf '#!/bin/sh\necho "1 passed, 0 failed"\n' > "$part"
         chmod +x "$part"
     done
@@ -108,7 +108,7 @@ tries_release() {
     echo > crates/xkc_c/out/libxkc_c.a
     git init -q . && commits
     PATH=$work/path:$PATH ./check > "$work/out" 2>&1
-    holds "./check with stand-ins: $(cat "$work/out")" [ "$(tail -n 1 "$work/out")" = '6 passed, 0 failed' ]
+    holds "./check with stand-ins: $(cat "$work/out")" [ "$(tail -n 1 "$work/out")" = '7 passed, 0 failed' ]
     holds "it says what it took: $(cat "$work/out")" grep -Eqx 'took [0-9]+\.[0-9] minutes, [0-9]+\.[0-9] CPU-minutes, on [0-9]+ processors' "$work/out"
     holds "its record: $(cat out/checked)" [ "$(head -n 3 out/checked | tr '\n' ' ')" = "tree $(git rev-parse 'HEAD^{tree}') kit logic rt ci: 2 passed, 0 failed " ]
     holds 'the record has other sums' sha256sum -c --quiet <(grep '  crates/' out/checked)
