@@ -5,28 +5,12 @@
 # Each source and each change that is otherwise is a line, and the last line counts them.
 set -u
 tests=$(cd "$(dirname "$0")" && pwd)
-cases=$(cd "$(dirname "${1-}")" && pwd)/$(basename "${1-}")
-program=$(cd "$(dirname "${2-}")" && pwd)/$(basename "${2-}")
-for found in "$cases" "$program"; do
-    if [ ! -f "$found" ] || [ ! -x "$found" ]; then
-        echo "FAILED: there is no program '$found'"
-        echo '0 passed, 1 failed'
-        exit 1
-    fi
-done
+. "$tests/two_programs.sh"
 work=$(mktemp -d) || exit 2
 trap 'rm -rf "$work"' EXIT
 cd "$work" || exit 2
 LC_ALL=C
 export LC_ALL
-passed=0
-failed=0
-
-# fails WHAT: something is otherwise, on one line.
-fails() {
-    failed=$((failed + 1))
-    printf 'FAILED: %s\n' "$1"
-}
 
 # What stands in some of the printed texts.
 phrases() {
@@ -97,7 +81,6 @@ opens() {
     { sed -e '1s/^/source /' -e '2,$s/^/| /' "$1"; changes "$(wc -c < image)" "$2"; } > changes.cases
     "$cases" changes.cases > said || fails "$1: the cases end with '$(tail -n 1 said)'"
     sed -n 's/^  found  //p' said > found
-    [ "$(wc -l < found)" -eq "$2" ] || fails "$1: $(wc -l < found) of $2 changes were opened"
     cat found >> opened
     awk -f "$tests/chance/images.awk" bytes found > judged
     sed '$d' judged
@@ -106,6 +89,7 @@ $(tail -n 1 judged)
 END
     passed=$((passed + well))
     failed=$((failed + wrong))
+    [ "$((well + wrong))" -eq "$2" ] || fails "$1: $((well + wrong)) of $2 answers were judged"
 }
 
 : > opened

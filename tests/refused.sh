@@ -7,15 +7,7 @@
 # Each growth at which it is otherwise is a line, and the last line counts the growths.
 set -u
 tests=$(cd "$(dirname "$0")" && pwd)
-calls=$(cd "$(dirname "${1-}")" && pwd)/$(basename "${1-}")
-program=$(cd "$(dirname "${2-}")" && pwd)/$(basename "${2-}")
-for found in "$calls" "$program"; do
-    if [ ! -f "$found" ] || [ ! -x "$found" ]; then
-        echo "FAILED: there is no program '$found'"
-        echo '0 passed, 1 failed'
-        exit 1
-    fi
-done
+. "$tests/two_programs.sh"
 work=$(mktemp -d) || exit 2
 trap 'rm -rf "$work"' EXIT
 mkdir "$work/files" && cd "$work/files" || exit 2
@@ -25,14 +17,6 @@ if ! cc -O2 -fPIC -shared -Wl,-z,defs -o ../refuse.so "$tests/refuse.c" 2> ../er
     echo '0 passed, 0 failed'
     exit 0
 fi
-passed=0
-failed=0
-
-# fails WHAT: something is otherwise, on one line.
-fails() {
-    failed=$((failed + 1))
-    printf 'FAILED: %s\n' "$1"
-}
 
 # refuse COMMAND..: runs a command with its growth of this number refused, which a line `refused` on standard error tells.
 refuse() {
@@ -73,7 +57,7 @@ judge() {
 
 # call NAME: refuses each growth of a call.
 call() {
-    "$calls" "$1" < "$input" > ../out 2>&1
+    "$cases" "$1" < "$input" > ../out 2>&1
     whole=$(sed -n 2p ../out)
     if [ -z "$whole" ] || wants_memory "$1" "$whole" ||
         [ "$(cat ../out)" != "$(printf '%s\n' "$1" "$whole" "$whole")" ]; then
@@ -84,7 +68,7 @@ call() {
     without=0
     while
         number=$((number + 1))
-        refuse "$calls" "$1" > ../out 2>&1
+        refuse "$cases" "$1" > ../out 2>&1
         grep -qx refused ../out
     do
         judge "$1"

@@ -28,10 +28,10 @@ function number(place, width,    value) {
 # A field of a record: its place in the record, and how many bytes it has.
 function field(table, row, place, width) { return number(starts[table] + row * sizes[table] + place, width) }
 
-# The sum of a field over the first rows of a table.
-function sum(table, rows, place, width,    row, total) {
+# The sum of a field over so many first rows of a table.
+function sum(table, count, place, width,    row, total) {
     total = 0
-    for (row = 0; row < rows; row++) total += field(table, row, place, width)
+    for (row = 0; row < count; row++) total += field(table, row, place, width)
     return total
 }
 
@@ -88,20 +88,19 @@ function first_name(table,    place) {
     return place + sum("indicator", rows["indicator"], 8, 2)
 }
 
-function has_same_name(table, one, other,    count, index_, a, b) {
+function has_same_name(table, one, other,    count, place, a, b) {
     count = field(table, one, lengths[table], 2)
     if (count != field(table, other, lengths[table], 2)) return 0
     a = field(table, one, firsts[table], 4)
     b = field(table, other, firsts[table], 4)
-    for (index_ = 0; index_ < count; index_++)
-        if (field("name", a + index_, 0, 1) != field("name", b + index_, 0, 1)) return 0
+    for (place = 0; place < count; place++)
+        if (field("name", a + place, 0, 1) != field("name", b + place, 0, 1)) return 0
     return 1
 }
 
 # Whether a row's name is too long, or not at its place, or one of a row before, where names differ.
-function name_breaks(table, row, differ,    length_, earlier) {
-    length_ = field(table, row, lengths[table], 2)
-    if (length_ > 255 || field(table, row, firsts[table], 4) != first_name(table) + sum(table, row, lengths[table], 2)) return 1
+function name_breaks(table, row, differ,    earlier) {
+    if (field(table, row, lengths[table], 2) > 255 || field(table, row, firsts[table], 4) != first_name(table) + sum(table, row, lengths[table], 2)) return 1
     for (earlier = 0; differ && earlier < row; earlier++) if (has_same_name(table, earlier, row)) return 1
     return 0
 }
@@ -220,7 +219,8 @@ function is_right(answer,    fault, words) {
     fault = fault_of_form()
     if (fault != "") return answer == fault
     if (answer == "taken") return !any_breaks()
-    return split(answer, words, " ") == 4 && words[1] == "I5" && (words[3] in kinds) && words[4] + 0 < 4294967296 && breaks(words[3], words[4] + 0)
+    return split(answer, words, " ") == 4 && words[1] " " words[2] == "I5 BadRecord" && (words[3] in kinds) &&
+        breaks(words[3], words[4] + 0)
 }
 
 BEGIN {
